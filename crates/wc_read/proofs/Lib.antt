@@ -1,0 +1,10 @@
+pub mod Text
+pub mod Options
+pub mod Numbers
+pub mod Items
+pub mod Meets
+pub mod ToEnd
+pub mod TypesMeet
+pub mod LimitsMeet
+pub mod ImportsMeet
+pub mod SectionsMeet

@@ -1,0 +1,64 @@
+-- The loop that reads items to the end of the bytes.
+use Rattle.std.proofs.Common.{◌≡◌, ℕ, ◌<◌, List, [], ◌∷◌, ◌++◌, length, Option, Some, None, refl, sym, ◌∙◌, ap, subst, append_assoc, append-nil, arith, true, false, eqb-true}
+use Rattle.std.specs.Prelude.{◌==◌}
+use Rattle.std.proofs.lemmas.Bool.{false≢true}
+use Rattle.std.proofs.Math.ListN.{length-append}
+use Rattle.wc_read.specs.Formats.{Format, SpellsItems}
+use Rattle.wc_read.specs.Reading.{Read}
+use Rattle.wc_read.proofs.Meets.{Meets, one_spelling, no_spelling}
+
+-- the front was read: what stands behind it in all of the bytes stands in the rest
+pub record IsReadTo {A : Type 0} (Spells : Format A) (front : List A) (rest bytes : List ℕ) : Type 0 where
+  pub to_all : (others : List A) → SpellsItems Spells rest others → SpellsItems Spells bytes (front ++ others)
+  pub from_all : (all : List A) → SpellsItems Spells bytes all → (others : List A) × (all ≡ front ++ others) × SpellsItems Spells rest others
+
+pub to_start : {A : Type 0} (Spells : Format A) (bytes : List ℕ) → IsReadTo Spells [] bytes bytes
+to_start Spells bytes = record { to_all = λ others s. s; from_all = λ all s. (all, refl, s) }
+
+pub to_end : {A : Type 0} (Spells : Format A) (front : List A) (rest bytes : List ℕ) → true ≡ (length rest == 0) → IsReadTo Spells front rest bytes → SpellsItems Spells bytes front
+to_end Spells front [] bytes t r = rw append-nil at (r.to_all [] refl)
+to_end Spells front (b ∷ rest) bytes t r = let h : length (b ∷ rest) ≡ 0 = eqb-true (length (b ∷ rest)) 0 (sym t) in absurd (omega arith)
+
+-- items of which none is empty
+module _ {A : Type 0} (Spells : Format A) (read : Read A) (m : Meets Spells read) (some : (x : A) → Spells [] x → ⊥) where
+  nothing_in : (text rest : List ℕ) (x : A) → text ++ rest ≡ [] → Spells text x → ⊥
+  nothing_in [] rest x e s = some x s
+  nothing_in (b ∷ text) rest x e s = absurd cc
+
+  pub to_more : (front : List A) (rest bytes : List ℕ) (x : A) (behind : List ℕ) → IsReadTo Spells front rest bytes → read rest ≡ Some (x, behind) → IsReadTo Spells (front ++ x ∷ []) behind bytes
+  to_more front rest bytes x behind r e =
+      let t = m.takes rest x behind e in
+      record {
+        to_all = λ others s. rw append_assoc (r.to_all (x ∷ others) (t.0, behind, t.1, t.2, s));
+        from_all = λ all s. let o = r.from_all all s in go o.0 all o.1 o.2 t.0 t.1 t.2;
+      }
+    where
+      go : (others all : List A) → all ≡ front ++ others → SpellsItems Spells rest others → (text : List ℕ) → rest ≡ text ++ behind → Spells text x → (more : List A) × (all ≡ (front ++ x ∷ []) ++ more) × SpellsItems Spells behind more
+      go [] all is s text cut here = absurd (nothing_in text behind x (sym cut ∙ s) here)
+      go (y ∷ ys) all is s text cut here =
+          let p = one_spelling Spells read m text s.0 x y behind s.1 (sym cut ∙ s.2) here s.3 in
+          (ys, is ∙ rw (← p.0, append_assoc) refl, subst (λ (b : List ℕ). SpellsItems Spells b ys) (sym p.1) s.4)
+
+  pub to_fails : (front : List A) (rest bytes : List ℕ) → false ≡ (length rest == 0) → IsReadTo Spells front rest bytes → read rest ≡ None → (all : List A) → SpellsItems Spells bytes all → ⊥
+  to_fails front rest bytes t r none all s = let o = r.from_all all s in go o.0 o.2
+    where
+      go : (others : List A) → SpellsItems Spells rest others → ⊥
+      go [] s = let e : (length rest == 0) ≡ true = rw s refl in absurd (false≢true (t ∙ e))
+      go (y ∷ ys) s = no_spelling Spells read m rest none s.0 s.1 y s.2 s.3
+
+  pub to_shorter : (rest : List ℕ) (x : A) (behind : List ℕ) → read rest ≡ Some (x, behind) → length behind < length rest
+  to_shorter rest x behind e = let t = m.takes rest x behind e in go t.0 t.1 t.2
+    where
+      go : (text : List ℕ) → rest ≡ text ++ behind → Spells text x → length behind < length rest
+      go [] cut s = absurd (some x s)
+      go (b ∷ text) cut s = rw cut (omega (arith, length-append text behind))
+
+  -- two runs of items in the same bytes are one
+  pub items_are_one : (xs ys : List A) (bytes : List ℕ) → SpellsItems Spells bytes xs → SpellsItems Spells bytes ys → xs ≡ ys
+  items_are_one [] [] bytes s t = refl
+  items_are_one [] (y ∷ ys) bytes s t = absurd (nothing_in t.0 t.1 y (sym t.2 ∙ s) t.3)
+  items_are_one (x ∷ xs) [] bytes s t = absurd (nothing_in s.0 s.1 x (sym s.2 ∙ t) s.3)
+  items_are_one (x ∷ xs) (y ∷ ys) bytes s t =
+      let p = one_spelling Spells read m s.0 t.0 x y s.1 t.1 (sym s.2 ∙ t.2) s.3 t.3 in
+      let same : xs ≡ ys = items_are_one xs ys t.1 (subst (λ (b : List ℕ). SpellsItems Spells b xs) p.1 s.4) t.4 in
+      rw (p.0, same) refl

@@ -1,0 +1,30 @@
+-- What holds of the formats as such.
+use Rattle.std.specs.Prelude.{◌≡◌, ℕ, List, ◌++◌}
+use Rattle.wc_read.specs.Formats.{Format, SpellsNumber}
+use Rattle.wc_read.specs.Imports.{ImportValue, SpellsImport, SpellsImports}
+use Rattle.wc_read.specs.Sections.{SectionValue, SpellsSection, SpellsFrames}
+
+abbrev pub AreOne : {A : Type 0} → Format A → Type 0
+AreOne {A} Spells = (bytes : List ℕ) (x y : A) → Spells bytes x → Spells bytes y → x ≡ y
+
+-- two spellings in front of the same bytes are of one value, and leave the same
+abbrev pub BeginsNoOther : {A : Type 0} → Format A → Type 0
+BeginsNoOther {A} Spells = (a b rest others : List ℕ) (x y : A) → a ++ rest ≡ b ++ others → Spells a x → Spells b y → (x ≡ y) × (rest ≡ others)
+
+abbrev pub NumbersAreOne : Type 0
+NumbersAreOne = (bits : ℕ) → AreOne (SpellsNumber bits)
+
+abbrev pub ImportsAreOne : Type 0
+ImportsAreOne = AreOne SpellsImports
+
+abbrev pub FramesAreOne : Type 0
+FramesAreOne = AreOne SpellsFrames
+
+abbrev pub NumberBeginsNoOther : Type 0
+NumberBeginsNoOther = (bits : ℕ) → BeginsNoOther (SpellsNumber bits)
+
+abbrev pub ImportBeginsNoOther : Type 0
+ImportBeginsNoOther = BeginsNoOther SpellsImport
+
+abbrev pub SectionBeginsNoOther : Type 0
+SectionBeginsNoOther = BeginsNoOther SpellsSection

@@ -1,0 +1,156 @@
+//! A reader that moves along the bytes: numbers, names, value types, vectors.
+
+ghost use Rattle.std.specs.Prelude.{◌≡◌, ◌<◌, ◌≤◌, ◌^◌, ℕ, List, Option, map, IfOk};
+ghost use Rattle.wc_read.specs.Reading.{Gives, byte_at, bytes_at, number_at, name_at, val_type_at, mutable_at, global_at, vector_at};
+
+use crate::fault::ReadFault;
+use crate::types::{GlobalType, ValType};
+use std::alloc::Global;
+use std::str;
+
+/// What is left to be read. After a fault, what is left is not said.
+#[derive(Drop)]
+pub struct Reader<'a> {
+    pub rest: &'a [u8],
+}
+
+/// An item of which a vector can be read.
+pub trait Spelled<'a>: Sized {
+    ghost Value: { Type 0 };
+
+    ghost view: { Self → Value };
+
+    ghost read: { List ℕ → Option (Value × List ℕ) };
+
+    fn read_from(reader: &mut Reader<'a>) -> Result<Self, ReadFault>
+        ensures { Gives view result reader.new.rest.now (read reader.old.rest.now) };
+}
+
+impl<'a> Reader<'a> {
+    pub fn new(rest: &'a [u8]) -> Reader<'a>
+        ensures { result.rest.now ≡ rest.now }
+    {
+        Reader { rest }
+    }
+
+    pub fn byte(&mut self) -> Result<u8, ReadFault>
+        ensures { Gives (λ x. x) result self.new.rest.now (byte_at self.old.rest.now) }
+    {
+        match self.rest.split_first() {
+            Some((first, rest)) => {
+                self.rest = rest;
+                Ok(*first)
+            }
+            None => Err(ReadFault::Truncated),
+        }
+    }
+
+    pub fn bytes(&mut self, count: usize) -> Result<&'a [u8], ReadFault>
+        ensures { Gives (λ x. x.now) result self.new.rest.now (bytes_at count self.old.rest.now) }
+    {
+        if self.rest.len() < count {
+            return Err(ReadFault::Truncated);
+        }
+        let (front, rest) = self.rest.split_at(count);
+        self.rest = rest;
+        Ok(front)
+    }
+
+    /// An unsigned number of so many bits.
+    pub fn number(&mut self, bits: u32) -> Result<u64, ReadFault>
+        requires some { 0 < bits }
+        requires most { bits ≤ 64 }
+        ensures read { Gives (λ x. x) result self.new.rest.now (number_at bits self.old.rest.now) }
+        ensures bound { IfOk result (λ x. x < 2 ^ bits) }
+    {
+        let mut value: u64 = 0;
+        let mut shift: u32 = 0;
+        loop {
+            let byte = self.byte()?;
+            let left = bits - shift;
+            if byte < 128 {
+                if left < 7 && byte >> left != 0 {
+                    return Err(ReadFault::BadNumber);
+                }
+                return Ok(value + (u64::from(byte) << shift));
+            }
+            if left <= 7 {
+                return Err(ReadFault::BadNumber);
+            }
+            value += u64::from(byte - 128) << shift;
+            shift += 7;
+        }
+    }
+
+    pub fn u32(&mut self) -> Result<u32, ReadFault>
+        ensures { Gives (λ x. x) result self.new.rest.now (number_at 32 self.old.rest.now) }
+    {
+        let number = self.number(32)?;
+        Ok(number as u32)
+    }
+
+    #[tactic(auto, using(crate::proofs::Text::text), unfolding(crate::specs::Reading::name_at))]
+    pub fn name(&mut self) -> Result<&'a str, ReadFault>
+        ensures { Gives (λ x. x.now) result self.new.rest.now (name_at self.old.rest.now) }
+    {
+        let size = self.u32()?;
+        let bytes = self.bytes(size as usize)?;
+        match str::from_utf8(bytes) {
+            Ok(name) => Ok(name),
+            Err(_) => Err(ReadFault::BadName),
+        }
+    }
+
+    #[tactic(auto, unfolding(crate::specs::Reading::val_type_at))]
+    pub fn val_type(&mut self) -> Result<ValType, ReadFault>
+        ensures { Gives (λ x. x) result self.new.rest.now (val_type_at self.old.rest.now) }
+    {
+        match self.byte()? {
+            0x7f => Ok(ValType::I32),
+            0x7e => Ok(ValType::I64),
+            0x7d => Ok(ValType::F32),
+            0x7c => Ok(ValType::F64),
+            0x7b => Ok(ValType::V128),
+            0x70 => Ok(ValType::FuncRef),
+            0x6f => Ok(ValType::ExternRef),
+            _ => Err(ReadFault::BadType),
+        }
+    }
+
+    #[tactic(auto, unfolding(crate::specs::Reading::mutable_at))]
+    fn mutable(&mut self) -> Result<bool, ReadFault>
+        ensures { Gives (λ x. x) result self.new.rest.now (mutable_at self.old.rest.now) }
+    {
+        match self.byte()? {
+            0 => Ok(false),
+            1 => Ok(true),
+            _ => Err(ReadFault::BadType),
+        }
+    }
+
+    #[tactic(auto, unfolding(crate::specs::Reading::global_at))]
+    pub fn global(&mut self) -> Result<GlobalType, ReadFault>
+        ensures { Gives (λ x. x) result self.new.rest.now (global_at self.old.rest.now) }
+    {
+        let content_type = self.val_type()?;
+        let mutable = self.mutable()?;
+        Ok(GlobalType {
+            content_type,
+            mutable,
+        })
+    }
+
+    /// A vector. Memory is taken item by item, and not for a count whose items were not read.
+    #[tactic(auto, unfolding(crate::specs::Reading::vector_at))]
+    pub fn vector<T: Spelled<'a> + Drop>(&mut self, alloc: Global) -> Result<Vec<T>, ReadFault>
+        ensures { Gives (λ v. map T.view v.items) result self.new.rest.now (vector_at T.read self.old.rest.now) }
+    {
+        let count = self.u32()?;
+        let mut items = Vec::new(alloc);
+        for _ in 0..count {
+            let item = T::read_from(self)?;
+            items.push(item)?;
+        }
+        Ok(items)
+    }
+}
