@@ -51,7 +51,7 @@ pub fn frames(alloc: Global, bytes: &[u8]) -> Result<Frames<'_>, ReadFault>
 fn sections(alloc: Global, bytes: &[u8]) -> Result<Vec<Section<'_>>, ReadFault>
     ensures found { IfOk result (λ v. SpellsItems SpellsSection bytes.now (map section_value v.items)) }
     ensures refused { IfErr result (λ f. f ≢ ReadFault.Memory → (v : List SectionValue) → ¬ (SpellsItems SpellsSection bytes.now v)) }
-    ensures module_inside { IfErr result (λ f. f ≢ ReadFault.Component) }
+    ensures no_component { IfErr result (λ f. f ≢ ReadFault.Component) }
 {
     let mut reader = Reader::new(bytes);
     let mut sections = Vec::new(alloc);

@@ -55,6 +55,7 @@ pub fn read_imports(alloc: Global, content: &[u8]) -> Result<Vec<Import<'_>>, Re
     ensures found { IfOk result (λ v. SpellsImports content.now (import_values v.items)) }
     // Unless memory runs out, what is spelled is read.
     ensures refused { IfErr result (λ f. f ≢ ReadFault.Memory → (v : List ImportValue) → ¬ (SpellsImports content.now v)) }
+    ensures no_component { IfErr result (λ f. f ≢ ReadFault.Component) }
 {
     let mut reader = Reader::new(content);
     let imports = reader.vector::<Import>(alloc)?;

@@ -1,0 +1,5 @@
+use Rattle.wc_write.proofs.TextSpells.{section_spelled}
+use Rattle.wc_write.proofs.laws.section_is_spelled.Goals as goal
+
+pub returns : goal.returns
+returns c = section_spelled

@@ -1,0 +1,4 @@
+pub mod Text
+pub mod Values
+pub mod Laws
+pub mod Sinks

@@ -1,0 +1,70 @@
+-- The text of each value: of its spellings the one with the shortest numbers, by the cuts of the relations that say how
+-- bytes spell a value (WebAssembly core specification, 5.2 "Values", 5.3 "Types" and 5.5 "Modules").
+use Rattle.std.specs.Prelude.{ℕ, zero, suc, ◌+◌, ◌/◌, ◌%◌, List, [], ◌∷◌, ◌++◌, length, nat_lt, if◌then◌else◌, Option, Some, None}
+use Rattle.std.specs.List.{flat_map}
+use Rattle.wc_read.specs.Types.{val_type_code, mutable_code}
+use Rattle.wc_read.specs.Limits.{flags_code, table_flags, memory_flags}
+use Rattle.wc_read.specs.Imports.{ImportValue}
+use Rattle.wc_read.specs.declared.types.ValType.{ValType}
+use Rattle.wc_read.specs.declared.types.TableType.{TableType}
+use Rattle.wc_read.specs.declared.types.MemoryType.{MemoryType}
+use Rattle.wc_read.specs.declared.types.GlobalType.{GlobalType}
+use Rattle.wc_read.specs.declared.types.ImportType.{ImportType}
+use Rattle.wc_read.specs.declared.types.ImportType.TheVariants.{Func, Table, Memory, Global}
+
+-- digits of seven bits, the low one first and each but the last with 128 added; at most so many stand before the last
+unfoldable pub digits : ℕ → ℕ → List ℕ
+digits zero n = n ∷ []
+digits (suc more) n = if nat_lt n 128 then n ∷ [] else (128 + n % 128) ∷ digits more (n / 128)
+
+-- an unsigned number of 64 bits or less (5.2.2): ten digits at most
+abbrev pub number_text : ℕ → List ℕ
+number_text n = digits 9 n
+
+-- a number where there is one
+abbrev pub optional_text : Option ℕ → List ℕ
+optional_text None = []
+optional_text (Some n) = number_text n
+
+-- a name (5.2.4): its length, and its bytes
+abbrev pub name_text : List ℕ → List ℕ
+name_text name = number_text (length name) ++ name
+
+-- a value type (5.3.1 to 5.3.4)
+abbrev pub val_type_text : ValType → List ℕ
+val_type_text t = val_type_code t ∷ []
+
+-- a minimum, and a maximum where there is one (5.3.7)
+abbrev pub bounds_text : ℕ → Option ℕ → List ℕ
+bounds_text initial maximum = number_text initial ++ optional_text maximum
+
+-- a table type (5.3.9): what its elements are, flags, bounds
+abbrev pub table_text : TableType → List ℕ
+table_text t = val_type_code t.element_type ∷ flags_code (table_flags t) ∷ bounds_text t.initial t.maximum
+
+-- a memory type (5.3.8): flags, bounds, and the exponent of the page size exactly where it is given
+abbrev pub memory_text : MemoryType → List ℕ
+memory_text m = flags_code (memory_flags m) ∷ (bounds_text m.initial m.maximum ++ optional_text m.page_size_log2)
+
+-- a global type (5.3.10): a value type, and whether it may be written
+abbrev pub global_text : GlobalType → List ℕ
+global_text g = val_type_code g.content_type ∷ mutable_code g.mutable ∷ []
+
+-- what is imported (5.5.5): its kind, and the index of a function's type or another item's type
+abbrev pub import_type_text : ImportType → List ℕ
+import_type_text (Func index) = 0 ∷ number_text index
+import_type_text (Table t) = 1 ∷ table_text t
+import_type_text (Memory m) = 2 ∷ memory_text m
+import_type_text (Global g) = 3 ∷ global_text g
+
+-- an import: two names, and what is imported
+unfoldable pub import_text : ImportValue → List ℕ
+import_text i = name_text i.module_name ++ (name_text i.name ++ import_type_text i.ty)
+
+-- the content of an import section (5.5.5): how many imports, and the imports
+unfoldable pub imports_text : List ImportValue → List ℕ
+imports_text is = number_text (length is) ++ flat_map import_text is
+
+-- a section (5.5.2): its id, its content's size, its content
+unfoldable pub section_text : ℕ → List ℕ → List ℕ
+section_text id content = id ∷ (number_text (length content) ++ content)

@@ -1,0 +1,46 @@
+//! Laws of the texts that are written.
+
+ghost use Rattle.wc_write.specs.Laws.{NumberIsSpelled, NumberIsShortest, ImportIsSpelled, ImportsAreSpelled, SpelledAreImports, ImportsAreShortest, SectionIsSpelled, SectionIsShortest};
+
+/// The text of a number below 2 to some power of at most 64 spells it, as a number of so many bits
+/// (WebAssembly core specification, 5.2.2).
+pub fn number_is_spelled()
+    ensures { NumberIsSpelled }
+{}
+
+/// No bytes that spell a number are fewer than those of its text.
+pub fn number_is_shortest()
+    ensures { NumberIsShortest }
+{}
+
+/// The text of an import spells it, where it can be spelled: names are UTF-8 of a length below 2^32,
+/// numbers fit their bits, and tables and memories are as the format has them (5.5.5).
+pub fn import_is_spelled()
+    ensures { ImportIsSpelled }
+{}
+
+/// The text of fewer than 2^32 such imports spells them, as the content of an import section (5.5.5).
+pub fn imports_are_spelled()
+    ensures { ImportsAreSpelled }
+{}
+
+/// Imports that some bytes spell can be spelled: fewer than 2^32, and each as `import_is_spelled` has it.
+/// So their text spells them too.
+pub fn spelled_are_imports()
+    ensures { SpelledAreImports }
+{}
+
+/// No bytes that spell imports are fewer than those of their text.
+pub fn imports_are_shortest()
+    ensures { ImportsAreShortest }
+{}
+
+/// The text of a section spells its id and its content, where that has fewer than 2^32 bytes (5.5.2).
+pub fn section_is_spelled()
+    ensures { SectionIsSpelled }
+{}
+
+/// No bytes that spell a section are fewer than those of its text.
+pub fn section_is_shortest()
+    ensures { SectionIsShortest }
+{}

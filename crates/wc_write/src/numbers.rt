@@ -1,0 +1,29 @@
+//! Numbers and names (WebAssembly core specification, 5.2.2 and 5.2.4).
+
+ghost use Rattle.std.specs.Prelude.{◌≡◌, ◌++◌, length, take, OnOk, OnErr};
+ghost use Rattle.wc_write.specs.Text.{number_text, name_text};
+
+use std::alloc::AllocError;
+
+/// Appends an unsigned number in its shortest form, the low seven bits first.
+pub(crate) fn put_number(out: &mut Vec<u8>, number: u64) -> Result<(), AllocError>
+    ensures written { OnOk result (out.new.items ≡ out.old.items ++ number_text number) }
+    ensures kept { OnErr result (take (length out.old.items) out.new.items ≡ out.old.items) }
+{
+    let mut rest = number;
+    while rest >= 128 {
+        out.push((128 + rest % 128) as u8)?;
+        rest /= 128;
+    }
+    out.push(rest as u8)?;
+    Ok(())
+}
+
+/// Appends a name: its length in bytes, and its text.
+pub(crate) fn put_name(out: &mut Vec<u8>, name: &str) -> Result<(), AllocError>
+    ensures { OnOk result (out.new.items ≡ out.old.items ++ name_text name.now) }
+{
+    put_number(out, name.len() as u64)?;
+    out.extend_from_slice(name.as_bytes())?;
+    Ok(())
+}
