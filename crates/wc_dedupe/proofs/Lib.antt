@@ -1,0 +1,10 @@
+pub mod Distinct
+pub mod Modules
+pub mod Names
+pub mod Numbers
+pub mod Places
+pub mod States
+pub mod Tables
+pub mod Writing
+pub mod Spelling
+pub mod Deduping

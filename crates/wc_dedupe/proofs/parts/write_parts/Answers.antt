@@ -1,0 +1,33 @@
+use Rattle.std.proofs.Common.{◌≡◌, map, drop, ap, ◌∙◌, sym, ◌∷◌, length, ◌≤◌, take, arith}
+use Rattle.std.proofs.lemmas.List.{drop_all}
+use Rattle.std.proofs.lemmas.Result.{err_from_is_err_and}
+use Rattle.wc_dedupe.specs.Parts.{part_value, import_count}
+use Rattle.wc_dedupe.proofs.Writing.{AreWritten, written_start, written_room, written_more, written_end, written_too_large, behind_cut, count_is, err_of}
+use Rattle.wc_dedupe.proofs.parts.write_parts.Goals as goal
+
+pub loop-part-init : goal.loop-part-init
+loop-part-init c = rw (c.in_ok-extend_from_slice.ensures.items, c.in_ok-out.ensures.items) (written_start _ _ _ c.requires)
+
+pub split_at-requires : goal.split_at-requires
+split_at-requires c =
+    let cut = behind_cut _ _ _ c.loop-part-test.true c.part-item.is in
+    let count = count_is _ (part_value c.part-item.result) c.imports_in.ensures in
+    rw count (written_room _ _ _ _ _ _ _ (rw cut at c.loop-part.invariant))
+
+pub returns-in_err-append_part-clause-too_large : goal.returns-in_err-append_part-clause-too_large
+returns-in_err-append_part-clause-too_large c =
+    let p = err_from_is_err_and c.from_residual-in_err-append_part.result c.from_residual-in_err-append_part.ensures.1 in
+    let cut = behind_cut _ _ _ c.loop-part-test.true c.part-item.is in
+    let count = count_is _ (part_value c.part-item.result) c.imports_in.ensures in
+    rw (p.1, p.2) (λ large. written_too_large _ _ _ _ _ _ _ (rw cut at c.loop-part.invariant) (rw (c.split_at.ensures.front, count) at (c.in_err-append_part.ensures.too_large (err_of _ _ large))))
+
+pub loop-part-preserved : goal.loop-part-preserved
+loop-part-preserved c =
+    let cut = behind_cut _ _ _ c.loop-part-test.true c.part-item.is in
+    let count = count_is _ (part_value c.part-item.result) c.imports_in.ensures in
+    rw (c.split_at.ensures.back, count) (written_more _ _ _ _ _ _ _ _ (rw cut at c.loop-part.invariant) (rw (c.split_at.ensures.front, count) at c.in_ok-append_part.ensures.written))
+
+pub returns-clause-written : goal.returns-clause-written
+returns-clause-written c =
+    let none = drop_all _ _ c.loop-part-test.false in
+    written_end _ _ _ _ _ (rw none at c.loop-part.invariant)

@@ -1,0 +1,9 @@
+pub mod ByModule
+pub mod Renaming
+pub mod Modules
+pub mod Renames
+pub mod Laws
+pub mod Next
+pub mod Parts
+pub mod Dedupe
+pub mod Faults

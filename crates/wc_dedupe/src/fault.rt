@@ -1,0 +1,65 @@
+//! Why dedupe refuses bytes.
+
+ghost use Rattle.std.specs.Prelude.{◌≡◌};
+ghost use Rattle.wc_dedupe.specs.declared.fault.DedupeFault.TheVariants.{Memory, TooLarge};
+
+use std::alloc::{AllocError, AllocFailed};
+use thiserror::Error;
+use wc_read::ReadFault;
+use wc_write::WriteFault;
+
+/// Why the imports of a module could not be renamed.
+#[derive(Clone, Copy, Debug, PartialEq, Eq, Error)]
+pub enum DedupeFault {
+    /// A growth was refused.
+    #[error("out of memory")]
+    Memory,
+    /// The bytes are no component and aren't framed, or an import section spells no imports.
+    #[error("Read: {0}")]
+    Read(ReadFault),
+    /// A size of the renamed module passes 2^32 - 1.
+    #[error("TooLarge")]
+    TooLarge,
+}
+
+impl From<AllocError> for DedupeFault {
+    ghost from_gives = { λ _ e. e ≡ Memory };
+
+    fn from(_e: AllocError) -> DedupeFault {
+        DedupeFault::Memory
+    }
+}
+
+impl<T: Drop> From<AllocFailed<T>> for DedupeFault {
+    ghost from_gives = { λ _ e. e ≡ Memory };
+
+    fn from(_e: AllocFailed<T>) -> DedupeFault {
+        DedupeFault::Memory
+    }
+}
+
+impl From<ReadFault> for DedupeFault {
+    ghost use Rattle.wc_dedupe.specs.Faults.{of_read};
+
+    ghost from_gives = { λ f e. e ≡ of_read f };
+
+    fn from(e: ReadFault) -> DedupeFault {
+        match e {
+            ReadFault::Memory => DedupeFault::Memory,
+            _ => DedupeFault::Read(e),
+        }
+    }
+}
+
+impl From<WriteFault> for DedupeFault {
+    ghost use Rattle.wc_dedupe.specs.Faults.{of_write};
+
+    ghost from_gives = { λ f e. e ≡ of_write f };
+
+    fn from(e: WriteFault) -> DedupeFault {
+        match e {
+            WriteFault::Memory => DedupeFault::Memory,
+            WriteFault::TooLarge => DedupeFault::TooLarge,
+        }
+    }
+}

@@ -1,0 +1,18 @@
+//! Laws of the renaming.
+
+ghost use Rattle.wc_dedupe.specs.Laws.{NamesApart, NamesDetermined, NamesKept};
+
+/// No two names of a renaming are equal.
+pub fn names_apart()
+    ensures { NamesApart }
+{}
+
+/// A list of imports has one renaming.
+pub fn names_determined()
+    ensures { NamesDetermined }
+{}
+
+/// The names are the sources exactly where no two sources are equal.
+pub fn names_kept()
+    ensures { NamesKept }
+{}
