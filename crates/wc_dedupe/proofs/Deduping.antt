@@ -1,12 +1,13 @@
 -- A module's parts under the names of a renaming.
-use Rattle.std.proofs.Common.{◌≡◌, ℕ, suc, ◌+◌, ◌≤◌, List, [], ◌∷◌, ◌++◌, length, map, take, drop, Option, Result, Err, refl, sym, ◌∙◌, ap, subst, arith, inl, inr, true, false, eqb-true}
-use Rattle.std.specs.Prelude.{◌≢◌, ◌⊎◌, ◌==◌, Any}
+use Rattle.std.proofs.Common.{◌≡◌, ℕ, ◌+◌, List, [], ◌∷◌, ◌++◌, length, map, take, drop, Option, Result, Err, refl, sym, ◌∙◌, ap, subst, arith, inl, inr, true, false, eqb-true}
+use Rattle.std.specs.Prelude.{◌≢◌, ◌==◌, Any}
 use Rattle.std.proofs.lemmas.Bool.{false≢true}
 use Rattle.std.proofs.Math.ListN.{length-append}
 use Rattle.std.proofs.lemmas.List.{length-drop, length-take-le}
 use Rattle.wc_read.specs.Imports.{ImportValue}
-use Rattle.wc_dedupe.specs.Renaming.{ImportName, RenameValue, IsRenaming, Renamed, renames_of, sources, import_name, names_at, import_at, imports_at}
-use Rattle.wc_dedupe.specs.Parts.{PartValue, import_section, other_section, SpellsParts, imports_in, imports_of, IsUnderName, AreUnderNames, IsKept, AreKept, part_at, parts_at, import_count, module_text, IsTooLarge}
+use Rattle.wc_dedupe.specs.Renaming.{RenameValue, IsRenaming, sources, names_at, import_at, imports_at}
+use Rattle.wc_dedupe.specs.Parts.{PartValue, import_section, other_section, SpellsParts, imports_in, imports_of, AreUnderNames, IsKept, AreKept, part_at, parts_at, import_count, module_text, IsTooLarge}
+use Rattle.wc_dedupe.proofs.Names.{sources-imports_at}
 use Rattle.wc_dedupe.specs.Dedupe.{IsRenamedModule, IsDeduped, IsCause}
 use Rattle.wc_dedupe.specs.Faults.{of_read, of_write}
 use Rattle.wc_dedupe.specs.declared.fault.DedupeFault.TheVariants.{TooLarge}
@@ -15,12 +16,6 @@ use Rattle.wc_read.specs.declared.fault.ReadFault.TheVariants.{Memory as read_me
 use Rattle.wc_write.specs.declared.fault.WriteFault.{WriteFault}
 use Rattle.wc_write.specs.declared.fault.WriteFault.TheVariants.{Memory as write_memory, TooLarge as write_large}
 use Rattle.wc_read.specs.Sections.{IsComponent}
-
--- the names of renamed imports
-names_at-sources : (rs : List RenameValue) (is : List ImportValue) (places : List (Option ℕ)) → names_at rs (sources is) places ≡ sources (imports_at rs is places)
-names_at-sources rs [] places = refl
-names_at-sources rs (i ∷ is) [] = refl
-names_at-sources rs (i ∷ is) (p ∷ ps) = ap (λ (ns : List ImportName). import_name (import_at rs i p) ∷ ns) (names_at-sources rs is ps)
 
 imports_at-none : (rs : List RenameValue) (is : List ImportValue) → imports_at rs is [] ≡ []
 imports_at-none rs [] = refl
@@ -67,7 +62,7 @@ pub renamed_module : (bytes : List ℕ) (parts : List PartValue) (imports : List
 renamed_module bytes parts imports places rs spelled same r =
     let long : length places ≡ length (imports_of parts) = r.as_long ∙ ap length same in
     let names : names_at rs (sources imports) places ≡ sources (imports_of (parts_at rs parts places)) =
-        names_at-sources rs imports places ∙ ap (λ (is : List ImportValue). sources (imports_at rs is places)) same ∙ ap sources (sym (imports_of-parts_at rs parts places)) in
+    sym (sources-imports_at rs imports places) ∙ ap (λ (is : List ImportValue). sources (imports_at rs is places)) same ∙ ap sources (sym (imports_of-parts_at rs parts places)) in
     let from : sources imports ≡ sources (imports_of parts) = ap sources same in
     record {
       parts = parts;

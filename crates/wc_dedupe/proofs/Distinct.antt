@@ -16,10 +16,10 @@ Contains-cons_cases n ns x c =
       | inr later ↦ inr later
     ]
 
-Contains-here : (n : ImportName) (ns : List ImportName) → Contains (n ∷ ns) n
+pub Contains-here : (n : ImportName) (ns : List ImportName) → Contains (n ∷ ns) n
 Contains-here n ns = Contains-append_left (n ∷ []) ns n (Contains-push [] n)
 
-Contains-later : (n : ImportName) (ns : List ImportName) (x : ImportName) → Contains ns x → Contains (n ∷ ns) x
+pub Contains-later : (n : ImportName) (ns : List ImportName) (x : ImportName) → Contains ns x → Contains (n ∷ ns) x
 Contains-later n ns x c = Contains-append_right (n ∷ []) ns x c
 
 -- a name that is given was not given before

@@ -2,6 +2,7 @@ pub mod Distinct
 pub mod Modules
 pub mod Names
 pub mod Numbers
+pub mod Originals
 pub mod Places
 pub mod States
 pub mod Tables

@@ -111,10 +111,3 @@ pub sources-imports_at : (rs : List RenameValue) (is : List ImportValue) (ps : L
 sources-imports_at rs [] ps = refl
 sources-imports_at rs (i ∷ is) [] = refl
 sources-imports_at rs (i ∷ is) (p ∷ ps) = ap (λ xs. (record { module_name = i.module_name; name = name_at rs i.name p }) ∷ xs) (sources-imports_at rs is ps)
-
--- imports that are renamed in two parts
-pub imports_at-append : (rs : List RenameValue) (is js : List ImportValue) (ps qs : List (Option ℕ)) → length ps ≡ length is → imports_at rs (is ++ js) (ps ++ qs) ≡ imports_at rs is ps ++ imports_at rs js qs
-imports_at-append rs [] js [] qs e = refl
-imports_at-append rs [] js (p ∷ ps) qs e = absurd (omega arith)
-imports_at-append rs (i ∷ is) js [] qs e = absurd (omega arith)
-imports_at-append rs (i ∷ is) js (p ∷ ps) qs e = ap (λ xs. import_at rs i p ∷ xs) (imports_at-append rs is js ps qs (omega arith))

@@ -1,8 +1,7 @@
 -- Sections and the parts that they spell.
-use Rattle.std.proofs.Common.{◌≡◌, ℕ, zero, suc, ◌+◌, ◌<◌, List, [], ◌∷◌, ◌++◌, length, get_or, map, take, refl, subst, arith}
+use Rattle.std.proofs.Common.{◌≡◌, ℕ, zero, suc, ◌+◌, ◌<◌, List, [], ◌∷◌, ◌++◌, length, get_or, map, take, subst, arith}
 use Rattle.std.proofs.lemmas.List.{map-append, take_more, length-map}
 use Rattle.std.proofs.Math.ListN.{get_or-map}
-use Rattle.std.specs.Prelude.{◌≢◌}
 use Rattle.wc_read.specs.Imports.{ImportValue, SpellsImports}
 use Rattle.wc_read.specs.Sections.{SectionValue, section_value}
 use Rattle.wc_read.specs.declared.sections.Section.{Section}

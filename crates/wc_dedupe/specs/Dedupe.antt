@@ -1,7 +1,6 @@
 -- What dedupe makes of a module's bytes, and why it refuses them.
 use Rattle.std.specs.Prelude.{◌≡◌, ◌≢◌, ℕ, List, [], ◌⊎◌, Any, Option, None, Some}
 use Rattle.wc_read.specs.Sections.{IsComponent}
-use Rattle.wc_read.specs.declared.fault.ReadFault.{ReadFault}
 use Rattle.wc_read.specs.declared.fault.ReadFault.TheVariants.{Memory as read_memory}
 use Rattle.wc_dedupe.specs.Renaming.{RenameValue, Renamed, sources, renames_of}
 use Rattle.wc_dedupe.specs.Parts.{PartValue, SpellsParts, imports_of, AreKept, module_text, IsTooLarge}

@@ -1,7 +1,8 @@
 -- Laws of the renaming.
-use Rattle.std.specs.Prelude.{◌≡◌, ◌↔◌, List, [], ◌∷◌}
-use Rattle.std.specs.List.{Contains}
-use Rattle.wc_dedupe.specs.Renaming.{ImportName, Renamed}
+use Rattle.std.specs.Prelude.{◌≡◌, ◌↔◌, cond, List, [], ◌∷◌, Some, None}
+use Rattle.std.specs.List.{Contains, AllZip}
+use Rattle.std.specs.Str.{bytes_eq}
+use Rattle.wc_dedupe.specs.Renaming.{ImportName, Renamed, renames_of, source_in}
 
 -- no two of the names are equal
 abbrev pub IsApart : List ImportName → Type 0
@@ -16,3 +17,8 @@ NamesDetermined = (sources names others : List ImportName) → Renamed [] source
 
 abbrev pub NamesKept : Type 0
 NamesKept = (sources names : List ImportName) → Renamed [] sources names → (names ≡ sources) ↔ IsApart sources
+
+-- by each name the list of renames has the source, where the two differ, and nothing else
+abbrev pub NamesTell : Type 0
+NamesTell = (sources names : List ImportName) → Renamed [] sources names
+    → AllZip (λ (s : ImportName) (n : ImportName). source_in (renames_of sources names) n.module_name n.name ≡ cond (bytes_eq s.name n.name) None (Some s.name)) sources names

@@ -1,5 +1,5 @@
 -- A module as the renaming sees it: import sections read, all other sections as they stand.
-use Rattle.std.specs.Prelude.{◌≡◌, ◌≢◌, ℕ, ◌^◌, ◌≤◌, List, [], ◌∷◌, ◌++◌, length, map, take, drop, Option}
+use Rattle.std.specs.Prelude.{◌≡◌, ◌≢◌, ℕ, ◌^◌, ◌≤◌, List, [], ◌∷◌, ◌++◌, length, take, drop, Option}
 use Rattle.std.specs.List.{flat_map}
 use Rattle.wc_read.specs.Formats.{Format}
 use Rattle.wc_read.specs.Imports.{ImportValue, import_values, SpellsImports}

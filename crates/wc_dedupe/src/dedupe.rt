@@ -5,14 +5,12 @@ ghost use Rattle.std.specs.Cow.{cow_slice_items};
 ghost use Rattle.wc_read.specs.Sections.{IsComponent};
 ghost use Rattle.wc_dedupe.specs.Dedupe.{IsDeduped, IsCause, renames_in};
 
-use std::alloc::Global;
-use std::borrow::CowSlice;
-
-use wc_read::ReadFault;
-
 use crate::fault::DedupeFault;
 use crate::parts::{all_imports, parts, write_parts};
 use crate::renaming::{ModuleImportMap, rename_all};
+use std::alloc::Global;
+use std::borrow::CowSlice;
+use wc_read::ReadFault;
 
 impl ModuleImportMap {
     /// Gives each repeated import of a module a name of its own: of the imports with one module and one name

@@ -1,6 +1,6 @@
 //! Laws of the renaming.
 
-ghost use Rattle.wc_dedupe.specs.Laws.{NamesApart, NamesDetermined, NamesKept};
+ghost use Rattle.wc_dedupe.specs.Laws.{NamesApart, NamesDetermined, NamesKept, NamesTell};
 
 /// No two names of a renaming are equal.
 pub fn names_apart()
@@ -15,4 +15,9 @@ pub fn names_determined()
 /// The names are the sources exactly where no two sources are equal.
 pub fn names_kept()
     ensures { NamesKept }
+{}
+
+/// By its name a renamed import is told from which source it came.
+pub fn names_tell()
+    ensures { NamesTell }
 {}

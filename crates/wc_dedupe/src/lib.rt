@@ -5,6 +5,8 @@ mod by_module;
 mod dedupe;
 mod fault;
 pub mod laws;
+#[cfg(test)]
+mod module_tests;
 mod parts;
 mod renaming;
 #[cfg(test)]

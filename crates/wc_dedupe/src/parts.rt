@@ -6,12 +6,10 @@ ghost use Rattle.wc_read.specs.Sections.{section_value, IsComponent};
 ghost use Rattle.wc_dedupe.specs.Renames.{rename_value};
 ghost use Rattle.wc_dedupe.specs.Parts.{PartValue, part_value, SpellsPart, AreSpelled, SpellsParts, imports_in, imports_of, part_at, parts_at, part_text, module_text, import_count, IsTooLarge};
 
+use crate::renaming::{Rename, renamed_imports};
 use std::alloc::{AllocError, Global};
-
 use wc_read::{Import, ReadFault, Section, frames, laws, read_imports};
 use wc_write::{WriteFault, append_import_section, append_raw_section};
-
-use crate::renaming::{Rename, renamed_imports};
 
 /// The id of an import section.
 const IMPORT_SECTION: u8 = 2;

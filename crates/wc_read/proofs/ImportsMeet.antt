@@ -1,5 +1,5 @@
 -- Imports are read as they are spelled.
-use Rattle.std.proofs.Common.{◌≡◌, ℕ, List, [], ◌∷◌, ◌++◌, Bool, true, false, Option, Some, None, refl, sym, ◌∙◌, ap, arith}
+use Rattle.std.proofs.Common.{◌≡◌, ℕ, List, [], ◌∷◌, ◌++◌, None, refl, ◌∙◌, ap, arith}
 use Rattle.std.specs.Prelude.{◌==◌, if◌then◌else◌}
 use Rattle.wc_read.specs.Formats.{Format, SpellsNumber, SpellsName, Joined}
 use Rattle.wc_read.specs.Types.{SpellsGlobal}

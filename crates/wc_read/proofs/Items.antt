@@ -1,5 +1,5 @@
 -- The loop that reads so many items.
-use Rattle.std.proofs.Common.{◌≡◌, ℕ, zero, suc, ◌+◌, ◌-◌, ◌<◌, List, [], ◌∷◌, ◌++◌, Option, Some, None, refl, sym, ◌∙◌, ap, append_assoc, append-nil}
+use Rattle.std.proofs.Common.{◌≡◌, ℕ, suc, List, [], ◌∷◌, ◌++◌, Option, Some, None, refl, ◌∙◌, ap, append_assoc, append-nil}
 use Rattle.wc_read.specs.Reading.{Read, items_at, vector_at, number_at, ◌>>=◌}
 use Rattle.wc_read.proofs.Options.{bind_none, bind_some}
 

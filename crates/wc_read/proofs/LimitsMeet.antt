@@ -1,9 +1,9 @@
 -- Limits, table types and memory types are read as they are spelled.
-use Rattle.std.proofs.Common.{◌≡◌, ℕ, zero, suc, ◌*◌, ◌^◌, ◌<◌, ◌≤◌, List, [], ◌∷◌, ◌++◌, Bool, true, false, Option, Some, None, refl, sym, ◌∙◌, ap, subst, arith, inl, inr, ◌⊎◌, ltb-true, lt-ltb, eqb-true, append_assoc}
-use Rattle.std.specs.Prelude.{◌==◌, nat_lt, nat_le, not, ◌&&◌, ◌||◌, if◌then◌else◌, is_some, unwrap_or, IfSome, IsSome, IsTrue}
+use Rattle.std.proofs.Common.{◌≡◌, ℕ, zero, suc, ◌*◌, ◌^◌, ◌<◌, ◌≤◌, List, [], ◌∷◌, ◌++◌, Bool, true, false, Option, Some, None, refl, sym, ◌∙◌, ap, arith, inl, inr, ◌⊎◌, ltb-true, eqb-true}
+use Rattle.std.specs.Prelude.{◌==◌, nat_lt, nat_le, not, ◌&&◌, ◌||◌, is_some, IfSome}
 use Rattle.std.specs.Option.{option_map_or}
 use Rattle.std.proofs.lemmas.Bool.{cases_lt, leb-true, le-leb, false≢true}
-use Rattle.wc_read.specs.Formats.{Format, SpellsNumber, SpellsOptional, Joined}
+use Rattle.wc_read.specs.Formats.{Format, SpellsNumber, Joined}
 use Rattle.wc_read.specs.Types.{val_type_code, SpellsValType, IsReference}
 use Rattle.wc_read.specs.Limits.{flags_code, bound_bits, SpellsBounds, AreOrdered, table_flags, SpellsTable, memory_flags, FitsIn32, IsMemory, SpellsMemory}
 use Rattle.wc_read.specs.Reading.{byte_at, number_at, where_at, optional_at, val_type_at, is_reference, flags_of, flags_at, is_within, bounds_at, table_at, is_page_size, most_pages, fits_addresses, memory_at, ◌>>=◌}

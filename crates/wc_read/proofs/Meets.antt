@@ -1,15 +1,14 @@
 -- A relation of bytes and value, and a reading function that meets it: what is read is spelled in front, and what is
 -- spelled is read, whatever stands behind it. One lemma for each way to put formats together.
-use Rattle.std.proofs.Common.{◌≡◌, ℕ, zero, suc, ◌+◌, ◌-◌, ◌*◌, ◌^◌, ◌<◌, ◌≤◌, List, [], ◌∷◌, ◌++◌, length, take, drop, Bool, true, false, Option, Some, None, refl, sym, ◌∙◌, ap, append_assoc, append-nil, arith, inl, inr, subst, eqb-true, eq-eqb}
+use Rattle.std.proofs.Common.{◌≡◌, ℕ, zero, suc, ◌+◌, ◌-◌, ◌*◌, ◌^◌, List, [], ◌∷◌, ◌++◌, length, take, drop, Bool, true, false, Option, Some, None, refl, sym, ◌∙◌, ap, append_assoc, append-nil, arith, inl, inr, subst, eqb-true, eq-eqb}
 use Rattle.std.specs.Prelude.{nat_le, ◌==◌, is_some, if◌then◌else◌}
 use Rattle.std.proofs.lemmas.Bool.{cases_lt, false≢true, leb-true, le-leb}
 use Rattle.std.proofs.lemmas.List.{take-append-drop, length-take-le}
 use Rattle.std.proofs.Math.Seq.{take-append_seam, drop-append_seam}
-use Rattle.std.proofs.lemmas.Bool.Decides.{nat_tests}
 use Rattle.std.proofs.Math.ListN.{length-append}
 use Rattle.wc_read.specs.Formats.{Format, SpellsNumber, last, more, Joined, SpellsOptional, SpellsItems, SpellsVector}
 use Rattle.wc_read.specs.Reading.{Read, ◌>>=◌, byte_at, bytes_at, where_at, coded_at, optional_at, number_at, items_at, vector_at}
-use Rattle.wc_read.proofs.Options.{some_same, some_none, some_pair, bind_none, bind_some}
+use Rattle.wc_read.proofs.Options.{some_same, some_none, some_pair, bind_some}
 use Rattle.wc_read.proofs.Numbers.{number_last, number_high, number_more, number_long, number_empty}
 
 pub record Meets {A : Type 0} (Spells : Format A) (read : Read A) : Type 0 where

@@ -1,5 +1,5 @@
 -- Sections are cut as they are spelled.
-use Rattle.std.proofs.Common.{◌≡◌, ℕ, List, [], ◌∷◌, ◌++◌, length, refl, ap, ◌∙◌, sym, subst}
+use Rattle.std.proofs.Common.{◌≡◌, ℕ, List, [], ◌∷◌, ◌++◌, length, refl, ◌∙◌, sym, subst}
 use Rattle.std.proofs.lemmas.List.{append_cancel_left}
 use Rattle.wc_read.proofs.ToEnd.{items_are_one}
 use Rattle.wc_read.specs.Formats.{Format, SpellsNumber, SpellsItems, Joined}

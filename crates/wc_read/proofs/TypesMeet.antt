@@ -3,7 +3,7 @@ use Rattle.std.proofs.Common.{◌≡◌, ℕ, List, [], ◌∷◌, ◌++◌, len
 use Rattle.std.specs.Prelude.{◌==◌, if◌then◌else◌}
 use Rattle.std.specs.Str.{is_utf8}
 use Rattle.std.proofs.lemmas.Str.{is_utf8-from_IsUtf8, IsUtf8-from_is_utf8}
-use Rattle.wc_read.specs.Formats.{Format, SpellsNumber, SpellsName, Joined}
+use Rattle.wc_read.specs.Formats.{SpellsNumber, SpellsName, Joined}
 use Rattle.wc_read.specs.Types.{val_type_code, SpellsValType, mutable_code, SpellsGlobal}
 use Rattle.wc_read.specs.Reading.{number_at, bytes_at, where_at, name_at, val_type_of, val_type_at, mutable_of, mutable_at, global_at, ◌>>=◌}
 use Rattle.wc_read.specs.declared.types.ValType.{ValType}

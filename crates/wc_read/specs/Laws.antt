@@ -1,8 +1,8 @@
 -- What holds of the formats as such.
 use Rattle.std.specs.Prelude.{◌≡◌, ℕ, List, ◌++◌}
 use Rattle.wc_read.specs.Formats.{Format, SpellsNumber}
-use Rattle.wc_read.specs.Imports.{ImportValue, SpellsImport, SpellsImports}
-use Rattle.wc_read.specs.Sections.{SectionValue, SpellsSection, SpellsFrames}
+use Rattle.wc_read.specs.Imports.{SpellsImport, SpellsImports}
+use Rattle.wc_read.specs.Sections.{SpellsSection, SpellsFrames}
 
 abbrev pub AreOne : {A : Type 0} → Format A → Type 0
 AreOne {A} Spells = (bytes : List ℕ) (x y : A) → Spells bytes x → Spells bytes y → x ≡ y

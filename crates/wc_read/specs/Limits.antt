@@ -1,8 +1,8 @@
 -- Limits, and the types of tables and memories (WebAssembly core specification, 2.3.7 to 2.3.9 and 5.3.7 to 5.3.9; with
 -- the proposals memory64, threads and custom page sizes).
-use Rattle.std.specs.Prelude.{◌≡◌, ℕ, ◌+◌, ◌*◌, ◌^◌, ◌≤◌, List, [], ◌∷◌, ◌++◌, Bool, true, false, ◌⊎◌, Option, Some, None, is_some, IsSome, IfSome, IsTrue, unwrap_or, if◌then◌else◌}
-use Rattle.wc_read.specs.Formats.{Format, SpellsNumber, SpellsOptional}
-use Rattle.wc_read.specs.Types.{SpellsValType, IsReference, val_type_code}
+use Rattle.std.specs.Prelude.{◌≡◌, ℕ, ◌+◌, ◌*◌, ◌^◌, ◌≤◌, List, ◌∷◌, ◌++◌, Bool, false, ◌⊎◌, Option, is_some, IsSome, IfSome, IsTrue, unwrap_or, if◌then◌else◌}
+use Rattle.wc_read.specs.Formats.{SpellsNumber, SpellsOptional}
+use Rattle.wc_read.specs.Types.{IsReference, val_type_code}
 use Rattle.wc_read.specs.declared.limits.Flags.{Flags}
 use Rattle.wc_read.specs.declared.types.TableType.{TableType}
 use Rattle.wc_read.specs.declared.types.MemoryType.{MemoryType}

@@ -1,10 +1,8 @@
-use Rattle.std.proofs.Common.{◌≡◌, ◌∙◌, sym, ap, map, Err}
+use Rattle.std.proofs.Common.{◌∙◌, ap, map, Err}
 use Rattle.std.proofs.lemmas.Result.{err_from_is_err_and}
-use Rattle.wc_read.specs.Imports.{import_values}
-use Rattle.wc_dedupe.specs.Parts.{part_value, imports_of, parts_at}
+use Rattle.wc_dedupe.specs.Parts.{part_value, imports_of}
 use Rattle.wc_dedupe.specs.Renames.{rename_value}
 use Rattle.wc_dedupe.proofs.Deduping.{same_bytes, other_bytes, too_large, cause_of_read, cause_of_write, some_of, none_of, no_component}
-use Rattle.wc_dedupe.proofs.Writing.{err_of}
 use Rattle.wc_dedupe.proofs.dedupe.deduped.Goals as goal
 
 pub returns-in_default : goal.returns-in_default
@@ -29,12 +27,14 @@ returns-in_err-written-clause-refused c =
     let same = c.in_ok-imports.ensures ∙ ap (λ ps. imports_of (map part_value ps)) c.deref.ensures.value in
     let some = some_of rename_value _ _ c.renames-renames.ensures c.if-is_empty.ensures in
     rw (p.1, p.2) (cause_of_write _ _ (λ large.
-      too_large _ _ _ _ _ c.in-Ok.ensures.found same (rw c.deref-2.ensures.value at c.in_ok-renaming.ensures) some
-        (rw (c.renames-renames.ensures, c.deref-3.ensures.value, c.deref-4.ensures.value) at (c.in_err-written.ensures.too_large (ap Err large)))))
+    too_large _ _ _ _ _ c.in-Ok.ensures.found same (rw c.deref-2.ensures.value at c.in_ok-renaming.ensures) some
+    (rw (c.renames-renames.ensures, c.deref-3.ensures.value, c.deref-4.ensures.value) at (c.in_err-written.ensures.too_large (ap Err large)))))
 
 pub returns-clause-renamed : goal.returns-clause-renamed
 returns-clause-renamed c =
     let same = c.in_ok-imports.ensures ∙ ap (λ ps. imports_of (map part_value ps)) c.deref.ensures.value in
-    let some = some_of rename_value _ _ c.renames-renames.ensures c.if-is_empty.ensures in
-    (some, other_bytes _ _ _ _ _ _ c.in-Ok.ensures.found same (rw c.deref-2.ensures.value at c.in_ok-renaming.ensures) some
-      (rw (c.renames-renames.ensures, c.deref-3.ensures.value, c.deref-4.ensures.value) at c.in_ok-written.ensures.written))
+    let some = some_of rename_value _ _ c.renames-renames.ensures c.if-is_empty.ensures in (
+      some,
+      other_bytes _ _ _ _ _ _ c.in-Ok.ensures.found same (rw c.deref-2.ensures.value at c.in_ok-renaming.ensures) some
+          (rw (c.renames-renames.ensures, c.deref-3.ensures.value, c.deref-4.ensures.value) at c.in_ok-written.ensures.written),
+    )

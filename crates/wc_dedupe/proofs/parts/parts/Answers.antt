@@ -1,4 +1,4 @@
-use Rattle.std.proofs.Common.{◌≡◌, List, subst, sym}
+use Rattle.std.proofs.Common.{List, subst}
 use Rattle.std.proofs.lemmas.Result.{err_from_is_err_and}
 use Rattle.wc_read.specs.Sections.{SectionValue}
 use Rattle.wc_dedupe.specs.Parts.{AreSpelled}
@@ -13,5 +13,5 @@ pub returns-in_err-parts-clause-refused : goal.returns-in_err-parts-clause-refus
 returns-in_err-parts-clause-refused c =
     let p = err_from_is_err_and c.from_residual-in_err-parts.result c.from_residual-in_err-parts.ensures.1 in
     rw (p.1, p.2) (λ real v s.
-      let same = c.frames_are_one.ensures c.args.bytes.now _ _ s.1 c.in_ok-frames.ensures.found in
-      c.in_err-parts.ensures.refused real v (rw c.deref.ensures.value (subst (λ (ss : List SectionValue). AreSpelled ss v) same s.2)))
+    let same = c.frames_are_one.ensures c.args.bytes.now _ _ s.1 c.in_ok-frames.ensures.found in
+    c.in_err-parts.ensures.refused real v (rw c.deref.ensures.value (subst (λ (ss : List SectionValue). AreSpelled ss v) same s.2)))

@@ -1,8 +1,7 @@
-use Rattle.std.proofs.Common.{◌≡◌, map, drop, ap, ◌∙◌, sym, ◌∷◌, length, ◌≤◌, take, arith}
 use Rattle.std.proofs.lemmas.List.{drop_all}
 use Rattle.std.proofs.lemmas.Result.{err_from_is_err_and}
-use Rattle.wc_dedupe.specs.Parts.{part_value, import_count}
-use Rattle.wc_dedupe.proofs.Writing.{AreWritten, written_start, written_room, written_more, written_end, written_too_large, behind_cut, count_is, err_of}
+use Rattle.wc_dedupe.specs.Parts.{part_value}
+use Rattle.wc_dedupe.proofs.Writing.{written_start, written_room, written_more, written_end, written_too_large, behind_cut, count_is, err_of}
 use Rattle.wc_dedupe.proofs.parts.write_parts.Goals as goal
 
 pub loop-part-init : goal.loop-part-init

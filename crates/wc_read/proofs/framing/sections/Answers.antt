@@ -1,8 +1,7 @@
-use Rattle.std.proofs.Common.{map}
 use Rattle.std.proofs.lemmas.List.{map-append}
 use Rattle.std.proofs.lemmas.Result.{err_from_is_err_and}
 use Rattle.wc_read.specs.Reading.{section_at}
-use Rattle.wc_read.specs.Sections.{section_value, SpellsSection}
+use Rattle.wc_read.specs.Sections.{SpellsSection}
 use Rattle.wc_read.proofs.SectionsMeet.{section_meets, section_some}
 use Rattle.wc_read.proofs.ToEnd.{to_end, to_more, to_fails, to_shorter}
 use Rattle.wc_read.proofs.framing.sections.Goals as goal
