@@ -1,12 +1,12 @@
 -- A module's parts under the names of a renaming.
 use Rattle.std.proofs.Common.{◌≡◌, ℕ, ◌+◌, List, [], ◌∷◌, ◌++◌, length, map, take, drop, Option, Result, Err, refl, sym, ◌∙◌, ap, subst, arith, inl, inr, true, false, eqb-true}
-use Rattle.std.specs.Prelude.{◌≢◌, ◌==◌, Any}
+use Rattle.std.specs.Prelude.{◌≢◌, ◌==◌, All, Any}
 use Rattle.std.proofs.lemmas.Bool.{false≢true}
 use Rattle.std.proofs.Math.ListN.{length-append}
 use Rattle.std.proofs.lemmas.List.{length-drop, length-take-le}
 use Rattle.wc_read.specs.Imports.{ImportValue}
 use Rattle.wc_dedupe.specs.Renaming.{RenameValue, IsRenaming, sources, names_at, import_at, imports_at}
-use Rattle.wc_dedupe.specs.Parts.{PartValue, import_section, other_section, SpellsParts, imports_in, imports_of, AreUnderNames, IsKept, AreKept, part_at, parts_at, import_count, module_text, IsTooLarge}
+use Rattle.wc_dedupe.specs.Parts.{PartValue, import_section, other_section, SpellsParts, imports_in, imports_of, AreUnderNames, IsKept, AreKept, part_at, parts_at, import_count, module_text, Fits, IsTooLarge}
 use Rattle.wc_dedupe.proofs.Names.{sources-imports_at}
 use Rattle.wc_dedupe.specs.Dedupe.{IsRenamedModule, IsDeduped, IsCause}
 use Rattle.wc_dedupe.specs.Faults.{of_read, of_write}
@@ -78,9 +78,9 @@ same_bytes bytes parts imports places rs spelled same r none =
     let module_of : IsRenamedModule bytes (parts_at rs parts places) rs = renamed_module bytes parts imports places rs spelled same r in
     inr (parts_at rs parts places, subst (λ (renames : List RenameValue). IsRenamedModule bytes (parts_at rs parts places) renames) none module_of, inl (refl, refl))
 
-pub other_bytes : (bytes out : List ℕ) (parts : List PartValue) (imports : List ImportValue) (places : List (Option ℕ)) (rs : List RenameValue) → SpellsParts bytes parts → imports ≡ imports_of parts → IsRenaming imports places rs → rs ≢ [] → out ≡ module_text (parts_at rs parts places) → IsDeduped bytes out rs
-other_bytes bytes out parts imports places rs spelled same r some text =
-    inr (parts_at rs parts places, renamed_module bytes parts imports places rs spelled same r, inr (some, text))
+pub other_bytes : (bytes out : List ℕ) (parts : List PartValue) (imports : List ImportValue) (places : List (Option ℕ)) (rs : List RenameValue) → SpellsParts bytes parts → imports ≡ imports_of parts → IsRenaming imports places rs → rs ≢ [] → out ≡ module_text (parts_at rs parts places) → All Fits (parts_at rs parts places) → IsDeduped bytes out rs
+other_bytes bytes out parts imports places rs spelled same r some text fits =
+    inr (parts_at rs parts places, renamed_module bytes parts imports places rs spelled same r, inr (some, text, fits))
 
 pub too_large : (bytes : List ℕ) (parts : List PartValue) (imports : List ImportValue) (places : List (Option ℕ)) (rs : List RenameValue) → SpellsParts bytes parts → imports ≡ imports_of parts → IsRenaming imports places rs → rs ≢ [] → Any IsTooLarge (parts_at rs parts places) → IsCause bytes TooLarge
 too_large bytes parts imports places rs spelled same r some large =

@@ -1,9 +1,9 @@
 -- What dedupe makes of a module's bytes, and why it refuses them.
-use Rattle.std.specs.Prelude.{◌≡◌, ◌≢◌, ℕ, List, [], ◌⊎◌, Any, Option, None, Some}
+use Rattle.std.specs.Prelude.{◌≡◌, ◌≢◌, ℕ, List, [], ◌⊎◌, All, Any, Option, None, Some}
 use Rattle.wc_read.specs.Sections.{IsComponent}
 use Rattle.wc_read.specs.declared.fault.ReadFault.TheVariants.{Memory as read_memory}
 use Rattle.wc_dedupe.specs.Renaming.{RenameValue, Renamed, sources, renames_of}
-use Rattle.wc_dedupe.specs.Parts.{PartValue, SpellsParts, imports_of, AreKept, module_text, IsTooLarge}
+use Rattle.wc_dedupe.specs.Parts.{PartValue, SpellsParts, imports_of, AreKept, module_text, Fits, IsTooLarge}
 use Rattle.wc_dedupe.specs.declared.fault.DedupeFault.{DedupeFault}
 use Rattle.wc_dedupe.specs.declared.fault.DedupeFault.TheVariants.{Memory, Read, TooLarge}
 
@@ -15,11 +15,12 @@ pub record IsRenamedModule (bytes : List ℕ) (renamed : List PartValue) (rename
   pub named : Renamed [] (sources (imports_of parts)) (sources (imports_of renamed))
   pub listed : renames ≡ renames_of (sources (imports_of parts)) (sources (imports_of renamed))
 
--- the bytes as they were where they are a component's or no name repeats, else the text of the renamed module
+-- the bytes as they were where they are a component's or no name repeats, else the text of the renamed module, whose
+-- sizes the format can hold
 abbrev pub IsDeduped : List ℕ → List ℕ → List RenameValue → Type 0
 IsDeduped bytes out renames =
     (IsComponent bytes × (out ≡ bytes) × (renames ≡ []))
-    ⊎ ((renamed : List PartValue) × IsRenamedModule bytes renamed renames × (((renames ≡ []) × (out ≡ bytes)) ⊎ ((renames ≢ []) × (out ≡ module_text renamed))))
+    ⊎ ((renamed : List PartValue) × IsRenamedModule bytes renamed renames × (((renames ≡ []) × (out ≡ bytes)) ⊎ ((renames ≢ []) × (out ≡ module_text renamed) × All Fits renamed)))
 
 -- what stands in the bytes where a fault is named: they are no component's and spell no module with imports, or a size of
 -- the renamed module's text passes 2^32 - 1

@@ -1,5 +1,5 @@
 -- A module as the renaming sees it: import sections read, all other sections as they stand.
-use Rattle.std.specs.Prelude.{◌≡◌, ◌≢◌, ℕ, ◌^◌, ◌≤◌, List, [], ◌∷◌, ◌++◌, length, take, drop, Option}
+use Rattle.std.specs.Prelude.{◌≡◌, ◌≢◌, ℕ, ◌^◌, ◌<◌, ◌≤◌, List, [], ◌∷◌, ◌++◌, length, take, drop, Option}
 use Rattle.std.specs.List.{flat_map}
 use Rattle.wc_read.specs.Formats.{Format}
 use Rattle.wc_read.specs.Imports.{ImportValue, import_values, SpellsImports}
@@ -57,7 +57,10 @@ part_text p = section_text (part_id p) (content_text p)
 abbrev pub module_text : List PartValue → List ℕ
 module_text ps = module_header ++ flat_map part_text ps
 
--- a size that the format cannot hold
+-- a size that the format can hold, and one that it cannot
+abbrev pub Fits : PartValue → Type 0
+Fits p = length (content_text p) < 2 ^ 32
+
 abbrev pub IsTooLarge : PartValue → Type 0
 IsTooLarge p = 2 ^ 32 ≤ length (content_text p)
 

@@ -1,10 +1,10 @@
 //! A module as the renaming sees it: import sections read, all other sections as they stand.
 
-ghost use Rattle.std.specs.Prelude.{◌≡◌, ◌≢◌, ◌↔◌, ◌++◌, ◌≤◌, ◌^◌, length, List, map, IfOk, IfErr, OnOk, IsErrOf, Any};
+ghost use Rattle.std.specs.Prelude.{◌≡◌, ◌≢◌, ◌↔◌, ◌++◌, ◌≤◌, ◌^◌, length, List, map, IfOk, IfErr, OnOk, IsOk, IsErrOf, All, Any};
 ghost use Rattle.wc_read.specs.Imports.{import_values};
 ghost use Rattle.wc_read.specs.Sections.{section_value, IsComponent};
 ghost use Rattle.wc_dedupe.specs.Renames.{rename_value};
-ghost use Rattle.wc_dedupe.specs.Parts.{PartValue, part_value, SpellsPart, AreSpelled, SpellsParts, imports_in, imports_of, part_at, parts_at, part_text, module_text, import_count, IsTooLarge};
+ghost use Rattle.wc_dedupe.specs.Parts.{PartValue, part_value, SpellsPart, AreSpelled, SpellsParts, imports_in, imports_of, part_at, parts_at, part_text, module_text, import_count, Fits, IsTooLarge};
 
 use crate::renaming::{Rename, renamed_imports};
 use std::alloc::{AllocError, Global};
@@ -83,6 +83,7 @@ pub fn write_parts(
 ) -> Result<Vec<u8>, WriteFault>
     requires { length places.now ≡ length (imports_of (map part_value parts.now)) }
     ensures written { IfOk result (λ v. v.items ≡ module_text (parts_at (map rename_value renames.now) (map part_value parts.now) places.now)) }
+    ensures fits { IsOk result → All Fits (parts_at (map rename_value renames.now) (map part_value parts.now) places.now) }
     ensures too_large { IsErrOf result WriteFault.TooLarge → Any IsTooLarge (parts_at (map rename_value renames.now) (map part_value parts.now) places.now) }
 {
     let mut out = Vec::with_capacity(alloc, size)?;
@@ -116,6 +117,7 @@ fn append_part(
 ) -> Result<(), WriteFault>
     requires { length places.now ≡ import_count (part_value part.now) }
     ensures written { OnOk result (out.new.items ≡ out.old.items ++ part_text (part_at (map rename_value renames.now) (part_value part.now) places.now)) }
+    ensures fits { IsOk result → Fits (part_at (map rename_value renames.now) (part_value part.now) places.now) }
     ensures too_large { IsErrOf result WriteFault.TooLarge → IsTooLarge (part_at (map rename_value renames.now) (part_value part.now) places.now) }
 {
     match part {

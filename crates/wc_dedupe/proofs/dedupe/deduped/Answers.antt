@@ -1,4 +1,4 @@
-use Rattle.std.proofs.Common.{◌∙◌, ap, map, Err}
+use Rattle.std.proofs.Common.{refl, ◌∙◌, ap, map, Err}
 use Rattle.std.proofs.lemmas.Result.{err_from_is_err_and}
 use Rattle.wc_dedupe.specs.Parts.{part_value, imports_of}
 use Rattle.wc_dedupe.specs.Renames.{rename_value}
@@ -36,5 +36,6 @@ returns-clause-renamed c =
     let some = some_of rename_value _ _ c.renames-renames.ensures c.if-is_empty.ensures in (
       some,
       other_bytes _ _ _ _ _ _ c.in-Ok.ensures.found same (rw c.deref-2.ensures.value at c.in_ok-renaming.ensures) some
-          (rw (c.renames-renames.ensures, c.deref-3.ensures.value, c.deref-4.ensures.value) at c.in_ok-written.ensures.written),
+          (rw (c.renames-renames.ensures, c.deref-3.ensures.value, c.deref-4.ensures.value) at c.in_ok-written.ensures.written)
+          (rw (c.renames-renames.ensures, c.deref-3.ensures.value, c.deref-4.ensures.value) at (c.in_ok-written.ensures.fits refl)),
     )

@@ -1,7 +1,8 @@
+use Rattle.std.proofs.Common.{refl}
 use Rattle.std.proofs.lemmas.List.{drop_all}
 use Rattle.std.proofs.lemmas.Result.{err_from_is_err_and}
 use Rattle.wc_dedupe.specs.Parts.{part_value}
-use Rattle.wc_dedupe.proofs.Writing.{written_start, written_room, written_more, written_end, written_too_large, behind_cut, count_is, err_of}
+use Rattle.wc_dedupe.proofs.Writing.{written_start, written_room, written_more, written_end, written_fits, written_too_large, behind_cut, count_is, err_of}
 use Rattle.wc_dedupe.proofs.parts.write_parts.Goals as goal
 
 pub loop-part-init : goal.loop-part-init
@@ -24,9 +25,15 @@ pub loop-part-preserved : goal.loop-part-preserved
 loop-part-preserved c =
     let cut = behind_cut _ _ _ c.loop-part-test.true c.part-item.is in
     let count = count_is _ (part_value c.part-item.result) c.imports_in.ensures in
-    rw (c.split_at.ensures.back, count) (written_more _ _ _ _ _ _ _ _ (rw cut at c.loop-part.invariant) (rw (c.split_at.ensures.front, count) at c.in_ok-append_part.ensures.written))
+    rw (c.split_at.ensures.back, count) (written_more _ _ _ _ _ _ _ _ (rw cut at c.loop-part.invariant) (rw (c.split_at.ensures.front, count) at c.in_ok-append_part.ensures.written)
+    (rw (c.split_at.ensures.front, count) at (c.in_ok-append_part.ensures.fits refl)))
 
 pub returns-clause-written : goal.returns-clause-written
 returns-clause-written c =
     let none = drop_all _ _ c.loop-part-test.false in
     written_end _ _ _ _ _ (rw none at c.loop-part.invariant)
+
+pub returns-clause-fits : goal.returns-clause-fits
+returns-clause-fits c =
+    let none = drop_all _ _ c.loop-part-test.false in
+    λ _. written_fits _ _ _ _ _ (rw none at c.loop-part.invariant)

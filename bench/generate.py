@@ -1,0 +1,99 @@
+#!/usr/bin/env python3
+"""Writes the modules that bench/dedupe.sh runs on into a folder (bench/data, if none is given)."""
+
+import os
+import random
+import sys
+
+HEADER = b"\0asm\1\0\0\0"
+MEGABYTE = 1_000_000
+
+
+def number(n):
+    """The shortest spelling of an unsigned number."""
+    made = bytearray()
+    while n >= 128:
+        made.append(n & 127 | 128)
+        n >>= 7
+    made.append(n)
+    return bytes(made)
+
+
+def name(text):
+    """A name: its length in bytes and its UTF-8 bytes."""
+    text = text.encode()
+    return number(len(text)) + text
+
+
+def vector(items):
+    """A count and the items."""
+    return number(len(items)) + b"".join(items)
+
+
+def section(ident, content):
+    """A framed section."""
+    return bytes([ident]) + number(len(content)) + content
+
+
+def function_import(module, field):
+    """The import of a function of type 0."""
+    return name(module) + name(field) + b"\0\0"
+
+
+def types():
+    """The type section with the one type 0, which takes and gives nothing."""
+    return section(1, bytes.fromhex("01600000"))
+
+
+def large(repeats):
+    """A valid module of about 50 MB: 5,000 imports of distinct names in 50 modules, then as many of the
+    first name as `repeats` says, 40,000 functions, a data section, and custom sections between them."""
+    chance = random.Random(1)
+    imports = [function_import(f"host:module-{i % 50}/interface", f"function-{i}") for i in range(5000)]
+    imports += [imports[0]] * repeats
+    bodies = []
+    for _ in range(40000):
+        code = b"\0" + b"".join(bytes([0x41, n, 0x1A]) for n in chance.choices(range(64), k=150)) + b"\x0b"
+        bodies.append(number(len(code)) + code)
+    segments = [b"\0\x41\0\x0b" + number(60000) + chance.randbytes(60000) for _ in range(300)]
+    custom = [section(0, name(f"payload-{i}") + chance.randbytes(70000)) for i in range(200)]
+    parts = [
+        types(),
+        section(2, vector(imports)),
+        section(3, vector([b"\0"] * len(bodies))),
+        section(5, bytes.fromhex("010001")),
+        section(7, vector([name("run") + b"\0" + number(len(imports))])),
+        section(10, vector(bodies)),
+        section(11, vector(segments)),
+    ]
+    made = [HEADER]
+    for at, part in enumerate(parts):
+        made += custom[at::8]
+        made.append(part)
+    return b"".join(made + custom[7::8])
+
+
+def repeated(count):
+    """A module that imports one function `count` times under one name, and holds nothing else."""
+    return HEADER + types() + section(2, vector([function_import("a", "f")] * count))
+
+
+def main():
+    folder = sys.argv[1] if len(sys.argv) > 1 else os.path.join(os.path.dirname(os.path.abspath(__file__)), "data")
+    os.makedirs(folder, exist_ok=True)
+    for file, make, count in (
+        ("no-repeats.wasm", large, 0),
+        ("one-repeat.wasm", large, 1),
+        ("repeats-10000.wasm", repeated, 10_000),
+        ("repeats-100000.wasm", repeated, 100_000),
+    ):
+        made = make(count)
+        path = os.path.join(folder, file)
+        with open(f"{path}.part", "wb") as it:
+            it.write(made)
+        os.replace(f"{path}.part", path)
+        print(f"{file}: {len(made) / MEGABYTE:.2f} MB")
+
+
+if __name__ == "__main__":
+    main()

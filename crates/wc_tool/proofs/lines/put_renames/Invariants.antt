@@ -1,0 +1,11 @@
+use Rattle.std.proofs.Common.{◌≡◌, map, take}
+use Rattle.std.specs.Io.KnownBytes.{Appends}
+use Rattle.wc_dedupe.specs.Renames.{rename_value}
+use Rattle.wc_tool.specs.Lines.{lines_of}
+use Rattle.wc_tool.proofs.lines.put_renames.Given as goal
+
+abbrev pub invariant-loop-rename : goal.invariant-loop-rename
+invariant-loop-rename g l = record {
+  told : Appends (g.S.Sink.told l.fn.out) (g.S.Sink.told l.out) (lines_of (map rename_value (take l.rename-index l.renames)));
+  works : g.S.Sink.is_failed l.out ≡ g.S.Sink.is_failed l.fn.out;
+}

@@ -1,0 +1,52 @@
+//! Why a command is refused.
+
+ghost use Rattle.std.specs.Prelude.{◌≡◌};
+ghost use Rattle.wc_tool.specs.declared.fault.ToolFault.TheVariants.{Memory, Output};
+
+use std::alloc::AllocError;
+use thiserror::Error;
+use wc_dedupe::DedupeFault;
+use wc_write::PutFailed;
+
+/// Why a command could not be executed.
+#[derive(Clone, Copy, Debug, PartialEq, Eq, Error)]
+pub enum ToolFault {
+    /// A growth was refused.
+    #[error("out of memory")]
+    Memory,
+    /// The imports of the module could not be renamed.
+    #[error("Dedupe: {0}")]
+    Dedupe(DedupeFault),
+    /// The lines could not be told.
+    #[error("Output")]
+    Output,
+}
+
+impl From<AllocError> for ToolFault {
+    ghost from_gives = { λ _ e. e ≡ Memory };
+
+    fn from(_e: AllocError) -> ToolFault {
+        ToolFault::Memory
+    }
+}
+
+impl From<DedupeFault> for ToolFault {
+    ghost use Rattle.wc_tool.specs.Faults.{of_dedupe};
+
+    ghost from_gives = { λ f e. e ≡ of_dedupe f };
+
+    fn from(e: DedupeFault) -> ToolFault {
+        match e {
+            DedupeFault::Memory => ToolFault::Memory,
+            _ => ToolFault::Dedupe(e),
+        }
+    }
+}
+
+impl From<PutFailed> for ToolFault {
+    ghost from_gives = { λ _ e. e ≡ Output };
+
+    fn from(_e: PutFailed) -> ToolFault {
+        ToolFault::Output
+    }
+}

@@ -1,0 +1,17 @@
+//! `wctrim`: works on core WebAssembly modules, from the bytes of a file to the bytes of a file.
+#![tactic(auto)]
+
+mod command;
+mod execute;
+mod fault;
+mod lines;
+mod program;
+#[cfg(test)]
+mod tests;
+
+use std::io;
+use std::process::ExitCode;
+
+fn main(rt: HostRuntime) -> io::Result<ExitCode> {
+    program::run(&rt)
+}

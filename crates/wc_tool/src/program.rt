@@ -1,0 +1,89 @@
+//! The program: its words, its files and what it prints.
+
+use crate::command::{Command, Usage, parse};
+use crate::execute::execute;
+use crate::fault::ToolFault;
+use std::fmt::Display;
+use std::io::{self, BufWriter};
+use std::process::ExitCode;
+use std::rt::{Env, Files};
+use std::{env, fs};
+use wc_write::WriterSink;
+
+const USAGE: &str = "usage: wctrim dedupe IN OUT
+       wctrim trim IN OUT [--realloc NAME] [--page 0|16] EXPORT...
+       wctrim scan IN";
+
+/// The status of a program whose words are those of no command.
+const WRONG_WORDS: u8 = 2;
+
+/// Does what the program's words say, and gives the program's status. An error comes only where standard
+/// output takes no bytes.
+pub(crate) fn run<R: Env + Files + Print + AllocGlobal>(rt: &R) -> io::Result<ExitCode> {
+    let words = match words(rt) {
+        Ok(words) => words,
+        Err(e) if e.kind() == io::ErrorKind::OutOfMemory => return failed(rt, ToolFault::Memory),
+        Err(_) => return usage(rt, ExitCode::from(WRONG_WORDS)),
+    };
+    if words.is_empty() {
+        return usage(rt, ExitCode::SUCCESS);
+    }
+    match parse(words.as_slice()) {
+        Ok(command) => run_command(rt, &command),
+        Err(Usage) => usage(rt, ExitCode::from(WRONG_WORDS)),
+    }
+}
+
+/// The program's words, without its name.
+fn words<R: Env + AllocGlobal>(rt: &R) -> io::Result<Vec<String>> {
+    let words = env::args(rt)?.skip(1).collect(rt.alloc())?;
+    Ok(words)
+}
+
+/// Reads the command's input, executes it and writes its output.
+fn run_command<R: Files + Print + AllocGlobal>(
+    rt: &R,
+    command: &Command<'_>,
+) -> io::Result<ExitCode> {
+    let Command::Dedupe { source, target } = *command;
+    let Ok(input) = fs::read(rt, source) else {
+        return failed(rt, format_args!("cannot read {source}"));
+    };
+    let answer = match executed(rt, command, input.as_slice()) {
+        Ok(answer) => answer,
+        Err(fault) => return failed(rt, fault),
+    };
+    if let Some(bytes) = answer
+        && fs::write(rt, target, bytes.as_slice()).is_err()
+    {
+        return failed(rt, format_args!("cannot write {target}"));
+    }
+    Ok(ExitCode::SUCCESS)
+}
+
+/// Executes the command, with its lines on standard output. All of them are written before this returns.
+fn executed<R: Print + AllocGlobal>(
+    rt: &R,
+    command: &Command<'_>,
+    input: &[u8],
+) -> Result<Option<Vec<u8>>, ToolFault> {
+    let Ok(writer) = BufWriter::new(rt.alloc(), io::writer(rt)) else {
+        return Err(ToolFault::Memory);
+    };
+    let mut out = WriterSink::new(writer);
+    let answer = execute(rt.alloc(), command, input, &mut out)?;
+    out.flush()?;
+    Ok(answer)
+}
+
+/// Prints the lines that say how the program is called.
+fn usage<R: Print>(rt: &R, status: ExitCode) -> io::Result<ExitCode> {
+    rt.println(USAGE)?;
+    Ok(status)
+}
+
+/// Prints the line that says why the program failed.
+fn failed<R: Print>(rt: &R, why: impl Display + Drop) -> io::Result<ExitCode> {
+    println!(rt; "wctrim: {why}")?;
+    Ok(ExitCode::FAILURE)
+}
