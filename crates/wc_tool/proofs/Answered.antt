@@ -1,5 +1,5 @@
 -- What was deduped, and the bytes that were told, along equations.
-use Rattle.std.proofs.Common.{◌≡◌, ℕ, List, [], ◌++◌, Option, Some, None, rules}
+use Rattle.std.proofs.Common.{◌≡◌, ℕ, List, [], Option, Some, None, rules}
 use Rattle.std.specs.Io.KnownBytes.{Appends}
 use Rattle.wc_dedupe.specs.Renaming.{RenameValue}
 use Rattle.wc_dedupe.specs.Dedupe.{IsDeduped, renames_in}
