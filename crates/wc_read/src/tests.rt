@@ -1,6 +1,6 @@
 use crate::{
     FuncType, GlobalType, ImportType, MemoryType, ReadFault, Section, TableType, ValType, frames,
-    laws, read_imports,
+    read_imports,
 };
 use std::test::Fail;
 
@@ -234,11 +234,17 @@ fn fault_texts_and_numbers(rt: HostRuntime) -> Result<(), Fail> {
 }
 
 #[test]
-fn laws_run() {
-    laws::numbers_are_one();
-    laws::imports_are_one();
-    laws::frames_are_one();
-    laws::number_begins_no_other();
-    laws::import_begins_no_other();
-    laws::section_begins_no_other();
+fn sections_answer_memory_or_the_sections(rt: HostRuntime) {
+    match frames(rt.alloc(), b"\0asm\x01\0\0\0\x01\x04\x01\x60\0\0") {
+        Ok(found) => assert_eq!(rt; found.sections.len(), 1),
+        Err(fault) => assert_eq!(rt; fault, ReadFault::Memory),
+    }
+}
+
+#[test]
+fn imports_answer_memory_or_the_imports(rt: HostRuntime) {
+    match read_imports(rt.alloc(), b"\x02\x01a\x01f\0\x05\x01a\x01g\0\0") {
+        Ok(imports) => assert_eq!(rt; imports.len(), 2),
+        Err(fault) => assert_eq!(rt; fault, ReadFault::Memory),
+    }
 }

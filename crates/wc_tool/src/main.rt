@@ -9,9 +9,8 @@ mod program;
 #[cfg(test)]
 mod tests;
 
-use std::io;
 use std::process::ExitCode;
 
-fn main(rt: HostRuntime) -> io::Result<ExitCode> {
+fn main(rt: HostRuntime) -> ExitCode {
     program::run(&rt)
 }

@@ -17,9 +17,8 @@ const USAGE: &str = "usage: wctrim dedupe IN OUT
 /// The status of a program whose words are those of no command.
 const WRONG_WORDS: u8 = 2;
 
-/// Does what the program's words say, and gives the program's status. An error comes only where standard
-/// output takes no bytes.
-pub(crate) fn run<R: Env + Files + Print + AllocGlobal>(rt: &R) -> io::Result<ExitCode> {
+/// Does what the program's words say, and gives the program's status.
+pub(crate) fn run<R: Env + Files + Print + AllocGlobal>(rt: &R) -> ExitCode {
     let words = match words(rt) {
         Ok(words) => words,
         Err(e) if e.kind() == io::ErrorKind::OutOfMemory => return failed(rt, ToolFault::Memory),
@@ -41,10 +40,7 @@ fn words<R: Env + AllocGlobal>(rt: &R) -> io::Result<Vec<String>> {
 }
 
 /// Reads the command's input, executes it and writes its output.
-fn run_command<R: Files + Print + AllocGlobal>(
-    rt: &R,
-    command: &Command<'_>,
-) -> io::Result<ExitCode> {
+fn run_command<R: Files + Print + AllocGlobal>(rt: &R, command: &Command<'_>) -> ExitCode {
     let Command::Dedupe { source, target } = *command;
     let Ok(input) = fs::read(rt, source) else {
         return failed(rt, format_args!("cannot read {source}"));
@@ -58,7 +54,7 @@ fn run_command<R: Files + Print + AllocGlobal>(
     {
         return failed(rt, format_args!("cannot write {target}"));
     }
-    Ok(ExitCode::SUCCESS)
+    ExitCode::SUCCESS
 }
 
 /// Executes the command, with its lines on standard output. All of them are written before this returns.
@@ -76,14 +72,16 @@ fn executed<R: Print + AllocGlobal>(
     Ok(answer)
 }
 
-/// Prints the lines that say how the program is called.
-fn usage<R: Print>(rt: &R, status: ExitCode) -> io::Result<ExitCode> {
-    rt.println(USAGE)?;
-    Ok(status)
+/// Prints the lines that say how the program is called. Where that fails, so does the program.
+fn usage<R: Print>(rt: &R, status: ExitCode) -> ExitCode {
+    match rt.println(USAGE) {
+        Ok(()) => status,
+        Err(_) => ExitCode::FAILURE,
+    }
 }
 
-/// Prints the line that says why the program failed.
-fn failed<R: Print>(rt: &R, why: impl Display + Drop) -> io::Result<ExitCode> {
-    println!(rt; "wctrim: {why}")?;
-    Ok(ExitCode::FAILURE)
+/// Prints the line that says why the program failed. Where that fails, the status alone says so.
+fn failed<R: Print>(rt: &R, why: impl Display + Drop) -> ExitCode {
+    let _ = println!(rt; "wctrim: {why}");
+    ExitCode::FAILURE
 }
