@@ -8,3 +8,10 @@ pub mod TypesMeet
 pub mod LimitsMeet
 pub mod ImportsMeet
 pub mod SectionsMeet
+pub mod SignedLoop
+pub mod SignedMeet
+pub mod OperatorsMeet
+pub mod NestingMeets
+pub mod NestingLoop
+pub mod LocalCount
+pub mod BodiesMeet

@@ -104,7 +104,7 @@ bounds_meets wide limited =
     (λ bytes b s. (b.0, s.spelled.initial_bytes, s.spelled.maximum_bytes, s.spelled.cut, s.spelled.has_initial, (b.1, ((s.spelled.has_maximum, s.there), ordered_is_within b.0 b.1 s.ordered), refl)))
 
 -- tables
-reference : (t : ValType) → is_reference t ≡ true → IsReference t
+pub reference : (t : ValType) → is_reference t ≡ true → IsReference t
 reference FuncRef e = inl refl
 reference ExternRef e = inr refl
 reference I32 e = absurd (false≢true e)
@@ -113,7 +113,7 @@ reference F32 e = absurd (false≢true e)
 reference F64 e = absurd (false≢true e)
 reference V128 e = absurd (false≢true e)
 
-reference_back : (t : ValType) → IsReference t → is_reference t ≡ true
+pub reference_back : (t : ValType) → IsReference t → is_reference t ≡ true
 reference_back t (inl e) = rw e refl
 reference_back t (inr e) = rw e refl
 

@@ -62,7 +62,7 @@ same_meets One Other read m to from = record {
 }
 
 -- the step in front and the step behind it
-bind_is : {A B : Type 0} (o : Option A) (f : A → Option B) (y : B) → (o >>= f) ≡ Some y → (x : A) × (o ≡ Some x) × (f x ≡ Some y)
+pub bind_is : {A B : Type 0} (o : Option A) (f : A → Option B) (y : B) → (o >>= f) ≡ Some y → (x : A) × (o ≡ Some x) × (f x ≡ Some y)
 bind_is None f y e = absurd cc
 bind_is (Some x) f y e = (x, refl, e)
 

@@ -68,7 +68,7 @@ two_steps : (value p d : ℕ) (o : Option (ℕ × List ℕ)) → ((o >>= behind 
 two_steps value p d None = refl
 two_steps value p d (Some h) = let e : value + p * (d + 128 * h.0) ≡ value + d * p + p * 128 * h.0 = omega arith in rw e refl
 
-below_more : (value p d : ℕ) → value < p → d < 128 → value + d * p < p * 128
+pub below_more : (value p d : ℕ) → value < p → d < 128 → value + d * p < p * 128
 below_more value p d low small = omega (arith, mul-le-mul_right p (let h : d ≤ 127 = omega arith in h))
 
 pub number_step : (bits value shift b : ℕ) (bytes rest : List ℕ) → IsSoFar bits bytes value shift (b ∷ rest) → 128 ≤ b → b < 256 → 7 < bits - shift → IsSoFar bits bytes (value + (b - 128) * 2 ^ shift) (shift + 7) rest

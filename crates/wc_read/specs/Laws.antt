@@ -3,6 +3,8 @@ use Rattle.std.specs.Prelude.{◌≡◌, ℕ, List, ◌++◌}
 use Rattle.wc_read.specs.Formats.{Format, SpellsNumber}
 use Rattle.wc_read.specs.Imports.{SpellsImport, SpellsImports}
 use Rattle.wc_read.specs.Sections.{SpellsSection, SpellsFrames}
+use Rattle.wc_read.specs.Operators.{SpellsInstr}
+use Rattle.wc_read.specs.Bodies.{SpellsBody}
 
 abbrev pub AreOne : {A : Type 0} → Format A → Type 0
 AreOne {A} Spells = (bytes : List ℕ) (x y : A) → Spells bytes x → Spells bytes y → x ≡ y
@@ -28,3 +30,9 @@ ImportBeginsNoOther = BeginsNoOther SpellsImport
 
 abbrev pub SectionBeginsNoOther : Type 0
 SectionBeginsNoOther = BeginsNoOther SpellsSection
+
+abbrev pub BodiesAreOne : Type 0
+BodiesAreOne = AreOne SpellsBody
+
+abbrev pub OperatorBeginsNoOther : Type 0
+OperatorBeginsNoOther = BeginsNoOther SpellsInstr

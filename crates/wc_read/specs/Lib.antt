@@ -4,4 +4,10 @@ pub mod Types
 pub mod Limits
 pub mod Imports
 pub mod Sections
+pub mod Signed
+pub mod Operators
+pub mod Instructions
+pub mod Refs
+pub mod Nesting
+pub mod Bodies
 pub mod Laws

@@ -1,6 +1,6 @@
 //! Laws of the formats: bytes spell one value at most, and no spelling begins another.
 
-ghost use Rattle.wc_read.specs.Laws.{NumbersAreOne, ImportsAreOne, FramesAreOne, NumberBeginsNoOther, ImportBeginsNoOther, SectionBeginsNoOther};
+ghost use Rattle.wc_read.specs.Laws.{NumbersAreOne, ImportsAreOne, FramesAreOne, NumberBeginsNoOther, ImportBeginsNoOther, SectionBeginsNoOther, BodiesAreOne, OperatorBeginsNoOther};
 
 /// No bytes spell two numbers of one width.
 pub fn numbers_are_one()
@@ -31,4 +31,14 @@ pub fn import_begins_no_other()
 /// No spelling of a section begins another.
 pub fn section_begins_no_other()
     ensures { SectionBeginsNoOther }
+{}
+
+/// No bytes spell two bodies.
+pub fn bodies_are_one()
+    ensures { BodiesAreOne }
+{}
+
+/// No spelling of an operator begins another.
+pub fn operator_begins_no_other()
+    ensures { OperatorBeginsNoOther }
 {}

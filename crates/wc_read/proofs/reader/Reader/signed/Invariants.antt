@@ -1,0 +1,9 @@
+use Rattle.std.proofs.Common.{length}
+use Rattle.wc_read.proofs.SignedLoop.{IsSignedSoFar}
+use Rattle.wc_read.proofs.reader.Reader.signed.Given as goal
+
+abbrev pub invariant-loop-byte : goal.invariant-loop-byte
+invariant-loop-byte l = IsSignedSoFar l.bits l.fn.self.rest.now l.low l.shift l.self.rest.now
+
+abbrev pub decreases-loop-byte : goal.decreases-loop-byte
+decreases-loop-byte l = length l.self.rest.now

@@ -1,0 +1,97 @@
+-- Reading functions of operators, as those of `Reading`.
+use Rattle.std.specs.Prelude.{ℕ, ◌%◌, List, Bool, ◌&&◌, ◌==◌, nat_lt, nat_le, if◌then◌else◌, Option, Some, None, unwrap_or, ℤ, pos, negsuc}
+use Rattle.wc_read.specs.Reading.{Read, ◌>>=◌, byte_at, bytes_at, where_at, optional_at, number_at, vector_at, val_type_at, is_reference}
+use Rattle.wc_read.specs.Signed.{signed_at}
+use Rattle.wc_read.specs.Operators.{form_of, index_of, ImmediatesValue, WithNone, WithBlock, WithIndex, WithIndices, WithLabels, WithValTypes, WithRefType, WithMemArg, WithMemArgLane, WithI32, WithI64, WithBytes, WithLane, InstrValue}
+use Rattle.wc_read.specs.declared.types.ValType.{ValType}
+use Rattle.wc_read.specs.declared.operators.Opcode.{Opcode}
+use Rattle.wc_read.specs.declared.operators.Opcode.TheVariants.{Byte, Misc, Vector, Atomic}
+use Rattle.wc_read.specs.declared.operators.BlockType.{BlockType}
+use Rattle.wc_read.specs.declared.operators.BlockType.TheVariants.{Empty, Value, FuncType}
+use Rattle.wc_read.specs.declared.operators.MemArg.{MemArg}
+use Rattle.wc_read.specs.declared.operators.Form.{Form}
+use Rattle.wc_read.specs.declared.operators.Form.TheVariants.{None as form_none, Block as form_block, Index as form_index, Indices as form_indices, Labels as form_labels, ValTypes as form_val_types, RefType as form_ref_type, MemArg as form_mem_arg, MemArgLane as form_mem_arg_lane, I32 as form_i32, I64 as form_i64, Bytes as form_bytes, Lane as form_lane, Zero as form_zero}
+
+-- a value made of what was read
+abbrev pub as_made : {A B : Type 0} → (A → B) → A × List ℕ → Option (B × List ℕ)
+as_made made x = Some (made x.0, x.1)
+
+-- codes
+
+abbrev pub opcode_behind : ℕ → Read Opcode
+opcode_behind b bytes =
+    if b == 0xfc then number_at 32 bytes >>= as_made Misc
+    else (if b == 0xfd then number_at 32 bytes >>= as_made Vector
+    else (if b == 0xfe then number_at 32 bytes >>= as_made Atomic else Some (Byte b, bytes)))
+
+unfoldable pub opcode_at : Read Opcode
+opcode_at bytes = do
+  b ← byte_at bytes
+  opcode_behind b.0 b.1
+
+-- parts
+
+abbrev pub natural : ℤ → Option ℕ
+natural (pos n) = Some n
+natural (negsuc m) = None
+
+abbrev pub func_type_at : Read BlockType
+func_type_at bytes = signed_at 33 bytes >>= λ z. natural z.0 >>= λ n. Some (FuncType n, z.1)
+
+-- the bytes of value types, and those beside them
+abbrev pub is_value : ℕ → Bool
+is_value b = nat_lt 0x40 b && nat_lt b 0x80
+
+abbrev pub block_type_behind : ℕ → Read BlockType
+block_type_behind b bytes =
+    if b == 0x40 then byte_at bytes >>= as_made (λ _. Empty)
+    else (if is_value b then val_type_at bytes >>= as_made Value else func_type_at bytes)
+
+unfoldable pub block_type_at : Read BlockType
+block_type_at bytes = do
+  b ← byte_at bytes
+  block_type_behind b.0 bytes
+
+abbrev pub are_flags : ℕ → Bool
+are_flags f = nat_lt f 128
+
+unfoldable pub mem_arg_at : Read MemArg
+mem_arg_at bytes = do
+  flags ← where_at are_flags (number_at 32) bytes
+  named ← optional_at (nat_le 64 flags.0) (number_at 32) flags.1
+  offset ← number_at 64 named.1
+  Some (record { align = flags.0 % 64; memory = unwrap_or named.0 0; offset = offset.0 }, offset.1)
+
+abbrev pub ref_type_at : Read ValType
+ref_type_at bytes = where_at is_reference val_type_at bytes
+
+abbrev pub is_zero : ℕ → Bool
+is_zero b = b == 0
+
+-- immediates by their shape
+
+unfoldable pub immediates_at : Form → Read ImmediatesValue
+immediates_at form_none bytes = Some (WithNone, bytes)
+immediates_at form_block bytes = block_type_at bytes >>= as_made WithBlock
+immediates_at (form_index kind) bytes = number_at 32 bytes >>= as_made (λ n. WithIndex (index_of kind n))
+immediates_at (form_indices first second) bytes = number_at 32 bytes >>= λ n. number_at 32 n.1 >>= as_made (λ m. WithIndices (index_of first n.0) (index_of second m))
+immediates_at form_labels bytes = vector_at (number_at 32) bytes >>= λ labels. number_at 32 labels.1 >>= as_made (WithLabels labels.0)
+immediates_at form_val_types bytes = vector_at val_type_at bytes >>= as_made WithValTypes
+immediates_at form_ref_type bytes = ref_type_at bytes >>= as_made WithRefType
+immediates_at form_mem_arg bytes = mem_arg_at bytes >>= as_made WithMemArg
+immediates_at form_mem_arg_lane bytes = mem_arg_at bytes >>= λ m. byte_at m.1 >>= as_made (WithMemArgLane m.0)
+immediates_at form_i32 bytes = signed_at 32 bytes >>= as_made WithI32
+immediates_at form_i64 bytes = signed_at 64 bytes >>= as_made WithI64
+immediates_at (form_bytes n) bytes = bytes_at n bytes >>= as_made WithBytes
+immediates_at form_lane bytes = byte_at bytes >>= as_made WithLane
+immediates_at form_zero bytes = where_at is_zero byte_at bytes >>= as_made (λ _. WithNone)
+
+abbrev pub instr_of : Opcode → ImmediatesValue → InstrValue
+instr_of code v = record { opcode = code; immediates = v }
+
+unfoldable pub instr_at : Read InstrValue
+instr_at bytes = do
+  code ← opcode_at bytes
+  form ← form_of code.0
+  immediates ← immediates_at form code.1
+  Some (instr_of code.0 immediates.0, immediates.1)

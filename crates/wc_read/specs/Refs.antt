@@ -1,0 +1,46 @@
+-- What an operator refers to: the items of the module that it names, in order.
+use Rattle.std.specs.Prelude.{ℕ, Option, Some, None}
+use Rattle.wc_read.specs.Operators.{ImmediatesValue, WithNone, WithBlock, WithIndex, WithIndices, WithLabels, WithValTypes, WithRefType, WithMemArg, WithMemArgLane, WithI32, WithI64, WithBytes, WithLane}
+use Rattle.wc_read.specs.declared.operators.Space.{Space}
+use Rattle.wc_read.specs.declared.operators.Space.TheVariants.{Types, Memories}
+use Rattle.wc_read.specs.declared.operators.IndexKind.{IndexKind}
+use Rattle.wc_read.specs.declared.operators.IndexKind.TheVariants.{In, Elem, Data, Local, Label}
+use Rattle.wc_read.specs.declared.operators.Index.{Index}
+use Rattle.wc_read.specs.declared.operators.BlockType.TheVariants.{Empty, Value, FuncType}
+use Rattle.wc_read.specs.declared.operators.Refs.{Refs}
+
+abbrev pub in_space : IndexKind → ℕ → Option (Space × ℕ)
+in_space (In space) number = Some (space, number)
+in_space Elem number = None
+in_space Data number = None
+in_space Local number = None
+in_space Label number = None
+
+-- the item that an index names, none for a local, a label or a segment
+abbrev pub reference : Index → Option (Space × ℕ)
+reference i = in_space i.kind i.number
+
+abbrev pub one_ref : Option (Space × ℕ) → Refs
+one_ref o = record { first = o; second = None }
+
+-- those that there are, without a gap
+abbrev pub two_refs : Option (Space × ℕ) → Option (Space × ℕ) → Refs
+two_refs None second = one_ref second
+two_refs (Some first) second = record { first = Some first; second = second }
+
+abbrev pub refs_of : ImmediatesValue → Refs
+refs_of (WithBlock (FuncType number)) = one_ref (Some (Types, number))
+refs_of (WithBlock Empty) = one_ref None
+refs_of (WithBlock (Value t)) = one_ref None
+refs_of (WithIndex i) = one_ref (reference i)
+refs_of (WithIndices i j) = two_refs (reference i) (reference j)
+refs_of (WithMemArg m) = one_ref (Some (Memories, m.memory))
+refs_of (WithMemArgLane m lane) = one_ref (Some (Memories, m.memory))
+refs_of WithNone = one_ref None
+refs_of (WithLabels ls d) = one_ref None
+refs_of (WithValTypes ts) = one_ref None
+refs_of (WithRefType t) = one_ref None
+refs_of (WithI32 n) = one_ref None
+refs_of (WithI64 n) = one_ref None
+refs_of (WithBytes bytes) = one_ref None
+refs_of (WithLane lane) = one_ref None

@@ -1,0 +1,98 @@
+//! Bodies of functions.
+
+ghost use Rattle.std.specs.Prelude.{◌≡◌, ◌≢◌, ◌^◌, ℕ, List, map, nat_lt, IfOk, IfErr};
+ghost use Rattle.wc_read.specs.Formats.{SpellsItems};
+ghost use Rattle.wc_read.specs.Reading.{Gives};
+ghost use Rattle.wc_read.specs.Operators.{InstrValue, SpellsInstr, instr_value};
+ghost use Rattle.wc_read.specs.Bodies.{BodyValue, body_value, local_count, locals_at, SpellsBody};
+ghost use Rattle.wc_read.specs.declared.bodies.Locals.{Locals as locals_run};
+
+use crate::fault::ReadFault;
+use crate::nesting::nests;
+use crate::operators::Instr;
+use crate::reader::{Reader, Spelled};
+use crate::types::ValType;
+use std::alloc::Global;
+
+/// A run of locals of one type (WebAssembly core specification, 5.5.13).
+#[derive(Clone, Copy, Debug, PartialEq, Eq)]
+pub struct Locals {
+    pub count: u32,
+    pub ty: ValType,
+}
+
+/// A function's body: its locals in runs, and its operators, the end of the body among them.
+#[derive(Debug, PartialEq, Eq, Drop)]
+pub struct Body<'a> {
+    pub locals: Vec<Locals>,
+    pub operators: Vec<Instr<'a>>,
+}
+
+impl<'a> Spelled<'a> for Locals {
+    ghost Value = { locals_run };
+
+    ghost view = { λ l. l };
+
+    ghost read = { locals_at };
+
+    #[tactic(auto, unfolding(crate::specs::Bodies::locals_at))]
+    fn read_from(reader: &mut Reader<'a>) -> Result<Locals, ReadFault> {
+        let count = reader.u32()?;
+        let ty = reader.val_type()?;
+        Ok(Locals { count, ty })
+    }
+}
+
+/// Reads a function's body (WebAssembly core specification, 5.5.13): runs of locals, and operators to the end
+/// of the bytes.
+///
+/// Locals of 2^32 or more are `TooLarge`, a code that is no operator's `UnknownOperator`. Blocks nest, an
+/// `else` stands at most once in an `if` and nowhere else, and the body's end is its last byte; else
+/// `BadNesting`. Indices, labels and types of operands are not checked.
+pub fn read_body(alloc: Global, slice: &[u8]) -> Result<Body<'_>, ReadFault>
+    // What is read is spelled so, by all of the bytes.
+    ensures found { IfOk result (λ b. SpellsBody slice.now (body_value b)) }
+    // Unless memory runs out, what is spelled is read.
+    ensures refused { IfErr result (λ f. f ≢ ReadFault.Memory → (v : BodyValue) → ¬ (SpellsBody slice.now v)) }
+    ensures no_component { IfErr result (λ f. f ≢ ReadFault.Component) }
+{
+    let mut reader = Reader::new(slice);
+    let locals = reader.vector::<Locals>(alloc)?;
+    if !are_few(&locals) {
+        return Err(ReadFault::TooLarge);
+    }
+    let operators = operators(alloc, reader.rest)?;
+    if !nests(alloc, &operators)? {
+        return Err(ReadFault::BadNesting);
+    }
+    Ok(Body { locals, operators })
+}
+
+/// Whether there are less than 2^32 locals.
+fn are_few(locals: &[Locals]) -> bool
+    ensures { result ≡ nat_lt (local_count locals.now) (2 ^ 32) }
+{
+    let mut total: u32 = 0;
+    for run in locals {
+        match total.checked_add(run.count) {
+            Some(sum) => total = sum,
+            None => return false,
+        }
+    }
+    true
+}
+
+/// Operators to the end of the bytes.
+fn operators(alloc: Global, bytes: &[u8]) -> Result<Vec<Instr<'_>>, ReadFault>
+    ensures found { IfOk result (λ v. SpellsItems SpellsInstr bytes.now (map instr_value v.items)) }
+    ensures refused { IfErr result (λ f. f ≢ ReadFault.Memory → (v : List InstrValue) → ¬ (SpellsItems SpellsInstr bytes.now v)) }
+    ensures no_component { IfErr result (λ f. f ≢ ReadFault.Component) }
+{
+    let mut reader = Reader::new(bytes);
+    let mut operators = Vec::new(alloc);
+    while !reader.rest.is_empty() {
+        let operator = reader.operator(alloc)?;
+        operators.push(operator)?;
+    }
+    Ok(operators)
+}

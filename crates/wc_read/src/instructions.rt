@@ -1,0 +1,175 @@
+//! The reading of operators.
+
+ghost use Rattle.std.specs.Prelude.{◌≡◌, ℕ, ℤ};
+ghost use Rattle.wc_read.specs.Reading.{Gives, number_at, val_type_at, vector_at};
+ghost use Rattle.wc_read.specs.Signed.{signed_at};
+ghost use Rattle.wc_read.specs.Operators.{immediates_value, instr_value};
+ghost use Rattle.wc_read.specs.Instructions.{block_type_at, immediates_at, instr_at, mem_arg_at, opcode_at, ref_type_at};
+ghost use Rattle.wc_read.specs.declared.types.ValType.{ValType as val_type};
+
+use crate::fault::ReadFault;
+use crate::operators::{BlockType, Form, Immediates, Index, Instr, MemArg, Opcode, form_of};
+use crate::reader::{Reader, Spelled};
+use crate::types::ValType;
+use std::alloc::Global;
+
+impl<'a> Spelled<'a> for u32 {
+    ghost Value = { ℕ };
+
+    ghost view = { λ n. n };
+
+    ghost read = { number_at 32 };
+
+    fn read_from(reader: &mut Reader<'a>) -> Result<u32, ReadFault> {
+        reader.u32()
+    }
+}
+
+impl<'a> Spelled<'a> for ValType {
+    ghost Value = { val_type };
+
+    ghost view = { λ t. t };
+
+    ghost read = { val_type_at };
+
+    fn read_from(reader: &mut Reader<'a>) -> Result<ValType, ReadFault> {
+        reader.val_type()
+    }
+}
+
+impl<'a> Reader<'a> {
+    /// An operator, by the operator table.
+    #[tactic(auto, unfolding(crate::specs::Instructions::instr_at))]
+    pub fn operator(&mut self, alloc: Global) -> Result<Instr<'a>, ReadFault>
+        ensures { Gives (λ i. instr_value i) result self.new.rest.now (instr_at self.old.rest.now) }
+    {
+        let opcode = self.opcode()?;
+        let Some(form) = form_of(opcode) else {
+            return Err(ReadFault::UnknownOperator);
+        };
+        let immediates = self.immediates(alloc, form)?;
+        Ok(Instr { opcode, immediates })
+    }
+
+    #[tactic(auto, unfolding(crate::specs::Instructions::opcode_at))]
+    fn opcode(&mut self) -> Result<Opcode, ReadFault>
+        ensures { Gives (λ x. x) result self.new.rest.now (opcode_at self.old.rest.now) }
+    {
+        match self.byte()? {
+            0xfc => Ok(Opcode::Misc(self.u32()?)),
+            0xfd => Ok(Opcode::Vector(self.u32()?)),
+            0xfe => Ok(Opcode::Atomic(self.u32()?)),
+            code => Ok(Opcode::Byte(code)),
+        }
+    }
+
+    #[tactic(auto, unfolding(crate::specs::Instructions::immediates_at))]
+    fn immediates(&mut self, alloc: Global, form: Form) -> Result<Immediates<'a>, ReadFault>
+        ensures { Gives (λ x. immediates_value x) result self.new.rest.now (immediates_at form self.old.rest.now) }
+    {
+        match form {
+            Form::None => Ok(Immediates::None),
+            Form::Block => Ok(Immediates::Block(self.block_type()?)),
+            Form::Index(kind) => {
+                let number = self.u32()?;
+                Ok(Immediates::Index(Index { kind, number }))
+            }
+            Form::Indices(kind, other) => {
+                let first = Index {
+                    kind,
+                    number: self.u32()?,
+                };
+                let second = Index {
+                    kind: other,
+                    number: self.u32()?,
+                };
+                Ok(Immediates::Indices(first, second))
+            }
+            Form::Labels => {
+                let labels = self.labels(alloc)?;
+                Ok(Immediates::Labels(labels, self.u32()?))
+            }
+            Form::ValTypes => Ok(Immediates::ValTypes(self.val_types(alloc)?)),
+            Form::RefType => Ok(Immediates::RefType(self.ref_type()?)),
+            Form::MemArg => Ok(Immediates::MemArg(self.mem_arg()?)),
+            Form::MemArgLane => {
+                let address = self.mem_arg()?;
+                Ok(Immediates::MemArgLane(address, self.byte()?))
+            }
+            Form::I32 => Ok(Immediates::I32(self.i32()?)),
+            Form::I64 => Ok(Immediates::I64(self.signed(64)?)),
+            Form::Bytes(count) => Ok(Immediates::Bytes(self.bytes(count)?)),
+            Form::Lane => Ok(Immediates::Lane(self.byte()?)),
+            Form::Zero => match self.byte()? {
+                0 => Ok(Immediates::None),
+                _ => Err(ReadFault::UnknownOperator),
+            },
+        }
+    }
+
+    fn labels(&mut self, alloc: Global) -> Result<Vec<u32>, ReadFault>
+        ensures { Gives (λ v. v.items) result self.new.rest.now (vector_at (number_at 32) self.old.rest.now) }
+    {
+        self.vector::<u32>(alloc)
+    }
+
+    fn val_types(&mut self, alloc: Global) -> Result<Vec<ValType>, ReadFault>
+        ensures { Gives (λ v. v.items) result self.new.rest.now (vector_at val_type_at self.old.rest.now) }
+    {
+        self.vector::<ValType>(alloc)
+    }
+
+    fn i32(&mut self) -> Result<i32, ReadFault>
+        ensures { Gives (λ x. x) result self.new.rest.now (signed_at 32 self.old.rest.now) }
+    {
+        let number = self.signed(32)?;
+        Ok(number as i32)
+    }
+
+    fn ref_type(&mut self) -> Result<ValType, ReadFault>
+        ensures { Gives (λ x. x) result self.new.rest.now (ref_type_at self.old.rest.now) }
+    {
+        let ty = self.val_type()?;
+        if matches!(ty, ValType::FuncRef | ValType::ExternRef) {
+            Ok(ty)
+        } else {
+            Err(ReadFault::BadType)
+        }
+    }
+
+    #[tactic(auto, unfolding(crate::specs::Instructions::block_type_at))]
+    fn block_type(&mut self) -> Result<BlockType, ReadFault>
+        ensures { Gives (λ x. x) result self.new.rest.now (block_type_at self.old.rest.now) }
+    {
+        let first = Reader::new(self.rest).byte()?;
+        if first == 0x40 {
+            self.byte()?;
+            return Ok(BlockType::Empty);
+        }
+        if 0x40 < first && first < 0x80 {
+            return Ok(BlockType::Value(self.val_type()?));
+        }
+        let index = self.signed(33)?;
+        if index < 0 {
+            return Err(ReadFault::BadNumber);
+        }
+        Ok(BlockType::FuncType(index as u32))
+    }
+
+    #[tactic(auto, unfolding(crate::specs::Instructions::mem_arg_at))]
+    fn mem_arg(&mut self) -> Result<MemArg, ReadFault>
+        ensures { Gives (λ x. x) result self.new.rest.now (mem_arg_at self.old.rest.now) }
+    {
+        let flags = self.u32()?;
+        if flags >= 128 {
+            return Err(ReadFault::BadNumber);
+        }
+        let memory = if flags >= 64 { self.u32()? } else { 0 };
+        let offset = self.number(64)?;
+        Ok(MemArg {
+            align: flags % 64,
+            memory,
+            offset,
+        })
+    }
+}

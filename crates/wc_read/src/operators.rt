@@ -1,0 +1,220 @@
+//! Operators, and the one table that says which immediates each of them has (WebAssembly core specification, 5.4
+//! "Instructions").
+
+ghost use Rattle.std.specs.Prelude.{◌≡◌};
+ghost use Rattle.wc_read.specs.Operators.{byte_form, misc_form, vector_form, atomic_form, form_of};
+
+use crate::types::ValType;
+
+/// An operator's code: one byte, or a number behind a prefix.
+#[derive(Clone, Copy, Debug, PartialEq, Eq)]
+pub enum Opcode {
+    Byte(u8),
+    /// Behind `fc`: saturating conversions, memories and tables in bulk (5.4.7, 5.4.8).
+    Misc(u32),
+    /// Behind `fd`: vectors (5.4.9).
+    Vector(u32),
+    /// Behind `fe`: atomic accesses.
+    Atomic(u32),
+}
+
+/// A space of indices that a module's items have (2.5.1), as far as references go.
+#[derive(Clone, Copy, Debug, PartialEq, Eq)]
+pub enum Space {
+    Types,
+    Funcs,
+    Tables,
+    Memories,
+    Globals,
+}
+
+/// What an index counts: items of a space, segments, or locals and labels of the body (2.5.1).
+#[derive(Clone, Copy, Debug, PartialEq, Eq)]
+pub enum IndexKind {
+    In(Space),
+    Elem,
+    Data,
+    Local,
+    Label,
+}
+
+/// An index that an operator names.
+#[derive(Clone, Copy, Debug, PartialEq, Eq)]
+pub struct Index {
+    pub kind: IndexKind,
+    pub number: u32,
+}
+
+/// A block's type (5.4.1): nothing, one result, or a function type by its index.
+#[derive(Clone, Copy, Debug, PartialEq, Eq)]
+pub enum BlockType {
+    Empty,
+    Value(ValType),
+    FuncType(u32),
+}
+
+/// A memory argument (5.4.7): the exponent of the alignment, the memory, the offset. A memory 0 that is named
+/// and one that is left out are the same.
+#[derive(Clone, Copy, Debug, PartialEq, Eq)]
+pub struct MemArg {
+    pub align: u32,
+    pub memory: u32,
+    pub offset: u64,
+}
+
+/// What stands behind an operator's code.
+#[derive(Debug, PartialEq, Eq, Drop)]
+pub enum Immediates<'a> {
+    None,
+    Block(BlockType),
+    Index(Index),
+    /// Two indices, in the order in which they are spelled.
+    Indices(Index, Index),
+    /// The labels of a `br_table`, and the one for all other numbers.
+    Labels(Vec<u32>, u32),
+    /// The types of a `select`.
+    ValTypes(Vec<ValType>),
+    /// The type of a `ref.null`: `FuncRef` or `ExternRef`.
+    RefType(ValType),
+    MemArg(MemArg),
+    /// An address, and a lane of a vector.
+    MemArgLane(MemArg, u8),
+    I32(i32),
+    I64(i64),
+    /// A constant of four, eight or sixteen bytes, or the sixteen lanes of a shuffle.
+    Bytes(&'a [u8]),
+    Lane(u8),
+}
+
+/// An operator: its code, and what stands behind it.
+#[derive(Debug, PartialEq, Eq, Drop)]
+pub struct Instr<'a> {
+    pub opcode: Opcode,
+    pub immediates: Immediates<'a>,
+}
+
+/// The items of the module that an operator names, in the order in which it names them. Locals, labels and
+/// segments are no such items.
+#[derive(Clone, Copy, Debug, PartialEq, Eq)]
+pub struct Refs {
+    pub first: Option<(Space, u32)>,
+    pub second: Option<(Space, u32)>,
+}
+
+/// The shape of an operator's immediates.
+#[derive(Clone, Copy, Debug, PartialEq, Eq)]
+pub enum Form {
+    None,
+    Block,
+    Index(IndexKind),
+    Indices(IndexKind, IndexKind),
+    Labels,
+    ValTypes,
+    RefType,
+    MemArg,
+    MemArgLane,
+    I32,
+    I64,
+    /// So many bytes.
+    Bytes(usize),
+    Lane,
+    /// One byte 0.
+    Zero,
+}
+
+const TYPE: IndexKind = IndexKind::In(Space::Types);
+
+const FUNC: IndexKind = IndexKind::In(Space::Funcs);
+
+const TABLE: IndexKind = IndexKind::In(Space::Tables);
+
+const MEMORY: IndexKind = IndexKind::In(Space::Memories);
+
+const GLOBAL: IndexKind = IndexKind::In(Space::Globals);
+
+/// The operator table: which immediates stand behind a code, none for a code that is no operator's.
+pub fn form_of(opcode: Opcode) -> Option<Form>
+    ensures { result ≡ form_of opcode }
+{
+    match opcode {
+        Opcode::Byte(code) => byte_form(code),
+        Opcode::Misc(code) => misc_form(code),
+        Opcode::Vector(code) => vector_form(code),
+        Opcode::Atomic(code) => atomic_form(code),
+    }
+}
+
+#[tactic(auto, unfolding(crate::specs::Operators::byte_form))]
+fn byte_form(code: u8) -> Option<Form>
+    ensures { result ≡ byte_form code }
+{
+    match code {
+        0x00 | 0x01 | 0x05 | 0x0b | 0x0f | 0x1a | 0x1b => Some(Form::None),
+        0x02..=0x04 => Some(Form::Block),
+        0x0c | 0x0d => Some(Form::Index(IndexKind::Label)),
+        0x0e => Some(Form::Labels),
+        0x10 | 0x12 | 0xd2 => Some(Form::Index(FUNC)),
+        0x11 | 0x13 => Some(Form::Indices(TYPE, TABLE)),
+        0x1c => Some(Form::ValTypes),
+        0x20..=0x22 => Some(Form::Index(IndexKind::Local)),
+        0x23 | 0x24 => Some(Form::Index(GLOBAL)),
+        0x25 | 0x26 => Some(Form::Index(TABLE)),
+        0x28..=0x3e => Some(Form::MemArg),
+        0x3f | 0x40 => Some(Form::Index(MEMORY)),
+        0x41 => Some(Form::I32),
+        0x42 => Some(Form::I64),
+        0x43 => Some(Form::Bytes(4)),
+        0x44 => Some(Form::Bytes(8)),
+        0x45..=0xc4 | 0xd1 => Some(Form::None),
+        0xd0 => Some(Form::RefType),
+        _ => None,
+    }
+}
+
+#[tactic(auto, unfolding(crate::specs::Operators::misc_form))]
+fn misc_form(code: u32) -> Option<Form>
+    ensures { result ≡ misc_form code }
+{
+    match code {
+        0..=7 => Some(Form::None),
+        8 => Some(Form::Indices(IndexKind::Data, MEMORY)),
+        9 => Some(Form::Index(IndexKind::Data)),
+        10 => Some(Form::Indices(MEMORY, MEMORY)),
+        11 => Some(Form::Index(MEMORY)),
+        12 => Some(Form::Indices(IndexKind::Elem, TABLE)),
+        13 => Some(Form::Index(IndexKind::Elem)),
+        14 => Some(Form::Indices(TABLE, TABLE)),
+        15..=17 => Some(Form::Index(TABLE)),
+        _ => None,
+    }
+}
+
+#[tactic(auto, unfolding(crate::specs::Operators::vector_form))]
+fn vector_form(code: u32) -> Option<Form>
+    ensures { result ≡ vector_form code }
+{
+    match code {
+        0..=11 | 92 | 93 => Some(Form::MemArg),
+        12 | 13 => Some(Form::Bytes(16)),
+        21..=34 => Some(Form::Lane),
+        84..=91 => Some(Form::MemArgLane),
+        _ => {
+            if code <= 0x113 {
+                Some(Form::None)
+            } else {
+                None
+            }
+        }
+    }
+}
+
+#[tactic(auto, unfolding(crate::specs::Operators::atomic_form))]
+fn atomic_form(code: u32) -> Option<Form>
+    ensures { result ≡ atomic_form code }
+{
+    match code {
+        0..=2 | 0x10..=0x4e => Some(Form::MemArg),
+        3 => Some(Form::Zero),
+        _ => None,
+    }
+}

@@ -1,0 +1,51 @@
+//! The references of an operator.
+
+ghost use Rattle.std.specs.Prelude.{◌≡◌};
+ghost use Rattle.wc_read.specs.Operators.{immediates_value};
+ghost use Rattle.wc_read.specs.Refs.{reference, two_refs, refs_of};
+
+use crate::operators::{BlockType, Immediates, Index, IndexKind, Instr, Refs, Space};
+
+/// What an operator refers to.
+pub fn refs(instr: &Instr<'_>) -> Refs
+    ensures { result ≡ refs_of (immediates_value instr.now.immediates) }
+{
+    match &instr.immediates {
+        Immediates::Block(BlockType::FuncType(number)) => one(Some((Space::Types, *number))),
+        Immediates::Index(index) => one(reference(*index)),
+        Immediates::Indices(first, second) => two(*first, *second),
+        Immediates::MemArg(address) => one(Some((Space::Memories, address.memory))),
+        Immediates::MemArgLane(address, _) => one(Some((Space::Memories, address.memory))),
+        _ => one(None),
+    }
+}
+
+fn one(first: Option<(Space, u32)>) -> Refs
+    ensures { result ≡ record { first = first; second = None } }
+{
+    Refs {
+        first,
+        second: None,
+    }
+}
+
+fn two(first: Index, second: Index) -> Refs
+    ensures { result ≡ two_refs (reference first) (reference second) }
+{
+    match reference(first) {
+        None => one(reference(second)),
+        named => Refs {
+            first: named,
+            second: reference(second),
+        },
+    }
+}
+
+fn reference(index: Index) -> Option<(Space, u32)>
+    ensures { result ≡ reference index }
+{
+    match index.kind {
+        IndexKind::In(space) => Some((space, index.number)),
+        _ => None,
+    }
+}
