@@ -1,6 +1,6 @@
 use crate::{
     BlockType, Body, Form, Immediates, Index, IndexKind, Instr, Locals, MemArg, Opcode, ReadFault,
-    Refs, Space, ValType, form_of, laws, read_body, refs,
+    Refs, Space, ValType, form_of, read_body, refs,
 };
 use std::alloc::Global;
 use std::test::Fail;
@@ -236,10 +236,4 @@ fn branch_tables_and_selects(rt: HostRuntime) -> Result<(), Fail> {
         Some(ReadFault::BadType)
     );
     Ok(())
-}
-
-#[test]
-fn laws_of_bodies_run() {
-    laws::bodies_are_one();
-    laws::operator_begins_no_other();
 }
