@@ -100,7 +100,7 @@ made_meets Spells read made m = record {
 abbrev pub Where : {A : Type 0} → Format A → (A → Bool) → Format A
 Where Spells test bytes x = Spells bytes x × (test x ≡ true)
 
-if_is : {A : Type 0} (b : Bool) (x y : A) → (if b then Some x else None) ≡ Some y → (b ≡ true) × (x ≡ y)
+pub if_is : {A : Type 0} (b : Bool) (x y : A) → (if b then Some x else None) ≡ Some y → (b ≡ true) × (x ≡ y)
 if_is true x y e = (refl, some_same x y e)
 if_is false x y e = absurd cc
 

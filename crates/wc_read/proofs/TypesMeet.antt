@@ -21,14 +21,14 @@ name_meets =
     (λ bytes name s. (length name, s.0, name, s.1, s.2, ((refl, refl), is_utf8-from_IsUtf8 name s.3)))
 
 -- one step of a table from codes to values
-code_step : {A : Type 0} (code : A → ℕ) (b n : ℕ) (v : A) (others : Option A) (x : A) → n ≡ code v → (others ≡ Some x → b ≡ code x) → (if b == n then Some v else others) ≡ Some x → b ≡ code x
+pub code_step : {A : Type 0} (code : A → ℕ) (b n : ℕ) (v : A) (others : Option A) (x : A) → n ≡ code v → (others ≡ Some x → b ≡ code x) → (if b == n then Some v else others) ≡ Some x → b ≡ code x
 code_step {A} code b n v others x is rest e = by (b == n) refl
   where
     by : (test : Bool) → (b == n) ≡ test → b ≡ code x
     by true t = let same : v ≡ x = some_same v x (sym (ap (λ (c : Bool). if c then Some v else others) t) ∙ e) in eqb-true b n t ∙ is ∙ ap code same
     by false t = rest (sym (ap (λ (c : Bool). if c then Some v else others) t) ∙ e)
 
-val_type_there : (t : ValType) → val_type_of (val_type_code t) ≡ Some t
+pub val_type_there : (t : ValType) → val_type_of (val_type_code t) ≡ Some t
 val_type_there I32 = refl
 val_type_there I64 = refl
 val_type_there F32 = refl

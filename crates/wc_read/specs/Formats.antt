@@ -37,3 +37,7 @@ SpellsItems Spells bytes (x ∷ xs) = (a b : List ℕ) × (bytes ≡ a ++ b) × 
 -- a vector (5.1.3): how many, and the things
 abbrev pub SpellsVector : {A : Type 0} → Format A → Format (List A)
 SpellsVector Spells bytes xs = (count items : List ℕ) × (bytes ≡ count ++ items) × SpellsNumber 32 count (length xs) × SpellsItems Spells items xs
+
+-- nothing of a format stands in front of the bytes
+abbrev pub NoneInFront : {A : Type 0} → Format A → List ℕ → Type 0
+NoneInFront {A} Spells bytes = (text rest : List ℕ) (x : A) → bytes ≡ text ++ rest → Spells text x → ⊥

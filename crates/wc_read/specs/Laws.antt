@@ -5,6 +5,8 @@ use Rattle.wc_read.specs.Imports.{SpellsImport, SpellsImports}
 use Rattle.wc_read.specs.Sections.{SpellsSection, SpellsFrames}
 use Rattle.wc_read.specs.Operators.{SpellsInstr}
 use Rattle.wc_read.specs.Bodies.{SpellsBody}
+use Rattle.wc_read.specs.Inits.{SpellsInit}
+use Rattle.wc_read.specs.Modules.{SpellsModule}
 
 abbrev pub AreOne : {A : Type 0} → Format A → Type 0
 AreOne {A} Spells = (bytes : List ℕ) (x y : A) → Spells bytes x → Spells bytes y → x ≡ y
@@ -36,3 +38,12 @@ BodiesAreOne = AreOne SpellsBody
 
 abbrev pub OperatorBeginsNoOther : Type 0
 OperatorBeginsNoOther = BeginsNoOther SpellsInstr
+
+abbrev pub InitialisersAreOne : Type 0
+InitialisersAreOne = AreOne SpellsInit
+
+abbrev pub InitialiserBeginsNoOther : Type 0
+InitialiserBeginsNoOther = BeginsNoOther SpellsInit
+
+abbrev pub ModulesAreOne : Type 0
+ModulesAreOne = AreOne SpellsModule

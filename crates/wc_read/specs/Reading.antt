@@ -31,6 +31,12 @@ abbrev pub Gives : {X A : Type 0} → (X → A) → Result X ReadFault → List 
 Gives view (Ok x) rest read = read ≡ Some (view x, rest)
 Gives view (Err e) rest read = (e ≢ memory_fault → read ≡ None) × (e ≢ component_fault)
 
+-- what a reader found, or that nothing stands in front; only memory refuses
+abbrev pub Finds : {X A : Type 0} → (X → A) → Result (Option X) ReadFault → List ℕ → Option (A × List ℕ) → Type 0
+Finds view (Ok (Some x)) rest read = read ≡ Some (view x, rest)
+Finds view (Ok None) rest read = read ≡ None
+Finds view (Err e) rest read = e ≡ memory_fault
+
 -- small parts
 
 abbrev pub byte_at : Read ℕ

@@ -36,7 +36,7 @@ impl<'a> Spelled<'a> for Locals {
     ghost read = { locals_at };
 
     #[tactic(auto, unfolding(crate::specs::Bodies::locals_at))]
-    fn read_from(reader: &mut Reader<'a>) -> Result<Locals, ReadFault> {
+    fn read_from(_alloc: Global, reader: &mut Reader<'a>) -> Result<Locals, ReadFault> {
         let count = reader.u32()?;
         let ty = reader.val_type()?;
         Ok(Locals { count, ty })

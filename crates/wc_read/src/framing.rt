@@ -6,7 +6,7 @@ ghost use Rattle.wc_read.specs.Sections.{SectionValue, section_value, section_va
 ghost use Rattle.wc_read.specs.Formats.{SpellsItems};
 
 use crate::fault::ReadFault;
-use crate::reader::Reader;
+use crate::reader::{Reader, Spelled};
 use crate::sections::{Frames, Section};
 use std::alloc::Global;
 
@@ -23,6 +23,18 @@ impl<'a> Reader<'a> {
         let size = self.u32()?;
         let content = self.bytes(size as usize)?;
         Ok(Section { id, content })
+    }
+}
+
+impl<'a> Spelled<'a> for Section<'a> {
+    ghost Value = { SectionValue };
+
+    ghost view = { λ s. section_value s };
+
+    ghost read = { section_at };
+
+    fn read_from(_alloc: Global, reader: &mut Reader<'a>) -> Result<Section<'a>, ReadFault> {
+        reader.section()
     }
 }
 

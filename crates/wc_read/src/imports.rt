@@ -41,7 +41,7 @@ impl<'a> Spelled<'a> for Import<'a> {
 
     ghost read = { import_at };
 
-    fn read_from(reader: &mut Reader<'a>) -> Result<Import<'a>, ReadFault> {
+    fn read_from(_alloc: Global, reader: &mut Reader<'a>) -> Result<Import<'a>, ReadFault> {
         reader.import()
     }
 }

@@ -20,7 +20,7 @@ impl<'a> Spelled<'a> for u32 {
 
     ghost read = { number_at 32 };
 
-    fn read_from(reader: &mut Reader<'a>) -> Result<u32, ReadFault> {
+    fn read_from(_alloc: Global, reader: &mut Reader<'a>) -> Result<u32, ReadFault> {
         reader.u32()
     }
 }
@@ -32,7 +32,7 @@ impl<'a> Spelled<'a> for ValType {
 
     ghost read = { val_type_at };
 
-    fn read_from(reader: &mut Reader<'a>) -> Result<ValType, ReadFault> {
+    fn read_from(_alloc: Global, reader: &mut Reader<'a>) -> Result<ValType, ReadFault> {
         reader.val_type()
     }
 }
@@ -113,7 +113,7 @@ impl<'a> Reader<'a> {
         self.vector::<u32>(alloc)
     }
 
-    fn val_types(&mut self, alloc: Global) -> Result<Vec<ValType>, ReadFault>
+    pub fn val_types(&mut self, alloc: Global) -> Result<Vec<ValType>, ReadFault>
         ensures { Gives (λ v. v.items) result self.new.rest.now (vector_at val_type_at self.old.rest.now) }
     {
         self.vector::<ValType>(alloc)

@@ -1,6 +1,6 @@
 //! Laws of the formats: bytes spell one value at most, and no spelling begins another.
 
-ghost use Rattle.wc_read.specs.Laws.{NumbersAreOne, ImportsAreOne, FramesAreOne, NumberBeginsNoOther, ImportBeginsNoOther, SectionBeginsNoOther, BodiesAreOne, OperatorBeginsNoOther};
+ghost use Rattle.wc_read.specs.Laws.{NumbersAreOne, ImportsAreOne, FramesAreOne, NumberBeginsNoOther, ImportBeginsNoOther, SectionBeginsNoOther, BodiesAreOne, OperatorBeginsNoOther, InitialisersAreOne, InitialiserBeginsNoOther, ModulesAreOne};
 
 /// No bytes spell two numbers of one width.
 pub fn numbers_are_one()
@@ -41,4 +41,19 @@ pub fn bodies_are_one()
 /// No spelling of an operator begins another.
 pub fn operator_begins_no_other()
     ensures { OperatorBeginsNoOther }
+{}
+
+/// No bytes spell two initialisers.
+pub fn initialisers_are_one()
+    ensures { InitialisersAreOne }
+{}
+
+/// No spelling of an initialiser begins another.
+pub fn initialiser_begins_no_other()
+    ensures { InitialiserBeginsNoOther }
+{}
+
+/// No bytes spell two modules.
+pub fn modules_are_one()
+    ensures { ModulesAreOne }
 {}

@@ -1,7 +1,7 @@
 //! A reader that moves along the bytes: numbers, names, value types, vectors.
 
 ghost use Rattle.std.specs.Prelude.{◌≡◌, ◌<◌, ◌≤◌, ◌^◌, ℕ, List, Option, map, IfOk};
-ghost use Rattle.wc_read.specs.Reading.{Gives, byte_at, bytes_at, number_at, name_at, val_type_at, mutable_at, global_at, vector_at};
+ghost use Rattle.wc_read.specs.Reading.{Gives, Finds, byte_at, bytes_at, number_at, name_at, val_type_at, mutable_at, global_at, vector_at};
 
 use crate::fault::ReadFault;
 use crate::types::{GlobalType, ValType};
@@ -22,7 +22,7 @@ pub trait Spelled<'a>: Sized {
 
     ghost read: { List ℕ → Option (Value × List ℕ) };
 
-    fn read_from(reader: &mut Reader<'a>) -> Result<Self, ReadFault>
+    fn read_from(alloc: Global, reader: &mut Reader<'a>) -> Result<Self, ReadFault>
         ensures { Gives view result reader.new.rest.now (read reader.old.rest.now) };
 }
 
@@ -148,9 +148,34 @@ impl<'a> Reader<'a> {
         let count = self.u32()?;
         let mut items = Vec::new(alloc);
         for _ in 0..count {
-            let item = T::read_from(self)?;
+            let item = T::read_from(alloc, self)?;
             items.push(item)?;
         }
         Ok(items)
+    }
+
+    /// An item, or None where none stands in front.
+    pub fn find<T: Spelled<'a>>(&mut self, alloc: Global) -> Result<Option<T>, ReadFault>
+        ensures { Finds T.view result self.new.rest.now (T.read self.old.rest.now) }
+    {
+        match T::read_from(alloc, self) {
+            Ok(item) => Ok(Some(item)),
+            Err(fault) => match fault {
+                ReadFault::Memory => Err(ReadFault::Memory),
+                _ => Ok(None),
+            },
+        }
+    }
+}
+
+impl<'a> Spelled<'a> for &'a str {
+    ghost Value = { List ℕ };
+
+    ghost view = { λ n. n.now };
+
+    ghost read = { name_at };
+
+    fn read_from(_alloc: Global, reader: &mut Reader<'a>) -> Result<&'a str, ReadFault> {
+        reader.name()
     }
 }

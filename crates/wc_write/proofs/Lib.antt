@@ -1,7 +1,16 @@
 pub mod Bytes
 pub mod Digits
+pub mod SignedDigits
+pub mod SignedSpelled
+pub mod VectorsText
 pub mod ImportsText
+pub mod BodiesText
 pub mod NumbersSpelled
 pub mod SpelledValues
 pub mod TextShortest
 pub mod TextSpells
+pub mod FormsOfCodes
+pub mod VectorsSpelled
+pub mod OperatorsSpelled
+pub mod BodiesSpelled
+pub mod SpelledBodies

@@ -41,7 +41,7 @@ number_spelled (suc left) bits n width fits =
     ]
 
 -- a spelling has a byte
-some_byte : {bits n : ℕ} {bytes : List ℕ} → SpellsNumber bits bytes n → 0 < length bytes
+pub some_byte : {bits n : ℕ} {bytes : List ℕ} → SpellsNumber bits bytes n → 0 < length bytes
 some_byte (last small fits) = omega arith
 some_byte (more seven large s) = omega arith
 
@@ -56,3 +56,12 @@ number_shortest (suc left) (more {b = b} {high = high} {bytes = bytes} seven lar
           let up : (b - 128 + 128 * high) / 128 ≡ high = omega arith in
           rw (digits_more left (b - 128 + 128 * high) big, up) (let rest = number_shortest left s (All-tail (λ (b : ℕ). b < 256) b bytes all) in omega arith)
     ]
+
+-- a text has a byte
+pub number_some : (left n : ℕ) → 0 < length (digits left n)
+unfolding digits
+number_some zero n = omega arith
+number_some (suc left) n = elim (cases_lt n 128) [
+  | inl small ↦ rw (digits_last (suc left) n small) (omega arith)
+  | inr large ↦ rw (digits_more left n large) (omega arith)
+]

@@ -13,7 +13,7 @@ use Rattle.wc_write.specs.Values.{AreBytes, IsName, AreBounds, IsImportType, IsI
 use Rattle.wc_write.proofs.Bytes.{front_bytes, back_bytes, tail_bytes}
 
 -- a number has its bits
-number_fits : {bits n : ℕ} {bytes : List ℕ} → SpellsNumber bits bytes n → AreBytes bytes → n < 2 ^ bits
+pub number_fits : {bits n : ℕ} {bytes : List ℕ} → SpellsNumber bits bytes n → AreBytes bytes → n < 2 ^ bits
 number_fits (last small fits) all = fits
 number_fits (more {bits = bits} {b = b} {high = high} {bytes = bytes} seven large s) all =
     let e : bits - 7 + 7 ≡ bits = omega arith in

@@ -15,7 +15,7 @@ use Rattle.wc_write.proofs.Bytes.{front_bytes, back_bytes, tail_bytes}
 use Rattle.wc_write.proofs.NumbersSpelled.{number_shortest}
 
 -- parts that are no longer are no longer together
-joined : (a b c d : List ℕ) → length a ≤ length c → length b ≤ length d → length (a ++ b) ≤ length (c ++ d)
+pub joined : (a b c d : List ℕ) → length a ≤ length c → length b ≤ length d → length (a ++ b) ≤ length (c ++ d)
 joined a b c d front back = omega (arith, length-append a b, length-append c d)
 
 optional_shortest : (bits : ℕ) (o : Option ℕ) (bytes : List ℕ) → SpellsOptional (SpellsNumber bits) bytes o → AreBytes bytes → length (optional_text o) ≤ length bytes

@@ -15,7 +15,7 @@ use Rattle.wc_write.specs.Text.{number_text, optional_text, name_text, bounds_te
 use Rattle.wc_write.specs.Values.{IsName, AreBounds, IsTable, IsImportType, IsImport}
 use Rattle.wc_write.proofs.NumbersSpelled.{number_spelled}
 
-number_32 : (n : ℕ) → n < 2 ^ 32 → SpellsNumber 32 (number_text n) n
+pub number_32 : (n : ℕ) → n < 2 ^ 32 → SpellsNumber 32 (number_text n) n
 number_32 n fits = number_spelled 9 32 n (omega arith) fits
 
 bound : (wide : Bool) (n : ℕ) → n < 2 ^ bound_bits wide → SpellsNumber (bound_bits wide) (number_text n) n

@@ -1,10 +1,12 @@
 -- Laws of the texts: each spells its value, and no bytes that spell the value are fewer.
-use Rattle.std.specs.Prelude.{ℕ, ◌^◌, ◌<◌, ◌≤◌, List, length, All}
+use Rattle.std.specs.Prelude.{◌≡◌, ℕ, ◌^◌, ◌<◌, ◌≤◌, List, length, All}
 use Rattle.wc_read.specs.Formats.{SpellsNumber}
 use Rattle.wc_read.specs.Imports.{ImportValue, SpellsImport, SpellsImports}
 use Rattle.wc_read.specs.Sections.{SectionValue, SpellsSection}
 use Rattle.wc_write.specs.Text.{number_text, import_text, imports_text, section_text}
-use Rattle.wc_write.specs.Values.{AreBytes, IsImport}
+use Rattle.wc_read.specs.Bodies.{BodyValue, SpellsBody}
+use Rattle.wc_write.specs.BodyText.{body_text}
+use Rattle.wc_write.specs.Values.{AreBytes, IsImport, IsBody}
 
 -- a number of at most 64 bits is spelled by its text
 abbrev pub NumberIsSpelled : Type 0
@@ -37,3 +39,15 @@ SectionIsSpelled = (s : SectionValue) → length s.content < 2 ^ 32 → SpellsSe
 -- and by no shorter bytes
 abbrev pub SectionIsShortest : Type 0
 SectionIsShortest = (bytes : List ℕ) (s : SectionValue) → AreBytes bytes → SpellsSection bytes s → length (section_text s.id s.content) ≤ length bytes
+
+-- a body that can be spelled is spelled by its text, where that has a size of 32 bits, and the text spells no other
+abbrev pub BodyTextIsRead : Type 0
+BodyTextIsRead = (b : BodyValue) → IsBody b → length (body_text b) < 2 ^ 32 → SpellsBody (body_text b) b × ((v : BodyValue) → SpellsBody (body_text b) v → v ≡ b)
+
+-- what bytes spell is such a body
+abbrev pub SpelledAreBodies : Type 0
+SpelledAreBodies = (bytes : List ℕ) (b : BodyValue) → AreBytes bytes → SpellsBody bytes b → IsBody b
+
+-- no bytes that spell a body are fewer than those of its text
+abbrev pub BodyIsShortest : Type 0
+BodyIsShortest = (bytes : List ℕ) (b : BodyValue) → AreBytes bytes → SpellsBody bytes b → length (body_text b) ≤ length bytes

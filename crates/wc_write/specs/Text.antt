@@ -1,6 +1,6 @@
 -- The text of each value: of its spellings the one with the shortest numbers, by the cuts of the relations that say how
--- bytes spell a value (WebAssembly core specification, 5.2 "Values", 5.3 "Types" and 5.5 "Modules").
-use Rattle.std.specs.Prelude.{ℕ, zero, suc, ◌+◌, ◌/◌, ◌%◌, List, [], ◌∷◌, ◌++◌, length, nat_lt, if◌then◌else◌, Option, Some, None}
+-- bytes spell a value (WebAssembly core specification, 5.1 "Conventions", 5.2 "Values", 5.3 "Types" and 5.5 "Modules").
+use Rattle.std.specs.Prelude.{ℕ, zero, suc, ◌+◌, ◌-◌, ◌/◌, ◌%◌, List, [], ◌∷◌, ◌++◌, length, Bool, true, false, nat_lt, if◌then◌else◌, Option, Some, None, ℤ, pos, negsuc}
 use Rattle.std.specs.List.{flat_map}
 use Rattle.wc_read.specs.Types.{val_type_code, mutable_code}
 use Rattle.wc_read.specs.Limits.{flags_code, table_flags, memory_flags}
@@ -20,6 +20,26 @@ digits (suc more) n = if nat_lt n 128 then n ∷ [] else (128 + n % 128) ∷ dig
 -- an unsigned number of 64 bits or less (5.2.2): ten digits at most
 abbrev pub number_text : ℕ → List ℕ
 number_text n = digits 9 n
+
+-- a digit of seven bits: of the number -1 - n it is 127 minus that of n
+abbrev pub signed_digit : Bool → ℕ → ℕ
+signed_digit false low = low
+signed_digit true low = 127 - low
+
+-- digits of n, or of -1 - n where that is negative, the low one first and each but the last with 128 added. The last one
+-- has six bits and the sign. At most so many stand before it
+unfoldable pub signed_digits : Bool → ℕ → ℕ → List ℕ
+signed_digits negative zero n = signed_digit negative n ∷ []
+signed_digits negative (suc more) n = if nat_lt n 64 then signed_digit negative n ∷ [] else (128 + signed_digit negative (n % 128)) ∷ signed_digits negative more (n / 128)
+
+-- a signed number of 64 bits or less (5.2.2): ten digits at most
+abbrev pub signed_text : ℤ → List ℕ
+signed_text (pos n) = signed_digits false 9 n
+signed_text (negsuc m) = signed_digits true 9 m
+
+-- a vector (5.1.3): how many, and the things
+abbrev pub vector_text : {A : Type 0} → (A → List ℕ) → List A → List ℕ
+vector_text text xs = number_text (length xs) ++ flat_map text xs
 
 -- a number where there is one
 abbrev pub optional_text : Option ℕ → List ℕ

@@ -1,6 +1,7 @@
 //! Laws of the texts that are written.
 
-ghost use Rattle.wc_write.specs.Laws.{NumberIsSpelled, NumberIsShortest, ImportIsSpelled, ImportsAreSpelled, SpelledAreImports, ImportsAreShortest, SectionIsSpelled, SectionIsShortest};
+ghost use Rattle.wc_write.specs.Values.{AreBytes};
+ghost use Rattle.wc_write.specs.Laws.{NumberIsSpelled, NumberIsShortest, ImportIsSpelled, ImportsAreSpelled, SpelledAreImports, ImportsAreShortest, SectionIsSpelled, SectionIsShortest, BodyTextIsRead, SpelledAreBodies, BodyIsShortest};
 
 /// The text of a number below 2 to some power of at most 64 spells it, as a number of so many bits
 /// (WebAssembly core specification, 5.2.2).
@@ -43,4 +44,26 @@ pub fn section_is_spelled()
 /// No bytes that spell a section are fewer than those of its text.
 pub fn section_is_shortest()
     ensures { SectionIsShortest }
+{}
+
+/// The text of a function's body spells it and no other body, where the body can be spelled and the text has fewer
+/// than 2^32 bytes: each operator's immediates have the shape that the operator table gives its code, numbers fit
+/// their bits, there are less than 2^32 locals, and blocks nest (5.4 and 5.5.13).
+pub fn body_text_read()
+    ensures { BodyTextIsRead }
+{}
+
+/// A body that some bytes spell can be spelled, as `body_text_read` has it.
+pub fn spelled_are_bodies()
+    ensures { SpelledAreBodies }
+{}
+
+/// No bytes that spell a body are fewer than those of its text.
+pub fn body_is_shortest()
+    ensures { BodyIsShortest }
+{}
+
+/// What a slice of bytes holds are bytes, as other laws ask it of theirs.
+pub fn slices_are_bytes(slice: &[u8])
+    ensures { AreBytes slice.now }
 {}

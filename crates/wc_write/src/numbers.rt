@@ -1,7 +1,7 @@
 //! Numbers and names (WebAssembly core specification, 5.2.2 and 5.2.4).
 
-ghost use Rattle.std.specs.Prelude.{◌≡◌, ◌++◌, length, take, OnOk, OnErr};
-ghost use Rattle.wc_write.specs.Text.{number_text, name_text};
+ghost use Rattle.std.specs.Prelude.{◌≡◌, ◌++◌, ◌^◌, ◌<◌, length, take, OnOk, OnErr};
+ghost use Rattle.wc_write.specs.Text.{number_text, name_text, signed_digit, signed_digits, signed_text};
 
 use std::alloc::AllocError;
 
@@ -17,6 +17,39 @@ pub(crate) fn put_number(out: &mut Vec<u8>, number: u64) -> Result<(), AllocErro
     }
     out.push(rest as u8)?;
     Ok(())
+}
+
+/// Appends a signed number in its shortest form, the low seven bits first.
+pub(crate) fn put_signed(out: &mut Vec<u8>, number: i64) -> Result<(), AllocError>
+    ensures { OnOk result (out.new.items ≡ out.old.items ++ signed_text number) }
+{
+    if number < 0 {
+        put_signed_digits(out, true, (-1 - number) as u64)
+    } else {
+        put_signed_digits(out, false, number as u64)
+    }
+}
+
+/// Appends `magnitude`, or where `negative` the number `-1 - magnitude`.
+fn put_signed_digits(out: &mut Vec<u8>, negative: bool, magnitude: u64) -> Result<(), AllocError>
+    requires { magnitude < 2 ^ 63 }
+    ensures { OnOk result (out.new.items ≡ out.old.items ++ signed_digits negative 9 magnitude) }
+{
+    let mut rest = magnitude;
+    while rest >= 64 {
+        out.push(128 + signed_digit(negative, (rest % 128) as u8))?;
+        rest /= 128;
+    }
+    out.push(signed_digit(negative, rest as u8))?;
+    Ok(())
+}
+
+/// Seven bits of a number, by those of its magnitude.
+fn signed_digit(negative: bool, low: u8) -> u8
+    requires { low < 128 }
+    ensures { result ≡ signed_digit negative low }
+{
+    if negative { 127 - low } else { low }
 }
 
 /// Appends a name: its length in bytes, and its text.

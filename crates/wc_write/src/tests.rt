@@ -56,7 +56,7 @@ fn writes_no_imports(rt: HostRuntime) -> Result<(), Fail> {
 }
 
 #[test]
-fn writes_a_memory_by_name(rt: HostRuntime) -> Result<(), Fail> {
+fn writes_memories_by_name(rt: HostRuntime) -> Result<(), Fail> {
     let import = Import {
         module: "env",
         name: "memory",

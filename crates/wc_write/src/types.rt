@@ -3,7 +3,7 @@
 ghost use Rattle.std.specs.Prelude.{◌≡◌, ◌++◌, OnOk, if◌then◌else◌};
 ghost use Rattle.wc_read.specs.Types.{val_type_code};
 ghost use Rattle.wc_read.specs.Limits.{flags_code, table_flags, memory_flags};
-ghost use Rattle.wc_write.specs.Text.{optional_text, bounds_text, table_text, memory_text, global_text, import_type_text};
+ghost use Rattle.wc_write.specs.Text.{optional_text, val_type_text, bounds_text, table_text, memory_text, global_text, import_type_text};
 
 use crate::numbers::put_number;
 use std::alloc::AllocError;
@@ -30,6 +30,13 @@ fn val_type_byte(ty: ValType) -> u8
         ValType::FuncRef => 0x70,
         ValType::ExternRef => 0x6f,
     }
+}
+
+pub(crate) fn put_val_type(out: &mut Vec<u8>, ty: ValType) -> Result<(), AllocError>
+    ensures { OnOk result (out.new.items ≡ out.old.items ++ val_type_text ty) }
+{
+    out.push(val_type_byte(ty))?;
+    Ok(())
 }
 
 /// A flag where it is set, else 0.

@@ -1,0 +1,5 @@
+use Rattle.wc_read.proofs.NamesRead.{AreEntries}
+use Rattle.wc_read.proofs.names.global_names.Given as goal
+
+abbrev pub invariant-loop-pair : goal.invariant-loop-pair
+invariant-loop-pair l = AreEntries l.pair-items l.pair-index l.names.entries

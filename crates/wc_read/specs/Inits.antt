@@ -1,0 +1,99 @@
+-- Initialisers (WebAssembly core specification, 3.3.10 "Constant Expressions" and 5.4.10 "Expressions").
+use Rattle.std.specs.Prelude.{◌≡◌, ℕ, zero, suc, ◌-◌, List, [], ◌∷◌, ◌++◌, length, take, map, Bool, false, ◌||◌, ◌==◌, if◌then◌else◌, Option, Some, None, is_some, IsTrue}
+use Rattle.wc_read.specs.Formats.{Format, SpellsItems}
+use Rattle.wc_read.specs.Reading.{Read, ◌>>=◌, where_at}
+use Rattle.wc_read.specs.Operators.{is_within, InstrValue, WithNone, instr_value, SpellsInstr}
+use Rattle.wc_read.specs.Instructions.{instr_at}
+use Rattle.wc_read.specs.declared.types.ValType.TheVariants.{I32, I64, F32, F64, V128}
+use Rattle.wc_read.specs.declared.operators.Opcode.{Opcode}
+use Rattle.wc_read.specs.declared.operators.Opcode.TheVariants.{Byte, Misc, Vector, Atomic}
+use Rattle.wc_read.specs.declared.inits.Constant.{Constant}
+use Rattle.wc_read.specs.declared.inits.Constant.TheVariants.{Value, Null, Func, Global, Integer}
+use Rattle.wc_read.specs.declared.inits.Init.{Init}
+
+-- the constant operators, and what each gives
+
+unfoldable pub constant_byte : ℕ → Option Constant
+constant_byte b =
+    if b == 0x41 then Some (Value I32)
+    else (if b == 0x42 then Some (Value I64)
+    else (if b == 0x43 then Some (Value F32)
+    else (if b == 0x44 then Some (Value F64)
+    else (if b == 0xd0 then Some Null
+    else (if b == 0xd2 then Some Func
+    else (if b == 0x23 then Some Global
+    else (if is_within 0x6a 0x6c b then Some (Integer I32)
+    else (if is_within 0x7c 0x7e b then Some (Integer I64) else None))))))))
+
+abbrev pub constant_of : Opcode → Option Constant
+constant_of (Byte b) = constant_byte b
+constant_of (Misc n) = None
+constant_of (Vector n) = if n == 12 then Some (Value V128) else None
+constant_of (Atomic n) = None
+
+abbrev pub is_constant : Opcode → Bool
+is_constant code = is_some (constant_of code)
+
+abbrev pub IsConstant : Opcode → Type 0
+IsConstant code = IsTrue (is_constant code)
+
+abbrev pub is_end : Opcode → Bool
+is_end (Byte b) = b == 0x0b
+is_end (Misc n) = false
+is_end (Vector n) = false
+is_end (Atomic n) = false
+
+-- values, and how bytes spell them
+
+abbrev pub init_value : Init → List InstrValue
+init_value i = map instr_value i.operators.items
+
+-- `end`
+abbrev pub end_value : InstrValue
+end_value = record { opcode = Byte 0x0b; immediates = WithNone }
+
+abbrev pub AreConstant : List InstrValue → Type 0
+AreConstant [] = Unit
+AreConstant (i ∷ is) = IsConstant i.opcode × AreConstant is
+
+-- constant operators, and `end` behind them
+abbrev pub IsInit : List InstrValue → Type 0
+IsInit is = (front : List InstrValue) × (is ≡ front ++ (end_value ∷ [])) × AreConstant front
+
+-- an initialiser: operators to the end of the bytes
+abbrev pub SpellsInit : Format (List InstrValue)
+SpellsInit bytes is = SpellsItems SpellsInstr bytes is × IsInit is
+
+-- reading functions, as those of `Reading`
+
+abbrev pub may_stand : InstrValue → Bool
+may_stand i = is_end i.opcode || is_constant i.opcode
+
+unfoldable pub init_instr_at : Read InstrValue
+init_instr_at bytes = where_at may_stand instr_at bytes
+
+-- items to the first that passes a test, in so many steps at most
+unfoldable pub until_at : {A : Type 0} → (A → Bool) → Read A → ℕ → Read (List A)
+until_at last read zero bytes = None
+until_at last read (suc steps) bytes = do
+  first ← read bytes
+  if last first.0 then Some (first.0 ∷ [], first.1) else (until_at last read steps first.1 >>= λ others. Some (first.0 ∷ others.0, others.1))
+
+abbrev pub ends : InstrValue → Bool
+ends i = is_end i.opcode
+
+-- an operator, as whether it is the end
+unfoldable pub init_end_at : Read Bool
+init_end_at bytes = init_instr_at bytes >>= λ i. Some (ends i.0, i.1)
+
+-- there are no more items than bytes
+unfoldable pub init_at : Read (List InstrValue)
+init_at bytes = until_at ends init_instr_at (length bytes) bytes
+
+-- the bytes in front of the rest
+abbrev pub in_front : List ℕ → List ℕ → List ℕ
+in_front bytes rest = take (length bytes - length rest) bytes
+
+-- an initialiser as its bytes
+unfoldable pub init_bytes_at : Read (List ℕ)
+init_bytes_at bytes = init_at bytes >>= λ is. Some (in_front bytes is.1, is.1)

@@ -1,0 +1,114 @@
+//! The contents of sections.
+
+ghost use Rattle.std.specs.Prelude.{ℕ, List, map};
+ghost use Rattle.wc_read.specs.Reading.{Gives, number_at, vector_at, val_type_at, table_at, memory_at};
+ghost use Rattle.wc_read.specs.Types.{FuncTypeValue, func_type_value};
+ghost use Rattle.wc_read.specs.ContentsReading.{Answers, whole_of, func_type_at, sized_at};
+
+use crate::fault::ReadFault;
+use crate::reader::{Reader, Spelled};
+use crate::types::{FuncType, MemoryType, TableType, ValType};
+use std::alloc::Global;
+
+impl<'a> Reader<'a> {
+    #[tactic(auto, unfolding(crate::specs::ContentsReading::sized_at))]
+    fn sized(&mut self) -> Result<&'a [u8], ReadFault>
+        ensures { Gives (λ x. x.now) result self.new.rest.now (sized_at self.old.rest.now) }
+    {
+        let size = self.u32()?;
+        self.bytes(size as usize)
+    }
+
+    #[tactic(auto, unfolding(crate::specs::ContentsReading::func_type_at))]
+    fn func_type(&mut self, alloc: Global) -> Result<FuncType, ReadFault>
+        ensures { Gives (λ f. func_type_value f) result self.new.rest.now (func_type_at self.old.rest.now) }
+    {
+        if self.byte()? != 0x60 {
+            return Err(ReadFault::BadType);
+        }
+        let params = self.val_types(alloc)?;
+        let results = self.val_types(alloc)?;
+        Ok(FuncType::new(params, results))
+    }
+}
+
+impl<'a> Spelled<'a> for FuncType {
+    ghost Value = { FuncTypeValue };
+
+    ghost view = { λ f. func_type_value f };
+
+    ghost read = { func_type_at };
+
+    fn read_from(alloc: Global, reader: &mut Reader<'a>) -> Result<FuncType, ReadFault> {
+        reader.func_type(alloc)
+    }
+}
+
+impl<'a> Spelled<'a> for TableType {
+    ghost use Rattle.wc_read.specs.declared.types.TableType.{TableType};
+
+    ghost Value = { TableType };
+
+    ghost view = { λ t. t };
+
+    ghost read = { table_at };
+
+    fn read_from(_alloc: Global, reader: &mut Reader<'a>) -> Result<TableType, ReadFault> {
+        reader.table()
+    }
+}
+
+impl<'a> Spelled<'a> for MemoryType {
+    ghost use Rattle.wc_read.specs.declared.types.MemoryType.{MemoryType};
+
+    ghost Value = { MemoryType };
+
+    ghost view = { λ m. m };
+
+    ghost read = { memory_at };
+
+    fn read_from(_alloc: Global, reader: &mut Reader<'a>) -> Result<MemoryType, ReadFault> {
+        reader.memory()
+    }
+}
+
+impl<'a> Spelled<'a> for &'a [u8] {
+    ghost Value = { List ℕ };
+
+    ghost view = { λ b. b.now };
+
+    ghost read = { sized_at };
+
+    fn read_from(_alloc: Global, reader: &mut Reader<'a>) -> Result<&'a [u8], ReadFault> {
+        reader.sized()
+    }
+}
+
+/// The items of a section that holds a vector, up to the end of its content.
+#[tactic(auto, unfolding(crate::specs::ContentsReading::whole_of))]
+pub fn items<'a, T: Spelled<'a> + Drop>(
+    alloc: Global,
+    content: &'a [u8],
+) -> Result<Vec<T>, ReadFault>
+    ensures { Answers (λ v. map T.view v.items) result (whole_of (vector_at T.read) content.now) }
+{
+    let mut reader = Reader::new(content);
+    let items = reader.vector::<T>(alloc)?;
+    if !reader.rest.is_empty() {
+        return Err(ReadFault::SectionSize);
+    }
+    Ok(items)
+}
+
+/// The function that a start section names (5.5.11).
+#[tactic(auto, unfolding(crate::specs::ContentsReading::whole_of))]
+pub fn start(content: &[u8]) -> Result<u32, ReadFault>
+    ensures { Answers (λ n. n) result (whole_of (number_at 32) content.now) }
+{
+    let mut reader = Reader::new(content);
+    let index = reader.u32()?;
+    if !reader.rest.is_empty() {
+        return Err(ReadFault::SectionSize);
+    }
+    Ok(index)
+}

@@ -1,0 +1,34 @@
+//! Custom sections by their names.
+
+ghost use Rattle.std.specs.Prelude.{◌≡◌, IfOk, IfErr};
+ghost use Rattle.std.specs.Option.{option_map};
+ghost use Rattle.wc_read.specs.Custom.{BehindName};
+ghost use Rattle.wc_read.specs.Sections.{section_value};
+
+use crate::fault::ReadFault;
+use crate::reader::Reader;
+use crate::sections::Section;
+use std::alloc::Global;
+
+/// The bytes behind the name of a custom section with a given name (WebAssembly core specification, 5.5.3);
+/// None of any other section.
+pub fn behind_name<'a>(
+    alloc: Global,
+    section: &Section<'a>,
+    name: &str,
+) -> Result<Option<&'a [u8]>, ReadFault>
+    ensures found { IfOk result (λ rest. BehindName name.now (section_value section.now) (option_map (λ r. r.now) rest)) }
+    ensures memory { IfErr result (λ e. e ≡ ReadFault.Memory) }
+{
+    if section.id != 0 {
+        return Ok(None);
+    }
+    let mut reader = Reader::new(section.content);
+    let Some(found) = reader.find::<&'a str>(alloc)? else {
+        return Ok(None);
+    };
+    if found != name {
+        return Ok(None);
+    }
+    Ok(Some(reader.rest))
+}

@@ -1,0 +1,25 @@
+//! Names of exports.
+
+ghost use Rattle.std.specs.Prelude.{◌≡◌, ◌≢◌, ◌↔◌, map, IfOk, IfErr, IsTrue, AllPairs, nat_eq};
+ghost use Rattle.std.specs.HashSet as bag;
+ghost use Rattle.std.specs.Cmp.Lexicographic.{pointwise};
+
+use crate::exports::Export;
+use crate::fault::ReadFault;
+use std::alloc::{AllocError, Global};
+use std::collections::HashSet;
+
+/// Whether no two exports have one name (WebAssembly core specification, 3.4.14).
+pub fn have_distinct_names(alloc: Global, exports: &[Export]) -> Result<bool, ReadFault>
+    ensures distinct { IfOk result (λ b. IsTrue b ↔ AllPairs (λ x y. x ≢ y) (map (λ e. e.name.now) exports.now)) }
+    ensures memory { IfErr result (λ e. e ≡ ReadFault.Memory) }
+{
+    let names = names_of(alloc, exports)?;
+    Ok(names.len() == exports.len())
+}
+
+fn names_of<'a>(alloc: Global, exports: &[Export<'a>]) -> Result<HashSet<&'a str>, AllocError>
+    ensures { IfOk result (bag.IsFromIterResult (λ x y. pointwise nat_eq x.now y.now) (map (λ e. e.name) exports.now)) }
+{
+    exports.iter().map(|export| export.name).collect(alloc)
+}

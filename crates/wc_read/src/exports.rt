@@ -1,0 +1,63 @@
+//! Exports.
+
+ghost use Rattle.wc_read.specs.Reading.{Gives};
+ghost use Rattle.wc_read.specs.Exports.{ExportValue, export_value};
+ghost use Rattle.wc_read.specs.ContentsReading.{export_kind_at, export_at};
+
+use crate::fault::ReadFault;
+use crate::reader::{Reader, Spelled};
+use std::alloc::Global;
+
+/// What is exported (WebAssembly core specification, 2.5.10).
+#[derive(Clone, Copy, Debug, PartialEq, Eq)]
+pub enum ExportKind {
+    Func,
+    Table,
+    Memory,
+    Global,
+}
+
+/// An export (2.5.10): a slice of the bytes that it was read from, and an index into the space of its kind.
+#[derive(Clone, Copy, Debug, PartialEq, Eq)]
+pub struct Export<'a> {
+    pub name: &'a str,
+    pub kind: ExportKind,
+    pub index: u32,
+}
+
+impl<'a> Reader<'a> {
+    #[tactic(auto, unfolding(crate::specs::ContentsReading::export_kind_at))]
+    fn export_kind(&mut self) -> Result<ExportKind, ReadFault>
+        ensures { Gives (λ x. x) result self.new.rest.now (export_kind_at self.old.rest.now) }
+    {
+        match self.byte()? {
+            0 => Ok(ExportKind::Func),
+            1 => Ok(ExportKind::Table),
+            2 => Ok(ExportKind::Memory),
+            3 => Ok(ExportKind::Global),
+            _ => Err(ReadFault::BadType),
+        }
+    }
+
+    #[tactic(auto, unfolding(crate::specs::ContentsReading::export_at))]
+    fn export(&mut self) -> Result<Export<'a>, ReadFault>
+        ensures { Gives (λ e. export_value e) result self.new.rest.now (export_at self.old.rest.now) }
+    {
+        let name = self.name()?;
+        let kind = self.export_kind()?;
+        let index = self.u32()?;
+        Ok(Export { name, kind, index })
+    }
+}
+
+impl<'a> Spelled<'a> for Export<'a> {
+    ghost Value = { ExportValue };
+
+    ghost view = { λ e. export_value e };
+
+    ghost read = { export_at };
+
+    fn read_from(_alloc: Global, reader: &mut Reader<'a>) -> Result<Export<'a>, ReadFault> {
+        reader.export()
+    }
+}

@@ -1,0 +1,210 @@
+//! What initialisers leave.
+
+ghost use Rattle.std.specs.Prelude.{◌≡◌, ◌≢◌, ◌↔◌, ◌<◌, ◌-◌, ◌^◌, map, IfOk, IfErr, IsTrue};
+ghost use Rattle.wc_read.specs.Reading.{Gives};
+ghost use Rattle.wc_read.specs.Types.{val_type_code};
+ghost use Rattle.wc_read.specs.Items.{global_value};
+ghost use Rattle.wc_read.specs.Operators.{immediates_value, instr_value};
+ghost use Rattle.wc_read.specs.InitTypes.{types_of, scope_value, type_named, number_named, held_by, given_by, IsTyped, IsTypedDef, AreTyped, next_depth, step_of, step_at};
+
+use crate::fault::ReadFault;
+use crate::inits::{Constant, constant_of, is_end};
+use crate::items::{self, Def};
+use crate::operators::{Immediates, Instr};
+use crate::reader::Reader;
+use crate::types::ValType;
+use std::alloc::Global;
+
+/// What an initialiser may name: so many functions, and the globals in front of its own.
+#[derive(Drop)]
+struct Scope<'a> {
+    functions: usize,
+    globals: &'a [items::Global<'a>],
+}
+
+/// What an operator of an initialiser does.
+#[derive(Clone, Copy, Debug, PartialEq, Eq)]
+enum Step {
+    /// It ends it.
+    End,
+    /// It leaves so many values of the type.
+    Leaves(usize),
+    /// It is not constant, or not of the type.
+    Fails,
+}
+
+/// Whether the initialiser of each local global leaves one value of the global's type (WebAssembly core
+/// specification, 3.3.10): constants, functions by an index below `functions`, immutable globals in front of its
+/// own, and sums, differences and products of integers.
+///
+/// The fault is `Memory` alone.
+pub fn are_typed(
+    alloc: Global,
+    functions: usize,
+    globals: &[items::Global<'_>],
+) -> Result<bool, ReadFault>
+    ensures found { IfOk result (λ b. IsTrue b ↔ AreTyped functions (map global_value globals.now)) }
+    ensures refused { IfErr result (λ f. f ≡ ReadFault.Memory) }
+{
+    for index in 0..globals.len() {
+        let scope = Scope {
+            functions,
+            globals: &globals[..index],
+        };
+        if !is_typed(alloc, &scope, &globals[index])? {
+            return Ok(false);
+        }
+    }
+    Ok(true)
+}
+
+fn is_typed(alloc: Global, scope: &Scope<'_>, global: &items::Global<'_>) -> Result<bool, ReadFault>
+    ensures found { IfOk result (λ b. IsTrue b ↔ IsTypedDef (scope_value scope.now) (global_value global.now).ty.content_type (global_value global.now).def) }
+    ensures refused { IfErr result (λ f. f ≡ ReadFault.Memory) }
+{
+    match global.def {
+        Def::Import(_, _) => Ok(true),
+        Def::Local(init) => match leaves_one(alloc, scope, global.ty.content_type, init) {
+            Ok(typed) => Ok(typed),
+            Err(fault) => match fault {
+                ReadFault::Memory => Err(fault),
+                _ => Ok(false),
+            },
+        },
+    }
+}
+
+/// Whether an initialiser leaves one value of a type. There is a byte at least to each operator.
+fn leaves_one(alloc: Global, scope: &Scope<'_>, ty: ValType, init: &[u8]) -> Result<bool, ReadFault>
+    ensures found { IfOk result (λ b. IsTrue b ↔ IsTyped (scope_value scope.now) ty init.now) }
+    ensures refused { IfErr result (λ f. f ≢ ReadFault.Memory → ¬ (IsTyped (scope_value scope.now) ty init.now)) }
+{
+    let mut reader = Reader::new(init);
+    let mut depth = 0;
+    for _ in 0..init.len() {
+        match next_step(&mut reader, alloc, scope, ty, depth)? {
+            Step::End => return Ok(depth == 1 && reader.rest.is_empty()),
+            Step::Leaves(next) => depth = next,
+            Step::Fails => return Ok(false),
+        }
+    }
+    Ok(false)
+}
+
+/// Goes past an operator.
+#[tactic(auto, unfolding(crate::specs::InitTypes::step_at))]
+fn next_step(
+    reader: &mut Reader<'_>,
+    alloc: Global,
+    scope: &Scope<'_>,
+    ty: ValType,
+    depth: usize,
+) -> Result<Step, ReadFault>
+    requires { depth < 2 ^ 64 - 1 }
+    ensures { Gives (λ s. s) result reader.new.rest.now (step_at (scope_value scope.now) ty depth reader.old.rest.now) }
+{
+    let operator = reader.operator(alloc)?;
+    Ok(step_of(scope, ty, depth, &operator))
+}
+
+fn step_of(scope: &Scope<'_>, ty: ValType, depth: usize, operator: &Instr<'_>) -> Step
+    requires { depth < 2 ^ 64 - 1 }
+    ensures { result ≡ step_of (scope_value scope.now) ty depth (instr_value operator.now) }
+{
+    if is_end(operator.opcode) {
+        return Step::End;
+    }
+    match next_depth(scope, ty, depth, operator) {
+        Some(next) => Step::Leaves(next),
+        None => Step::Fails,
+    }
+}
+
+/// How many values of a type there are behind an operator.
+#[tactic(auto, unfolding(crate::specs::InitTypes::next_depth))]
+fn next_depth(scope: &Scope<'_>, ty: ValType, depth: usize, operator: &Instr<'_>) -> Option<usize>
+    requires { depth < 2 ^ 64 - 1 }
+    ensures { result ≡ next_depth (scope_value scope.now) ty depth (instr_value operator.now) }
+{
+    let constant = constant_of(operator.opcode)?;
+    if let Constant::Integer(of) = constant {
+        if code(of) == code(ty) && depth >= 2 {
+            return Some(depth - 1);
+        }
+        return None;
+    }
+    let given = given_by(scope, &operator.immediates, constant)?;
+    if code(given) == code(ty) {
+        Some(depth + 1)
+    } else {
+        None
+    }
+}
+
+/// The type of what a constant operator gives by itself.
+fn given_by(scope: &Scope<'_>, immediates: &Immediates<'_>, constant: Constant) -> Option<ValType>
+    ensures { result ≡ given_by (scope_value scope.now) (immediates_value immediates.now) constant }
+{
+    match constant {
+        Constant::Value(ty) => Some(ty),
+        Constant::Null => type_named(immediates),
+        Constant::Func => {
+            let index = number_named(immediates)?;
+            if (index as usize) < scope.functions {
+                Some(ValType::FuncRef)
+            } else {
+                None
+            }
+        }
+        Constant::Global => {
+            let index = number_named(immediates)?;
+            held_by(scope.globals, index)
+        }
+        Constant::Integer(_) => None,
+    }
+}
+
+/// The type of what an immutable global holds.
+fn held_by(globals: &[items::Global<'_>], index: u32) -> Option<ValType>
+    ensures { result ≡ held_by (types_of (map global_value globals.now)) index }
+{
+    let global = globals.get(index as usize)?;
+    if global.ty.mutable {
+        None
+    } else {
+        Some(global.ty.content_type)
+    }
+}
+
+fn type_named(immediates: &Immediates<'_>) -> Option<ValType>
+    ensures { result ≡ type_named (immediates_value immediates.now) }
+{
+    match immediates {
+        Immediates::RefType(ty) => Some(*ty),
+        _ => None,
+    }
+}
+
+fn number_named(immediates: &Immediates<'_>) -> Option<u32>
+    ensures { result ≡ number_named (immediates_value immediates.now) }
+{
+    match immediates {
+        Immediates::Index(index) => Some(index.number),
+        _ => None,
+    }
+}
+
+/// The byte of a type.
+fn code(ty: ValType) -> u8
+    ensures { result ≡ val_type_code ty }
+{
+    match ty {
+        ValType::I32 => 0x7f,
+        ValType::I64 => 0x7e,
+        ValType::F32 => 0x7d,
+        ValType::F64 => 0x7c,
+        ValType::V128 => 0x7b,
+        ValType::FuncRef => 0x70,
+        ValType::ExternRef => 0x6f,
+    }
+}

@@ -1,0 +1,145 @@
+//! Initialisers of globals.
+
+ghost use Rattle.std.specs.Prelude.{◌≡◌, ◌≢◌, List, map, IfOk, IfErr};
+ghost use Rattle.wc_read.specs.Reading.{Gives};
+ghost use Rattle.wc_read.specs.Operators.{InstrValue, instr_value};
+ghost use Rattle.wc_read.specs.Inits.{constant_byte, constant_of, is_constant, is_end, init_value, SpellsInit, init_instr_at, init_end_at, init_at, init_bytes_at};
+
+use crate::fault::ReadFault;
+use crate::operators::{Instr, Opcode};
+use crate::reader::Reader;
+use crate::types::ValType;
+use std::alloc::Global;
+
+/// An initialiser: its operators, the end of it among them.
+#[derive(Debug, PartialEq, Eq, Drop)]
+pub struct Init<'a> {
+    pub operators: Vec<Instr<'a>>,
+}
+
+/// What a constant operator gives.
+#[derive(Clone, Copy, Debug, PartialEq, Eq)]
+pub enum Constant {
+    /// A value of the type.
+    Value(ValType),
+    /// A null of the type that it names.
+    Null,
+    /// A reference of the function that it names.
+    Func,
+    /// What the global that it names holds.
+    Global,
+    /// An integer of the type, out of two.
+    Integer(ValType),
+}
+
+/// Reads an initialiser (WebAssembly core specification, 3.3.10 and 5.4.10): constant operators, and their end as
+/// the last byte. What they leave is not checked.
+///
+/// An operator that is not constant is `BadInitialiser`, a code that is no operator's `UnknownOperator`. Bytes
+/// that end in front of the end are `Truncated`, bytes behind it `BadInitialiser`.
+pub fn read_init(alloc: Global, slice: &[u8]) -> Result<Init<'_>, ReadFault>
+    // What is read is spelled so, by all of the bytes.
+    ensures found { IfOk result (λ i. SpellsInit slice.now (init_value i)) }
+    // Unless memory runs out, what is spelled is read.
+    ensures refused { IfErr result (λ f. f ≢ ReadFault.Memory → (v : List InstrValue) → ¬ (SpellsInit slice.now v)) }
+    ensures no_component { IfErr result (λ f. f ≢ ReadFault.Component) }
+{
+    let mut reader = Reader::new(slice);
+    let operators = reader.init_operators(alloc)?;
+    if !reader.rest.is_empty() {
+        return Err(ReadFault::BadInitialiser);
+    }
+    Ok(Init { operators })
+}
+
+impl<'a> Reader<'a> {
+    /// The bytes of an initialiser.
+    pub fn init(&mut self, alloc: Global) -> Result<&'a [u8], ReadFault>
+        ensures { Gives (λ b. b.now) result self.new.rest.now (init_bytes_at self.old.rest.now) }
+    {
+        let whole = self.rest;
+        loop {
+            if self.init_end(alloc)? {
+                let (init, _) = whole.split_at(whole.len() - self.rest.len());
+                return Ok(init);
+            }
+        }
+    }
+
+    /// Goes past an operator, and says whether it is the end.
+    #[tactic(auto, unfolding(crate::specs::Inits::init_end_at))]
+    fn init_end(&mut self, alloc: Global) -> Result<bool, ReadFault>
+        ensures { Gives (λ b. b) result self.new.rest.now (init_end_at self.old.rest.now) }
+    {
+        let operator = self.init_operator(alloc)?;
+        Ok(is_end(operator.opcode))
+    }
+
+    /// The operators of an initialiser.
+    fn init_operators(&mut self, alloc: Global) -> Result<Vec<Instr<'a>>, ReadFault>
+        ensures { Gives (λ v. map instr_value v.items) result self.new.rest.now (init_at self.old.rest.now) }
+    {
+        let mut operators = Vec::new(alloc);
+        loop {
+            let operator = self.init_operator(alloc)?;
+            let last = is_end(operator.opcode);
+            operators.push(operator)?;
+            if last {
+                return Ok(operators);
+            }
+        }
+    }
+
+    #[tactic(auto, unfolding(crate::specs::Inits::init_instr_at))]
+    fn init_operator(&mut self, alloc: Global) -> Result<Instr<'a>, ReadFault>
+        ensures { Gives (λ i. instr_value i) result self.new.rest.now (init_instr_at self.old.rest.now) }
+    {
+        let operator = self.operator(alloc)?;
+        if is_end(operator.opcode) || is_constant(operator.opcode) {
+            Ok(operator)
+        } else {
+            Err(ReadFault::BadInitialiser)
+        }
+    }
+}
+
+pub fn is_end(opcode: Opcode) -> bool
+    ensures { result ≡ is_end opcode }
+{
+    matches!(opcode, Opcode::Byte(0x0b))
+}
+
+fn is_constant(opcode: Opcode) -> bool
+    ensures { result ≡ is_constant opcode }
+{
+    constant_of(opcode).is_some()
+}
+
+/// The constant operators (3.3.10).
+pub fn constant_of(opcode: Opcode) -> Option<Constant>
+    ensures { result ≡ constant_of opcode }
+{
+    match opcode {
+        Opcode::Byte(code) => constant_byte(code),
+        Opcode::Vector(12) => Some(Constant::Value(ValType::V128)),
+        _ => None,
+    }
+}
+
+#[tactic(auto, unfolding(crate::specs::Inits::constant_byte))]
+fn constant_byte(code: u8) -> Option<Constant>
+    ensures { result ≡ constant_byte code }
+{
+    match code {
+        0x41 => Some(Constant::Value(ValType::I32)),
+        0x42 => Some(Constant::Value(ValType::I64)),
+        0x43 => Some(Constant::Value(ValType::F32)),
+        0x44 => Some(Constant::Value(ValType::F64)),
+        0xd0 => Some(Constant::Null),
+        0xd2 => Some(Constant::Func),
+        0x23 => Some(Constant::Global),
+        0x6a..=0x6c => Some(Constant::Integer(ValType::I32)),
+        0x7c..=0x7e => Some(Constant::Integer(ValType::I64)),
+        _ => None,
+    }
+}

@@ -1,0 +1,5 @@
+use Rattle.wc_write.proofs.SpelledBodies.{body_shortest}
+use Rattle.wc_write.proofs.laws.body_is_shortest.Goals as goal
+
+pub returns : goal.returns
+returns c = body_shortest

@@ -1,0 +1,5 @@
+use Rattle.wc_write.proofs.SpelledBodies.{body_is}
+use Rattle.wc_write.proofs.laws.spelled_are_bodies.Goals as goal
+
+pub returns : goal.returns
+returns c = body_is
