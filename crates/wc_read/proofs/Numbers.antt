@@ -112,3 +112,7 @@ last_below bits value shift b within low fits =
     let h : value + b * 2 ^ shift < 2 ^ (bits - shift + shift) = sum_below value b shift (bits - shift) low fits in
     let k : value + b * 2 ^ shift < 2 ^ bits = rw e at h in
     omega arith
+
+-- a byte that is a digit fits seven bits and more
+pub seven_bits : (bits b : ℕ) → b < 128 → 7 ≤ bits → b < 2 ^ bits
+seven_bits bits b small some = let p : 2 ^ 7 ≤ 2 ^ bits = pow_mono {j = bits} some in omega (arith, small, p)

@@ -89,10 +89,15 @@ fn operators(alloc: Global, bytes: &[u8]) -> Result<Vec<Instr<'_>>, ReadFault>
     ensures no_component { IfErr result (λ f. f ≢ ReadFault.Component) }
 {
     let mut reader = Reader::new(bytes);
-    let mut operators = Vec::new(alloc);
+    let mut operators = Vec::with_capacity(alloc, room_for(bytes))?;
     while !reader.rest.is_empty() {
         let operator = reader.operator(alloc)?;
         operators.push(operator)?;
     }
     Ok(operators)
+}
+
+/// How many operators to make room for at once. Most are of two bytes, and most bodies are short.
+fn room_for(bytes: &[u8]) -> usize {
+    (bytes.len() / 2).min(1024)
 }

@@ -50,26 +50,27 @@ pub fn nests(alloc: Global, operators: &[Instr<'_>]) -> Result<bool, AllocError>
 fn step(blocks: &mut Vec<bool>, token: Token) -> Result<bool, AllocError>
     ensures { IfOk result (λ may. Steps may (step (reverse blocks.old.items) token) (reverse blocks.new.items)) }
 {
-    let Some(branches) = blocks.pop() else {
+    // most operators are plain
+    if matches!(token, Token::Plain) {
+        return Ok(!blocks.is_empty());
+    }
+    let Some(&branches) = blocks.last() else {
         return Ok(false);
     };
     match token {
-        Token::Plain => blocks.push(branches)?,
-        Token::Opens => {
-            blocks.push(branches)?;
-            blocks.push(false)?;
-        }
-        Token::Branches => {
-            blocks.push(branches)?;
-            blocks.push(true)?;
-        }
+        Token::Plain => {}
+        Token::Opens => blocks.push(false)?,
+        Token::Branches => blocks.push(true)?,
         Token::Elses => {
             if !branches {
                 return Ok(false);
             }
+            blocks.pop();
             blocks.push(false)?;
         }
-        Token::Closes => {}
+        Token::Closes => {
+            blocks.pop();
+        }
     }
     Ok(true)
 }

@@ -56,8 +56,25 @@ impl<'a> Reader<'a> {
         Ok(front)
     }
 
-    /// An unsigned number of so many bits.
+    /// An unsigned number of so many bits. Most are of one byte.
     pub fn number(&mut self, bits: u32) -> Result<u64, ReadFault>
+        requires some { 0 < bits }
+        requires most { bits ≤ 64 }
+        ensures read { Gives (λ x. x) result self.new.rest.now (number_at bits self.old.rest.now) }
+        ensures bound { IfOk result (λ x. x < 2 ^ bits) }
+    {
+        if let Some((first, rest)) = self.rest.split_first()
+            && *first < 128
+            && bits >= 7
+        {
+            self.rest = rest;
+            return Ok(u64::from(*first));
+        }
+        self.digits(bits)
+    }
+
+    /// An unsigned number of so many bits, digit by digit.
+    fn digits(&mut self, bits: u32) -> Result<u64, ReadFault>
         requires some { 0 < bits }
         requires most { bits ≤ 64 }
         ensures read { Gives (λ x. x) result self.new.rest.now (number_at bits self.old.rest.now) }

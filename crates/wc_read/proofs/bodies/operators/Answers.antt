@@ -8,7 +8,7 @@ use Rattle.wc_read.proofs.bodies.operators.Goals as goal
 
 pub returns-in_err-operator-clause-refused : goal.returns-in_err-operator-clause-refused
 returns-in_err-operator-clause-refused c =
-    let p = err_from_is_err_and c.from_residual.result c.from_residual.ensures.1 in
+    let p = err_from_is_err_and c.from_residual-in_err-operator.result c.from_residual-in_err-operator.ensures.1 in
     rw (p.1, p.2) (λ real. to_fails SpellsInstr instr_at instr_meets instr_some _ _ _ c.loop-reader-test.ensures c.loop-reader.invariant (c.in_err-operator.ensures.0 real))
 
 pub loop-reader-smaller : goal.loop-reader-smaller

@@ -1,6 +1,6 @@
 use Rattle.std.proofs.Common.{length}
 use Rattle.wc_read.proofs.Numbers.{IsSoFar}
-use Rattle.wc_read.proofs.reader.Reader.number.Given as goal
+use Rattle.wc_read.proofs.reader.Reader.digits.Given as goal
 
 abbrev pub invariant-loop-byte : goal.invariant-loop-byte
 invariant-loop-byte l = IsSoFar l.bits l.fn.self.rest.now l.value l.shift l.self.rest.now

@@ -1,0 +1,17 @@
+;; Several memories, of 32 and of 64 bits.
+(module
+  (import "host" "first" (memory $first 1))
+  (memory $second 1 2)
+  (memory $third i64 1 100000)
+  (memory $fourth 0 0)
+  (data (memory $second) (i32.const 4) "second")
+  (data $kept "kept")
+  (func (param i32 i64)
+    (i32.store $second offset=4 (local.get 0) (i32.load $fourth offset=200 align=1 (local.get 0)))
+    (i64.store $third offset=4294967295 (local.get 1) (i64.load $third (local.get 1)))
+    (memory.copy $second $first (i32.const 0) (i32.const 1) (i32.const 2))
+    (memory.fill $fourth (i32.const 0) (i32.const 1) (i32.const 2))
+    (memory.init $second $kept (i32.const 0) (i32.const 0) (i32.const 1))
+    (drop (memory.grow $third (memory.size $third))) (drop (memory.size $second))
+    (drop (v128.load $second (local.get 0))))
+  (export "third" (memory $third)))

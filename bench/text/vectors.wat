@@ -1,0 +1,18 @@
+;; Vectors: constants, lanes, shuffles, accesses of each width.
+(module
+  (memory 1)
+  (global v128 (v128.const i64x2 1 -1))
+  (func (param v128 v128 i32) (result v128)
+    (v128.store offset=300 (local.get 2) (v128.load align=1 (local.get 2)))
+    (drop (v128.load8x8_s (local.get 2))) (drop (v128.load16x4_u (local.get 2))) (drop (v128.load32x2_s (local.get 2)))
+    (drop (v128.load8_splat (local.get 2))) (drop (v128.load64_splat (local.get 2))) (drop (v128.load32_zero (local.get 2))) (drop (v128.load64_zero (local.get 2)))
+    (drop (v128.load8_lane offset=1 15 (local.get 2) (local.get 0))) (drop (v128.load64_lane 1 (local.get 2) (local.get 0)))
+    (v128.store16_lane 7 (local.get 2) (local.get 0)) (v128.store32_lane offset=70000 3 (local.get 2) (local.get 0))
+    (drop (i8x16.extract_lane_s 15 (local.get 0))) (drop (f64x2.extract_lane 1 (local.get 0)))
+    (drop (i16x8.replace_lane 7 (local.get 0) (i32.const 3))) (drop (f32x4.replace_lane 3 (local.get 0) (f32.const 3)))
+    (drop (i8x16.shuffle 0 31 1 30 2 29 3 28 4 27 5 26 6 25 7 24 (local.get 0) (local.get 1)))
+    (drop (v128.bitselect (local.get 0) (local.get 1) (v128.const f32x4 1 2 3 nan)))
+    (drop (i64x2.extmul_high_i32x4_u (local.get 0) (local.get 1))) (drop (f64x2.promote_low_f32x4 (local.get 0)))
+    (drop (i32x4.trunc_sat_f64x2_u_zero (local.get 0))) (drop (i8x16.popcnt (local.get 0)))
+    (drop (i16x8.q15mulr_sat_s (local.get 0) (local.get 1))) (drop (i64x2.abs (local.get 0)))
+    (i32x4.dot_i16x8_s (local.get 0) (local.get 1))))
