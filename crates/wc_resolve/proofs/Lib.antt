@@ -1,0 +1,11 @@
+pub mod Acyclic
+pub mod Children
+pub mod Distinct
+pub mod Handled
+pub mod Identified
+pub mod Marking
+pub mod NamedLists
+pub mod PackageNames
+pub mod Search
+pub mod Viewed
+pub mod Wholes

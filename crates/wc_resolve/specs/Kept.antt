@@ -1,0 +1,17 @@
+-- What is kept beside a whole: an order of its types, and which of them are resources.
+use Rattle.std.specs.Prelude.{ℕ, ◌<◌, Bool, List, length, Contains}
+use Rattle.wc_resolve.specs.Resources.{AreMarked}
+use Rattle.wc_resolve.specs.Views.{TypeView}
+use Rattle.wc_resolve.specs.WellFormed.{IsWellFormed}
+use Rattle.wc_resolve.specs.World.{ResolveView, IsChildrenFirst, children}
+
+-- an order of all types in which each is behind those that it mentions
+pub record IsOrder (types : List TypeView) (order : List ℕ) : Type 0 where
+  pub first : IsChildrenFirst (children types) order
+  pub within : (x : ℕ) → Contains order x → x < length types
+  pub all : (x : ℕ) → x < length types → Contains order x
+
+pub record IsKept (r : ResolveView) (order : List ℕ) (marks : List Bool) : Type 0 where
+  pub formed : IsWellFormed r
+  pub ordered : IsOrder r.types order
+  pub marked : AreMarked r.types marks

@@ -1,0 +1,10 @@
+pub mod Faults
+pub mod Kept
+pub mod Names
+pub mod Parts
+pub mod Queries
+pub mod Ranges
+pub mod Resources
+pub mod Views
+pub mod WellFormed
+pub mod World
