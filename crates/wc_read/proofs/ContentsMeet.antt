@@ -1,5 +1,5 @@
 -- The contents of sections are read as they are spelled.
-use Rattle.std.proofs.Common.{◌≡◌, ℕ, List, [], ◌∷◌, ◌++◌, length, Option, Some, None, true, false, refl, sym, ◌∙◌, ap, append-nil, subst, eqb-true, arith}
+use Rattle.std.proofs.Common.{◌≡◌, ℕ, List, [], ◌∷◌, ◌++◌, length, Option, Some, None, true, refl, sym, ◌∙◌, ap, append-nil, subst, eqb-true, arith}
 use Rattle.std.specs.Prelude.{◌==◌, if◌then◌else◌}
 use Rattle.wc_read.specs.Formats.{Format, SpellsNumber, SpellsVector, Joined}
 use Rattle.wc_read.specs.Types.{FuncTypeValue, SpellsValType}
@@ -8,7 +8,7 @@ use Rattle.wc_read.specs.Contents.{SpellsFuncType, SpellsSized, SpellsFuncTypes,
 use Rattle.wc_read.specs.Reading.{Read, byte_at, bytes_at, where_at, number_at, vector_at, val_type_at, table_at, memory_at, ◌>>=◌}
 use Rattle.wc_read.specs.ContentsReading.{whole_of, func_type_at, sized_at}
 use Rattle.wc_read.specs.declared.types.ValType.{ValType}
-use Rattle.wc_read.proofs.Options.{some_same, bind_some}
+use Rattle.wc_read.proofs.Options.{bind_some}
 use Rattle.wc_read.proofs.Meets.{Meets, same_meets, bind_meets, made_meets, made_at, where_meets, number_meets, byte_meets, bytes_meet, vector_meets, bind_is, if_is, whole_is, IsByte, AreBytes, Made, Where}
 use Rattle.wc_read.proofs.TypesMeet.{val_type_meets}
 use Rattle.wc_read.proofs.LimitsMeet.{table_meets, memory_meets}

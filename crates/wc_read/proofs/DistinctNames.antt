@@ -1,5 +1,5 @@
 -- Names in a set are as many as the names of the list exactly where no two are one.
-use Rattle.std.proofs.Common.{◌≡◌, ◌≢◌, ◌↔◌, ℕ, List, [], ◌∷◌, length, map, Bool, true, false, nat_eq, IsTrue, refl, sym, ◌∙◌, eqb-true, eq-eqb, AllPairs}
+use Rattle.std.proofs.Common.{◌≡◌, ◌≢◌, ◌↔◌, ℕ, List, [], ◌∷◌, length, map, Bool, false, nat_eq, IsTrue, sym, ◌∙◌, eqb-true, eq-eqb, AllPairs}
 use Rattle.std.specs.List.{AllByRecursion, IsDistinct}
 use Rattle.std.specs.Set.{distinct_count}
 use Rattle.std.specs.Cmp.{IsEquivalence}

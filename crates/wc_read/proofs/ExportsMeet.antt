@@ -1,6 +1,5 @@
 -- Exports are read as they are spelled.
-use Rattle.std.proofs.Common.{◌≡◌, ℕ, List, [], ◌∷◌, ◌++◌, Option, Some, None, refl, sym, ◌∙◌, ap}
-use Rattle.std.specs.Prelude.{◌==◌, if◌then◌else◌}
+use Rattle.std.proofs.Common.{◌≡◌, ℕ, List, [], ◌∷◌, ◌++◌, Some, None, refl, sym, ◌∙◌, ap}
 use Rattle.wc_read.specs.Formats.{Format, SpellsNumber, SpellsName, Joined}
 use Rattle.wc_read.specs.Exports.{ExportValue, export_kind_code, SpellsExport, SpellsExports}
 use Rattle.wc_read.specs.Reading.{number_at, name_at, vector_at, ◌>>=◌}

@@ -1,7 +1,7 @@
 -- What is checked of a module holds of it.
 use Rattle.std.proofs.lemmas.List.{length-map}
-use Rattle.std.proofs.Common.{◌≡◌, ℕ, ◌<◌, List, [], ◌∷◌, map, length, Bool, true, false, Option, Some, None, refl, sym, ◌∙◌, ap, subst, arith, ◌≢◌}
-use Rattle.std.specs.Prelude.{nat_lt, nat_eq, All, AllPairs, IfSome, ◌==◌, Result, Ok, Err, IfOk, IfErr}
+use Rattle.std.proofs.Common.{◌≡◌, ℕ, ◌<◌, List, [], ◌∷◌, map, length, true, false, Option, Some, None, refl, sym, ◌∙◌, ap, subst, arith, ◌≢◌}
+use Rattle.std.specs.Prelude.{nat_lt, All, AllPairs, IfSome, ◌==◌, Result, Ok, Err, IfOk, IfErr}
 use Rattle.std.proofs.lemmas.Bool.{false≢true, ltb-true, lt-ltb}
 use Rattle.std.proofs.lemmas.Bool.Decides.{nat_tests}
 use Rattle.std.proofs.lemmas.List.Sums.{AllPass-from_list_all, list_all-from_AllPass}
@@ -11,7 +11,7 @@ use Rattle.std.specs.List.{slice_get}
 use Rattle.std.specs.Option.{option_map}
 use Rattle.std.specs.Borrow.{Bor}
 use Rattle.std.proofs.lemmas.Option.{slice_get-map}
-use Rattle.wc_read.specs.Types.{FuncTypeValue, func_type_value}
+use Rattle.wc_read.specs.Types.{func_type_value}
 use Rattle.wc_read.specs.Items.{FuncValue, func_value, global_value}
 use Rattle.wc_read.specs.InitTypes.{AreTyped}
 use Rattle.wc_read.specs.Exports.{export_value}

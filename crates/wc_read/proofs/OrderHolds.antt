@@ -1,5 +1,5 @@
 -- Sections are in order exactly where each takes a place behind the one before.
-use Rattle.std.proofs.Common.{◌≡◌, ◌≢◌, ℕ, suc, ◌+◌, ◌<◌, ◌≤◌, List, [], ◌∷◌, ◌++◌, length, map, drop, Bool, true, false, Option, Some, None, refl, sym, ◌∙◌, ap, arith, inl, inr, ◌⊎◌, eqb-true, eq-eqb}
+use Rattle.std.proofs.Common.{◌≡◌, ◌≢◌, ℕ, suc, ◌+◌, ◌<◌, ◌≤◌, List, [], ◌∷◌, length, map, drop, Bool, true, false, Option, Some, None, refl, sym, ◌∙◌, ap, arith, inl, inr, ◌⊎◌, eqb-true, eq-eqb}
 use Rattle.std.specs.Prelude.{◌==◌, nat_lt, if◌then◌else◌, All}
 use Rattle.std.specs.List.{AllPairs}
 use Rattle.std.proofs.lemmas.Bool.{false≢true, ltb-true, ltb-false, lt-ltb, le-ltb}
@@ -10,11 +10,11 @@ use Rattle.std.proofs.Math.ListN.{get_or}
 use Rattle.std.proofs.lemmas.List.Kept.{AllPairs-cons}
 use Rattle.wc_read.specs.Sections.{SectionValue, section_value}
 use Rattle.wc_read.specs.declared.sections.Section.{Section}
-use Rattle.wc_read.specs.Order.{place_of, StandsBefore, BeginsWithName, IsSection, AreInOrder}
+use Rattle.wc_read.specs.Order.{place_of, StandsBefore, IsSection, AreInOrder}
 use Rattle.wc_read.specs.Reading.{◌>>=◌, name_at}
 use Rattle.wc_read.specs.OrderReading.{next_place, last_place}
 use Rattle.wc_read.proofs.Options.{some_same, some_none, bind_some, bind_none}
-use Rattle.wc_read.proofs.Meets.{Meets, bind_is, if_is}
+use Rattle.wc_read.proofs.Meets.{bind_is, if_is}
 use Rattle.wc_read.proofs.TypesMeet.{name_meets}
 
 abbrev IsAbove : ℕ → SectionValue → Type 0

@@ -1,5 +1,5 @@
 -- The contents of sections are read as the sections have them.
-use Rattle.std.proofs.Common.{◌≡◌, ℕ, List, [], ◌∷◌, Option, Some, None, refl, sym, ◌∙◌, ap, subst}
+use Rattle.std.proofs.Common.{◌≡◌, ℕ, List, [], Option, Some, None, refl, sym, ◌∙◌, ap, subst}
 use Rattle.std.specs.Prelude.{MatchOption}
 use Rattle.std.specs.Option.{option_map_or}
 use Rattle.wc_read.specs.Formats.{Format, SpellsNumber, SpellsVector}
@@ -12,7 +12,7 @@ use Rattle.wc_read.specs.Contents.{SpellsFuncType, SpellsSized}
 use Rattle.wc_read.specs.ContentsReading.{whole_of, func_type_at, sized_at, export_at}
 use Rattle.wc_read.specs.Order.{content_of}
 use Rattle.wc_read.specs.Parts.{PartsValue, HasItems, HasContent, HasParts, items_in, content_in, parts_in}
-use Rattle.wc_read.proofs.Options.{some_same, some_none, bind_some}
+use Rattle.wc_read.proofs.Options.{some_same, bind_some}
 use Rattle.wc_read.proofs.Meets.{Meets, bind_is, vector_meets, number_meets}
 use Rattle.wc_read.proofs.LimitsMeet.{table_meets, memory_meets}
 use Rattle.wc_read.proofs.ImportsMeet.{import_meets}

@@ -1,5 +1,5 @@
 -- Reading functions of the contents of sections.
-use Rattle.std.specs.Prelude.{◌≡◌, ◌≢◌, ℕ, List, [], ◌∷◌, length, ◌==◌, if◌then◌else◌, Option, Some, None, Result, Ok, Err}
+use Rattle.std.specs.Prelude.{◌≡◌, ◌≢◌, ℕ, List, length, ◌==◌, if◌then◌else◌, Option, Some, None, Result, Ok, Err}
 use Rattle.wc_read.specs.Reading.{Read, ◌>>=◌, byte_at, bytes_at, where_at, coded_at, number_at, name_at, vector_at, val_type_at}
 use Rattle.wc_read.specs.Types.{FuncTypeValue}
 use Rattle.wc_read.specs.Exports.{ExportValue}

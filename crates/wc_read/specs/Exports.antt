@@ -1,5 +1,5 @@
 -- Exports (WebAssembly core specification, 2.5.10 and 5.5.10).
-use Rattle.std.specs.Prelude.{◌≡◌, ℕ, List, [], ◌∷◌, ◌++◌, map}
+use Rattle.std.specs.Prelude.{◌≡◌, ℕ, List, ◌∷◌, ◌++◌}
 use Rattle.wc_read.specs.Formats.{Format, SpellsNumber, SpellsName, SpellsVector}
 use Rattle.wc_read.specs.declared.exports.ExportKind.{ExportKind}
 use Rattle.wc_read.specs.declared.exports.ExportKind.TheVariants.{Func, Table, Memory, Global}

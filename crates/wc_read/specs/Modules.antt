@@ -4,7 +4,6 @@ use Rattle.std.specs.List.{slice_get, filter}
 use Rattle.std.specs.Option.{option_map}
 use Rattle.wc_read.specs.Names.{Named, NamesOf, global_names_of, name_entries}
 use Rattle.wc_read.specs.Producers.{LastProducers}
-use Rattle.wc_read.specs.Formats.{Format}
 use Rattle.wc_read.specs.Types.{FuncTypeValue, func_type_value}
 use Rattle.wc_read.specs.Imports.{ImportValue, import_value}
 use Rattle.wc_read.specs.Exports.{ExportValue, export_value}

@@ -1,5 +1,5 @@
 -- The order of a module's sections (WebAssembly core specification, 5.5.2 and 5.5.16).
-use Rattle.std.specs.Prelude.{◌≡◌, ◌≢◌, ℕ, ◌<◌, ◌≤◌, List, [], ◌∷◌, ◌++◌, All, ◌==◌, if◌then◌else◌, Option, Some, None}
+use Rattle.std.specs.Prelude.{◌≡◌, ◌≢◌, ℕ, ◌<◌, ◌≤◌, List, ◌++◌, All, ◌==◌, if◌then◌else◌, Option}
 use Rattle.std.specs.List.{AllPairs, find}
 use Rattle.std.specs.Option.{option_map}
 use Rattle.wc_read.specs.Formats.{SpellsName}

@@ -1,5 +1,5 @@
 -- Reading functions of the order of sections.
-use Rattle.std.specs.Prelude.{◌≡◌, ℕ, List, [], ◌∷◌, ◌==◌, nat_lt, if◌then◌else◌, Option, Some, None}
+use Rattle.std.specs.Prelude.{ℕ, List, [], ◌∷◌, ◌==◌, nat_lt, if◌then◌else◌, Option, Some, None}
 use Rattle.wc_read.specs.Reading.{◌>>=◌, name_at}
 use Rattle.wc_read.specs.Sections.{SectionValue}
 use Rattle.wc_read.specs.Order.{place_of}

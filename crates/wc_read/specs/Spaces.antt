@@ -1,10 +1,10 @@
 -- Index spaces: imported items in the order of their imports, and then the module's own (WebAssembly core
 -- specification, 2.5.1).
-use Rattle.std.specs.Prelude.{◌≡◌, ℕ, List, [], ◌∷◌, ◌++◌, map, ⊤, Option, Some, None}
+use Rattle.std.specs.Prelude.{ℕ, List, map, ⊤, Option, Some, None}
 use Rattle.std.specs.List.{filter_map, zip}
 use Rattle.std.specs.Option.{option_map}
 use Rattle.wc_read.specs.Imports.{ImportValue}
-use Rattle.wc_read.specs.Items.{DefValue, imported, local, ItemValue, FuncValue, GlobalValue}
+use Rattle.wc_read.specs.Items.{imported, local, ItemValue, FuncValue, GlobalValue}
 use Rattle.wc_read.specs.Globals.{LocalGlobalValue}
 use Rattle.wc_read.specs.declared.types.ImportType.{ImportType}
 use Rattle.wc_read.specs.declared.types.ImportType.TheVariants.{Func, Table, Memory, Global}

@@ -1,6 +1,5 @@
-use Rattle.std.proofs.Common.{◌≡◌, ◌∙◌, sym, map, arith}
+use Rattle.std.proofs.Common.{◌∙◌}
 use Rattle.std.proofs.lemmas.Result.{err_from_is_err_and}
-use Rattle.wc_read.specs.Sections.{section_value}
 use Rattle.wc_read.proofs.OrderHolds.{order_found, no_order, place_more, place_fails, place_end}
 use Rattle.wc_read.proofs.order.check_order.Goals as goal
 

@@ -1,4 +1,4 @@
-use Rattle.std.proofs.Common.{◌≡◌, ◌⊎◌, inl, inr}
+use Rattle.std.proofs.Common.{◌⊎◌, inl, inr}
 use Rattle.wc_read.proofs.SpacesHold.{all_funcs}
 use Rattle.wc_read.proofs.spaces.funcs.Goals as goal
 

@@ -1,5 +1,4 @@
-use Rattle.std.proofs.Common.{sym, ◌∙◌, length, map}
-use Rattle.wc_read.specs.Types.{func_type_value}
+use Rattle.std.proofs.Common.{sym, ◌∙◌, length}
 use Rattle.std.proofs.lemmas.Bool.{false≢true}
 use Rattle.wc_read.specs.Items.{func_value}
 use Rattle.wc_read.specs.Exports.{export_value}

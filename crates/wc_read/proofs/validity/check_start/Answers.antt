@@ -1,4 +1,4 @@
-use Rattle.std.proofs.Common.{refl, sym, ◌∙◌}
+use Rattle.std.proofs.Common.{refl, sym}
 use Rattle.std.proofs.lemmas.Option.{slice_get_read}
 use Rattle.wc_read.proofs.ModulesHold.{start_is, no_length}
 use Rattle.wc_read.proofs.validity.check_start.Goals as goal
