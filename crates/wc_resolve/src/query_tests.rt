@@ -65,6 +65,7 @@ fn ids_of_an_interface(rt: HostRuntime) -> Result<(), Fail> {
     let resolve = Resolve::build(alloc, parts)?;
     let id = InterfaceId(0);
     assert!(rt; resolve.has_interface(id));
+    assert_eq!(rt; resolve.interface(id).package, Some(PackageId(0)));
     let text = resolve.id_of(alloc, id)?.ok_or("no id")?;
     assert_eq!(rt; text.as_str(), "my:demo/host@1.2.3");
     let canonical = resolve.canonicalized_id_of(alloc, id)?.ok_or("no id")?;
