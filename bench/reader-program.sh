@@ -1,6 +1,6 @@
 #!/bin/sh
 # Builds, where it is not there or older than the crates, the program that reads modules for the other
-# scripts, and prints its path. Its source stands here and not in crates/, where the merge gate would prove
+# scripts, and writes them again, and prints its path. Its source stands here and not in crates/, where the merge gate would prove
 # it, in a repository of its own in bench/data/reader, with copies of the crates that it stands on.
 set -e
 top=$(CDPATH='' cd -P -- "$(dirname -- "$0")/.." && pwd -P)
@@ -8,7 +8,8 @@ home=$top/bench/data/reader
 program=$home/crates/reader/out/reader
 
 is_fresh() {
-    [ -x "$program" ] && [ -z "$(find "$top/crates/wc_read/src" "$top/crates/wc_read/specs" "$0" -newer "$program" -print)" ]
+    [ -x "$program" ] && [ -z "$(find "$top"/crates/wc_read/src "$top"/crates/wc_read/specs \
+        "$top"/crates/wc_write/src "$top"/crates/wc_write/specs "$0" -newer "$program" -print)" ]
 }
 if is_fresh; then
     echo "$program"
@@ -19,22 +20,28 @@ command -v rt >/dev/null || {
     exit 1
 }
 echo "$0: building the proved program (some minutes)" >&2
-mkdir -p "$home/crates/reader/src" "$home/crates/wc_read"
+mkdir -p "$home/crates/reader/src" "$home/crates/wc_read" "$home/crates/wc_write"
 [ -d "$home/.git" ] || git init -q "$home"
 cp "$top/HANDLES" "$home/HANDLES"
 {
     grep '^wc_read' "$top/crates.txt"
-    echo 'reader: wc_read'
+    grep '^wc_write' "$top/crates.txt"
+    echo 'reader: wc_read wc_write'
 } >"$home/crates.txt"
-for part in src specs proofs out; do
-    [ ! -d "$top/crates/wc_read/$part" ] || {
-        rm -rf "$home/crates/wc_read/$part"
-        cp -a "$top/crates/wc_read/$part" "$home/crates/wc_read/$part"
-    }
+for crate in wc_read wc_write; do
+    for part in src specs proofs out; do
+        [ ! -d "$top/crates/$crate/$part" ] || {
+            rm -rf "$home/crates/$crate/$part"
+            cp -a "$top/crates/$crate/$part" "$home/crates/$crate/$part"
+        }
+    done
 done
 cat >"$home/crates/reader/src/main.rt" <<'RATTLE'
-//! Reads modules: tells which of them are refused and which of their bodies, or reads one many times.
+//! Reads modules: tells which of them are refused and which of their bodies, or reads one many times, or writes one
+//! again.
 #![tactic(auto)]
+
+mod again;
 
 use std::alloc::Global;
 use std::env;
@@ -52,10 +59,14 @@ fn main(rt: HostRuntime) -> ExitCode {
 }
 
 /// `modules TIMES FILE..`: reads each module so many times. `bodies TIMES FILE..`: reads each module once,
-/// and all of its bodies so many times.
+/// and all of its bodies so many times. `again IN OUT`: writes what was read of a module.
 fn run<R: Env + Files + Print + AllocGlobal>(rt: &R) -> io::Result<()> {
     let words = env::args(rt)?.skip(1).collect::<Vec<String>>(rt.alloc())?;
     match words.as_slice() {
+        [what, from, to] if what.as_str() == "again" => {
+            let bytes = fs::read(rt, from.as_str())?;
+            again::write_again(rt, from.as_str(), bytes.as_slice(), to.as_str())
+        }
         [what, times, files @ ..] => {
             let times = times.as_str().parse::<u32>().unwrap_or(0);
             let with_bodies = what.as_str() == "bodies";
@@ -65,7 +76,7 @@ fn run<R: Env + Files + Print + AllocGlobal>(rt: &R) -> io::Result<()> {
             }
             Ok(())
         }
-        _ => rt.println("usage: reader modules|bodies TIMES FILE.."),
+        _ => rt.println("usage: reader modules|bodies TIMES FILE.. or reader again IN OUT"),
     }
 }
 
@@ -160,6 +171,128 @@ fn bodies(alloc: Global, module: &Module<'_>) -> Found {
         }
     }
     found
+}
+RATTLE
+cat >"$home/crates/reader/src/again.rt" <<'RATTLE'
+//! Modules that are written again.
+
+use std::alloc::{AllocError, AllocFailed, Global};
+use std::fs;
+use std::io;
+use std::rt::Files;
+use wc_read::{
+    Body, Def, Func, GlobalType, Init, Item, ReadFault, read_body, read_init, read_module,
+};
+use wc_write::{Built, WriteFault, write_module};
+
+/// Why a module was not written.
+pub(crate) enum Fault {
+    Memory,
+    Read(ReadFault),
+    Write(WriteFault),
+}
+
+impl From<AllocError> for Fault {
+    fn from(_: AllocError) -> Fault {
+        Fault::Memory
+    }
+}
+
+impl<T: Drop> From<AllocFailed<T>> for Fault {
+    fn from(_: AllocFailed<T>) -> Fault {
+        Fault::Memory
+    }
+}
+
+impl From<ReadFault> for Fault {
+    fn from(fault: ReadFault) -> Fault {
+        Fault::Read(fault)
+    }
+}
+
+impl From<WriteFault> for Fault {
+    fn from(fault: WriteFault) -> Fault {
+        Fault::Write(fault)
+    }
+}
+
+fn bodies_of<'a>(
+    alloc: Global,
+    funcs: &[Func<'a>],
+) -> Result<Vec<Item<'a, u32, Body<'a>>>, Fault> {
+    let mut decoded = Vec::new(alloc);
+    for func in funcs {
+        let def = match func.def {
+            Def::Import(module, name) => Def::Import(module, name),
+            Def::Local(body) => Def::Local(read_body(alloc, body)?),
+        };
+        decoded.push(Item { ty: func.ty, def })?;
+    }
+    Ok(decoded)
+}
+
+fn inits_of<'a>(
+    alloc: Global,
+    globals: &[wc_read::Global<'a>],
+) -> Result<Vec<Item<'a, GlobalType, Init<'a>>>, Fault> {
+    let mut decoded = Vec::new(alloc);
+    for global in globals {
+        let def = match global.def {
+            Def::Import(module, name) => Def::Import(module, name),
+            Def::Local(init) => Def::Local(read_init(alloc, init)?),
+        };
+        decoded.push(Item { ty: global.ty, def })?;
+    }
+    Ok(decoded)
+}
+
+/// The text of the module that the bytes spell.
+fn text_of(alloc: Global, bytes: &[u8]) -> Result<Vec<u8>, Fault> {
+    let module = read_module(alloc, bytes)?;
+    let funcs = bodies_of(alloc, &module.funcs)?;
+    let globals = inits_of(alloc, &module.globals)?;
+    let built = Built {
+        types: module.types,
+        funcs,
+        tables: module.tables,
+        memories: module.memories,
+        globals,
+        exports: module.exports,
+        start: module.start,
+        producers: module.producers,
+    };
+    Ok(write_module(alloc, &built)?)
+}
+
+/// The text of the module that the bytes spell, and whether that of the text is the same.
+fn text_and_again(alloc: Global, bytes: &[u8]) -> Result<(Vec<u8>, bool), Fault> {
+    let text = text_of(alloc, bytes)?;
+    let again = text_of(alloc, text.as_slice())?;
+    let is_same = again.as_slice() == text.as_slice();
+    Ok((text, is_same))
+}
+
+/// Writes the text to `to`, and prints `FILE`, `ok`, its size, and `same` where it is its own text, or the fault.
+pub(crate) fn write_again<R: Files + Print + AllocGlobal>(
+    rt: &R,
+    file: &str,
+    bytes: &[u8],
+    to: &str,
+) -> io::Result<()> {
+    match text_and_again(rt.alloc(), bytes) {
+        Ok((text, is_same)) => {
+            fs::write(rt, to, text.as_slice())?;
+            let size = text.len();
+            if is_same {
+                println!(rt; "{file} ok {size} same")
+            } else {
+                println!(rt; "{file} ok {size} other")
+            }
+        }
+        Err(Fault::Memory) => println!(rt; "{file} out of memory"),
+        Err(Fault::Read(fault)) => println!(rt; "{file} {fault}"),
+        Err(Fault::Write(fault)) => println!(rt; "{file} {fault}"),
+    }
 }
 RATTLE
 log=$home/build.log

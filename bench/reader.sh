@@ -3,12 +3,7 @@
 # best of 5 each: over C's and C++'s libraries linked whole, and over the module of 50 MB of generate.py.
 set -e
 top=$(CDPATH='' cd -P -- "$(dirname -- "$0")/.." && pwd -P)
-need() {
-    [ -e "$1" ] || command -v "$1" >/dev/null || {
-        echo "$0: there is no $1: apt-get install $2" >&2
-        exit 1
-    }
-}
+. "$top/bench/need.sh"
 need wasm-ld lld
 need wasm-validate wabt
 need wasm-objdump wabt

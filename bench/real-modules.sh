@@ -3,12 +3,7 @@
 # with what read_module and read_body say. Exits with 1 where they differ.
 set -e
 top=$(CDPATH='' cd -P -- "$(dirname -- "$0")/.." && pwd -P)
-need() {
-    [ -e "$1" ] || command -v "$1" >/dev/null || {
-        echo "$0: there is no $1: apt-get install $2" >&2
-        exit 1
-    }
-}
+. "$top/bench/need.sh"
 need clang clang
 need wasm-ld lld
 need wat2wasm wabt

@@ -1,10 +1,11 @@
 -- The loop that reads items to the end of the bytes.
-use Rattle.std.proofs.Common.{◌≡◌, ℕ, ◌<◌, List, [], ◌∷◌, ◌++◌, length, Some, None, refl, sym, ◌∙◌, subst, append_assoc, append-nil, arith, true, false, eqb-true}
+use Rattle.std.proofs.Common.{◌≡◌, ℕ, ◌<◌, List, [], ◌∷◌, ◌++◌, length, Option, Some, None, refl, sym, ◌∙◌, ap, subst, append_assoc, append-nil, arith, true, false, eqb-true}
 use Rattle.std.specs.Prelude.{◌==◌}
 use Rattle.std.proofs.lemmas.Bool.{false≢true}
 use Rattle.std.proofs.Math.ListN.{length-append}
 use Rattle.wc_read.specs.Formats.{Format, SpellsItems}
-use Rattle.wc_read.specs.Reading.{Read}
+use Rattle.wc_read.specs.Reading.{Read, behind_at, ◌>>=◌}
+use Rattle.wc_read.proofs.Options.{some_none, some_pair}
 use Rattle.wc_read.proofs.Meets.{Meets, one_spelling, no_spelling}
 
 -- the front was read: what stands behind it in all of the bytes stands in the rest
@@ -18,6 +19,18 @@ to_start Spells bytes = record { to_all = λ others s. s; from_all = λ all s. (
 pub to_end : {A : Type 0} (Spells : Format A) (front : List A) (rest bytes : List ℕ) → true ≡ (length rest == 0) → IsReadTo Spells front rest bytes → SpellsItems Spells bytes front
 to_end Spells front [] bytes t r = rw append-nil at (r.to_all [] refl)
 to_end Spells front (b ∷ rest) bytes t r = let h : length (b ∷ rest) ≡ 0 = eqb-true (length (b ∷ rest)) 0 (sym t) in absurd (omega arith)
+
+-- an item stands behind the front, or none
+abbrev with_last : {A : Type 0} → List A → A × List ℕ → Option (List A × List ℕ)
+with_last front x = Some (front ++ (x.0 ∷ []), x.1)
+
+behind_is : {A : Type 0} (front : List A) (o : Option (A × List ℕ)) (all : List A) (behind : List ℕ) → (o >>= with_last front) ≡ Some (all, behind) → (x : A) × (o ≡ Some (x, behind)) × (front ++ x ∷ [] ≡ all)
+behind_is front None all behind e = absurd cc
+behind_is front (Some x) all behind e = let p = some_pair _ _ _ _ e in (x.0, ap (λ (b : List ℕ). Some (x.0, b)) p.1, p.0)
+
+none_behind : {A : Type 0} (front : List A) (o : Option (A × List ℕ)) → (o >>= with_last front) ≡ None → o ≡ None
+none_behind front None e = refl
+none_behind front (Some x) e = some_none _ e
 
 -- items of which none is empty
 module _ {A : Type 0} (Spells : Format A) (read : Read A) (m : Meets Spells read) (some : (x : A) → Spells [] x → ⊥) where
@@ -52,6 +65,18 @@ module _ {A : Type 0} (Spells : Format A) (read : Read A) (m : Meets Spells read
       go : (text : List ℕ) → rest ≡ text ++ behind → Spells text x → length behind < length rest
       go [] cut s = absurd (some x s)
       go (b ∷ text) cut s = rw cut (omega (arith, length-append text behind))
+
+  -- the same of an item that is read behind the front
+  pub behind_more : (front all : List A) (rest bytes behind : List ℕ) → IsReadTo Spells front rest bytes → behind_at front read rest ≡ Some (all, behind) → IsReadTo Spells all behind bytes
+  behind_more front all rest bytes behind r e =
+      let x = behind_is front (read rest) all behind e in
+      subst (λ (xs : List A). IsReadTo Spells xs behind bytes) x.2 (to_more front rest bytes x.0 behind r x.1)
+
+  pub behind_fails : (front : List A) (rest bytes : List ℕ) → false ≡ (length rest == 0) → IsReadTo Spells front rest bytes → behind_at front read rest ≡ None → (all : List A) → SpellsItems Spells bytes all → ⊥
+  behind_fails front rest bytes t r none = to_fails front rest bytes t r (none_behind front (read rest) none)
+
+  pub behind_shorter : (front all : List A) (rest behind : List ℕ) → behind_at front read rest ≡ Some (all, behind) → length behind < length rest
+  behind_shorter front all rest behind e = let x = behind_is front (read rest) all behind e in to_shorter rest x.0 behind x.1
 
   -- two runs of items in the same bytes are one
   pub items_are_one : (xs ys : List A) (bytes : List ℕ) → SpellsItems Spells bytes xs → SpellsItems Spells bytes ys → xs ≡ ys

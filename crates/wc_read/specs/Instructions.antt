@@ -89,9 +89,12 @@ immediates_at form_zero bytes = where_at is_zero byte_at bytes >>= as_made (λ _
 abbrev pub instr_of : Opcode → ImmediatesValue → InstrValue
 instr_of code v = record { opcode = code; immediates = v }
 
+-- an operator by its code and its shape
+abbrev pub instr_behind : Opcode → Form → Read InstrValue
+instr_behind code form bytes = immediates_at form bytes >>= as_made (instr_of code)
+
 unfoldable pub instr_at : Read InstrValue
 instr_at bytes = do
   code ← opcode_at bytes
   form ← form_of code.0
-  immediates ← immediates_at form code.1
-  Some (instr_of code.0 immediates.0, immediates.1)
+  instr_behind code.0 form code.1

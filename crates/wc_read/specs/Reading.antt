@@ -1,6 +1,6 @@
 -- Reading functions: what a reader makes of the bytes before it, and the bytes that it leaves. They say what private
 -- readers do; what is read is stated by the relations of the other files.
-use Rattle.std.specs.Prelude.{◌≡◌, ◌≢◌, ℕ, zero, suc, ◌+◌, ◌-◌, ◌*◌, ◌^◌, List, [], ◌∷◌, length, take, drop, Bool, true, false, not, ◌&&◌, ◌||◌, ◌==◌, nat_lt, nat_le, if◌then◌else◌, Option, Some, None, Result, Ok, Err, bit_and, unwrap_or}
+use Rattle.std.specs.Prelude.{◌≡◌, ◌≢◌, ℕ, zero, suc, ◌+◌, ◌-◌, ◌*◌, ◌^◌, List, [], ◌∷◌, ◌++◌, length, take, drop, Bool, true, false, not, ◌&&◌, ◌||◌, ◌==◌, nat_lt, nat_le, if◌then◌else◌, Option, Some, None, Result, Ok, Err, bit_and, unwrap_or}
 use Rattle.std.specs.Option.{option_map_or}
 use Rattle.std.specs.Str.{is_utf8}
 use Rattle.wc_read.specs.Limits.{bound_bits}
@@ -76,6 +76,10 @@ items_at read (suc n) bytes = do
   first ← read bytes
   others ← items_at read n first.1
   Some (first.0 ∷ others.0, others.1)
+
+-- an item, as the last of those in front of it
+abbrev pub behind_at : {A : Type 0} → List A → Read A → Read (List A)
+behind_at front read bytes = read bytes >>= λ x. Some (front ++ (x.0 ∷ []), x.1)
 
 unfoldable pub vector_at : {A : Type 0} → Read A → Read (List A)
 vector_at read bytes = do

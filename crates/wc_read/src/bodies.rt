@@ -91,8 +91,7 @@ fn operators(alloc: Global, bytes: &[u8]) -> Result<Vec<Instr<'_>>, ReadFault>
     let mut reader = Reader::new(bytes);
     let mut operators = Vec::with_capacity(alloc, room_for(bytes))?;
     while !reader.rest.is_empty() {
-        let operator = reader.operator(alloc)?;
-        operators.push(operator)?;
+        reader.push_operator(alloc, &mut operators)?;
     }
     Ok(operators)
 }

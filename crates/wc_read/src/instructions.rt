@@ -1,10 +1,10 @@
 //! The reading of operators.
 
-ghost use Rattle.std.specs.Prelude.{◌≡◌, ℕ, ℤ};
-ghost use Rattle.wc_read.specs.Reading.{Gives, number_at, val_type_at, vector_at};
+ghost use Rattle.std.specs.Prelude.{◌≡◌, ℕ, ℤ, [], ◌∷◌, ◌++◌, map, IfOk, IfErr};
+ghost use Rattle.wc_read.specs.Reading.{Gives, behind_at, number_at, val_type_at, vector_at};
 ghost use Rattle.wc_read.specs.Signed.{signed_at};
 ghost use Rattle.wc_read.specs.Operators.{immediates_value, instr_value};
-ghost use Rattle.wc_read.specs.Instructions.{block_type_at, immediates_at, instr_at, mem_arg_at, opcode_at, ref_type_at};
+ghost use Rattle.wc_read.specs.Instructions.{block_type_at, immediates_at, instr_at, instr_behind, instr_of, mem_arg_at, opcode_at, ref_type_at};
 ghost use Rattle.wc_read.specs.declared.types.ValType.{ValType as val_type};
 
 use crate::fault::ReadFault;
@@ -38,6 +38,47 @@ impl<'a> Spelled<'a> for ValType {
 }
 
 impl<'a> Reader<'a> {
+    /// An operator, behind those that were read. The shapes that most operators have are put one by one: one that
+    /// all of them join in is built part by part.
+    #[tactic(auto, unfolding(crate::specs::Instructions::instr_at, crate::specs::Instructions::immediates_at))]
+    pub fn push_operator(
+        &mut self,
+        alloc: Global,
+        operators: &mut Vec<Instr<'a>>,
+    ) -> Result<(), ReadFault>
+        ensures { Gives (λ _. map instr_value operators.new.items) result self.new.rest.now (behind_at (map instr_value operators.old.items) instr_at self.old.rest.now) }
+    {
+        let opcode = self.opcode()?;
+        let Some(form) = form_of(opcode) else {
+            return Err(ReadFault::UnknownOperator);
+        };
+        match form {
+            Form::None => put(operators, opcode, Immediates::None),
+            Form::Index(kind) => {
+                let number = self.u32()?;
+                put(operators, opcode, Immediates::Index(Index { kind, number }))
+            }
+            Form::I32 => put(operators, opcode, Immediates::I32(self.i32()?)),
+            Form::MemArg => put(operators, opcode, Immediates::MemArg(self.mem_arg()?)),
+            Form::Block => put(operators, opcode, Immediates::Block(self.block_type()?)),
+            _ => self.push_rarer(alloc, operators, opcode, form),
+        }
+    }
+
+    /// An operator of any shape, by its code and its shape.
+    #[inline(never)]
+    fn push_rarer(
+        &mut self,
+        alloc: Global,
+        operators: &mut Vec<Instr<'a>>,
+        opcode: Opcode,
+        form: Form,
+    ) -> Result<(), ReadFault>
+        ensures { Gives (λ _. map instr_value operators.new.items) result self.new.rest.now (behind_at (map instr_value operators.old.items) (instr_behind opcode form) self.old.rest.now) }
+    {
+        put(operators, opcode, self.immediates(alloc, form)?)
+    }
+
     /// An operator, by the operator table.
     #[tactic(auto, unfolding(crate::specs::Instructions::instr_at))]
     pub fn operator(&mut self, alloc: Global) -> Result<Instr<'a>, ReadFault>
@@ -51,6 +92,7 @@ impl<'a> Reader<'a> {
         Ok(Instr { opcode, immediates })
     }
 
+    #[inline(always)]
     #[tactic(auto, unfolding(crate::specs::Instructions::opcode_at))]
     fn opcode(&mut self) -> Result<Opcode, ReadFault>
         ensures { Gives (λ x. x) result self.new.rest.now (opcode_at self.old.rest.now) }
@@ -119,6 +161,7 @@ impl<'a> Reader<'a> {
         self.vector::<ValType>(alloc)
     }
 
+    #[inline(always)]
     fn i32(&mut self) -> Result<i32, ReadFault>
         ensures { Gives (λ x. x) result self.new.rest.now (signed_at 32 self.old.rest.now) }
     {
@@ -156,6 +199,7 @@ impl<'a> Reader<'a> {
         Ok(BlockType::FuncType(index as u32))
     }
 
+    #[inline(always)]
     #[tactic(auto, unfolding(crate::specs::Instructions::mem_arg_at))]
     fn mem_arg(&mut self) -> Result<MemArg, ReadFault>
         ensures { Gives (λ x. x) result self.new.rest.now (mem_arg_at self.old.rest.now) }
@@ -172,4 +216,17 @@ impl<'a> Reader<'a> {
             offset,
         })
     }
+}
+
+/// Puts an operator behind others.
+fn put<'a>(
+    operators: &mut Vec<Instr<'a>>,
+    opcode: Opcode,
+    immediates: Immediates<'a>,
+) -> Result<(), ReadFault>
+    ensures found { IfOk result (λ _. map instr_value operators.new.items ≡ map instr_value operators.old.items ++ (instr_of opcode (immediates_value immediates.entry) ∷ [])) }
+    ensures refused { IfErr result (λ f. f ≡ ReadFault.Memory) }
+{
+    operators.push(Instr { opcode, immediates })?;
+    Ok(())
 }

@@ -133,6 +133,7 @@ const MEMORY: IndexKind = IndexKind::In(Space::Memories);
 const GLOBAL: IndexKind = IndexKind::In(Space::Globals);
 
 /// The operator table: which immediates stand behind a code, none for a code that is no operator's.
+#[inline(always)]
 pub fn form_of(opcode: Opcode) -> Option<Form>
     ensures { result ≡ form_of opcode }
 {
@@ -144,6 +145,7 @@ pub fn form_of(opcode: Opcode) -> Option<Form>
     }
 }
 
+#[inline(always)]
 #[tactic(auto, unfolding(crate::specs::Operators::byte_form))]
 fn byte_form(code: u8) -> Option<Form>
     ensures { result ≡ byte_form code }

@@ -57,6 +57,7 @@ impl<'a> Reader<'a> {
     }
 
     /// An unsigned number of so many bits. Most are of one byte.
+    #[inline(always)]
     pub fn number(&mut self, bits: u32) -> Result<u64, ReadFault>
         requires some { 0 < bits }
         requires most { bits ≤ 64 }
@@ -74,6 +75,7 @@ impl<'a> Reader<'a> {
     }
 
     /// An unsigned number of so many bits, digit by digit.
+    #[inline(never)]
     fn digits(&mut self, bits: u32) -> Result<u64, ReadFault>
         requires some { 0 < bits }
         requires most { bits ≤ 64 }
@@ -99,6 +101,7 @@ impl<'a> Reader<'a> {
         }
     }
 
+    #[inline(always)]
     pub fn u32(&mut self) -> Result<u32, ReadFault>
         ensures { Gives (λ x. x) result self.new.rest.now (number_at 32 self.old.rest.now) }
     {

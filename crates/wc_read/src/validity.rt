@@ -35,7 +35,7 @@ pub fn check_module(alloc: Global, module: &Module) -> Result<(), ReadFault>
     if !have_distinct_names(alloc, &module.exports)? {
         return Err(ReadFault::DuplicateExport);
     }
-    if !are_typed(alloc, module.funcs.as_slice().len(), &module.globals)? {
+    if !are_typed(alloc, module.funcs.len(), &module.globals)? {
         return Err(ReadFault::BadInitialiser);
     }
     match module.start {
