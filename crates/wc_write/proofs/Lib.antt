@@ -3,6 +3,8 @@ pub mod Digits
 pub mod SignedDigits
 pub mod SignedSpelled
 pub mod VectorsText
+pub mod OwnItems
+pub mod SectionsText
 pub mod ImportsText
 pub mod BodiesText
 pub mod NumbersSpelled
@@ -13,4 +15,9 @@ pub mod FormsOfCodes
 pub mod VectorsSpelled
 pub mod OperatorsSpelled
 pub mod BodiesSpelled
+pub mod SpacesRead
+pub mod SectionsRead
+pub mod ContentsRead
+pub mod ModulesRead
 pub mod SpelledBodies
+pub mod SpelledModules

@@ -59,7 +59,7 @@ mem_arg_spelled m h = by (m.memory == 0) refl
 labels_spelled : (labels : List ℕ) → All (λ (n : ℕ). n < 2 ^ 32) labels → length (vector_text number_text labels) < 2 ^ 32 → SpellsVector (SpellsNumber 32) (vector_text number_text labels) labels
 labels_spelled labels all short = vector_spelled (SpellsNumber 32) number_text (λ (n : ℕ). n < 2 ^ 32) (λ n fits _. number_32 n fits) (number_some 9) labels all short
 
-val_types_spelled : (ts : List ValType) → length (vector_text val_type_text ts) < 2 ^ 32 → SpellsVector SpellsValType (vector_text val_type_text ts) ts
+pub val_types_spelled : (ts : List ValType) → length (vector_text val_type_text ts) < 2 ^ 32 → SpellsVector SpellsValType (vector_text val_type_text ts) ts
 val_types_spelled ts short = vector_spelled SpellsValType val_type_text (λ (t : ValType). Unit {0}) (λ t _ _. refl) (λ t. omega arith) ts (λ k t _. tt) short
 
 immediates_spelled : (f : Form) (v : ImmediatesValue) → HasForm f v → length (immediates_text v) < 2 ^ 32 → SpellsImmediates f (zero_text f ++ immediates_text v) v

@@ -75,7 +75,7 @@ immediates_are (form_bytes count) bytes v s all = (s.0, s.2, s.1.1, rw s.1.0 at 
 immediates_are form_lane bytes v s all = (s.0, s.2, lane_is s.0 bytes s.1 all)
 immediates_are form_zero bytes v s all = s.1
 
-instr_is : (bytes : List ℕ) (i : InstrValue) → SpellsInstr bytes i → AreBytes bytes → IsInstr i
+pub instr_is : (bytes : List ℕ) (i : InstrValue) → SpellsInstr bytes i → AreBytes bytes → IsInstr i
 instr_is bytes i s all = record {
   form = s.form;
   in_table = s.in_table;

@@ -5,11 +5,13 @@ use Rattle.std.proofs.lemmas.Nat.{pow-add}
 use Rattle.std.proofs.lemmas.List.Elements.{All-nil, All-cons, All-head}
 use Rattle.wc_read.specs.Formats.{SpellsNumber, last, more, SpellsOptional, SpellsName, SpellsItems}
 use Rattle.wc_read.specs.Types.{val_type_code}
-use Rattle.wc_read.specs.Limits.{flags_code, table_flags, memory_flags, bound_bits, SpellsBounds}
+use Rattle.wc_read.specs.Limits.{flags_code, table_flags, memory_flags, bound_bits, SpellsBounds, SpellsTable, SpellsMemory, IsMemory}
 use Rattle.wc_read.specs.Imports.{ImportValue, SpellsImportType, SpellsImport, SpellsImports}
+use Rattle.wc_read.specs.declared.types.TableType.{TableType}
+use Rattle.wc_read.specs.declared.types.MemoryType.{MemoryType}
 use Rattle.wc_read.specs.declared.types.ImportType.{ImportType}
 use Rattle.wc_read.specs.declared.types.ImportType.TheVariants.{Func, Table, Memory, Global}
-use Rattle.wc_write.specs.Values.{AreBytes, IsName, AreBounds, IsImportType, IsImport}
+use Rattle.wc_write.specs.Values.{AreBytes, IsName, AreBounds, IsTable, IsImportType, IsImport}
 use Rattle.wc_write.proofs.Bytes.{front_bytes, back_bytes, tail_bytes}
 
 -- a number has its bits
@@ -27,10 +29,10 @@ optional_fits : (bits : ℕ) (o : Option ℕ) (bytes : List ℕ) → SpellsOptio
 optional_fits bits None bytes s all = tt
 optional_fits bits (Some n) bytes s all = number_fits s all
 
-name_is : (bytes name : List ℕ) → SpellsName bytes name → AreBytes bytes → IsName name
+pub name_is : (bytes name : List ℕ) → SpellsName bytes name → AreBytes bytes → IsName name
 name_is bytes name s all = record { is_text = s.3; short = number_fits s.2 (front_bytes s.0 name (rw s.1 at all)) }
 
-bounds_are : (wide : Bool) (initial : ℕ) (maximum : Option ℕ) (bytes : List ℕ) → SpellsBounds wide initial maximum bytes → AreBytes bytes → AreBounds wide initial maximum
+pub bounds_are : (wide : Bool) (initial : ℕ) (maximum : Option ℕ) (bytes : List ℕ) → SpellsBounds wide initial maximum bytes → AreBytes bytes → AreBounds wide initial maximum
 bounds_are wide initial maximum bytes s all =
     let cut = rw s.cut at all in
     record {
@@ -38,17 +40,23 @@ bounds_are wide initial maximum bytes s all =
       maximum_fits = optional_fits (bound_bits wide) maximum s.maximum_bytes s.has_maximum (back_bytes s.initial_bytes s.maximum_bytes cut);
     }
 
+pub table_is : (bytes : List ℕ) (t : TableType) → SpellsTable bytes t → AreBytes bytes → IsTable t
+table_is bytes t s all =
+    let bounds = tail_bytes (flags_code (table_flags t)) s.bounds (tail_bytes (val_type_code t.element_type) (flags_code (table_flags t) ∷ s.bounds) (rw s.cut at all)) in
+    record { holds_references = s.holds_references; bounds = bounds_are t.table64 t.initial t.maximum s.bounds s.has_bounds bounds; ordered = s.ordered }
+
+pub memory_is : (bytes : List ℕ) (m : MemoryType) → SpellsMemory bytes m → AreBytes bytes → IsMemory m × AreBounds m.memory64 m.initial m.maximum
+memory_is bytes m s all =
+    let parts = tail_bytes (flags_code (memory_flags m)) (s.bounds ++ s.exponent) (rw s.cut at all) in
+    (s.is_memory, bounds_are m.memory64 m.initial m.maximum s.bounds s.has_bounds (front_bytes s.bounds s.exponent parts))
+
 import_type_is : (bytes : List ℕ) (t : ImportType) → SpellsImportType bytes t → AreBytes bytes → IsImportType t
 import_type_is bytes (Func index) s all = number_fits s.2 (tail_bytes 0 s.0 (rw s.1 at all))
-import_type_is bytes (Table t) s all =
-    let bounds = tail_bytes (flags_code (table_flags t)) s.2.bounds (tail_bytes (val_type_code t.element_type) (flags_code (table_flags t) ∷ s.2.bounds) (rw s.2.cut at (tail_bytes 1 s.0 (rw s.1 at all)))) in
-    record { holds_references = s.2.holds_references; bounds = bounds_are t.table64 t.initial t.maximum s.2.bounds s.2.has_bounds bounds; ordered = s.2.ordered }
-import_type_is bytes (Memory m) s all =
-    let parts = tail_bytes (flags_code (memory_flags m)) (s.2.bounds ++ s.2.exponent) (rw s.2.cut at (tail_bytes 2 s.0 (rw s.1 at all))) in
-    (s.2.is_memory, bounds_are m.memory64 m.initial m.maximum s.2.bounds s.2.has_bounds (front_bytes s.2.bounds s.2.exponent parts))
+import_type_is bytes (Table t) s all = table_is s.0 t s.2 (tail_bytes 1 s.0 (rw s.1 at all))
+import_type_is bytes (Memory m) s all = memory_is s.0 m s.2 (tail_bytes 2 s.0 (rw s.1 at all))
 import_type_is bytes (Global g) s all = tt
 
-import_is : (bytes : List ℕ) (i : ImportValue) → SpellsImport bytes i → AreBytes bytes → IsImport i
+pub import_is : (bytes : List ℕ) (i : ImportValue) → SpellsImport bytes i → AreBytes bytes → IsImport i
 import_is bytes i s all =
     let cut = rw s.cut at all in
     let behind = back_bytes s.module_bytes (s.name_bytes ++ s.type_bytes) cut in

@@ -26,7 +26,7 @@ optional_bound : (wide : Bool) (o : Option ℕ) → IfSome o (λ n. n < 2 ^ boun
 optional_bound wide None fits = refl
 optional_bound wide (Some n) fits = bound wide n fits
 
-name_spelled : (name : List ℕ) → IsName name → SpellsName (name_text name) name
+pub name_spelled : (name : List ℕ) → IsName name → SpellsName (name_text name) name
 name_spelled name h = (number_text (length name), refl, number_32 (length name) h.short, h.is_text)
 
 bounds_spelled : (wide : Bool) (initial : ℕ) (maximum : Option ℕ) → AreBounds wide initial maximum → SpellsBounds wide initial maximum (bounds_text initial maximum)
@@ -38,7 +38,7 @@ bounds_spelled wide initial maximum h = record {
   has_maximum = optional_bound wide maximum h.maximum_fits;
 }
 
-table_spelled : (t : TableType) → IsTable t → SpellsTable (table_text t) t
+pub table_spelled : (t : TableType) → IsTable t → SpellsTable (table_text t) t
 table_spelled t h = record {
   bounds = bounds_text t.initial t.maximum;
   cut = refl;
@@ -52,7 +52,7 @@ exponent_spelled : (o : Option ℕ) → IfSome o (λ exponent. (exponent ≡ 0) 
 exponent_spelled None h = refl
 exponent_spelled (Some n) h = number_32 n (elim h [ inl e ↦ omega arith | inr e ↦ omega arith ])
 
-memory_spelled : (m : MemoryType) → IsMemory m → AreBounds m.memory64 m.initial m.maximum → SpellsMemory (memory_text m) m
+pub memory_spelled : (m : MemoryType) → IsMemory m → AreBounds m.memory64 m.initial m.maximum → SpellsMemory (memory_text m) m
 memory_spelled m is_memory bounds = record {
   bounds = bounds_text m.initial m.maximum;
   exponent = optional_text m.page_size_log2;

@@ -5,8 +5,11 @@ use Rattle.wc_read.specs.Imports.{ImportValue, SpellsImport, SpellsImports}
 use Rattle.wc_read.specs.Sections.{SectionValue, SpellsSection}
 use Rattle.wc_write.specs.Text.{number_text, import_text, imports_text, section_text}
 use Rattle.wc_read.specs.Bodies.{BodyValue, SpellsBody}
+use Rattle.wc_read.specs.Modules.{ModuleValue, SpellsModule}
 use Rattle.wc_write.specs.BodyText.{body_text}
 use Rattle.wc_write.specs.Values.{AreBytes, IsImport, IsBody}
+use Rattle.wc_write.specs.ModuleText.{BuiltValue, AreSized}
+use Rattle.wc_write.specs.BuiltValues.{IsBuilt, IsRead, IsWritable}
 
 -- a number of at most 64 bits is spelled by its text
 abbrev pub NumberIsSpelled : Type 0
@@ -51,3 +54,12 @@ SpelledAreBodies = (bytes : List ℕ) (b : BodyValue) → AreBytes bytes → Spe
 -- no bytes that spell a body are fewer than those of its text
 abbrev pub BodyIsShortest : Type 0
 BodyIsShortest = (bytes : List ℕ) (b : BodyValue) → AreBytes bytes → SpellsBody bytes b → length (body_text b) ≤ length bytes
+
+-- a module that can be spelled is spelled by its text, where the contents of its sections have sizes of 32 bits, and the
+-- text spells no other; so it is with its bodies and initialisers
+abbrev pub TextIsRead : Type 0
+TextIsRead = (b : BuiltValue) → IsBuilt b → AreSized b → IsRead b
+
+-- what bytes spell is such a module, as far as its parts go, and bodies aside
+abbrev pub SpelledAreModules : Type 0
+SpelledAreModules = (bytes : List ℕ) (m : ModuleValue) → AreBytes bytes → SpellsModule bytes m → IsWritable m

@@ -1,6 +1,9 @@
 pub mod Text
 pub mod OperatorText
 pub mod BodyText
+pub mod Spaces
+pub mod ModuleText
 pub mod Values
+pub mod BuiltValues
 pub mod Laws
 pub mod Sinks

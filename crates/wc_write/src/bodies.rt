@@ -20,7 +20,7 @@ impl Written for Locals {
     }
 }
 
-fn put_body(out: &mut Vec<u8>, body: &Body<'_>) -> Result<(), AllocError>
+pub(crate) fn put_body(out: &mut Vec<u8>, body: &Body<'_>) -> Result<(), AllocError>
     ensures { OnOk result (out.new.items ≡ out.old.items ++ body_text (body_value body.now)) }
 {
     put_vector(out, &body.locals)?;

@@ -15,7 +15,7 @@ use wc_read::Import;
 const IMPORT_SECTION: u8 = 2;
 
 #[tactic(auto, unfolding(crate::specs::Text::import_text))]
-fn put_import(out: &mut Vec<u8>, import: &Import<'_>) -> Result<(), AllocError>
+pub(crate) fn put_import(out: &mut Vec<u8>, import: &Import<'_>) -> Result<(), AllocError>
     ensures { OnOk result (out.new.items ≡ out.old.items ++ import_text (import_value import.now)) }
 {
     put_name(out, import.module)?;

@@ -1,7 +1,7 @@
 //! Laws of the texts that are written.
 
 ghost use Rattle.wc_write.specs.Values.{AreBytes};
-ghost use Rattle.wc_write.specs.Laws.{NumberIsSpelled, NumberIsShortest, ImportIsSpelled, ImportsAreSpelled, SpelledAreImports, ImportsAreShortest, SectionIsSpelled, SectionIsShortest, BodyTextIsRead, SpelledAreBodies, BodyIsShortest};
+ghost use Rattle.wc_write.specs.Laws.{NumberIsSpelled, NumberIsShortest, ImportIsSpelled, ImportsAreSpelled, SpelledAreImports, ImportsAreShortest, SectionIsSpelled, SectionIsShortest, BodyTextIsRead, SpelledAreBodies, BodyIsShortest, TextIsRead, SpelledAreModules};
 
 /// The text of a number below 2 to some power of at most 64 spells it, as a number of so many bits
 /// (WebAssembly core specification, 5.2.2).
@@ -61,6 +61,21 @@ pub fn spelled_are_bodies()
 /// No bytes that spell a body are fewer than those of its text.
 pub fn body_is_shortest()
     ensures { BodyIsShortest }
+{}
+
+/// The text of a module spells it and no other module: its imports in their groups, each space as it stands, bodies and
+/// initialisers as their texts, and no names and no segments. So it is where the module can be spelled, where in each
+/// space imported items stand in front of the module's own, and where no content of a section has 2^32 bytes or more.
+/// And the text of each body and of each initialiser spells it and no other (5.5).
+pub fn text_read()
+    ensures { TextIsRead }
+{}
+
+/// A module that some bytes spell meets what `text_read` asks of the parts of a module: names, types, indices,
+/// initialisers and producers can be spelled, and in each space imported items come first. Of bodies
+/// `spelled_are_bodies` says it.
+pub fn spelled_are_modules()
+    ensures { SpelledAreModules }
 {}
 
 /// What a slice of bytes holds are bytes, as other laws ask it of theirs.

@@ -81,7 +81,7 @@ fn put_bounds(out: &mut Vec<u8>, initial: u64, maximum: Option<u64>) -> Result<(
     put_optional(out, maximum)
 }
 
-fn put_table(out: &mut Vec<u8>, table: &TableType) -> Result<(), AllocError>
+pub(crate) fn put_table(out: &mut Vec<u8>, table: &TableType) -> Result<(), AllocError>
     ensures { OnOk result (out.new.items ≡ out.old.items ++ table_text table.now) }
 {
     out.push(val_type_byte(table.element_type))?;
@@ -89,7 +89,7 @@ fn put_table(out: &mut Vec<u8>, table: &TableType) -> Result<(), AllocError>
     put_bounds(out, table.initial, table.maximum)
 }
 
-fn put_memory(out: &mut Vec<u8>, memory: &MemoryType) -> Result<(), AllocError>
+pub(crate) fn put_memory(out: &mut Vec<u8>, memory: &MemoryType) -> Result<(), AllocError>
     ensures { OnOk result (out.new.items ≡ out.old.items ++ memory_text memory.now) }
 {
     out.push(memory_flags_byte(memory))?;
@@ -97,7 +97,7 @@ fn put_memory(out: &mut Vec<u8>, memory: &MemoryType) -> Result<(), AllocError>
     put_optional(out, memory.page_size_log2.map(u64::from))
 }
 
-fn put_global(out: &mut Vec<u8>, global: &GlobalType) -> Result<(), AllocError>
+pub(crate) fn put_global(out: &mut Vec<u8>, global: &GlobalType) -> Result<(), AllocError>
     ensures { OnOk result (out.new.items ≡ out.old.items ++ global_text global.now) }
 {
     out.push(val_type_byte(global.content_type))?;

@@ -1,0 +1,83 @@
+//! The items of a module's sections (WebAssembly core specification, 5.3.6 and 5.5.5 to 5.5.10).
+
+ghost use Rattle.std.specs.Prelude.{◌≡◌, ◌++◌, OnOk};
+ghost use Rattle.wc_read.specs.Types.{func_type_value};
+ghost use Rattle.wc_read.specs.Imports.{import_value};
+ghost use Rattle.wc_read.specs.Exports.{export_value, export_kind_code};
+ghost use Rattle.wc_read.specs.Inits.{init_value};
+ghost use Rattle.wc_write.specs.Text.{import_text, table_text, memory_text};
+ghost use Rattle.wc_write.specs.ModuleText.{func_type_text, export_text, own_global_text};
+ghost use Rattle.wc_write.specs.Spaces.{own_value};
+
+use crate::imports::put_import;
+use crate::numbers::{put_name, put_number};
+use crate::spaces::Own;
+use crate::types::{put_global, put_memory, put_table};
+use crate::vectors::{Written, put_all, put_vector};
+use std::alloc::AllocError;
+use wc_read::{Export, ExportKind, FuncType, GlobalType, Import, Init, MemoryType, TableType};
+
+impl Written for FuncType {
+    ghost text = { λ f. func_type_text (func_type_value f) };
+
+    fn put(&self, out: &mut Vec<u8>) -> Result<(), AllocError> {
+        out.push(0x60)?;
+        put_vector(out, self.params())?;
+        put_vector(out, self.results())
+    }
+}
+
+impl<'a> Written for Import<'a> {
+    ghost text = { λ i. import_text (import_value i) };
+
+    fn put(&self, out: &mut Vec<u8>) -> Result<(), AllocError> {
+        put_import(out, self)
+    }
+}
+
+impl<'b> Written for Own<'b, TableType, ()> {
+    ghost text = { λ t. table_text t.ty };
+
+    fn put(&self, out: &mut Vec<u8>) -> Result<(), AllocError> {
+        put_table(out, &self.ty)
+    }
+}
+
+impl<'b> Written for Own<'b, MemoryType, ()> {
+    ghost text = { λ m. memory_text m.ty };
+
+    fn put(&self, out: &mut Vec<u8>) -> Result<(), AllocError> {
+        put_memory(out, &self.ty)
+    }
+}
+
+impl<'a, 'b> Written for Own<'b, GlobalType, Init<'a>> {
+    ghost text = { λ g. own_global_text (own_value init_value g) };
+
+    fn put(&self, out: &mut Vec<u8>) -> Result<(), AllocError> {
+        put_global(out, &self.ty)?;
+        put_all(out, &self.content.operators)?;
+        Ok(())
+    }
+}
+
+fn export_kind_byte(kind: ExportKind) -> u8
+    ensures { result ≡ export_kind_code kind }
+{
+    match kind {
+        ExportKind::Func => 0,
+        ExportKind::Table => 1,
+        ExportKind::Memory => 2,
+        ExportKind::Global => 3,
+    }
+}
+
+impl<'a> Written for Export<'a> {
+    ghost text = { λ e. export_text (export_value e) };
+
+    fn put(&self, out: &mut Vec<u8>) -> Result<(), AllocError> {
+        put_name(out, self.name)?;
+        out.push(export_kind_byte(self.kind))?;
+        put_number(out, u64::from(self.index))
+    }
+}
