@@ -1,18 +1,16 @@
--- What a command makes of its input, and what stands where a fault is named.
-use Rattle.std.proofs.Common.{ℕ, List, Some, refl}
-use Rattle.wc_dedupe.specs.Renaming.{RenameValue}
-use Rattle.wc_dedupe.specs.Dedupe.{IsDeduped}
-use Rattle.wc_tool.specs.Command.{command_value, dedupe}
-use Rattle.wc_tool.specs.Execute.{Runs, IsCause}
-use Rattle.wc_tool.specs.Lines.{lines_of}
-use Rattle.wc_tool.specs.declared.command.Command.{Command}
-use Rattle.wc_tool.specs.declared.command.Command.TheVariants.{Dedupe}
-use Rattle.wc_tool.specs.declared.fault.ToolFault.{ToolFault}
+-- What stands in the input where the fault of a call inside is named.
+use Rattle.std.proofs.Common.{◌≢◌, ◌↔◌, ℕ, List, Err, ap}
+use Rattle.std.specs.Result.{IsErrOf}
+use Rattle.wc_read.specs.Sections.{IsComponent}
+use Rattle.wc_read.specs.Modules.{ModuleValue, SpellsModule}
+use Rattle.wc_read.specs.declared.fault.ReadFault.{ReadFault}
+use Rattle.wc_read.specs.declared.fault.ReadFault.TheVariants.{Memory as read_memory, Component}
+use Rattle.wc_tool.specs.Command.{scan}
+use Rattle.wc_tool.specs.Faults.{of_read}
+use Rattle.wc_tool.specs.Execute.{IsCause}
 
--- the cause of each dedupe is the cause of this one
-pub cause_of_dedupe : (command : Command) (input : List ℕ) (e : ToolFault) → ((source target : List ℕ) → IsCause (dedupe source target) input e) → IsCause (command_value command) input e
-cause_of_dedupe (Dedupe source target) input e causes = causes source.now target.now
-
--- dedupe's bytes and lines are those of the command
-pub runs_dedupe : (c : Command) (input bytes : List ℕ) (renames : List RenameValue) → IsDeduped input bytes renames → Runs (command_value c) input (lines_of renames) (Some bytes)
-runs_dedupe (Dedupe source target) input bytes renames h = (bytes, renames, h, refl, refl)
+-- a reader's fault is the cause of a scan's
+pub cause_of_read : {T : Type 0} (input : List ℕ) (f : ReadFault) → (f ≢ read_memory → (m : ModuleValue) → ¬ (SpellsModule input m)) → (IsErrOf {T = T} (Err f) Component ↔ IsComponent input) → (source : List ℕ) → IsCause (scan source) input (of_read f)
+cause_of_read input read_memory refused component source = tt
+cause_of_read input f refused component source =
+    (λ e. cc, (λ e. component.0 (ap Err e), λ h. let is = component.1 h in cc), refused (λ e. cc))

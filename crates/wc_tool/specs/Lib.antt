@@ -1,4 +1,5 @@
 pub mod Command
 pub mod Lines
+pub mod Scan
 pub mod Faults
 pub mod Execute

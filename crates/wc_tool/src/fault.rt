@@ -6,6 +6,7 @@ ghost use Rattle.wc_tool.specs.declared.fault.ToolFault.TheVariants.{Memory, Out
 use std::alloc::AllocError;
 use thiserror::Error;
 use wc_dedupe::DedupeFault;
+use wc_read::ReadFault;
 use wc_write::PutFailed;
 
 /// Why a command could not be executed.
@@ -17,6 +18,9 @@ pub enum ToolFault {
     /// The imports of the module could not be renamed.
     #[error("Dedupe: {0}")]
     Dedupe(DedupeFault),
+    /// The bytes are no module.
+    #[error("Read: {0}")]
+    Read(ReadFault),
     /// The lines could not be told.
     #[error("Output")]
     Output,
@@ -39,6 +43,19 @@ impl From<DedupeFault> for ToolFault {
         match e {
             DedupeFault::Memory => ToolFault::Memory,
             _ => ToolFault::Dedupe(e),
+        }
+    }
+}
+
+impl From<ReadFault> for ToolFault {
+    ghost use Rattle.wc_tool.specs.Faults.{of_read};
+
+    ghost from_gives = { λ f e. e ≡ of_read f };
+
+    fn from(e: ReadFault) -> ToolFault {
+        match e {
+            ReadFault::Memory => ToolFault::Memory,
+            _ => ToolFault::Read(e),
         }
     }
 }

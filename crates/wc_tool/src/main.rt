@@ -1,4 +1,4 @@
-//! `wctrim`: works on core WebAssembly modules, from the bytes of a file to the bytes of a file.
+//! `wctrim`: works on core WebAssembly modules, from the bytes of a file to lines, and to the bytes of a file.
 #![tactic(auto)]
 
 mod command;
@@ -6,6 +6,9 @@ mod execute;
 mod fault;
 mod lines;
 mod program;
+mod scan;
+#[cfg(test)]
+mod scan_tests;
 #[cfg(test)]
 mod tests;
 

@@ -1,5 +1,11 @@
 //! The program: its words, its files and what it prints.
 
+ghost use Rattle.std.specs.Prelude.{◌≡◌, ◌<◌, ◌≤◌, ◌⊎◌, ℕ, List, IfOk, IfErr};
+ghost use Rattle.std.specs.Option.{option_map};
+ghost use Rattle.std.specs.Process.{exit_status};
+ghost use Rattle.wc_tool.specs.Command.{command_value};
+ghost use Rattle.wc_tool.specs.Execute.{Runs, IsCause};
+
 use crate::command::{Command, Usage, parse};
 use crate::execute::execute;
 use crate::fault::ToolFault;
@@ -18,7 +24,9 @@ const USAGE: &str = "usage: wctrim dedupe IN OUT
 const WRONG_WORDS: u8 = 2;
 
 /// Does what the program's words say, and gives the program's status.
-pub(crate) fn run<R: Env + Files + Print + AllocGlobal>(rt: &R) -> ExitCode {
+pub(crate) fn run<R: Env + Files + Print + AllocGlobal>(rt: &R) -> ExitCode
+    ensures { exit_status result ≤ 2 }
+{
     let words = match words(rt) {
         Ok(words) => words,
         Err(e) if e.kind() == io::ErrorKind::OutOfMemory => return failed(rt, ToolFault::Memory),
@@ -39,9 +47,11 @@ fn words<R: Env + AllocGlobal>(rt: &R) -> io::Result<Vec<String>> {
     Ok(words)
 }
 
-/// Reads the command's input, executes it and writes its output.
-fn run_command<R: Files + Print + AllocGlobal>(rt: &R, command: &Command<'_>) -> ExitCode {
-    let Command::Dedupe { source, target } = *command;
+/// Reads the command's input, executes it and writes its output, where it has one.
+fn run_command<R: Files + Print + AllocGlobal>(rt: &R, command: &Command<'_>) -> ExitCode
+    ensures { exit_status result < 2 }
+{
+    let source = command.source();
     let Ok(input) = fs::read(rt, source) else {
         return failed(rt, format_args!("cannot read {source}"));
     };
@@ -49,7 +59,7 @@ fn run_command<R: Files + Print + AllocGlobal>(rt: &R, command: &Command<'_>) ->
         Ok(answer) => answer,
         Err(fault) => return failed(rt, fault),
     };
-    if let Some(bytes) = answer
+    if let (Some(target), Some(bytes)) = (command.target(), answer)
         && fs::write(rt, target, bytes.as_slice()).is_err()
     {
         return failed(rt, format_args!("cannot write {target}"));
@@ -62,7 +72,10 @@ fn executed<R: Print + AllocGlobal>(
     rt: &R,
     command: &Command<'_>,
     input: &[u8],
-) -> Result<Option<Vec<u8>>, ToolFault> {
+) -> Result<Option<Vec<u8>>, ToolFault>
+    ensures done { IfOk result (λ r. (lines : List ℕ) × Runs (command_value command.now) input.now lines (option_map (λ v. v.items) r)) }
+    ensures fault { IfErr result (IsCause (command_value command.now) input.now) }
+{
     let Ok(writer) = BufWriter::new(rt.alloc(), io::writer(rt)) else {
         return Err(ToolFault::Memory);
     };
@@ -73,7 +86,9 @@ fn executed<R: Print + AllocGlobal>(
 }
 
 /// Prints the lines that say how the program is called. Where that fails, so does the program.
-fn usage<R: Print>(rt: &R, status: ExitCode) -> ExitCode {
+fn usage<R: Print>(rt: &R, status: ExitCode) -> ExitCode
+    ensures { (result ≡ status) ⊎ (exit_status result ≡ 1) }
+{
     match rt.println(USAGE) {
         Ok(()) => status,
         Err(_) => ExitCode::FAILURE,
@@ -81,7 +96,9 @@ fn usage<R: Print>(rt: &R, status: ExitCode) -> ExitCode {
 }
 
 /// Prints the line that says why the program failed. Where that fails, the status alone says so.
-fn failed<R: Print>(rt: &R, why: impl Display + Drop) -> ExitCode {
+fn failed<R: Print>(rt: &R, why: impl Display + Drop) -> ExitCode
+    ensures { exit_status result ≡ 1 }
+{
     let _ = println!(rt; "wctrim: {why}");
     ExitCode::FAILURE
 }

@@ -11,13 +11,13 @@ use wc_dedupe::DedupeFault;
 use wc_read::ReadFault;
 use wc_write::{PutFailed, Sink, WriterSink};
 
-const DEDUPE: Command<'static> = Command::Dedupe {
+pub(crate) const DEDUPE: Command<'static> = Command::Dedupe {
     source: "in.wasm",
     target: "out.wasm",
 };
 
 /// A type, and three imports of one name.
-const THREE: &[u8] =
+pub(crate) const THREE: &[u8] =
     b"\0asm\x01\0\0\0\x01\x04\x01\x60\0\0\x02\x13\x03\x01a\x01f\0\0\x01a\x01f\0\0\x01a\x01f\0\0";
 
 const THREE_DEDUPED: &[u8] =
@@ -27,16 +27,24 @@ const THREE_LINES: &str = "a: f -> f [v2]\na: f -> f [v3]\n";
 
 /// The bytes that are handed out, and the lines.
 #[derive(Debug, PartialEq, Eq, Drop)]
-struct Outcome {
-    bytes: Option<Vec<u8>>,
-    lines: Vec<u8>,
+pub(crate) struct Outcome {
+    pub(crate) bytes: Option<Vec<u8>>,
+    pub(crate) lines: Vec<u8>,
+}
+
+pub(crate) fn executed(
+    alloc: Global,
+    command: &Command<'_>,
+    input: &[u8],
+) -> Result<Outcome, ToolFault> {
+    let mut out = WriterSink::new(Vec::new(alloc));
+    let bytes = execute(alloc, command, input, &mut out)?;
+    let lines = out.into_inner();
+    Ok(Outcome { bytes, lines })
 }
 
 fn dedupe(alloc: Global, input: &[u8]) -> Result<Outcome, ToolFault> {
-    let mut out = WriterSink::new(Vec::new(alloc));
-    let bytes = execute(alloc, &DEDUPE, input, &mut out)?;
-    let lines = out.into_inner();
-    Ok(Outcome { bytes, lines })
+    executed(alloc, &DEDUPE, input)
 }
 
 fn wanted(alloc: Global, bytes: &[u8], lines: &str) -> Result<Outcome, AllocError> {
@@ -45,7 +53,7 @@ fn wanted(alloc: Global, bytes: &[u8], lines: &str) -> Result<Outcome, AllocErro
     Ok(Outcome { bytes, lines })
 }
 
-fn words(alloc: Global, texts: &[&str]) -> Result<Vec<String>, AllocError> {
+pub(crate) fn words(alloc: Global, texts: &[&str]) -> Result<Vec<String>, AllocError> {
     let mut words = Vec::new(alloc);
     for text in texts {
         words.push(String::from_str(alloc, text)?)?;
@@ -119,6 +127,7 @@ fn faults_have_texts(rt: HostRuntime) -> Result<(), Fail> {
     let cases = [
         (ToolFault::Memory, "out of memory"),
         (ToolFault::Dedupe(DedupeFault::TooLarge), "Dedupe: TooLarge"),
+        (ToolFault::Read(ReadFault::Truncated), "Read: Truncated"),
         (ToolFault::Output, "Output"),
     ];
     for (fault, text) in cases {
@@ -129,9 +138,9 @@ fn faults_have_texts(rt: HostRuntime) -> Result<(), Fail> {
 
 /// A sink that takes some puts, and fails at the next.
 #[derive(Debug, Drop)]
-struct FailAt {
-    puts: u8,
-    failed: bool,
+pub(crate) struct FailAt {
+    pub(crate) puts: u8,
+    pub(crate) failed: bool,
 }
 
 impl Sink for FailAt {
@@ -178,9 +187,9 @@ fn each_put_that_fails_is_an_output_fault(rt: HostRuntime) -> Result<(), Fail> {
 
 /// A sink that takes no memory, and compares what is put with what is left to be told.
 #[derive(Debug, Drop)]
-struct Compare {
-    left: &'static [u8],
-    same: bool,
+pub(crate) struct Compare {
+    pub(crate) left: &'static [u8],
+    pub(crate) same: bool,
 }
 
 impl Sink for Compare {
@@ -225,19 +234,24 @@ fn refused_growth_is_a_memory_fault(rt: HostRuntime) {
 fn words_of_dedupe_are_parsed(rt: HostRuntime) -> Result<(), Fail> {
     let words = words(rt.alloc(), &["dedupe", "in.wasm", "out.wasm"])?;
     assert_eq!(rt; parse(words.as_slice()), Ok(DEDUPE));
+    assert_eq!(rt; DEDUPE.source(), "in.wasm");
+    assert_eq!(rt; DEDUPE.target(), Some("out.wasm"));
     Ok(())
 }
 
 #[test]
 fn other_words_are_refused(rt: HostRuntime) -> Result<(), Fail> {
-    let cases: [&[&str]; 8] = [
+    let cases: [&[&str]; 11] = [
         &[],
         &["dedupe"],
         &["dedupe", "a.wasm"],
         &["dedupe", "a", "b", "c"],
         &["Dedupe", "a.wasm", "b.wasm"],
         &["trim", "a.wasm", "b.wasm"],
-        &["scan", "a.wasm"],
+        &["trim", "a.wasm"],
+        &["scan"],
+        &["scan", "a.wasm", "b.wasm"],
+        &["Scan", "a.wasm"],
         &["--help"],
     ];
     for case in cases {

@@ -1,14 +1,25 @@
+use Rattle.std.proofs.Common.{refl}
 use Rattle.std.proofs.lemmas.Result.{err_from_is_err_and}
 use Rattle.wc_tool.specs.Lines.{lines_of}
-use Rattle.wc_tool.proofs.Causes.{cause_of_dedupe, runs_dedupe}
+use Rattle.wc_tool.specs.Scan.{scan_lines}
 use Rattle.wc_tool.proofs.execute.execute.Goals as goal
 
-pub returns-in_err-deduped-clause-fault : goal.returns-in_err-deduped-clause-fault
-returns-in_err-deduped-clause-fault g c =
+pub returns-in_err-deduped-in-Dedupe-clause-fault : goal.returns-in_err-deduped-in-Dedupe-clause-fault
+returns-in_err-deduped-in-Dedupe-clause-fault g c =
     let p = err_from_is_err_and c.from_residual.result c.from_residual.ensures.1 in
-    rw (p.1, p.2) (cause_of_dedupe c.args.command.now c.args.input.now _ c.in_err-deduped.ensures.fault)
+    rw (p.1, p.2, c.in-Dedupe.is) (c.in_err-deduped-in-Dedupe.ensures.fault c.in-Dedupe.source.now c.in-Dedupe.target.now)
 
-pub returns-clause-done : goal.returns-clause-done
-returns-clause-done g c =
-    let d = c.in_ok-deduped.ensures.done in
-    (lines_of d.0, runs_dedupe c.args.command.now _ _ d.0 d.1, d.2)
+pub returns-in_err-scanned-in-Scan-clause-fault : goal.returns-in_err-scanned-in-Scan-clause-fault
+returns-in_err-scanned-in-Scan-clause-fault g c =
+    let p = err_from_is_err_and c.from_residual-in_err-scanned-in-Scan.result c.from_residual-in_err-scanned-in-Scan.ensures.1 in
+    rw (p.1, p.2, c.in-Scan.is) (c.in_err-scanned-in-Scan.ensures.fault c.in-Scan.source.now)
+
+pub returns-in_ok-deduped-in-Dedupe-clause-done : goal.returns-in_ok-deduped-in-Dedupe-clause-done
+returns-in_ok-deduped-in-Dedupe-clause-done g c =
+    let d = c.in_ok-deduped-in-Dedupe.ensures.done in
+    rw c.in-Dedupe.is (lines_of d.0, (_, d.0, d.1, refl, refl), d.2)
+
+pub returns-in_ok-scanned-in-Scan-clause-done : goal.returns-in_ok-scanned-in-Scan-clause-done
+returns-in_ok-scanned-in-Scan-clause-done g c =
+    let d = c.in_ok-scanned-in-Scan.ensures.done in
+    rw c.in-Scan.is (scan_lines d.0, (d.0, d.1, refl, refl), d.2)

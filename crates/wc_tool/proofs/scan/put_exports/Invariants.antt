@@ -1,0 +1,12 @@
+use Rattle.std.proofs.Common.{◌≡◌, map, take}
+use Rattle.std.specs.List.{flat_map}
+use Rattle.std.specs.Io.KnownBytes.{Appends}
+use Rattle.wc_read.specs.Exports.{export_value}
+use Rattle.wc_tool.specs.Scan.{export_line}
+use Rattle.wc_tool.proofs.scan.put_exports.Given as goal
+
+abbrev pub invariant-loop-export : goal.invariant-loop-export
+invariant-loop-export g l = record {
+  told : Appends (g.S.Sink.told l.fn.out) (g.S.Sink.told l.out) (flat_map export_line (map export_value (take l.export-index l.exports)));
+  works : g.S.Sink.is_failed l.out ≡ g.S.Sink.is_failed l.fn.out;
+}

@@ -1,0 +1,12 @@
+use Rattle.std.proofs.Common.{◌≡◌, map, take}
+use Rattle.std.specs.List.{flat_map}
+use Rattle.std.specs.Io.KnownBytes.{Appends}
+use Rattle.wc_read.specs.Imports.{import_value}
+use Rattle.wc_tool.specs.Scan.{import_line}
+use Rattle.wc_tool.proofs.scan.put_imports.Given as goal
+
+abbrev pub invariant-loop-import : goal.invariant-loop-import
+invariant-loop-import g l = record {
+  told : Appends (g.S.Sink.told l.fn.out) (g.S.Sink.told l.out) (flat_map import_line (map import_value (take l.import-index l.imports)));
+  works : g.S.Sink.is_failed l.out ≡ g.S.Sink.is_failed l.fn.out;
+}
