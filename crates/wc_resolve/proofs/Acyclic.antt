@@ -16,7 +16,7 @@ use Rattle.wc_resolve.proofs.Search.{contains_cons, contains_none}
 use Rattle.wc_resolve.proofs.Handled.{kind_none}
 
 -- a thing among the first i stands at a place before i
-placed : (order : List ℕ) (i y : ℕ) → Contains (take i order) y → (j : ℕ) × (j < i) × (j < length order) × (get_or order j 0 ≡ y)
+pub placed : (order : List ℕ) (i y : ℕ) → Contains (take i order) y → (j : ℕ) × (j < i) × (j < length order) × (get_or order j 0 ≡ y)
 placed order i y (k, small, e) =
     let before : k < i = omega (arith, length-take i order, small) in
     let within : k < length order = omega (arith, length-take i order, small) in
@@ -56,7 +56,7 @@ acyclic types order first all (x, leads) =
     let p = all x (leads_in types leads) in
     descent (children types) order first (suc p.0) p.0 x (omega arith) p.1 (get_or_default order p.0 0 x p.1 ∙ p.2) leads
 
-places_in : (n : ℕ) (ts : List WitType) → All (IsTypeIn n) ts → (c : ℕ) → Contains (filter_map place_of ts) c → c < n
+pub places_in : (n : ℕ) (ts : List WitType) → All (IsTypeIn n) ts → (c : ℕ) → Contains (filter_map place_of ts) c → c < n
 places_in n [] all c h = absurd (contains_none c h)
 places_in n (Id i ∷ ts) all c h =
     elim (contains_cons i.0 (filter_map place_of ts) c h) [
@@ -65,7 +65,7 @@ places_in n (Id i ∷ ts) all c h =
     ]
 places_in n (t ∷ ts) all c h = places_in n ts (All-tail (IsTypeIn n) t ts all) c h
 
-slice_get_in : {X : Type 0} (xs : List X) (i : ℕ) (x : X) → slice_get xs i ≡ Some x → i < length xs
+pub slice_get_in : {X : Type 0} (xs : List X) (i : ℕ) (x : X) → slice_get xs i ≡ Some x → i < length xs
 slice_get_in [] i x e = absurd (let n : None ≡ Some x = e in let bad : ⊥ = cc n in bad)
 slice_get_in (y ∷ xs) zero x e = omega arith
 slice_get_in (y ∷ xs) (suc i) x e = let rest : i < length xs = slice_get_in xs i x e in omega (arith, rest)

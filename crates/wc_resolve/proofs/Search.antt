@@ -248,7 +248,7 @@ mentioned_done : (next : ℕ → List ℕ) (marks : List Mark) (rest : List Step
 mentioned_done next marks rest x w c k =
     elim ((awaited_back next (IsDone marks) rest (Leave x ∷ []) w).0 c k) [ inl d ↦ d | inr none ↦ absurd (contains_none c none) ]
 
-first_push : (next : ℕ → List ℕ) (order : List ℕ) (x : ℕ) → IsChildrenFirst next order → ((c : ℕ) → Contains (next x) c → Contains order c) → IsChildrenFirst next (order ++ x ∷ [])
+pub first_push : (next : ℕ → List ℕ) (order : List ℕ) (x : ℕ) → IsChildrenFirst next order → ((c : ℕ) → Contains (next x) c → Contains order c) → IsChildrenFirst next (order ++ x ∷ [])
 first_push next order x first all i c small k =
     elim (cases_lt i (length order)) [
       | inl before ↦

@@ -1,10 +1,17 @@
+pub mod Dependencies
 pub mod Faults
+pub mod Flat
+pub mod Followed
+pub mod Futures
 pub mod Kept
+pub mod Live
 pub mod Names
 pub mod Parts
 pub mod Queries
 pub mod Ranges
 pub mod Resources
+pub mod Roots
+pub mod Signatures
 pub mod Views
 pub mod WellFormed
 pub mod World

@@ -46,3 +46,7 @@ external_id item = None
 abbrev pub core_name : Option (List ℕ) → List ℕ → List ℕ
 core_name None name = name
 core_name (Some i) name = i ++ (35 ∷ name)
+
+-- the name of the package at a place
+abbrev pub package_name_at : List PackageView → ℕ → Option PackageNameView
+package_name_at packages place = option_map (λ (p : PackageView). p.name) (slice_get packages place)

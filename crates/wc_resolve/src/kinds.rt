@@ -5,6 +5,7 @@ ghost use Rattle.std.specs.List.{filter_map};
 ghost use Rattle.std.specs.declared.alloc.Global.{Global};
 ghost use Rattle.wc_resolve.specs.declared.types.WitType.{WitType};
 ghost use Rattle.wc_resolve.specs.Views.{kind_view};
+ghost use Rattle.wc_resolve.specs.Futures.{carried_types};
 ghost use Rattle.wc_resolve.specs.World.{held_types, mentioned_places, mentioned_types, place_of, resource_of};
 ghost use Rattle.std.specs.Option.{option_to_list};
 
@@ -83,6 +84,16 @@ pub(crate) fn held_types(alloc: Global, kind: &TypeDefKind) -> Result<Vec<WitTyp
         | TypeDefKind::Flags(_)
         | TypeDefKind::Enum(_)
         | TypeDefKind::Alias(_) => Ok(Vec::new(alloc)),
+    }
+}
+
+/// The types that stand in a type, and an alias's target.
+pub(crate) fn carried_types(alloc: Global, kind: &TypeDefKind) -> Result<Vec<WitType>, AllocError>
+    ensures { IfOk result (λ v. v.items ≡ carried_types (kind_view kind.now)) }
+{
+    match kind {
+        TypeDefKind::Alias(ty) => optional(alloc, Some(*ty)),
+        _ => held_types(alloc, kind),
     }
 }
 

@@ -4,10 +4,16 @@
 mod apart;
 mod build;
 mod cases;
+mod dependencies;
 mod fault;
+mod flat;
+mod flattening;
 mod functions;
+mod futures;
 mod ids;
 mod kinds;
+pub mod laws;
+mod live;
 mod names;
 mod naming;
 mod order;
@@ -16,23 +22,33 @@ mod parts;
 mod queries;
 mod ranges;
 mod resources;
+mod roots;
+mod signature;
 mod spelling;
 mod type_test;
 mod types;
+mod walk;
 mod worlds;
 
 pub use build::Resolve;
 pub use fault::ResolveFault;
+pub use flat::WasmType;
 pub use functions::{AbiVariant, Function, FunctionKind};
 pub use ids::{InterfaceId, PackageId, TypeId, WorldId};
+pub use live::LiveTypes;
 pub use packages::{Package, PackageName};
 pub use parts::Parts;
+pub use signature::WasmSignature;
 pub use types::{Handle, TypeDef, TypeDefKind, TypeOwner, WitType};
 pub use worlds::{Interface, World, WorldItem, WorldKey};
 
 #[cfg(test)]
 mod build_tests;
 #[cfg(test)]
+mod live_tests;
+#[cfg(test)]
 mod name_tests;
 #[cfg(test)]
 mod query_tests;
+#[cfg(test)]
+mod signature_tests;

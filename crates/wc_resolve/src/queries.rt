@@ -1,16 +1,17 @@
 //! Names of interfaces and functions, and other questions about items of a world.
 
-ghost use Rattle.std.specs.Prelude.{◌≡◌, ◌<◌, ◌++◌, ◌∷◌, ℕ, IfOk, List, Some, length, string_bytes};
+ghost use Rattle.std.specs.Prelude.{◌≡◌, ◌≢◌, ◌<◌, ◌^◌, ◌++◌, ◌∷◌, ℕ, IfNone, IfOk, IfSome, List, Some, length, string_bytes};
 ghost use Rattle.std.specs.Option.{IsSome, option_copied, option_map};
 ghost use Rattle.semver.specs.Identifiers.{parts_of, parts_text};
 ghost use Rattle.wc_resolve.specs.Names.{track};
 ghost use Rattle.wc_resolve.specs.Views.{function_view, item_view, key_view, package_name_view};
-ghost use Rattle.wc_resolve.specs.Queries.{core_name, external_id, implemented, interface_id, key_text, member_text};
+ghost use Rattle.wc_resolve.specs.Queries.{core_name, external_id, implemented, interface_id, key_text, member_text, package_name_at};
 ghost use Rattle.wc_resolve.specs.Ranges.{IsItemIn, IsKeyIn};
 ghost use Rattle.wc_resolve.specs.WellFormed.{interface_name};
 ghost use Rattle.wc_resolve.specs.declared.ids.InterfaceId.{InterfaceId};
 
-use crate::{Function, InterfaceId, PackageName, Resolve, WorldItem, WorldKey};
+use crate::packages::place_of;
+use crate::{Function, InterfaceId, PackageId, PackageName, Resolve, WorldItem, WorldKey};
 use std::alloc::{AllocError, Global};
 
 /// `namespace:package/name`.
@@ -174,5 +175,14 @@ impl Resolve {
             Some(_) => Some(id),
             None => None,
         }
+    }
+
+    /// The package of this name and version, build included. None where there is none.
+    pub fn package_named(&self, name: &PackageName) -> Option<PackageId>
+        ensures found { IfSome result (λ id. package_name_at self.now.packages id.0 ≡ Some (package_name_view name.now)) }
+        ensures none { IfNone result ((place : ℕ) → place < 2 ^ 32 → package_name_at self.now.packages place ≢ Some (package_name_view name.now)) }
+    {
+        let place = place_of(self.all_packages(), name)?;
+        Some(PackageId(place))
     }
 }

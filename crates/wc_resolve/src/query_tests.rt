@@ -1,9 +1,10 @@
 use crate::{
     Function, FunctionKind, Interface, InterfaceId, Package, PackageId, PackageName, Parts,
-    Resolve, TypeId, WorldItem, WorldKey,
+    Resolve, TypeId, World, WorldId, WorldItem, WorldKey,
 };
 use indexmap::IndexMap;
 use semver::Version;
+use std::alloc::Global;
 use std::test::Fail;
 
 #[test]
@@ -80,5 +81,49 @@ fn ids_of_an_interface(rt: HostRuntime) -> Result<(), Fail> {
     assert_eq!(rt; outside.ok_or("no id")?.as_str(), "outside");
     let owned = WorldKey::Interface(id);
     assert_eq!(rt; resolve.implements_interface(&owned, &item), None);
+    Ok(())
+}
+
+fn package(alloc: Global, build: &str) -> Result<PackageName, Fail> {
+    let version = Version::parse(alloc, build)?;
+    Ok(PackageName {
+        namespace: String::from_str(alloc, "my")?,
+        name: String::from_str(alloc, "demo")?,
+        version: Some(version),
+    })
+}
+
+#[test]
+fn packages_are_named_with_their_build(rt: HostRuntime) -> Result<(), Fail> {
+    let alloc = rt.alloc();
+    let mut packages = Vec::new(alloc);
+    packages.push(Package {
+        name: package(alloc, "1.2.3+a")?,
+        interfaces: IndexMap::new(alloc),
+    })?;
+    packages.push(Package {
+        name: package(alloc, "1.2.3+b")?,
+        interfaces: IndexMap::new(alloc),
+    })?;
+    let mut worlds = Vec::new(alloc);
+    worlds.push(World {
+        name: String::from_str(alloc, "empty")?,
+        imports: IndexMap::new(alloc),
+        exports: IndexMap::new(alloc),
+    })?;
+    let parts = Parts {
+        worlds,
+        interfaces: Vec::new(alloc),
+        types: Vec::new(alloc),
+        packages,
+    };
+    let resolve = Resolve::build(alloc, parts)?;
+    let world = WorldId(0);
+    assert!(rt; resolve.has_world(world));
+    assert_eq!(rt; resolve.world(world).name.as_str(), "empty");
+    let second = package(alloc, "1.2.3+b")?;
+    assert_eq!(rt; resolve.package_named(&second), Some(PackageId(1)));
+    let none = package(alloc, "1.2.3")?;
+    assert_eq!(rt; resolve.package_named(&none), None);
     Ok(())
 }

@@ -34,4 +34,6 @@ returns-clause-kept c = record {
   };
   ordered = c.in_ok-order.ensures.order;
   marked = c.in_ok-marks.ensures;
+  flattened = c.in_ok-flats.ensures;
+  carried = c.in_ok-carriers.ensures;
 }

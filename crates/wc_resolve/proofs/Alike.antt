@@ -1,0 +1,41 @@
+-- Lists that agree in their first n places, and what is made of such lists.
+use Rattle.std.proofs.Common.{◌≡◌, ℕ, zero, suc, ◌+◌, ◌≤◌, List, [], ◌∷◌, ◌++◌, length, take, refl, sym, ap, ◌∙◌, arith}
+use Rattle.std.specs.List.{Contains, flat_map}
+use Rattle.std.proofs.lemmas.List.{take-take, take_all}
+use Rattle.std.proofs.lemmas.List.Elements.{Contains-append_right}
+use Rattle.wc_resolve.proofs.Search.{contains_head}
+
+abbrev pub Alike : {X : Type 0} → ℕ → List X → List X → Type 0
+Alike n xs ys = take n xs ≡ take n ys
+
+pub alike_less : {X : Type 0} (m n : ℕ) (xs ys : List X) → m ≤ n → Alike n xs ys → Alike m xs ys
+alike_less m n xs ys h e = sym (take-take m n xs h) ∙ ap (λ z. take m z) e ∙ take-take m n ys h
+
+-- the first n of a list are alike the whole
+pub alike_cut : {X : Type 0} (n : ℕ) (xs : List X) → Alike n (take n xs) xs
+alike_cut n xs = take-take n n xs (omega arith)
+
+pub alike_cons : {X : Type 0} (n : ℕ) (x : X) (xs ys : List X) → Alike n xs ys → Alike n (x ∷ xs) (x ∷ ys)
+alike_cons zero x xs ys e = refl
+alike_cons (suc n) x xs ys e = ap (λ z. x ∷ z) (alike_less n (suc n) xs ys (omega arith) e)
+
+pub alike_append : {X : Type 0} (n : ℕ) (xs vs ys ws : List X) → Alike n xs vs → Alike n ys ws → Alike n (xs ++ ys) (vs ++ ws)
+alike_append zero xs vs ys ws e f = refl
+alike_append (suc n) [] [] ys ws e f = f
+alike_append (suc n) [] (v ∷ vs) ys ws e f = absurd (let bad : ⊥ = cc e in bad)
+alike_append (suc n) (x ∷ xs) [] ys ws e f = absurd (let bad : ⊥ = cc e in bad)
+alike_append (suc n) (x ∷ xs) (v ∷ vs) ys ws e f =
+    let head : x ≡ v = cc e in
+    let tail : take n xs ≡ take n vs = cc e in
+    let rest : take n (xs ++ ys) ≡ take n (vs ++ ws) = alike_append n xs vs ys ws tail (alike_less n (suc n) ys ws (omega arith) f) in
+    let whole : x ∷ take n (xs ++ ys) ≡ v ∷ take n (vs ++ ws) = cc (head, rest) in
+    whole
+
+pub alike_flat_map : {A X : Type 0} (n : ℕ) (f g : A → List X) (things : List A) → ((a : A) → Contains things a → Alike n (f a) (g a)) → Alike n (flat_map f things) (flat_map g things)
+alike_flat_map n f g [] h = refl
+alike_flat_map n f g (a ∷ things) h =
+    alike_append n (f a) (g a) (flat_map f things) (flat_map g things) (h a (contains_head things a)) (alike_flat_map n f g things (λ b k. h b (Contains-append_right (a ∷ []) things b k)))
+
+-- lists that agree in all places are one
+pub alike_same : {X : Type 0} (xs ys : List X) → ((n : ℕ) → Alike n xs ys) → xs ≡ ys
+alike_same xs ys h = sym (take_all (length xs + length ys) xs (omega arith)) ∙ h (length xs + length ys) ∙ take_all (length xs + length ys) ys (omega arith)

@@ -1,0 +1,69 @@
+-- The table of flat forms, made along an order in which each type is behind those that it mentions.
+use Rattle.std.proofs.Common.{◌≡◌, ℕ, ◌<◌, ◌≤◌, ◌+◌, List, [], ◌∷◌, ◌++◌, length, take, set, get_or, replicate, Vec, sym, ap, ◌∙◌, subst, length-set}
+use Rattle.std.specs.List.{Contains}
+use Rattle.std.specs.declared.alloc.Global.{Global}
+use Rattle.std.proofs.lemmas.Grind.{replicate_next}
+use Rattle.std.proofs.lemmas.List.{length-replicate, map-append, map-set}
+use Rattle.wc_resolve.specs.declared.flat.WasmType.{WasmType}
+use Rattle.wc_resolve.specs.Flat.{AreFlattened, flat_of, flat_rule, kept_flat, lists}
+use Rattle.wc_resolve.specs.Followed.{Follows}
+use Rattle.wc_resolve.specs.Kept.{IsOrder}
+use Rattle.wc_resolve.specs.Views.{TypeView}
+use Rattle.wc_resolve.specs.World.{children, kind_at}
+use Rattle.wc_resolve.proofs.Alike.{Alike, alike_cut}
+use Rattle.wc_resolve.proofs.AlikeForms.{alike_rule, flat_looks_down}
+use Rattle.wc_resolve.proofs.Followed.{followed_follows, follows_once}
+use Rattle.wc_resolve.proofs.Told.{IsTold, told_start, told_turn, told_end}
+
+pub flats_follow : (types : List TypeView) (order : List ℕ) → IsOrder types order → Follows flat_rule types (flat_of types)
+flats_follow types order o = followed_follows flat_rule [] types order o (flat_looks_down types)
+
+pub flats_alone : (types : List TypeView) (order : List ℕ) → IsOrder types order → (flat : ℕ → List WasmType) → Follows flat_rule types flat → (x : ℕ) → x < length types
+    → flat x ≡ flat_of types x
+flats_alone types order o flat made x small = follows_once flat_rule types order flat (flat_of types) o (flat_looks_down types) made (flats_follow types order o) x small
+
+-- the form of the type at a place, as far as it is kept
+abbrev pub IsFormOf : List TypeView → ℕ → List WasmType → Type 0
+IsFormOf types x flat = flat ≡ take 17 (flat_of types x)
+
+-- the forms of all types that stand in the list
+pub record FlatsOf (types : List TypeView) (flats : List (List WasmType)) (listed : List ℕ) : Type 0 where
+  pub sized : length flats ≡ length types
+  pub told : IsTold (IsFormOf types) [] flats listed
+
+pub flats_start : (types : List TypeView) (n : ℕ) (flats : List (List WasmType)) → flats ≡ replicate n [] → n ≡ length types → FlatsOf types flats []
+flats_start types n flats made e = record {
+  sized = ap (λ z. length z) made ∙ length-replicate n [] ∙ e;
+  told = told_start (IsFormOf types) [] flats;
+}
+
+form_right : (types : List TypeView) (order : List ℕ) (flats : List (List WasmType)) (x : ℕ) (flat : List WasmType) → IsOrder types order → x < length types
+    → flat ≡ take 17 (flat_rule (kept_flat flats) x (kind_at types x)) → ((c : ℕ) → Contains (children types x) c → kept_flat flats c ≡ take 17 (flat_of types c)) → IsFormOf types x flat
+form_right types order flats x flat o small made below =
+    let alike : Alike 17 (flat_rule (kept_flat flats) x (kind_at types x)) (flat_rule (flat_of types) x (kind_at types x)) =
+    alike_rule 17 (kept_flat flats) (flat_of types) types x (λ c h. ap (λ z. take 17 z) (below c h) ∙ alike_cut 17 (flat_of types c)) in
+    made ∙ alike ∙ ap (λ z. take 17 z) (sym (flats_follow types order o x small))
+
+pub flats_turn : (types : List TypeView) (order : List ℕ) (flats : List (List WasmType)) (i x : ℕ) (flat : List WasmType) → IsOrder types order → i < length order
+    → x ≡ get_or order i 0 → x < length types → flat ≡ take 17 (flat_rule (kept_flat flats) x (kind_at types x)) → FlatsOf types flats (take i order)
+    → FlatsOf types (set flats x flat) (take (i + 1) order)
+flats_turn types order flats i x flat o small x_at bound made m =
+    let below : (c : ℕ) → Contains (children types x) c → kept_flat flats c ≡ take 17 (flat_of types c) =
+    λ c h. m.told.told c (o.first i c small (subst (λ (z : ℕ). Contains (children types z) c) x_at h)) in
+    let within : x < length flats = rw m.sized bound in
+    record {
+      sized = length-set flats x flat ∙ m.sized;
+      told = told_turn (IsFormOf types) [] flats order i x flat small x_at within (form_right types order flats x flat o bound made below) m.told;
+    }
+
+pub flats_end : (types : List TypeView) (order : List ℕ) (flats : List (List WasmType)) (i : ℕ) → IsOrder types order → length order ≤ i → FlatsOf types flats (take i order)
+    → AreFlattened types flats
+flats_end types order flats i o behind m = record { sized = m.sized; told = λ x h. told_end (IsFormOf types) [] flats order i behind m.told x (o.all x h) }
+
+pub lists-set : (vectors : List (Vec WasmType Global)) (x : ℕ) (v : Vec WasmType Global) → lists (set vectors x v) ≡ set (lists vectors) x v.items
+lists-set vectors x v = map-set (λ (w : Vec WasmType Global). w.items) vectors x v
+
+pub lists_push : (vectors new : List (Vec WasmType Global)) (v : Vec WasmType Global) (n : ℕ) → lists vectors ≡ replicate n [] → v.items ≡ [] → new ≡ vectors ++ v ∷ []
+    → lists new ≡ replicate (n + 1) []
+lists_push vectors new v n was empty put =
+    ap lists put ∙ map-append (λ (w : Vec WasmType Global). w.items) vectors (v ∷ []) ∙ ap (λ z. z ++ v.items ∷ []) was ∙ ap (λ (z : List WasmType). replicate n [] ++ z ∷ []) empty ∙ sym (replicate_next n [])

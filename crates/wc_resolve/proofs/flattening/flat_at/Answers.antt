@@ -1,0 +1,9 @@
+use Rattle.std.proofs.Common.{get_or}
+use Rattle.std.proofs.lemmas.List.{get_or_default}
+use Rattle.wc_resolve.proofs.Children.{kind_found}
+use Rattle.wc_resolve.proofs.flattening.flat_at.Goals as goal
+
+pub returns : goal.returns
+returns c =
+    let item = get_or c.args.types.now c.args.place c.index-types-place.result in
+    rw (kind_found c.args.types.now c.args.place item c.requires (get_or_default c.args.types.now c.args.place c.index-types-place.result item c.requires)) c.flat_kind.ensures

@@ -1,0 +1,38 @@
+-- On which interfaces an interface depends directly.
+use Rattle.std.specs.Prelude.{ℕ, List, [], ◌==◌, if◌then◌else◌, map, Option, Some, None}
+use Rattle.std.specs.List.{filter_map, slice_get}
+use Rattle.std.specs.Option.{option_and_then, option_map_or}
+use Rattle.wc_resolve.specs.declared.ids.InterfaceId.{InterfaceId}
+use Rattle.wc_resolve.specs.declared.types.WitType.{WitType}
+use Rattle.wc_resolve.specs.declared.types.TypeOwner.{TypeOwner}
+use Rattle.wc_resolve.specs.declared.types.TypeOwner.TheVariants.{Interface as OfInterface}
+use Rattle.wc_resolve.specs.Views.{KindView, alias_kind, TypeView, InterfaceView}
+use Rattle.wc_resolve.specs.World.{ResolveView, kind_at, place_of}
+
+abbrev pub id_of_interface : InterfaceId → ℕ
+id_of_interface id = id.0
+
+-- the type of which a type is an alias
+abbrev pub alias_target : KindView → Option ℕ
+alias_target (alias_kind t) = place_of t
+alias_target k = None
+
+-- the interface that owns a type
+abbrev pub owner_interface : TypeOwner → Option ℕ
+owner_interface (OfInterface i) = Some i.0
+owner_interface o = None
+
+abbrev pub interface_owning : ResolveView → ℕ → Option ℕ
+interface_owning r t = option_and_then (λ (v : TypeView). owner_interface v.owner) (slice_get r.types t)
+
+-- another than this one
+abbrev pub another_than : ℕ → ℕ → Option ℕ
+another_than i k = if k == i then None else Some k
+
+-- the other interface that owns the type of which a type is an alias
+abbrev pub dependency : ResolveView → ℕ → ℕ → Option ℕ
+dependency r i t = option_and_then (another_than i) (option_and_then (interface_owning r) (option_and_then alias_target (kind_at r.types t)))
+
+-- of each type of the interface, in order
+abbrev pub direct_dependencies : ResolveView → ℕ → List ℕ
+direct_dependencies r i = option_map_or (λ (v : InterfaceView). filter_map (dependency r i) (map (λ e. e.1) v.types)) (slice_get r.interfaces i) []
