@@ -1,15 +1,15 @@
 -- Targets of aliases, and the interfaces that own them.
 use Rattle.std.proofs.Common.{◌≡◌, ℕ, ◌<◌, String, List, [], ◌∷◌, ◌++◌, map, length, Option, Some, None, refl, sym, ap, ◌∙◌, subst, inl, inr}
-use Rattle.std.specs.List.{filter_map, flat_map, slice_get, Contains, All}
-use Rattle.std.specs.Option.{option_and_then, option_map, option_map_or, option_to_list}
+use Rattle.std.specs.List.{filter_map, flat_map, Contains, All}
+use Rattle.std.specs.Option.{option_and_then, option_map_or, option_to_list}
 use Rattle.std.specs.declared.alloc.Global.{Global}
 use Rattle.std.proofs.lemmas.List.Elements.{All-contains, Contains-append_right, Contains-push}
 use Rattle.wc_resolve.specs.declared.ids.TypeId.{TypeId}
 use Rattle.wc_resolve.specs.declared.types.WitType.TheVariants.{Id}
-use Rattle.wc_resolve.specs.Views.{KindView, alias_kind, InterfaceView, TypeView, type_entry}
-use Rattle.wc_resolve.specs.World.{ResolveView, children, kind_at, mentioned_places}
+use Rattle.wc_resolve.specs.Views.{KindView, alias_kind, InterfaceView, type_entry}
+use Rattle.wc_resolve.specs.World.{ResolveView, kind_at, mentioned_places}
 use Rattle.wc_resolve.specs.Ranges.{AreIdsInRange, AreNamesIn}
-use Rattle.wc_resolve.specs.Dependencies.{alias_target, dependency, direct_dependencies}
+use Rattle.wc_resolve.specs.Dependencies.{alias_target, dependency}
 use Rattle.wc_resolve.proofs.Acyclic.{children_within, ids_of_types}
 use Rattle.wc_resolve.proofs.Search.{contains_none, contains_head, contains_tail, contains_cons}
 use Rattle.wc_resolve.proofs.Pushed.{IsPushed, push_end}

@@ -1,21 +1,20 @@
 -- Listings of types: what the walk that adds live types keeps.
-use Rattle.std.proofs.Common.{◌≡◌, ℕ, zero, suc, ◌+◌, ◌*◌, ◌<◌, ◌≤◌, ◌⊎◌, Bool, true, false, List, [], ◌∷◌, ◌++◌, map, reverse, length, Option, Some, None, refl, sym, ap, ◌∙◌, subst, inl, inr, arith, length-append, append_assoc}
+use Rattle.std.proofs.Common.{◌≡◌, ℕ, zero, suc, ◌+◌, ◌*◌, ◌<◌, List, [], ◌∷◌, ◌++◌, map, reverse, length, refl, sym, ap, ◌∙◌, subst, inl, inr, arith, length-append}
 use Rattle.std.specs.List.{filter_map, flat_map, Contains}
-use Rattle.std.specs.Option.{option_map_or}
 use Rattle.std.proofs.lemmas.List.{reverse-append, map-append}
-use Rattle.std.proofs.lemmas.List.Elements.{Contains-append_left, Contains-append_right, Contains-append_cases, Contains-push, Contains-push_cases}
+use Rattle.std.proofs.lemmas.List.Elements.{Contains-append_cases, Contains-push, Contains-push_cases}
 use Rattle.wc_resolve.specs.declared.ids.TypeId.{TypeId}
 use Rattle.wc_resolve.specs.declared.types.WitType.{WitType}
 use Rattle.wc_resolve.specs.declared.types.WitType.TheVariants.{Id}
 use Rattle.wc_resolve.specs.declared.walk.Step.{Step}
 use Rattle.wc_resolve.specs.declared.walk.Step.TheVariants.{Enter, Leave}
-use Rattle.wc_resolve.specs.Views.{KindView, TypeView}
-use Rattle.wc_resolve.specs.World.{children, kind_at, mentioned_places, place_of}
-use Rattle.wc_resolve.specs.Followed.{Follows, LooksDown, Rule, repeated, followed}
+use Rattle.wc_resolve.specs.Views.{TypeView}
+use Rattle.wc_resolve.specs.World.{children, place_of}
+use Rattle.wc_resolve.specs.Followed.{Follows, LooksDown, repeated, followed}
 use Rattle.wc_resolve.specs.Roots.{id_place, type_id}
-use Rattle.wc_resolve.specs.Live.{listing_rule, listing_of, with_live, struck, IsComplete, AddsAll, AddsSome, Keeps}
-use Rattle.wc_resolve.proofs.Search.{contains_none, contains_head, contains_tail, contains_cons}
-use Rattle.wc_resolve.proofs.Struck.{contains_joined, joined_from, joined_same, with_there, with_has, with_keeps, with_from, with_extends, keeps_same, keeps_more, struck_append, struck_there, struck_keeps, struck_has, struck_extends}
+use Rattle.wc_resolve.specs.Live.{listing_rule, listing_of, with_live, struck, IsComplete, Keeps}
+use Rattle.wc_resolve.proofs.Search.{contains_none}
+use Rattle.wc_resolve.proofs.Struck.{contains_joined, joined_from, joined_same, with_keeps, with_from, with_extends, keeps_same, keeps_more, struck_append, struck_there, struck_has, struck_extends}
 
 pub ids_placed : (ts : List WitType) → map id_place (filter_map type_id ts) ≡ filter_map place_of ts
 ids_placed [] = refl

@@ -3,7 +3,6 @@ use Rattle.std.specs.Prelude.{ℕ, List, [], ◌==◌, if◌then◌else◌, map,
 use Rattle.std.specs.List.{filter_map, slice_get}
 use Rattle.std.specs.Option.{option_and_then, option_map_or}
 use Rattle.wc_resolve.specs.declared.ids.InterfaceId.{InterfaceId}
-use Rattle.wc_resolve.specs.declared.types.WitType.{WitType}
 use Rattle.wc_resolve.specs.declared.types.TypeOwner.{TypeOwner}
 use Rattle.wc_resolve.specs.declared.types.TypeOwner.TheVariants.{Interface as OfInterface}
 use Rattle.wc_resolve.specs.Views.{KindView, alias_kind, TypeView, InterfaceView}
