@@ -17,7 +17,7 @@ use Rattle.wc_resolve.specs.declared.types.WitType.{WitType}
 use Rattle.wc_resolve.specs.declared.types.WitType.TheVariants.{Id}
 use Rattle.wc_resolve.specs.Flat.{AreFlattened, flat_of, flat_payload, flat_types, kept_flat}
 use Rattle.wc_resolve.specs.Ranges.{IsFunctionIn, IsTypeIn}
-use Rattle.wc_resolve.specs.Signatures.{SignatureView, core, core_of, is_behind_pointer, most_params, passed_types, result_pointer, returned_types, takes_own, first_as_pointer}
+use Rattle.wc_resolve.specs.Signatures.{SignatureView, core_signature, core_of, is_behind_pointer, most_params, passed_types, result_pointer, returned_types, takes_own, first_as_pointer}
 use Rattle.wc_resolve.specs.Views.{FunctionView, TypeView, function_view, named_view}
 use Rattle.wc_resolve.specs.World.{TakesOnly}
 use Rattle.wc_resolve.proofs.Alike.{Alike, alike_cut}
@@ -118,7 +118,7 @@ function_in n v h = h.1
 
 -- and the signature of a function whose types are there
 pub core_settled : (types : List TypeView) (flats : List (List WasmType)) (abi : AbiVariant) (v : FunctionView) → AreFlattened types flats → IsFunctionIn (length types) v
-    → core (kept_flat flats) abi v ≡ core (flat_of types) abi v
+    → core_signature (kept_flat flats) abi v ≡ core_signature (flat_of types) abi v
 core_settled types flats abi v made there =
     let takes : TakesOnly (IsTypeIn (length types)) v = function_in (length types) v there in
     let all : All (IsTypeIn (length types)) (map (λ p. p.1) v.params) = All-map (IsTypeIn (length types)) (λ p. p.1) v.params takes.0 in
@@ -129,7 +129,7 @@ core_settled types flats abi v made there =
 -- the signature of a function, out of what was made of its parameters and its result
 pub core_made : (flat : ℕ → List WasmType) (abi : AbiVariant) (f : Function) (params results : List WasmType) (answers : Bool) (named : List (String Global × WitType)) → named ≡ f.params.items
     → params ≡ take 17 (flat_types flat (map (λ p. p.1) named)) → results ≡ flat_payload flat f.result → answers ≡ is_some f.result
-    → core_of abi f.kind params results answers ≡ core flat abi (function_view f)
+    → core_of abi f.kind params results answers ≡ core_signature flat abi (function_view f)
 core_made flat abi f params results answers named same made given told =
     let whole : List WasmType = flat_types flat (map (λ p. p.1) (map named_view f.params.items)) in
     let read : flat_types flat (map (λ p. p.1) named) ≡ whole = ap (λ z. flat_types flat (map (λ p. p.1) z)) same ∙ ap (flat_types flat) (sym (named_values f.params.items)) in

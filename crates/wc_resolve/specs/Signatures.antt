@@ -80,5 +80,5 @@ core_of abi kind params results answers = record {
 }
 
 -- by the flat forms of the defined types
-abbrev pub core : (ℕ → List WasmType) → AbiVariant → FunctionView → SignatureView
-core flat abi f = core_of abi f.kind (flat_types flat (map (λ p. p.1) f.params)) (flat_payload flat f.outcome) (is_some f.outcome)
+abbrev pub core_signature : (ℕ → List WasmType) → AbiVariant → FunctionView → SignatureView
+core_signature flat abi f = core_of abi f.kind (flat_types flat (map (λ p. p.1) f.params)) (flat_payload flat f.outcome) (is_some f.outcome)

@@ -11,7 +11,7 @@ ghost use Rattle.wc_resolve.specs.Kept.{IsKept, IsOrder};
 ghost use Rattle.wc_resolve.specs.Live.{listing_of, listing_rule};
 ghost use Rattle.wc_resolve.specs.Ranges.{AreIdsInRange};
 ghost use Rattle.wc_resolve.specs.Resources.{AreMarked};
-ghost use Rattle.wc_resolve.specs.Signatures.{core, signature_view};
+ghost use Rattle.wc_resolve.specs.Signatures.{core_signature, signature_view};
 ghost use Rattle.wc_resolve.specs.World.{HasRing};
 ghost use Rattle.wc_resolve.specs.declared.fault.ResolveFault.TheVariants.{Memory, Cycle};
 ghost use Rattle.wc_resolve.specs.declared.flat.WasmType.{WasmType};
@@ -249,7 +249,7 @@ impl Resolve {
         function: &Function,
     ) -> Result<WasmSignature, AllocError>
         requires { IsUsable self.now (function_view function.now) }
-        ensures { IfOk result (λ s. signature_view s ≡ core (flat_of self.now.types) abi (function_view function.now)) }
+        ensures { IfOk result (λ s. signature_view s ≡ core_signature (flat_of self.now.types) abi (function_view function.now)) }
     {
         signature_of(alloc, &self.flats, abi, function)
     }

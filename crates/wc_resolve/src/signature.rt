@@ -4,7 +4,7 @@
 ghost use Rattle.std.specs.Prelude.{◌≡◌, ◌≤◌, ◌<◌, IfOk, OnOk, is_some, length};
 ghost use Rattle.wc_resolve.specs.Flat.{AreFlattened, flat_of, kept_flat, lists};
 ghost use Rattle.wc_resolve.specs.Ranges.{IsFunctionIn};
-ghost use Rattle.wc_resolve.specs.Signatures.{core, core_of, first_as_pointer, is_behind_pointer, is_export, most_params, passed_types, returned_types, result_pointer, signature_view, takes_own};
+ghost use Rattle.wc_resolve.specs.Signatures.{core_signature, core_of, first_as_pointer, is_behind_pointer, is_export, most_params, passed_types, returned_types, result_pointer, signature_view, takes_own};
 ghost use Rattle.wc_resolve.specs.Views.{function_view};
 
 use crate::flat::flat_payload;
@@ -157,7 +157,7 @@ pub(crate) fn signature_of(
     abi: AbiVariant,
     function: &Function,
 ) -> Result<WasmSignature, AllocError>
-    ensures { IfOk result (λ s. signature_view s ≡ core (kept_flat (lists flats.now)) abi (function_view function.now)) }
+    ensures { IfOk result (λ s. signature_view s ≡ core_signature (kept_flat (lists flats.now)) abi (function_view function.now)) }
 {
     let params = flat_fields(alloc, flats, &function.params)?;
     let results = flat_payload(flats, function.result);

@@ -1,7 +1,7 @@
 use Rattle.std.proofs.Common.{◌≡◌, List, ap, ◌∙◌, subst}
 use Rattle.std.specs.Prelude.{IfOk}
 use Rattle.wc_resolve.specs.Flat.{kept_flat, lists}
-use Rattle.wc_resolve.specs.Signatures.{SignatureView, core, signature_view}
+use Rattle.wc_resolve.specs.Signatures.{SignatureView, core_signature, signature_view}
 use Rattle.wc_resolve.specs.Views.{TypeView, function_view}
 use Rattle.wc_resolve.specs.World.{ResolveView}
 use Rattle.wc_resolve.proofs.CoreSignatures.{core_settled}
@@ -13,6 +13,6 @@ returns c =
     let made : AreFlattened c.args.self.now.types (lists c.self.inside.flats.items) =
     subst (λ (z : List TypeView). AreFlattened z (lists c.self.inside.flats.items)) (ap (λ (v : ResolveView). v.types) c.self.view_is) c.self.invariant.flattened in
     subst (λ (z : SignatureView). IfOk c.signature_of.result (λ s. signature_view s ≡ z))
-    (ap (λ z. core (kept_flat (lists z)) c.args.abi (function_view c.args.function.now)) c.deref.ensures.value
+    (ap (λ z. core_signature (kept_flat (lists z)) c.args.abi (function_view c.args.function.now)) c.deref.ensures.value
     ∙ core_settled c.args.self.now.types (lists c.self.inside.flats.items) c.args.abi (function_view c.args.function.now) made c.requires.0)
     c.signature_of.ensures
