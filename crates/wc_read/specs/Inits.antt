@@ -1,4 +1,4 @@
--- Initialisers (WebAssembly core specification, 3.3.10 "Constant Expressions" and 5.4.10 "Expressions").
+-- Initialisers (WebAssembly core specification, 3.3.10 "Constant Expressions" and 5.4.9 "Expressions").
 use Rattle.std.specs.Prelude.{◌≡◌, ℕ, zero, suc, ◌-◌, List, [], ◌∷◌, ◌++◌, length, take, map, Bool, false, ◌||◌, ◌==◌, if◌then◌else◌, Option, Some, None, is_some, IsTrue}
 use Rattle.wc_read.specs.Formats.{Format, SpellsItems}
 use Rattle.wc_read.specs.Reading.{Read, ◌>>=◌, where_at}

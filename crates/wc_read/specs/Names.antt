@@ -49,7 +49,7 @@ pub record Subsection (bytes : List ℕ) (s : SectionValue) (rest : List ℕ) : 
   pub spelled : SpellsSection text s
 
 -- the pairs that a name section's bytes behind its name give: none where no subsection stands in front, as where nothing
--- is left; a subsection of other_section id gives none, whatever it holds; one of global names gives its pairs, and the rest
+-- is left; a subsection of another id gives none, whatever it holds; one of global names gives its pairs, and the rest
 -- gives more; where it is faulty, it gives the pairs in front of the fault, and the rest gives none
 pub data NamesIn : List ℕ → List Named → Type 0 where
   no_more : {bytes : List ℕ} → NoneInFront SpellsSection bytes → NamesIn bytes []

@@ -1,4 +1,4 @@
--- The nesting of a body's blocks (WebAssembly core specification, 5.4.1 "Control Instructions" and 5.4.10 "Expressions").
+-- The nesting of a body's blocks (WebAssembly core specification, 5.4.1 "Control Instructions" and 5.4.9 "Expressions").
 use Rattle.std.specs.Prelude.{◌≡◌, ℕ, List, [], ◌∷◌, ◌++◌, map, Bool, true, false, ◌||◌, ◌==◌, if◌then◌else◌, Option, Some, None}
 use Rattle.wc_read.specs.Reading.{◌>>=◌}
 use Rattle.wc_read.specs.Operators.{InstrValue}

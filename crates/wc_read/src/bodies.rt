@@ -21,7 +21,7 @@ pub struct Locals {
     pub ty: ValType,
 }
 
-/// A function's body: its locals in runs, and its operators, the end of the body among them.
+/// A function's body (5.5.13): its locals in runs, and its operators, the end of the body among them.
 #[derive(Debug, PartialEq, Eq, Drop)]
 pub struct Body<'a> {
     pub locals: Vec<Locals>,
@@ -48,7 +48,8 @@ impl<'a> Spelled<'a> for Locals {
 ///
 /// Locals of 2^32 or more are `TooLarge`, a code that is no operator's `UnknownOperator`. Blocks nest, an
 /// `else` stands at most once in an `if` and nowhere else, and the body's end is its last byte; else
-/// `BadNesting`. Indices, labels and types of operands are not checked.
+/// `BadNesting`. Bytes that end in an item are `Truncated`. Indices, labels and types of operands are not checked.
+/// Where a growth is refused, the answer is `Memory`.
 pub fn read_body(alloc: Global, slice: &[u8]) -> Result<Body<'_>, ReadFault>
     // What is read is spelled so, by all of the bytes.
     ensures found { IfOk result (λ b. SpellsBody slice.now (body_value b)) }

@@ -9,7 +9,7 @@ use crate::fault::ReadFault;
 use std::alloc::{AllocError, Global};
 use std::collections::HashSet;
 
-/// Whether no two exports have one name (WebAssembly core specification, 3.4.14).
+/// Whether no two exports have one name (WebAssembly core specification, 3.4.10).
 pub fn have_distinct_names(alloc: Global, exports: &[Export]) -> Result<bool, ReadFault>
     ensures distinct { IfOk result (λ b. IsTrue b ↔ AllPairs (λ x y. x ≢ y) (map (λ e. e.name.now) exports.now)) }
     ensures memory { IfErr result (λ e. e ≡ ReadFault.Memory) }

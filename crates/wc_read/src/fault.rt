@@ -21,7 +21,8 @@ pub enum ReadFault {
     /// The bytes end inside an item.
     #[error("Truncated")]
     Truncated,
-    /// A number has more bytes than its type allows, or bits past its type.
+    /// A number has more bytes than its type allows, or bits past its type; flags of a memory argument are 128 or
+    /// more; a block's type is a negative index.
     #[error("BadNumber")]
     BadNumber,
     /// A name is not UTF-8.
@@ -36,31 +37,32 @@ pub enum ReadFault {
     /// A section's id is none of the format.
     #[error("UnknownSection")]
     UnknownSection,
-    /// A byte stands for no type, or for none that may stand there.
+    /// A byte stands for no type, for none that may stand there, or for no mutability or kind of item.
     #[error("BadType")]
     BadType,
     /// Flags, bounds or a page size that no table or memory may have.
     #[error("BadLimits")]
     BadLimits,
-    /// An index is out of range.
+    /// An index of a type, an item or a start function is out of range.
     #[error("BadIndex")]
     BadIndex,
     /// Two exports have one name.
     #[error("DuplicateExport")]
     DuplicateExport,
-    /// An initialiser does not leave one value of its global's type.
+    /// An initialiser has an operator that is not constant, or bytes behind its end, or does not leave one value of
+    /// its global's type.
     #[error("BadInitialiser")]
     BadInitialiser,
     /// There are not as many bodies as local functions.
     #[error("CountMismatch")]
     CountMismatch,
-    /// An opcode is none of the format.
+    /// A code is no operator's, or a fence lacks its byte 0.
     #[error("UnknownOperator")]
     UnknownOperator,
     /// Blocks of a body do not nest.
     #[error("BadNesting")]
     BadNesting,
-    /// The start function takes or gives values.
+    /// The start function takes or gives values. One that is not there is `BadIndex`.
     #[error("BadStart")]
     BadStart,
     /// An index space, or the locals of a body, pass 2^32 - 1.

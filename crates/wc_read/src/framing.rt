@@ -41,7 +41,8 @@ impl<'a> Spelled<'a> for Section<'a> {
 /// Cuts a module into its sections (WebAssembly core specification, 5.5.16): the header, and then ids, sizes
 /// and contents to the end of the bytes. Nothing else is checked: ids may be any, in any order.
 ///
-/// A component's header is `Component`, any other beginning `NotWasm`.
+/// A component's header is `Component`, any other beginning `NotWasm`. A size of too many bytes is `BadNumber`, a
+/// section that the bytes end in `Truncated`. Where a growth is refused, the answer is `Memory`.
 pub fn frames(alloc: Global, bytes: &[u8]) -> Result<Frames<'_>, ReadFault>
     // What is cut is spelled so, by all of the bytes.
     ensures found { IfOk result (λ f. SpellsFrames bytes.now (section_values f)) }

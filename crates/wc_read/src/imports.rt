@@ -49,7 +49,9 @@ impl<'a> Spelled<'a> for Import<'a> {
 /// Reads the content of an import section (WebAssembly core specification, 5.5.5).
 ///
 /// Names are slices of the content. An index of a function's type is not checked, all else of an import
-/// is: flags, bounds, page sizes. Bytes behind the last import are `SectionSize`.
+/// is: flags, bounds, page sizes (`BadLimits`), kinds and types (`BadType`), names (`BadName`), numbers
+/// (`BadNumber`). Bytes that end in an import are `Truncated`, bytes behind the last one `SectionSize`. Where a
+/// growth is refused, the answer is `Memory`.
 pub fn read_imports(alloc: Global, content: &[u8]) -> Result<Vec<Import<'_>>, ReadFault>
     // What is read is spelled so, by all of the bytes.
     ensures found { IfOk result (λ v. SpellsImports content.now (import_values v.items)) }

@@ -11,7 +11,7 @@ use crate::reader::Reader;
 use crate::types::ValType;
 use std::alloc::Global;
 
-/// An initialiser: its operators, the end of it among them.
+/// An initialiser (3.3.10, 5.4.9): its operators, the end of it among them.
 #[derive(Debug, PartialEq, Eq, Drop)]
 pub struct Init<'a> {
     pub operators: Vec<Instr<'a>>,
@@ -32,11 +32,12 @@ pub enum Constant {
     Integer(ValType),
 }
 
-/// Reads an initialiser (WebAssembly core specification, 3.3.10 and 5.4.10): constant operators, and their end as
+/// Reads an initialiser (WebAssembly core specification, 3.3.10 and 5.4.9): constant operators, and their end as
 /// the last byte. What they leave is not checked.
 ///
 /// An operator that is not constant is `BadInitialiser`, a code that is no operator's `UnknownOperator`. Bytes
-/// that end in front of the end are `Truncated`, bytes behind it `BadInitialiser`.
+/// that end in front of the end are `Truncated`, bytes behind it `BadInitialiser`. Where a growth is refused, the
+/// answer is `Memory`.
 pub fn read_init(alloc: Global, slice: &[u8]) -> Result<Init<'_>, ReadFault>
     // What is read is spelled so, by all of the bytes.
     ensures found { IfOk result (λ i. SpellsInit slice.now (init_value i)) }

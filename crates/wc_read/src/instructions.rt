@@ -219,6 +219,7 @@ impl<'a> Reader<'a> {
 }
 
 /// Puts an operator behind others.
+#[inline(always)]
 fn put<'a>(
     operators: &mut Vec<Instr<'a>>,
     opcode: Opcode,

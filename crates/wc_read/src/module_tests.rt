@@ -17,6 +17,12 @@ fn of_sections(alloc: Global, sections: &[u8]) -> Result<Vec<u8>, Fail> {
     Ok(bytes)
 }
 
+/// The fault that a module of these sections is refused with.
+fn fault_of(alloc: Global, sections: &[u8]) -> Result<Option<ReadFault>, Fail> {
+    let bytes = of_sections(alloc, sections)?;
+    Ok(read_module(alloc, &bytes).err())
+}
+
 #[test]
 fn module_of_three_functions(rt: HostRuntime) -> Result<(), Fail> {
     let module = read_module(rt.alloc(), THREE)?;
@@ -161,9 +167,8 @@ fn refused_orders_of_sections(rt: HostRuntime) -> Result<(), Fail> {
         (b"\0\x02\x01\xff", ReadFault::BadName),
     ];
     for (sections, fault) in cases {
-        let bytes = of_sections(rt.alloc(), sections)?;
         assert_eq!(rt;
-            read_module(rt.alloc(), &bytes).err(),
+            fault_of(rt.alloc(), sections)?,
             Some(fault),
             "at {sections:?}"
         );
@@ -189,9 +194,8 @@ fn refused_contents(rt: HostRuntime) -> Result<(), Fail> {
         (b"\x08\0", ReadFault::Truncated),
     ];
     for (sections, fault) in cases {
-        let bytes = of_sections(rt.alloc(), sections)?;
         assert_eq!(rt;
-            read_module(rt.alloc(), &bytes).err(),
+            fault_of(rt.alloc(), sections)?,
             Some(fault),
             "at {sections:?}"
         );
@@ -237,9 +241,8 @@ fn refused_modules(rt: HostRuntime) -> Result<(), Fail> {
         ),
     ];
     for (sections, fault) in cases {
-        let bytes = of_sections(rt.alloc(), sections)?;
         assert_eq!(rt;
-            read_module(rt.alloc(), &bytes).err(),
+            fault_of(rt.alloc(), sections)?,
             Some(fault),
             "at {sections:?}"
         );
@@ -285,9 +288,8 @@ fn refused_globals(rt: HostRuntime) -> Result<(), Fail> {
         (b"\x06\x06\x01\x70\0\xd2\0\x0b", ReadFault::BadInitialiser),
     ];
     for (sections, fault) in cases {
-        let bytes = of_sections(rt.alloc(), sections)?;
         assert_eq!(rt;
-            read_module(rt.alloc(), &bytes).err(),
+            fault_of(rt.alloc(), sections)?,
             Some(fault),
             "at {sections:?}"
         );

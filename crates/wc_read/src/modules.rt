@@ -46,8 +46,14 @@ pub struct Module<'a> {
 
 /// Reads a module (WebAssembly core specification, 5.5.16).
 ///
-/// A component's header is `Component`, any other beginning `NotWasm`. Sections are read to their end, bodies of
-/// functions and the sections of elements, data and data counts by their sizes alone.
+/// Sections are read to their end, bodies of functions and the sections of elements, data and data counts by their
+/// sizes alone.
+///
+/// A component's header is `Component`, any other beginning `NotWasm`. Sections out of order or twice are
+/// `SectionOrder`, of other ids than 0 to 12 `UnknownSection`; as many bodies as functions have to be there
+/// (`CountMismatch`). Then the rules of a whole module: `BadIndex`, `DuplicateExport`, `BadInitialiser`, `BadStart`,
+/// and `TooLarge` for a space of 2^32 items. What is inside a section has the faults of `read_imports`. Where a
+/// growth is refused, the answer is `Memory`.
 pub fn read_module(alloc: Global, bytes: &[u8]) -> Result<Module<'_>, ReadFault>
     // What is read is spelled so, by all of the bytes.
     ensures found { IfOk result (λ m. SpellsModule bytes.now (module_value m)) }

@@ -23,6 +23,8 @@ fn token_of(opcode: Opcode) -> Token
     ensures { result ≡ token_of opcode }
 {
     match opcode {
+        // most operators
+        Opcode::Byte(code) if code > 0x0b => Token::Plain,
         Opcode::Byte(0x02 | 0x03) => Token::Opens,
         Opcode::Byte(0x04) => Token::Branches,
         Opcode::Byte(0x05) => Token::Elses,

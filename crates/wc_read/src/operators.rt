@@ -10,9 +10,9 @@ use crate::types::ValType;
 #[derive(Clone, Copy, Debug, PartialEq, Eq)]
 pub enum Opcode {
     Byte(u8),
-    /// Behind `fc`: saturating conversions, memories and tables in bulk (5.4.7, 5.4.8).
+    /// Behind `fc`: tables and memories in bulk, saturating conversions (5.4.5 to 5.4.7).
     Misc(u32),
-    /// Behind `fd`: vectors (5.4.9).
+    /// Behind `fd`: vectors (5.4.8).
     Vector(u32),
     /// Behind `fe`: atomic accesses.
     Atomic(u32),
@@ -53,8 +53,8 @@ pub enum BlockType {
     FuncType(u32),
 }
 
-/// A memory argument (5.4.7): the exponent of the alignment, the memory, the offset. A memory 0 that is named
-/// and one that is left out are the same.
+/// A memory argument (5.4.6): the exponent of the alignment, below 64; the memory's index; the offset in bytes. A
+/// memory 0 that is named and one that is left out are the same.
 #[derive(Clone, Copy, Debug, PartialEq, Eq)]
 pub struct MemArg {
     pub align: u32,
@@ -62,7 +62,7 @@ pub struct MemArg {
     pub offset: u64,
 }
 
-/// What stands behind an operator's code.
+/// What stands behind an operator's code (5.4).
 #[derive(Debug, PartialEq, Eq, Drop)]
 pub enum Immediates<'a> {
     None,
@@ -86,7 +86,7 @@ pub enum Immediates<'a> {
     Lane(u8),
 }
 
-/// An operator: its code, and what stands behind it.
+/// An operator (5.4): its code, and what stands behind it.
 #[derive(Debug, PartialEq, Eq, Drop)]
 pub struct Instr<'a> {
     pub opcode: Opcode,
@@ -145,21 +145,30 @@ pub fn form_of(opcode: Opcode) -> Option<Form>
     }
 }
 
+/// Frequent codes that follow each other stand apart: one pattern for both is compiled to a chain of tests, and not
+/// to an entry each in a table of jumps.
 #[inline(always)]
 #[tactic(auto, unfolding(crate::specs::Operators::byte_form))]
 fn byte_form(code: u8) -> Option<Form>
     ensures { result ≡ byte_form code }
 {
     match code {
-        0x00 | 0x01 | 0x05 | 0x0b | 0x0f | 0x1a | 0x1b => Some(Form::None),
-        0x02..=0x04 => Some(Form::Block),
-        0x0c | 0x0d => Some(Form::Index(IndexKind::Label)),
+        0x00 | 0x05 | 0x0b | 0x0f | 0x1a => Some(Form::None),
+        0x01 | 0x1b => Some(Form::None),
+        0x02 => Some(Form::Block),
+        0x03 => Some(Form::Block),
+        0x04 => Some(Form::Block),
+        0x0c => Some(Form::Index(IndexKind::Label)),
+        0x0d => Some(Form::Index(IndexKind::Label)),
         0x0e => Some(Form::Labels),
         0x10 | 0x12 | 0xd2 => Some(Form::Index(FUNC)),
         0x11 | 0x13 => Some(Form::Indices(TYPE, TABLE)),
         0x1c => Some(Form::ValTypes),
-        0x20..=0x22 => Some(Form::Index(IndexKind::Local)),
-        0x23 | 0x24 => Some(Form::Index(GLOBAL)),
+        0x20 => Some(Form::Index(IndexKind::Local)),
+        0x21 => Some(Form::Index(IndexKind::Local)),
+        0x22 => Some(Form::Index(IndexKind::Local)),
+        0x23 => Some(Form::Index(GLOBAL)),
+        0x24 => Some(Form::Index(GLOBAL)),
         0x25 | 0x26 => Some(Form::Index(TABLE)),
         0x28..=0x3e => Some(Form::MemArg),
         0x3f | 0x40 => Some(Form::Index(MEMORY)),

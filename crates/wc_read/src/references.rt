@@ -6,7 +6,9 @@ ghost use Rattle.wc_read.specs.Refs.{reference, two_refs, refs_of};
 
 use crate::operators::{BlockType, Immediates, Index, IndexKind, Instr, Refs, Space};
 
-/// What an operator refers to.
+/// The types, functions, tables, memories and globals that an operator names by index, in the order in which it
+/// names them (5.4). One index is the first, and where only the second of two names such an item, that is the first.
+/// Locals, labels and segments are none. An access of memory names its memory, 0 where it is left out.
 pub fn refs(instr: &Instr<'_>) -> Refs
     ensures { result ≡ refs_of (immediates_value instr.now.immediates) }
 {

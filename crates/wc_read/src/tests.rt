@@ -220,16 +220,33 @@ fn function_types(rt: HostRuntime) -> Result<(), Fail> {
 
 #[test]
 fn fault_texts_and_numbers(rt: HostRuntime) -> Result<(), Fail> {
-    let alloc = rt.alloc();
-    assert_eq!(rt;
-        ReadFault::Memory.to_string(alloc)?.as_str(),
-        "out of memory"
-    );
-    assert_eq!(rt; ReadFault::NotWasm.to_string(alloc)?.as_str(), "NotWasm");
-    assert_eq!(rt; ReadFault::TooLarge.to_string(alloc)?.as_str(), "TooLarge");
-    assert_eq!(rt; ReadFault::Memory as u8, 0);
-    assert_eq!(rt; ReadFault::BadInitialiser as u8, 13);
-    assert_eq!(rt; ReadFault::TooLarge as u8, 18);
+    let faults: [(ReadFault, &str); 19] = [
+        (ReadFault::Memory, "out of memory"),
+        (ReadFault::NotWasm, "NotWasm"),
+        (ReadFault::Component, "Component"),
+        (ReadFault::Truncated, "Truncated"),
+        (ReadFault::BadNumber, "BadNumber"),
+        (ReadFault::BadName, "BadName"),
+        (ReadFault::SectionOrder, "SectionOrder"),
+        (ReadFault::SectionSize, "SectionSize"),
+        (ReadFault::UnknownSection, "UnknownSection"),
+        (ReadFault::BadType, "BadType"),
+        (ReadFault::BadLimits, "BadLimits"),
+        (ReadFault::BadIndex, "BadIndex"),
+        (ReadFault::DuplicateExport, "DuplicateExport"),
+        (ReadFault::BadInitialiser, "BadInitialiser"),
+        (ReadFault::CountMismatch, "CountMismatch"),
+        (ReadFault::UnknownOperator, "UnknownOperator"),
+        (ReadFault::BadNesting, "BadNesting"),
+        (ReadFault::BadStart, "BadStart"),
+        (ReadFault::TooLarge, "TooLarge"),
+    ];
+    let mut number: u8 = 0;
+    for (fault, text) in faults {
+        assert_eq!(rt; fault.to_string(rt.alloc())?.as_str(), text);
+        assert_eq!(rt; fault as u8, number);
+        number = number.saturating_add(1);
+    }
     Ok(())
 }
 
