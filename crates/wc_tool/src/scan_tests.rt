@@ -60,13 +60,12 @@ const KINDS: &[u8] =
     \x04\x04\x01\x6f\0\x03\x05\x17\x0b\0\0\0\0\0\0\0\0\0\0\0\0\0\0\0\0\0\0\0\0\0\0\x06\x06\x01\x7f\0\x41\x01\x0b\
     \x07\x10\x03\x02tt\x01\x01\x02mm\x02\x0b\x02gg\x03\x01";
 
+const KINDS_LINES: &str = "import m t table\nimport m m memory\nimport m g global\n\
+    export tt table 1\nexport mm memory 11\nexport gg global 1\n";
+
 #[test]
 fn scan_tells_kinds(rt: HostRuntime) -> Result<(), Fail> {
-    let want = wanted(
-        rt.alloc(),
-        "import m t table\nimport m m memory\nimport m g global\n\
-        export tt table 1\nexport mm memory 11\nexport gg global 1\n",
-    )?;
+    let want = wanted(rt.alloc(), KINDS_LINES)?;
     assert_eq!(rt; executed(rt.alloc(), &SCAN, KINDS)?, want);
     Ok(())
 }
@@ -127,19 +126,21 @@ fn each_put_that_fails_is_an_output_fault(rt: HostRuntime) {
 /// Each refused growth gives `Memory`, with no line told; where none is refused, this is a plain run.
 #[test]
 fn refused_growth_of_a_scan_is_a_memory_fault(rt: HostRuntime) {
-    let mut out = Compare {
-        left: THREE_LINES.as_bytes(),
-        same: true,
-    };
-    match execute(rt.alloc(), &SCAN, THREE, &mut out) {
-        Err(fault) => {
-            assert_eq!(rt; fault, ToolFault::Memory);
-            assert_eq!(rt; out.left, THREE_LINES.as_bytes());
-        }
-        Ok(bytes) => {
-            assert_eq!(rt; bytes, None);
-            assert!(rt; out.same);
-            assert!(rt; out.left.is_empty());
+    for (module, lines) in [(THREE, THREE_LINES), (KINDS, KINDS_LINES)] {
+        let mut out = Compare {
+            left: lines.as_bytes(),
+            same: true,
+        };
+        match execute(rt.alloc(), &SCAN, module, &mut out) {
+            Err(fault) => {
+                assert_eq!(rt; fault, ToolFault::Memory);
+                assert_eq!(rt; out.left, lines.as_bytes());
+            }
+            Ok(bytes) => {
+                assert_eq!(rt; bytes, None);
+                assert!(rt; out.same);
+                assert!(rt; out.left.is_empty());
+            }
         }
     }
 }

@@ -59,7 +59,7 @@ func_type_text f = 0x60 ∷ (vector_text val_type_text f.params ++ vector_text v
 abbrev pub export_text : ExportValue → List ℕ
 export_text e = name_text e.name ++ (export_kind_code e.kind ∷ number_text e.index)
 
--- an initialiser (5.4.10): its operators, the end among them
+-- an initialiser (5.4.9): its operators, the end among them
 abbrev pub init_text : List InstrValue → List ℕ
 init_text operators = flat_map instr_text operators
 

@@ -29,7 +29,7 @@ block_type_text Empty = 0x40 ∷ []
 block_type_text (Value t) = val_type_text t
 block_type_text (FuncType index) = signed_text (pos index)
 
--- a memory argument (5.4.7): the alignment's exponent, with 64 added exactly where the memory is not 0; the memory, where
+-- a memory argument (5.4.6): the alignment's exponent, with 64 added exactly where the memory is not 0; the memory, where
 -- it is not 0; the offset
 abbrev pub mem_arg_text : MemArg → List ℕ
 mem_arg_text m =

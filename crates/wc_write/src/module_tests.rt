@@ -65,25 +65,39 @@ fn again(alloc: Global, bytes: &[u8]) -> Result<Vec<u8>, Fail> {
 const FUNCS: &[u8] =
     b"\0asm\x01\0\0\0\x01\x04\x01\x60\0\0\x03\x04\x03\0\0\0\x07\x09\x02\x01\x61\0\0\x01\x62\0\x01\x0a\x0c\x03\x02\0\x0b\x04\0\x10\x02\x0b\x02\0\x0b";
 
+/// Imports of each kind in their groups, and a memory.
+const IMPORTS: &[u8] =
+    b"\0asm\x01\0\0\0\x01\x04\x01\x60\0\0\x02\x23\x05\x01a\x01m\x02\0\x01\x01a\x01t\x01\x70\0\x01\x01a\x01g\x03\x7f\0\x01a\x01f\0\0\x01a\x01h\0\0\x05\x03\x01\0\x02";
+
+/// A type and producers.
+const PRODUCERS: &[u8] =
+    b"\0asm\x01\0\0\0\x01\x04\x01\x60\0\0\0\x1c\x09producers\x81\0\x08language\x01\x04Rust\0";
+
+/// Modules that are their own texts. Each section of a text stands in one of them.
+const OWN_TEXTS: [&[u8]; 11] = [
+    FUNCS,
+    // No sections.
+    b"\0asm\x01\0\0\0",
+    b"\0asm\x01\0\0\0\x01\x04\x01\x60\0\0",
+    // A type that takes and gives.
+    b"\0asm\x01\0\0\0\x01\x07\x01\x60\x02\x7f\x7e\x01\x70",
+    IMPORTS,
+    // A memory of 65536 pages.
+    b"\0asm\x01\0\0\0\x05\x05\x01\0\x80\x80\x04",
+    // A memory with a page size.
+    b"\0asm\x01\0\0\0\x05\x04\x01\x08\x01\x10",
+    b"\0asm\x01\0\0\0\x04\x05\x01\x70\x01\x01\x02",
+    // A start.
+    b"\0asm\x01\0\0\0\x01\x04\x01\x60\0\0\x03\x02\x01\0\x08\x01\0\x0a\x04\x01\x02\0\x0b",
+    // A global of two operators and their sum.
+    b"\0asm\x01\0\0\0\x06\x09\x01\x7f\x01\x41\x02\x41\x03\x6a\x0b",
+    PRODUCERS,
+];
+
 #[test]
 fn texts_of_their_own(rt: HostRuntime) -> Result<(), Fail> {
-    let alloc = rt.alloc();
-    for bytes in [
-        FUNCS,
-        // No sections.
-        b"\0asm\x01\0\0\0".as_slice(),
-        b"\0asm\x01\0\0\0\x01\x04\x01\x60\0\0".as_slice(),
-        // A type that takes and gives.
-        b"\0asm\x01\0\0\0\x01\x07\x01\x60\x02\x7f\x7e\x01\x70".as_slice(),
-        // A memory with a page size.
-        b"\0asm\x01\0\0\0\x05\x04\x01\x08\x01\x10".as_slice(),
-        b"\0asm\x01\0\0\0\x04\x05\x01\x70\x01\x01\x02".as_slice(),
-        // A start.
-        b"\0asm\x01\0\0\0\x01\x04\x01\x60\0\0\x03\x02\x01\0\x08\x01\0\x0a\x04\x01\x02\0\x0b".as_slice(),
-        // A global of two operators and their sum.
-        b"\0asm\x01\0\0\0\x06\x09\x01\x7f\x01\x41\x02\x41\x03\x6a\x0b".as_slice(),
-    ] {
-        assert_eq!(rt; again(alloc, bytes)?.as_slice(), bytes);
+    for bytes in OWN_TEXTS {
+        assert_eq!(rt; again(rt.alloc(), bytes)?.as_slice(), bytes);
     }
     Ok(())
 }
@@ -142,10 +156,7 @@ fn sections_left_out(rt: HostRuntime) -> Result<(), Fail> {
 fn imports_in_groups(rt: HostRuntime) -> Result<(), Fail> {
     let bytes =
         b"\0asm\x01\0\0\0\x01\x04\x01\x60\0\0\x02\x23\x05\x01a\x01f\0\0\x01a\x01g\x03\x7f\0\x01a\x01t\x01\x70\0\x01\x01a\x01m\x02\0\x01\x01a\x01h\0\0\x05\x03\x01\0\x02";
-    let text =
-        b"\0asm\x01\0\0\0\x01\x04\x01\x60\0\0\x02\x23\x05\x01a\x01m\x02\0\x01\x01a\x01t\x01\x70\0\x01\x01a\x01g\x03\x7f\0\x01a\x01f\0\0\x01a\x01h\0\0\x05\x03\x01\0\x02";
-    assert_eq!(rt; again(rt.alloc(), bytes)?.as_slice(), text.as_slice());
-    assert_eq!(rt; again(rt.alloc(), text)?.as_slice(), text.as_slice());
+    assert_eq!(rt; again(rt.alloc(), bytes)?.as_slice(), IMPORTS);
     Ok(())
 }
 
@@ -153,23 +164,20 @@ fn imports_in_groups(rt: HostRuntime) -> Result<(), Fail> {
 fn producers_as_they_stand(rt: HostRuntime) -> Result<(), Fail> {
     let bytes =
         b"\0asm\x01\0\0\0\0\x1d\x89\0producers\x81\0\x08language\x01\x04Rust\0\x01\x04\x01\x60\0\0";
-    let text =
-        b"\0asm\x01\0\0\0\x01\x04\x01\x60\0\0\0\x1c\x09producers\x81\0\x08language\x01\x04Rust\0";
-    assert_eq!(rt; again(rt.alloc(), bytes)?.as_slice(), text.as_slice());
+    assert_eq!(rt; again(rt.alloc(), bytes)?.as_slice(), PRODUCERS);
     Ok(())
 }
 
+/// Holds too where a growth is refused: the answer is then `Memory`.
 #[test]
 fn modules_answer_memory_or_the_text(rt: HostRuntime) {
-    let built = match built_of(rt.alloc(), FUNCS) {
-        Ok(built) => built,
-        Err(fault) => {
-            assert_eq!(rt; fault, ReadFault::Memory);
-            return;
+    for bytes in OWN_TEXTS {
+        match built_of(rt.alloc(), bytes) {
+            Ok(built) => match write_module(rt.alloc(), &built) {
+                Ok(text) => assert_eq!(rt; text.as_slice(), bytes),
+                Err(fault) => assert_eq!(rt; fault, WriteFault::Memory),
+            },
+            Err(fault) => assert_eq!(rt; fault, ReadFault::Memory),
         }
-    };
-    match write_module(rt.alloc(), &built) {
-        Ok(text) => assert_eq!(rt; text.as_slice(), FUNCS),
-        Err(fault) => assert_eq!(rt; fault, WriteFault::Memory),
     }
 }

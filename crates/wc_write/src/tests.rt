@@ -3,6 +3,7 @@
 use crate::numbers::put_number;
 use crate::types::put_import_type;
 use crate::*;
+use std::alloc::Global;
 use std::io::{self, Write};
 use std::test::Fail;
 use wc_read::{GlobalType, Import, ImportType, MemoryType, TableType, ValType};
@@ -195,11 +196,22 @@ fn answers_memory_and_keeps_what_stands(rt: HostRuntime) {
     }
 }
 
-/// A writer whose second write fails; all others are taken.
+/// A writer whose second write fails, and whose second flush does; all others are taken.
 #[derive(Drop)]
 struct FailsSecond {
     writes: u32,
+    flushes: u32,
     taken: Vec<u8>,
+}
+
+impl FailsSecond {
+    fn new(alloc: Global) -> FailsSecond {
+        FailsSecond {
+            writes: 0,
+            flushes: 0,
+            taken: Vec::new(alloc),
+        }
+    }
 }
 
 impl Write for FailsSecond {
@@ -213,16 +225,17 @@ impl Write for FailsSecond {
     }
 
     fn flush(&mut self) -> io::Result<()> {
+        self.flushes = self.flushes.saturating_add(1);
+        if self.flushes == 2 {
+            return Err(io::Error::from(io::ErrorKind::BrokenPipe));
+        }
         Ok(())
     }
 }
 
 #[test]
 fn failed_sink_stays_failed(rt: HostRuntime) -> Result<(), Fail> {
-    let mut sink = WriterSink::new(FailsSecond {
-        writes: 0,
-        taken: Vec::new(rt.alloc()),
-    });
+    let mut sink = WriterSink::new(FailsSecond::new(rt.alloc()));
     assert_eq!(rt; sink.put(b"one"), Ok(()));
     assert!(rt; !sink.failed());
     assert_eq!(rt; sink.put(b"two"), Err(PutFailed));
@@ -232,8 +245,20 @@ fn failed_sink_stays_failed(rt: HostRuntime) -> Result<(), Fail> {
     assert!(rt; sink.failed());
     let writer = sink.into_inner();
     assert_eq!(rt; writer.writes, 2);
+    assert_eq!(rt; writer.flushes, 0);
     assert_eq!(rt; writer.taken.as_slice(), b"one".as_slice());
     Ok(())
+}
+
+#[test]
+fn sink_flushes_its_writer(rt: HostRuntime) {
+    let mut sink = WriterSink::new(FailsSecond::new(rt.alloc()));
+    assert_eq!(rt; sink.flush(), Ok(()));
+    assert!(rt; !sink.failed());
+    assert_eq!(rt; sink.flush(), Err(PutFailed));
+    assert!(rt; sink.failed());
+    assert_eq!(rt; sink.flush(), Err(PutFailed));
+    assert_eq!(rt; sink.into_inner().flushes, 2);
 }
 
 #[test]
