@@ -1,6 +1,6 @@
 #!/bin/sh
-# Builds, where it is not there or older than the crates, the program that reads modules for the other
-# scripts, and writes them again, and prints its path. Its source stands here and not in crates/, where the merge gate would prove
+# Builds, where it is not there or older than the crates, the program that reads modules for the other scripts and
+# writes them again, and prints its path. Its source stands here and not in crates/, where the merge gate would prove
 # it, in a repository of its own in bench/data/reader, with copies of the crates that it stands on.
 set -e
 top=$(CDPATH='' cd -P -- "$(dirname -- "$0")/.." && pwd -P)
@@ -44,11 +44,9 @@ cat >"$home/crates/reader/src/main.rt" <<'RATTLE'
 mod again;
 
 use std::alloc::Global;
-use std::env;
-use std::fs;
-use std::io;
 use std::process::ExitCode;
 use std::rt::{Env, Files};
+use std::{env, fs, io};
 use wc_read::{Def, Module, ReadFault, read_body, read_module};
 
 fn main(rt: HostRuntime) -> ExitCode {
@@ -177,12 +175,9 @@ cat >"$home/crates/reader/src/again.rt" <<'RATTLE'
 //! Modules that are written again.
 
 use std::alloc::{AllocError, AllocFailed, Global};
-use std::fs;
-use std::io;
 use std::rt::Files;
-use wc_read::{
-    Body, Def, Func, GlobalType, Init, Item, ReadFault, read_body, read_init, read_module,
-};
+use std::{fs, io};
+use wc_read::{Def, Item, ReadFault, read_body, read_init, read_module};
 use wc_write::{Built, WriteFault, write_module};
 
 /// Why a module was not written.
@@ -216,42 +211,31 @@ impl From<WriteFault> for Fault {
     }
 }
 
-fn bodies_of<'a>(
+/// The items, each content of the module's own read.
+fn decoded<'a, T: Copy, D: Drop, F: Fn(Global, &'a [u8]) -> Result<D, ReadFault>>(
     alloc: Global,
-    funcs: &[Func<'a>],
-) -> Result<Vec<Item<'a, u32, Body<'a>>>, Fault> {
+    items: &[Item<'a, T, &'a [u8]>],
+    read: F,
+) -> Result<Vec<Item<'a, T, D>>, Fault>
+    requires { F.IsAlwaysCallable read }
+{
     let mut decoded = Vec::new(alloc);
-    for func in funcs {
-        let def = match func.def {
+    for item in items {
+        let def = match item.def {
             Def::Import(module, name) => Def::Import(module, name),
-            Def::Local(body) => Def::Local(read_body(alloc, body)?),
+            Def::Local(bytes) => Def::Local(read(alloc, bytes)?),
         };
-        decoded.push(Item { ty: func.ty, def })?;
+        decoded.push(Item { ty: item.ty, def })?;
     }
     Ok(decoded)
 }
 
-fn inits_of<'a>(
-    alloc: Global,
-    globals: &[wc_read::Global<'a>],
-) -> Result<Vec<Item<'a, GlobalType, Init<'a>>>, Fault> {
-    let mut decoded = Vec::new(alloc);
-    for global in globals {
-        let def = match global.def {
-            Def::Import(module, name) => Def::Import(module, name),
-            Def::Local(init) => Def::Local(read_init(alloc, init)?),
-        };
-        decoded.push(Item { ty: global.ty, def })?;
-    }
-    Ok(decoded)
-}
-
-/// The text of the module that the bytes spell.
-fn text_of(alloc: Global, bytes: &[u8]) -> Result<Vec<u8>, Fault> {
+/// The module that the bytes spell, with its bodies and initialisers.
+fn built_of(alloc: Global, bytes: &[u8]) -> Result<Built<'_>, Fault> {
     let module = read_module(alloc, bytes)?;
-    let funcs = bodies_of(alloc, &module.funcs)?;
-    let globals = inits_of(alloc, &module.globals)?;
-    let built = Built {
+    let funcs = decoded(alloc, &module.funcs, |alloc, body| read_body(alloc, body))?;
+    let globals = decoded(alloc, &module.globals, |alloc, init| read_init(alloc, init))?;
+    Ok(Built {
         types: module.types,
         funcs,
         tables: module.tables,
@@ -260,19 +244,45 @@ fn text_of(alloc: Global, bytes: &[u8]) -> Result<Vec<u8>, Fault> {
         exports: module.exports,
         start: module.start,
         producers: module.producers,
-    };
-    Ok(write_module(alloc, &built)?)
+    })
 }
 
-/// The text of the module that the bytes spell, and whether that of the text is the same.
+/// Whether two modules are one value: the same types, spaces, exports, start and producers.
+fn is_same<'a>(left: &Built<'a>, right: &Built<'a>) -> bool {
+    left.types == right.types
+        && left.funcs == right.funcs
+        && left.tables == right.tables
+        && left.memories == right.memories
+        && left.globals == right.globals
+        && left.exports == right.exports
+        && left.start == right.start
+        && left.producers == right.producers
+}
+
+/// Whether a text spells the module that the bytes spell, and is its own text.
+fn is_text_of<'a>(alloc: Global, bytes: &'a [u8], text: &'a [u8]) -> Result<bool, Fault> {
+    let module = built_of(alloc, bytes)?;
+    let again = built_of(alloc, text)?;
+    let written = write_module(alloc, &again)?;
+    Ok(is_same(&module, &again) && written.as_slice() == text)
+}
+
+/// The text of the module that the bytes spell, and whether it spells the same module and is its own text. Both are
+/// held in one vector for that: modules that are compared have one lifetime.
 fn text_and_again(alloc: Global, bytes: &[u8]) -> Result<(Vec<u8>, bool), Fault> {
-    let text = text_of(alloc, bytes)?;
-    let again = text_of(alloc, text.as_slice())?;
-    let is_same = again.as_slice() == text.as_slice();
+    let text = {
+        let module = built_of(alloc, bytes)?;
+        write_module(alloc, &module)?
+    };
+    let mut both = Vec::from_slice(alloc, bytes)?;
+    both.extend_from_slice(text.as_slice())?;
+    let (source, target) = both.as_slice().split_at(bytes.len());
+    let is_same = is_text_of(alloc, source, target)?;
     Ok((text, is_same))
 }
 
-/// Writes the text to `to`, and prints `FILE`, `ok`, its size, and `same` where it is its own text, or the fault.
+/// Writes the text to `to`, and prints `FILE`, `ok`, its size, and `same` where it spells the same module and is its
+/// own text, or the fault.
 pub(crate) fn write_again<R: Files + Print + AllocGlobal>(
     rt: &R,
     file: &str,

@@ -1,7 +1,8 @@
 #!/bin/sh
 # Writes what was read of each module that real-modules.sh makes, and judges what was written: wasm-validate has to
-# accept it, it has to be no longer than the sections that are kept, and what is read of it has to be written as the
-# same bytes. Exits with 1 where one of these fails.
+# accept it, as it is or, where bodies name segments, with the module's own segments put back; it has to be no longer
+# than the sections that are kept; and what is read of it has to be the same module and to be written as the same
+# bytes. Exits with 1 where one of these fails.
 set -e
 top=$(CDPATH='' cd -P -- "$(dirname -- "$0")/.." && pwd -P)
 . "$top/bench/need.sh"
@@ -22,8 +23,12 @@ made = f"{data}/real"
 FEATURES = [f"--enable-{it}" for it in "threads tail-call memory64 multi-memory extended-const relaxed-simd".split()]
 # the sections that are written: all with contents that are read, and one that tells producers
 KEPT = {1, 2, 3, 4, 5, 6, 7, 8, 10}
-# what needs a section that is not kept: segments by their indices, and functions that only segments declare
-BY_SEGMENT = re.compile(r"(memory\.init|data\.drop|table\.init|elem\.drop|ref\.func)")
+# those of elements, the count of data and data, which are not
+SEGMENTS = {9, 12, 11}
+# the order of all, custom sections apart
+ORDER = [1, 2, 3, 4, 5, 6, 7, 8, 9, 12, 10, 11]
+# an operator that names a segment, or a function that only a segment may declare
+BY_SEGMENT = re.compile(r"\| *(memory\.init|data\.drop|table\.init|elem\.drop|ref\.func) ")
 
 
 def number(bytes, at):
@@ -36,20 +41,43 @@ def number(bytes, at):
             return value, at
 
 
-def kept_size(bytes):
-    """The bytes of the header and of the sections that are kept."""
-    at, kept, producers = 8, 8, 0
+def sections(bytes):
+    """The id of each section, and its bytes, from the id on."""
+    at, found = 8, []
     while at < len(bytes):
-        start, id = at, bytes[at]
+        start = at
         size, at = number(bytes, at + 1)
-        if id in KEPT:
-            kept += at + size - start
-        elif id == 0:
-            length, name = number(bytes, at)
-            if bytes[name : name + length] == b"producers":
-                producers = at + size - start
         at += size
-    return kept + producers
+        found.append((bytes[start], bytes[start:at]))
+    return found
+
+
+def is_producers(id, bytes):
+    _, at = number(bytes, 1)
+    length, at = number(bytes, at)
+    return id == 0 and bytes[at : at + length] == b"producers"
+
+
+def kept_size(module):
+    """The bytes of the header and of the sections that are kept; of producers the last one is."""
+    found = sections(module)
+    producers = [len(bytes) for id, bytes in found if is_producers(id, bytes)]
+    return 8 + sum(len(bytes) for id, bytes in found if id in KEPT) + sum(producers[-1:])
+
+
+def place(id):
+    """Where a section of this id stands; custom sections are written last."""
+    return ORDER.index(id) if id else len(ORDER)
+
+
+def with_segments(text, module):
+    """The text, with the module's sections of segments as they stand put in at their places."""
+    made = sections(text)
+    for id, bytes in sections(module):
+        if id in SEGMENTS:
+            behind = (at for at, (other, _) in enumerate(made) if place(other) > place(id))
+            made.insert(next(behind, len(made)), (id, bytes))
+    return text[:8] + b"".join(bytes for _, bytes in made)
 
 
 def validated(file):
@@ -58,30 +86,44 @@ def validated(file):
 
 
 def names_segments(file):
-    done = subprocess.run(["wasm-objdump", "-d", "-x", file], capture_output=True, text=True, errors="replace")
+    """Whether a body has such an operator."""
+    done = subprocess.run(["wasm-objdump", "-d", file], capture_output=True, text=True, errors="replace")
     return bool(BY_SEGMENT.search(done.stdout))
 
 
+def accepted(to, text, file, module):
+    """How the text, which stands in the file `to`, is accepted, and what is wrong where it isn't."""
+    refused = validated(to)
+    if not refused:
+        return "as they are", None
+    if not names_segments(file):
+        return "DIFFERS", f"names no segments, and is refused: {refused}"
+    with open(to, "wb") as it:
+        it.write(with_segments(text, module))
+    refused = validated(to)
+    return ("DIFFERS", f"with its segments: {refused}") if refused else ("with segments", None)
+
+
 def judged(file):
-    """What is wrong with what was written of a file, None where nothing is, or why it isn't judged."""
+    """How what is written of a file is accepted, or that it isn't judged; what is wrong, if anything is; and its bytes."""
     to = f"{data}/written/{os.path.relpath(file, made).replace('/', '-')}"
     if validated(file):
         return "not judged", None, 0
     words = subprocess.run([program, "again", file, to], capture_output=True, text=True).stdout[len(file) + 1 :].split()
     if words[:1] != ["ok"]:
-        return "left out", " ".join(words), 0
+        return "DIFFERS", f"not written: {' '.join(words) or 'no answer'}", 0
     with open(file, "rb") as it:
-        kept = kept_size(it.read())
-    size = os.path.getsize(to)
-    refused = validated(to)
+        module = it.read()
+    with open(to, "rb") as it:
+        text = it.read()
+    what, why = accepted(to, text, file, module)
     os.remove(to)
+    kept = kept_size(module)
     if words[2] != "same":
-        return "DIFFERS", "the text is not its own text", size
-    if size > kept:
-        return "DIFFERS", f"{size} bytes of {kept}", size
-    if refused:
-        return ("by segment", None, size) if names_segments(file) else ("DIFFERS", refused, size)
-    return "accepted", None, size
+        what, why = "DIFFERS", "the text spells another module, or is not its own text"
+    elif len(text) > kept:
+        what, why = "DIFFERS", f"{len(text)} bytes of {kept}"
+    return what, why, len(text)
 
 
 os.makedirs(f"{data}/written", exist_ok=True)
@@ -93,6 +135,7 @@ with concurrent.futures.ThreadPoolExecutor(2) as pool:
         bytes += size
         if why:
             print(f"{what}: {os.path.relpath(file, made)}: {why}")
-print(f"{counts.get('accepted', 0)} modules written back and accepted, {counts.get('by segment', 0)} name segments, which are not kept, so wasm-validate refuses them; {bytes} bytes; {counts.get('left out', 0)} not read, {counts.get('not judged', 0)} not judged; {counts.get('DIFFERS', 0)} mismatches")
-sys.exit(counts.get("DIFFERS", 0) > 0)
+count = lambda what: counts.get(what, 0)
+print(f"{count('as they are')} modules written back and accepted as they are, {count('with segments')} with their own segments put back; {bytes} bytes; {count('not judged')} not judged; {count('DIFFERS')} mismatches")
+sys.exit(count("DIFFERS") > 0)
 END_OF_PYTHON
