@@ -1,15 +1,15 @@
 -- Marks of resources, made along an order in which each type is behind those that it mentions.
-use Rattle.std.proofs.Common.{◌≡◌, ◌↔◌, ℕ, ◌<◌, ◌≤◌, ◌+◌, ◌⊎◌, Bool, true, false, IsTrue, List, [], ◌∷◌, ◌++◌, length, take, set, get_or, replicate, Option, Some, refl, sym, ap, ◌∙◌, subst, inl, inr, arith, length-set}
+use Rattle.std.proofs.Common.{◌≡◌, ◌↔◌, ℕ, ◌<◌, ◌≤◌, ◌+◌, ◌⊎◌, Bool, true, false, IsTrue, List, [], ◌∷◌, length, take, set, get_or, replicate, Option, Some, refl, sym, ap, ◌∙◌, subst, inl, inr, length-set}
 use Rattle.std.specs.List.{Contains}
 use Rattle.std.specs.Option.{option_map_or}
-use Rattle.std.proofs.lemmas.Bool.{cases_eq}
-use Rattle.std.proofs.lemmas.List.{get_or-set_same, get_or-set_other, take_more, take_all, length-replicate}
-use Rattle.std.proofs.lemmas.List.Elements.{Contains-push, Contains-push_cases}
+use Rattle.std.proofs.lemmas.List.{length-replicate}
+use Rattle.std.proofs.lemmas.List.Elements.{Contains-push}
 use Rattle.wc_resolve.specs.declared.ids.TypeId.{TypeId}
 use Rattle.wc_resolve.specs.declared.types.WitType.TheVariants.{Id}
 use Rattle.wc_resolve.specs.Views.{KindView, resource_kind, alias_kind, TypeView}
 use Rattle.wc_resolve.specs.World.{IsResource, defined, aliased, IsChildrenFirst, children, kind_at, mentioned_places}
 use Rattle.wc_resolve.specs.Resources.{AreMarked, mark_of}
+use Rattle.wc_resolve.proofs.Told.{IsTold, told_start, told_turn, told_end}
 
 abbrev pub AliasOf : List TypeView → ℕ → Type 0
 AliasOf types x = (i : TypeId) × (kind_at types x ≡ Some (alias_kind (Id i))) × IsResource types i.0
@@ -23,10 +23,14 @@ mark_tells marks (Some resource_kind) h = inl refl
 mark_tells marks (Some (alias_kind (Id i))) h = inr (i, refl, h)
 mark_tells marks k h = absurd (let e : false ≡ true = h in let bad : ⊥ = cc e in bad)
 
+-- what a mark says of a type
+abbrev pub IsMarkOf : List TypeView → ℕ → Bool → Type 0
+IsMarkOf types x mark = IsTrue mark ↔ IsResource types x
+
 -- the marks of all types that stand in the list
 pub record MarksOf (types : List TypeView) (marks : List Bool) (listed : List ℕ) : Type 0 where
   pub sized : length marks ≡ length types
-  pub told : (x : ℕ) → Contains listed x → IsTrue (get_or marks x false) ↔ IsResource types x
+  pub told : IsTold (IsMarkOf types) false marks listed
 
 child_of_alias : (types : List TypeView) (x : ℕ) (i : TypeId) → kind_at types x ≡ Some (alias_kind (Id i)) → Contains (children types x) i.0
 child_of_alias types x i e =
@@ -47,33 +51,17 @@ mark_right types marks x told = (
 )
 
 pub marks_start : (types : List TypeView) (n : ℕ) → n ≡ length types → MarksOf types (replicate n false) []
-marks_start types n e = record { sized = length-replicate n false ∙ e; told = λ x h. absurd (omega (arith, h.1)) }
+marks_start types n e = record { sized = length-replicate n false ∙ e; told = told_start (IsMarkOf types) false (replicate n false) }
 
 pub marks_turn : (types : List TypeView) (order : List ℕ) (marks : List Bool) (i x : ℕ) (b : Bool) → IsChildrenFirst (children types) order → i < length order
     → x ≡ get_or order i 0 → x < length types → b ≡ mark_of marks (kind_at types x) → MarksOf types marks (take i order) → MarksOf types (set marks x b) (take (i + 1) order)
 marks_turn types order marks i x b first small x_at bound made m =
-    let children_told : (c : ℕ) → Contains (children types x) c → IsTrue (get_or marks c false) ↔ IsResource types c =
-    λ c k. m.told c (first i c small (subst (λ (z : ℕ). Contains (children types z) c) x_at k)) in
-    let right : IsTrue (mark_of marks (kind_at types x)) ↔ IsResource types x = mark_right types marks x children_told in
-    let mine : IsTrue b ↔ IsResource types x = subst (λ (z : Bool). IsTrue z ↔ IsResource types x) (sym made) right in
+    let below : (c : ℕ) → Contains (children types x) c → IsMarkOf types c (get_or marks c false) =
+    λ c k. m.told.told c (first i c small (subst (λ (z : ℕ). Contains (children types z) c) x_at k)) in
+    let right : IsMarkOf types x b = subst (λ (z : Bool). IsMarkOf types x z) (sym made) (mark_right types marks x below) in
     let within : x < length marks = rw m.sized bound in
-    record {
-      sized = length-set marks x b ∙ m.sized;
-      told = λ y h.
-          elim (cases_eq y x) [
-            | inl same ↦
-                (let here : get_or (set marks x b) x false ≡ b = get_or-set_same marks x b false within in
-                let at_x : IsTrue (get_or (set marks x b) x false) ↔ IsResource types x = subst (λ (z : Bool). IsTrue z ↔ IsResource types x) (sym here) mine in
-                subst (λ (z : ℕ). IsTrue (get_or (set marks x b) z false) ↔ IsResource types z) (sym same) at_x)
-            | inr other ↦
-                (let there : get_or (set marks x b) y false ≡ get_or marks y false = get_or-set_other marks x y b false other in
-                let listed : Contains (take i order ++ x ∷ []) y = subst (λ (z : List ℕ). Contains z y) (take_more order i 0 small ∙ ap (λ z. take i order ++ z ∷ []) (sym x_at)) h in
-                let before : Contains (take i order) y = elim (Contains-push_cases (take i order) x y listed) [ inl b4 ↦ b4 | inr same ↦ absurd (other (sym same)) ] in
-                subst (λ (z : Bool). IsTrue z ↔ IsResource types y) (sym there) (m.told y before))
-          ];
-    }
+    record { sized = length-set marks x b ∙ m.sized; told = told_turn (IsMarkOf types) false marks order i x b small x_at within right m.told }
 
 pub marks_end : (types : List TypeView) (order : List ℕ) (marks : List Bool) (i : ℕ) → length order ≤ i → ((x : ℕ) → x < length types → Contains order x)
     → MarksOf types marks (take i order) → AreMarked types marks
-marks_end types order marks i behind all m =
-    record { sized = m.sized; told = λ x h. m.told x (subst (λ (z : List ℕ). Contains z x) (sym (take_all i order behind)) (all x h)) }
+marks_end types order marks i behind all m = record { sized = m.sized; told = λ x h. told_end (IsMarkOf types) false marks order i behind m.told x (all x h) }

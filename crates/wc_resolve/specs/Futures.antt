@@ -1,5 +1,5 @@
 -- The futures and streams that stand in types.
-use Rattle.std.specs.Prelude.{◌≡◌, ℕ, ◌<◌, List, [], ◌∷◌, ◌++◌, Bool, true, false, if◌then◌else◌, length, slice_index_or}
+use Rattle.std.specs.Prelude.{◌≡◌, ◌≢◌, ℕ, ◌<◌, List, [], ◌∷◌, ◌++◌, Bool, true, false, if◌then◌else◌, length, slice_index_or}
 use Rattle.std.specs.List.{filter_map, flat_map}
 use Rattle.std.specs.Option.{option_map_or}
 use Rattle.wc_resolve.specs.declared.types.WitType.{WitType}
@@ -29,7 +29,8 @@ futures_rule listed x kind =
 abbrev pub futures_of : List TypeView → ℕ → List ℕ
 futures_of types = followed futures_rule [] types
 
--- of a type that is not marked there are none
+-- the types that are marked are those in which futures and streams stand
 pub record AreCarriersMarked (types : List TypeView) (marks : List Bool) : Type 0 where
   pub sized : length marks ≡ length types
-  pub told : (x : ℕ) → x < length types → slice_index_or marks x false ≡ false → futures_of types x ≡ []
+  pub unmarked : (x : ℕ) → x < length types → slice_index_or marks x false ≡ false → futures_of types x ≡ []
+  pub marked : (x : ℕ) → x < length types → slice_index_or marks x false ≡ true → futures_of types x ≢ []

@@ -1,6 +1,6 @@
 //! A whole of worlds, interfaces, types and packages.
 
-ghost use Rattle.std.specs.Prelude.{◌≡◌, ◌↔◌, ◌<◌, ◌⊎◌, [], false, ℕ, IfErr, IfOk, IsTrue, List, Some, length, map, slice_get};
+ghost use Rattle.std.specs.Prelude.{◌≡◌, ◌≢◌, ◌↔◌, ◌<◌, ◌⊎◌, [], false, ℕ, IfErr, IfOk, IsTrue, List, Some, length, map, slice_get};
 ghost use Rattle.wc_resolve.specs.Views.{function_view, interface_view, package_view, type_view, world_view};
 ghost use Rattle.wc_resolve.specs.Parts.{parts_view};
 ghost use Rattle.wc_resolve.specs.Faults.{IsCause};
@@ -222,10 +222,11 @@ impl Resolve {
         let _ = &self.order;
     }
 
-    /// Whether a future or a stream may stand in a type.
-    pub(crate) fn may_carry(&self, id: TypeId) -> bool
+    /// Whether futures or streams stand in a type.
+    pub(crate) fn carries(&self, id: TypeId) -> bool
         requires { id.0 < length self.now.types }
-        ensures { result ≡ false → futures_of self.now.types id.0 ≡ [] }
+        ensures unmarked { result ≡ false → futures_of self.now.types id.0 ≡ [] }
+        ensures marked { IsTrue result → futures_of self.now.types id.0 ≢ [] }
     {
         self.carriers[id.0 as usize]
     }
@@ -241,7 +242,8 @@ impl Resolve {
 
     /// The core signature of a function, as a guest imports or exports it (component model, Canonical ABI,
     /// "flatten_functype"). More than 16 flat parameters, of an asynchronous import more than 4, stand behind one
-    /// pointer.
+    /// pointer; so does a result of more than one core type, and of an asynchronous import any result. The function
+    /// has to be usable here (`has_function`).
     pub fn wasm_signature(
         &self,
         alloc: Global,
@@ -261,7 +263,7 @@ impl Resolve {
         &self.packages
     }
 
-    /// The world at this place.
+    /// The world at this place, where there is one (`has_world`).
     pub fn world(&self, id: WorldId) -> &World
         requires { id.0 < length self.now.worlds }
         ensures { slice_get self.now.worlds id.0 ≡ Some (world_view result.now) }
@@ -269,7 +271,7 @@ impl Resolve {
         &self.worlds[id.0 as usize]
     }
 
-    /// The interface at this place.
+    /// The interface at this place, where there is one (`has_interface`).
     pub fn interface(&self, id: InterfaceId) -> &Interface
         requires { id.0 < length self.now.interfaces }
         ensures { slice_get self.now.interfaces id.0 ≡ Some (interface_view result.now) }
@@ -277,7 +279,7 @@ impl Resolve {
         &self.interfaces[id.0 as usize]
     }
 
-    /// The type at this place.
+    /// The type at this place, where there is one (`has_type`).
     pub fn type_def(&self, id: TypeId) -> &TypeDef
         requires { id.0 < length self.now.types }
         ensures { slice_get self.now.types id.0 ≡ Some (type_view result.now) }
@@ -285,7 +287,7 @@ impl Resolve {
         &self.types[id.0 as usize]
     }
 
-    /// The package at this place.
+    /// The package at this place, where there is one (`has_package`).
     pub fn package(&self, id: PackageId) -> &Package
         requires { id.0 < length self.now.packages }
         ensures { slice_get self.now.packages id.0 ≡ Some (package_view result.now) }

@@ -14,7 +14,8 @@ use std::alloc::{AllocError, Global};
 
 impl Resolve {
     /// The interfaces on which an interface depends directly: of each of its types that is an alias of a type of
-    /// another interface, that interface. They stand in the order of the types, repeats with them.
+    /// another interface, that interface. They stand in the order of the types, repeats with them. The interface has
+    /// to be there (`has_interface`).
     pub fn interface_direct_deps(
         &self,
         alloc: Global,

@@ -17,13 +17,18 @@ pub enum FunctionKind {
     Constructor(TypeId),
 }
 
-/// How a core function stands for a function: imported by a guest or exported by it, and how it waits.
+/// How a core function stands for a function (component model, Canonical ABI, "canon lower" and "canon lift").
 #[derive(Clone, Copy, Debug, PartialEq, Eq, Hash)]
 pub enum AbiVariant {
+    /// A guest imports it, and gets the result when the call returns.
     GuestImport,
+    /// A guest exports it, and gives the result when the call returns.
     GuestExport,
+    /// A guest imports it, and is told later that the result is there.
     GuestImportAsync,
+    /// A guest exports it, and is called back until it has given the result.
     GuestExportAsync,
+    /// A guest exports it, and waits on a stack of its own until it has given the result.
     GuestExportAsyncStackful,
 }
 

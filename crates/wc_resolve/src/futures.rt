@@ -3,15 +3,14 @@
 ghost use Rattle.std.specs.Prelude.{◌≡◌, ◌<◌, ◌++◌, ◌∷◌, ◌||◌, ℕ, [], false, if◌then◌else◌, Contains, IfOk, OnOk, length, map, slice_index_or};
 ghost use Rattle.std.specs.List.{flat_map, list_any};
 ghost use Rattle.std.specs.Option.{option_map_or};
-ghost use Rattle.wc_resolve.specs.Futures.{AreCarriersMarked, carried_places, futures_of, futures_rule, is_carrier};
+ghost use Rattle.wc_resolve.specs.Futures.{AreCarriersMarked, carried_places, futures_of, is_carrier};
 ghost use Rattle.wc_resolve.specs.Kept.{IsOrder};
 ghost use Rattle.wc_resolve.specs.Ranges.{IsFunctionIn};
 ghost use Rattle.wc_resolve.specs.Roots.{id_place, passed_roots};
 ghost use Rattle.wc_resolve.specs.Views.{function_view, kind_view, type_view};
-ghost use Rattle.wc_resolve.specs.World.{children, kind_at};
+ghost use Rattle.wc_resolve.specs.World.{kind_at};
 
-use crate::kinds::carried_types;
-use crate::order::children;
+use crate::kinds::{carried_places, carried_types};
 use crate::roots::push_passed;
 use crate::walk::{Step, enter_all, ids_of};
 use crate::{Function, Resolve, TypeDef, TypeDefKind, TypeId};
@@ -40,6 +39,14 @@ fn is_marked(marks: &[bool], place: usize) -> bool
     }
 }
 
+/// The places of the types that stand in the type at a place, and of an alias's target.
+fn carried_below(alloc: Global, types: &[TypeDef], place: usize) -> Result<Vec<usize>, AllocError>
+    requires { place < length types.now }
+    ensures { IfOk result (λ v. v.items ≡ option_map_or carried_places (kind_at (map type_view types.now) place) []) }
+{
+    carried_places(alloc, &types[place].kind)
+}
+
 /// Whether a future or a stream is at a place or, by the marks, below it.
 fn is_marked_below(
     alloc: Global,
@@ -48,10 +55,10 @@ fn is_marked_below(
     marks: &[bool],
 ) -> Result<bool, AllocError>
     requires { place < length types.now }
-    ensures { IfOk result (λ b. b ≡ (option_map_or is_carrier (kind_at (map type_view types.now) place) false || list_any (λ c. slice_index_or marks.now c false) (children (map type_view types.now) place))) }
+    ensures { IfOk result (λ b. b ≡ (option_map_or is_carrier (kind_at (map type_view types.now) place) false || list_any (λ c. slice_index_or marks.now c false) (option_map_or carried_places (kind_at (map type_view types.now) place) []))) }
 {
     let is_own = is_carrier(&types[place].kind);
-    let places = children(alloc, types, place)?;
+    let places = carried_below(alloc, types, place)?;
     Ok(is_own || is_any_marked(&places, marks))
 }
 
@@ -106,7 +113,7 @@ fn list(alloc: Global, resolve: &Resolve, roots: Vec<TypeId>) -> Result<Vec<Type
         match step {
             Step::Leave(id) => found.push(id)?,
             Step::Enter(id) => {
-                if resolve.may_carry(id) {
+                if resolve.carries(id) {
                     let kind = &resolve.type_def(id).kind;
                     leave_carrier(kind, id, &mut steps)?;
                     let ids = carried_ids(alloc, kind)?;
@@ -120,7 +127,8 @@ fn list(alloc: Global, resolve: &Resolve, roots: Vec<TypeId>) -> Result<Vec<Type
 
 impl Function {
     /// The futures and streams that a function takes and gives, from left to right: those inside of one in front of
-    /// it, repeats with the others. They are sought through all types but handles.
+    /// it, repeats with the others. They are sought through all types but handles. The types have to be there
+    /// (`has_function`).
     pub fn find_futures_and_streams(
         &self,
         alloc: Global,

@@ -5,7 +5,7 @@ ghost use Rattle.std.specs.List.{filter_map};
 ghost use Rattle.std.specs.declared.alloc.Global.{Global};
 ghost use Rattle.wc_resolve.specs.declared.types.WitType.{WitType};
 ghost use Rattle.wc_resolve.specs.Views.{kind_view};
-ghost use Rattle.wc_resolve.specs.Futures.{carried_types};
+ghost use Rattle.wc_resolve.specs.Futures.{carried_places, carried_types};
 ghost use Rattle.wc_resolve.specs.World.{held_types, mentioned_places, mentioned_types, place_of, resource_of};
 ghost use Rattle.std.specs.Option.{option_to_list};
 
@@ -113,5 +113,13 @@ pub(crate) fn mentioned_places(alloc: Global, kind: &TypeDefKind) -> Result<Vec<
     ensures { IfOk result (λ v. v.items ≡ mentioned_places (kind_view kind.now)) }
 {
     let types = mentioned_types(alloc, kind)?;
+    types.iter().filter_map(|ty| place_of(*ty)).collect(alloc)
+}
+
+/// The places of the types that stand in a type, and of an alias's target.
+pub(crate) fn carried_places(alloc: Global, kind: &TypeDefKind) -> Result<Vec<usize>, AllocError>
+    ensures { IfOk result (λ v. v.items ≡ carried_places (kind_view kind.now)) }
+{
+    let types = carried_types(alloc, kind)?;
     types.iter().filter_map(|ty| place_of(*ty)).collect(alloc)
 }

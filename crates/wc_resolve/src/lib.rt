@@ -1,4 +1,7 @@
 //! The world of types: worlds, interfaces, packages and types, and what follows from them.
+//!
+//! A call that takes an allocator answers `AllocError`, or the fault `Memory`, where a growth is refused, and hands out
+//! nothing then. A call that names a thing by its id asks that the thing is there.
 #![tactic(auto)]
 
 mod apart;
@@ -51,4 +54,10 @@ mod name_tests;
 #[cfg(test)]
 mod query_tests;
 #[cfg(test)]
+mod refusal_tests;
+#[cfg(test)]
 mod signature_tests;
+#[cfg(test)]
+mod test_parts;
+#[cfg(test)]
+mod world_tests;

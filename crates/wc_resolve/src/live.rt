@@ -17,12 +17,7 @@ use std::iter::Copied;
 use std::marker::Model;
 
 /// Adds the listings of types.
-fn add(
-    alloc: Global,
-    resolve: &Resolve,
-    roots: Vec<TypeId>,
-    live: &mut IndexSet<TypeId>,
-) -> Result<(), AllocError>
+fn add(resolve: &Resolve, roots: Vec<TypeId>, live: &mut IndexSet<TypeId>) -> Result<(), AllocError>
     requires { (x : ℕ) → Contains (map id_place roots.items) x → x < length resolve.now.types }
     ensures added { OnOk result (AddsAll resolve.now.types (map id_place live.old.keys) (map id_place live.new.keys) (listing_from resolve.now.types (map id_place roots.items))) }
     ensures begun { OnErr result (AddsSome resolve.now.types (map id_place live.old.keys) (map id_place live.new.keys) (listing_from resolve.now.types (map id_place roots.items))) }
@@ -30,6 +25,7 @@ fn add(
 {
     resolve.formed();
     resolve.listed();
+    let alloc = *live.allocator();
     let mut steps = Vec::new(alloc);
     enter_all(roots, &mut steps)?;
     'steps: while let Some(step) = steps.pop() {
@@ -52,7 +48,7 @@ fn add(
 /// Types that are in use, in the order in which they were added: each behind those that its definition mentions.
 ///
 /// What a call adds is the listing of its item without the types that are there. This asks that all types were added
-/// out of the same whole.
+/// out of the same whole. The list grows by the allocator that it was made with.
 #[derive(Drop)]
 pub struct LiveTypes {
     types: IndexSet<TypeId>,
@@ -91,68 +87,49 @@ impl LiveTypes {
         self.types.iter().copied()
     }
 
-    /// Adds a type behind those that it mentions. Where memory runs out, those stay that were added by then.
-    pub fn add_type_id(
-        &mut self,
-        alloc: Global,
-        resolve: &Resolve,
-        id: TypeId,
-    ) -> Result<(), AllocError>
+    /// Adds a type behind those that it mentions. The type has to be there (`has_type`). Where memory runs out, those
+    /// stay that were added by then.
+    pub fn add_type_id(&mut self, resolve: &Resolve, id: TypeId) -> Result<(), AllocError>
         requires { id.0 < length resolve.now.types }
         ensures added { OnOk result (AddsAll resolve.now.types self.old self.new (listing_from resolve.now.types (id.0 ∷ []))) }
         ensures begun { OnErr result (AddsSome resolve.now.types self.old self.new (listing_from resolve.now.types (id.0 ∷ []))) }
         ensures kept { Keeps self.old self.new }
     {
-        let roots = roots_of_id(alloc, id)?;
-        add(alloc, resolve, roots, &mut self.types)
+        let roots = roots_of_id(*self.types.allocator(), id)?;
+        add(resolve, roots, &mut self.types)
     }
 
     /// As `add_type_id`; a primitive type adds nothing.
-    pub fn add_type(
-        &mut self,
-        alloc: Global,
-        resolve: &Resolve,
-        ty: WitType,
-    ) -> Result<(), AllocError>
+    pub fn add_type(&mut self, resolve: &Resolve, ty: WitType) -> Result<(), AllocError>
         requires { IsTypeIn (length resolve.now.types) ty }
         ensures added { OnOk result (AddsAll resolve.now.types self.old self.new (listing_from resolve.now.types (type_roots ty))) }
         ensures begun { OnErr result (AddsSome resolve.now.types self.old self.new (listing_from resolve.now.types (type_roots ty))) }
         ensures kept { Keeps self.old self.new }
     {
-        let roots = roots_of_type(alloc, ty)?;
-        add(alloc, resolve, roots, &mut self.types)
+        let roots = roots_of_type(*self.types.allocator(), ty)?;
+        add(resolve, roots, &mut self.types)
     }
 
     /// Adds the resource of a static function, then what a function takes, then what it gives.
-    pub fn add_func(
-        &mut self,
-        alloc: Global,
-        resolve: &Resolve,
-        function: &Function,
-    ) -> Result<(), AllocError>
+    pub fn add_func(&mut self, resolve: &Resolve, function: &Function) -> Result<(), AllocError>
         requires { IsFunctionIn (length resolve.now.types) (function_view function.now) }
         ensures added { OnOk result (AddsAll resolve.now.types self.old self.new (listing_from resolve.now.types (function_roots (function_view function.now)))) }
         ensures begun { OnErr result (AddsSome resolve.now.types self.old self.new (listing_from resolve.now.types (function_roots (function_view function.now)))) }
         ensures kept { Keeps self.old self.new }
     {
-        let roots = roots_of_function(alloc, function)?;
-        add(alloc, resolve, roots, &mut self.types)
+        let roots = roots_of_function(*self.types.allocator(), function)?;
+        add(resolve, roots, &mut self.types)
     }
 
     /// Adds a function, a type, or of an interface its types and then its functions.
-    pub fn add_world_item(
-        &mut self,
-        alloc: Global,
-        resolve: &Resolve,
-        item: &WorldItem,
-    ) -> Result<(), AllocError>
+    pub fn add_world_item(&mut self, resolve: &Resolve, item: &WorldItem) -> Result<(), AllocError>
         requires { IsItemIn resolve.now (item_view item.now) }
         ensures added { OnOk result (AddsAll resolve.now.types self.old self.new (listing_from resolve.now.types (item_roots resolve.now (item_view item.now)))) }
         ensures begun { OnErr result (AddsSome resolve.now.types self.old self.new (listing_from resolve.now.types (item_roots resolve.now (item_view item.now)))) }
         ensures kept { Keeps self.old self.new }
     {
         resolve.formed();
-        let roots = roots_of_item(alloc, resolve, item)?;
-        add(alloc, resolve, roots, &mut self.types)
+        let roots = roots_of_item(*self.types.allocator(), resolve, item)?;
+        add(resolve, roots, &mut self.types)
     }
 }

@@ -1,4 +1,4 @@
-//! What names are made of, and the track of a version.
+//! What names are made of, and the track of a version (component model, "Import and Export Names").
 
 ghost use Rattle.std.specs.Prelude.{◌≡◌, ◌↔◌, IfOk, IsTrue, string_bytes};
 ghost use Rattle.semver.specs.Identifiers.{parts_of};

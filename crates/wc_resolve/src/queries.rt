@@ -1,4 +1,5 @@
-//! Names of interfaces and functions, and other questions about items of a world.
+//! Names of interfaces and functions (component model, "Import and Export Names"), and other questions about items
+//! of a world.
 
 ghost use Rattle.std.specs.Prelude.{◌≡◌, ◌≢◌, ◌<◌, ◌^◌, ◌++◌, ◌∷◌, ℕ, IfNone, IfOk, IfSome, List, Some, length, string_bytes};
 ghost use Rattle.std.specs.Option.{IsSome, option_copied, option_map};
@@ -56,8 +57,8 @@ fn canonical_member_id(
 }
 
 impl Function {
-    /// The name of the core export that stands for a function: its own name, behind `#` where it is an
-    /// interface's, whose name is handed in then.
+    /// The name of the core export that stands for a function: `name`, or `interface#name` where it is the function
+    /// of an interface, whose name is handed in then.
     pub fn legacy_core_export_name(
         &self,
         alloc: Global,
@@ -74,7 +75,7 @@ impl Function {
 }
 
 impl Resolve {
-    /// The name that an item has outside, where it has one.
+    /// The name that an item has outside: what an interface carries for it. Functions and types have none.
     pub fn external_id_value(
         &self,
         alloc: Global,
@@ -95,7 +96,7 @@ impl Resolve {
 
 impl Resolve {
     /// `namespace:package/name` of an interface, with `@version` where its package has one. None where it has no
-    /// name or no package.
+    /// name or no package. The interface has to be there (`has_interface`).
     pub fn id_of(&self, alloc: Global, id: InterfaceId) -> Result<Option<String>, AllocError>
         requires { id.0 < length self.now.interfaces }
         ensures { IfOk result (λ text. option_map string_bytes text ≡ interface_id parts_text self.now id.0) }
@@ -137,7 +138,8 @@ impl Resolve {
         }
     }
 
-    /// What an item stands under: a plain name, or the id of the interface, which has to have one.
+    /// What an item stands under: a plain name, or the id of the interface, which has to be there and to have one
+    /// (`id_of`).
     pub fn name_world_key(&self, alloc: Global, key: &WorldKey) -> Result<String, AllocError>
         requires there { IsKeyIn self.now (key_view key.now) }
         requires named { IsSome (key_text parts_text self.now (key_view key.now)) }
@@ -152,7 +154,8 @@ impl Resolve {
         }
     }
 
-    /// The interface that an item under a plain name is, where that interface has a name of its own.
+    /// The interface that an item under a plain name is, where that interface has a name of its own. What the item
+    /// names has to be there.
     pub fn implements_interface(&self, key: &WorldKey, item: &WorldItem) -> Option<InterfaceId>
         requires { IsItemIn self.now (item_view item.now) }
         ensures { option_map (λ (i : InterfaceId). i.0) result ≡ implemented self.now (key_view key.now) (item_view item.now) }

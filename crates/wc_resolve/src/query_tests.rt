@@ -1,129 +1,176 @@
+use crate::test_parts::{function, no_parts};
 use crate::{
-    Function, FunctionKind, Interface, InterfaceId, Package, PackageId, PackageName, Parts,
-    Resolve, TypeId, World, WorldId, WorldItem, WorldKey,
+    FunctionKind, Interface, InterfaceId, Package, PackageId, PackageName, Resolve, TypeId, World,
+    WorldId, WorldItem, WorldKey,
 };
 use indexmap::IndexMap;
 use semver::Version;
-use std::alloc::Global;
+use std::alloc::{AllocError, Global};
+use std::process::Abort;
 use std::test::Fail;
+
+fn text(alloc: Global, name: &str) -> Result<String, AllocError> {
+    String::from_str(alloc, name)
+}
+
+fn expect_text(rt: &impl Abort, found: Option<String>, expected: &str) -> Result<(), Fail> {
+    let found = found.ok_or("no text")?;
+    assert_eq!(rt; found.as_str(), expected);
+    Ok(())
+}
 
 #[test]
 fn core_names_of_functions(rt: HostRuntime) -> Result<(), Fail> {
     let alloc = rt.alloc();
-    let function = Function {
-        name: String::from_str(alloc, "hello")?,
-        kind: FunctionKind::Freestanding,
-        params: Vec::new(alloc),
-        result: None,
-    };
-    let plain = function.legacy_core_export_name(alloc, None)?;
-    assert_eq!(rt; plain.as_str(), "hello");
-    let member = function.legacy_core_export_name(alloc, Some("my:demo/host"))?;
-    assert_eq!(rt; member.as_str(), "my:demo/host#hello");
-    Ok(())
+    let mut f = function(alloc, FunctionKind::Freestanding, &[], None)?;
+    f.name = text(alloc, "hello")?;
+    let plain = f.legacy_core_export_name(alloc, None)?;
+    expect_text(&rt, Some(plain), "hello")?;
+    let member = f.legacy_core_export_name(alloc, Some("my:demo/host"))?;
+    expect_text(&rt, Some(member), "my:demo/host#hello")
+}
+
+fn plain_key(alloc: Global, name: &str) -> Result<WorldKey, AllocError> {
+    Ok(WorldKey::Name(text(alloc, name)?))
 }
 
 #[test]
 fn types_have_no_external_id(rt: HostRuntime) -> Result<(), Fail> {
     let alloc = rt.alloc();
-    let parts = Parts {
-        worlds: Vec::new(alloc),
-        interfaces: Vec::new(alloc),
-        types: Vec::new(alloc),
-        packages: Vec::new(alloc),
-    };
-    let resolve = Resolve::build(alloc, parts)?;
-    let key = WorldKey::Name(String::from_str(alloc, "t")?);
+    let resolve = Resolve::build(alloc, no_parts(alloc))?;
+    let key = plain_key(alloc, "t")?;
     let item = WorldItem::TypeItem { id: TypeId(0) };
     assert!(rt; resolve.external_id_value(alloc, &key, &item)?.is_none());
     Ok(())
 }
 
-#[test]
-fn ids_of_an_interface(rt: HostRuntime) -> Result<(), Fail> {
-    let alloc = rt.alloc();
-    let mut parts = Parts {
-        worlds: Vec::new(alloc),
-        interfaces: Vec::new(alloc),
-        types: Vec::new(alloc),
-        packages: Vec::new(alloc),
-    };
-    parts.interfaces.push(Interface {
-        name: Some(String::from_str(alloc, "host")?),
+/// The interface of `my:demo` that is called host.
+fn host(alloc: Global) -> Result<Interface, AllocError> {
+    Ok(Interface {
+        name: Some(text(alloc, "host")?),
         types: IndexMap::new(alloc),
         functions: IndexMap::new(alloc),
         package: Some(PackageId(0)),
         clone_of: None,
-    })?;
-    parts.packages.push(Package {
+    })
+}
+
+/// The package `my:demo` in a version.
+fn demo(alloc: Global, version: Version) -> Result<Package, AllocError> {
+    Ok(Package {
         name: PackageName {
-            namespace: String::from_str(alloc, "my")?,
-            name: String::from_str(alloc, "demo")?,
-            version: Some(Version::new(1, 2, 3)),
+            namespace: text(alloc, "my")?,
+            name: text(alloc, "demo")?,
+            version: Some(version),
         },
         interfaces: IndexMap::new(alloc),
-    })?;
-    let resolve = Resolve::build(alloc, parts)?;
-    let id = InterfaceId(0);
-    assert!(rt; resolve.has_interface(id));
-    assert_eq!(rt; resolve.interface(id).package, Some(PackageId(0)));
-    let text = resolve.id_of(alloc, id)?.ok_or("no id")?;
-    assert_eq!(rt; text.as_str(), "my:demo/host@1.2.3");
-    let canonical = resolve.canonicalized_id_of(alloc, id)?.ok_or("no id")?;
-    assert_eq!(rt; canonical.as_str(), "my:demo/host@1");
-    let key = WorldKey::Name(String::from_str(alloc, "host")?);
+    })
+}
+
+/// The interface `my:demo/host@1.2.3`.
+fn whole_of_host(alloc: Global) -> Result<Resolve, Fail> {
+    let mut parts = no_parts(alloc);
+    parts.interfaces.push(host(alloc)?)?;
+    parts.packages.push(demo(alloc, Version::new(1, 2, 3))?)?;
+    Ok(Resolve::build(alloc, parts)?)
+}
+
+const HOST: InterfaceId = InterfaceId(0);
+
+#[test]
+fn ids_of_an_interface(rt: HostRuntime) -> Result<(), Fail> {
+    let alloc = rt.alloc();
+    let resolve = whole_of_host(alloc)?;
+    assert!(rt; resolve.has_interface(HOST));
+    assert_eq!(rt; resolve.interface(HOST).package, Some(PackageId(0)));
+    expect_text(&rt, resolve.id_of(alloc, HOST)?, "my:demo/host@1.2.3")?;
+    expect_text(
+        &rt,
+        resolve.canonicalized_id_of(alloc, HOST)?,
+        "my:demo/host@1",
+    )
+}
+
+#[test]
+fn name_of_a_plain_key(rt: HostRuntime) -> Result<(), Fail> {
+    let alloc = rt.alloc();
+    let resolve = whole_of_host(alloc)?;
+    let key = WorldKey::Name(text(alloc, "host")?);
     let name = resolve.name_world_key(alloc, &key)?;
-    assert_eq!(rt; name.as_str(), "host");
-    let external_id = Some(String::from_str(alloc, "outside")?);
-    let item = WorldItem::Interface { id, external_id };
-    assert_eq!(rt; resolve.implements_interface(&key, &item), Some(id));
-    let outside = resolve.external_id_value(alloc, &key, &item)?;
-    assert_eq!(rt; outside.ok_or("no id")?.as_str(), "outside");
-    let owned = WorldKey::Interface(id);
-    assert_eq!(rt; resolve.implements_interface(&owned, &item), None);
+    expect_text(&rt, Some(name), "host")
+}
+
+/// The interface that an item under a key is.
+fn implemented(
+    alloc: Global,
+    resolve: &Resolve,
+    key: &WorldKey,
+) -> Result<Option<InterfaceId>, Fail> {
+    if !resolve.has_interface(HOST) {
+        return Err("an interface is missing".into());
+    }
+    let item = WorldItem::Interface {
+        id: HOST,
+        external_id: Some(text(alloc, "outside")?),
+    };
+    Ok(resolve.implements_interface(key, &item))
+}
+
+#[test]
+fn interface_under_a_name(rt: HostRuntime) -> Result<(), Fail> {
+    let alloc = rt.alloc();
+    let resolve = whole_of_host(alloc)?;
+    let plain = implemented(alloc, &resolve, &plain_key(alloc, "host")?)?;
+    assert_eq!(rt; plain, Some(HOST));
+    let owned = implemented(alloc, &resolve, &WorldKey::Interface(HOST))?;
+    assert_eq!(rt; owned, None);
     Ok(())
 }
 
-fn package(alloc: Global, build: &str) -> Result<PackageName, Fail> {
-    let version = Version::parse(alloc, build)?;
-    Ok(PackageName {
-        namespace: String::from_str(alloc, "my")?,
-        name: String::from_str(alloc, "demo")?,
-        version: Some(version),
-    })
+#[test]
+fn interface_with_an_external_id(rt: HostRuntime) -> Result<(), Fail> {
+    let alloc = rt.alloc();
+    let resolve = whole_of_host(alloc)?;
+    let item = WorldItem::Interface {
+        id: HOST,
+        external_id: Some(text(alloc, "outside")?),
+    };
+    let outside = resolve.external_id_value(alloc, &plain_key(alloc, "host")?, &item)?;
+    expect_text(&rt, outside, "outside")
+}
+
+/// Two packages that differ in their builds, and a world.
+fn whole_of_builds(alloc: Global) -> Result<Resolve, Fail> {
+    let mut parts = no_parts(alloc);
+    parts
+        .packages
+        .push(demo(alloc, Version::parse(alloc, "1.2.3+a")?)?)?;
+    parts
+        .packages
+        .push(demo(alloc, Version::parse(alloc, "1.2.3+b")?)?)?;
+    parts.worlds.push(World {
+        name: text(alloc, "empty")?,
+        imports: IndexMap::new(alloc),
+        exports: IndexMap::new(alloc),
+    })?;
+    Ok(Resolve::build(alloc, parts)?)
+}
+
+/// The place of `my:demo` in a version.
+fn place_of(alloc: Global, resolve: &Resolve, version: &str) -> Result<Option<PackageId>, Fail> {
+    let version = Version::parse(alloc, version)?;
+    let package = demo(alloc, version)?;
+    Ok(resolve.package_named(&package.name))
 }
 
 #[test]
 fn packages_are_named_with_their_build(rt: HostRuntime) -> Result<(), Fail> {
     let alloc = rt.alloc();
-    let mut packages = Vec::new(alloc);
-    packages.push(Package {
-        name: package(alloc, "1.2.3+a")?,
-        interfaces: IndexMap::new(alloc),
-    })?;
-    packages.push(Package {
-        name: package(alloc, "1.2.3+b")?,
-        interfaces: IndexMap::new(alloc),
-    })?;
-    let mut worlds = Vec::new(alloc);
-    worlds.push(World {
-        name: String::from_str(alloc, "empty")?,
-        imports: IndexMap::new(alloc),
-        exports: IndexMap::new(alloc),
-    })?;
-    let parts = Parts {
-        worlds,
-        interfaces: Vec::new(alloc),
-        types: Vec::new(alloc),
-        packages,
-    };
-    let resolve = Resolve::build(alloc, parts)?;
+    let resolve = whole_of_builds(alloc)?;
     let world = WorldId(0);
     assert!(rt; resolve.has_world(world));
     assert_eq!(rt; resolve.world(world).name.as_str(), "empty");
-    let second = package(alloc, "1.2.3+b")?;
-    assert_eq!(rt; resolve.package_named(&second), Some(PackageId(1)));
-    let none = package(alloc, "1.2.3")?;
-    assert_eq!(rt; resolve.package_named(&none), None);
+    assert_eq!(rt; place_of(alloc, &resolve, "1.2.3+b")?, Some(PackageId(1)));
+    assert_eq!(rt; place_of(alloc, &resolve, "1.2.3")?, None);
     Ok(())
 }

@@ -1,8 +1,10 @@
+use crate::test_parts::{chain_of_aliases, defined, function, resource, unnamed, whole};
 use crate::{
-    AbiVariant, Function, FunctionKind, Handle, Parts, Resolve, TypeDef, TypeDefKind, TypeId,
-    TypeOwner, WasmSignature, WasmType, WitType,
+    AbiVariant, FunctionKind, Handle, Resolve, TypeDef, TypeDefKind, TypeId, WasmSignature,
+    WasmType, WitType,
 };
 use std::alloc::{AllocError, Global};
+use std::process::Abort;
 use std::test::Fail;
 
 const IMPORT: AbiVariant = AbiVariant::GuestImport;
@@ -11,44 +13,23 @@ const EXPORT: AbiVariant = AbiVariant::GuestExport;
 
 const IMPORT_ASYNC: AbiVariant = AbiVariant::GuestImportAsync;
 
-fn type_def(kind: TypeDefKind) -> TypeDef {
-    TypeDef {
-        name: None,
-        kind,
-        owner: TypeOwner::None,
-    }
-}
-
-fn whole(alloc: Global, types: Vec<TypeDef>) -> Result<Resolve, Fail> {
-    let parts = Parts {
-        worlds: Vec::new(alloc),
-        interfaces: Vec::new(alloc),
-        types,
-        packages: Vec::new(alloc),
-    };
-    Ok(Resolve::build(alloc, parts)?)
-}
-
-/// A function of this kind, with parameters of these types.
-fn function(
+/// The core signature of a function whose types are all there.
+fn signature_of(
     alloc: Global,
+    resolve: &Resolve,
+    abi: AbiVariant,
     kind: FunctionKind,
     params: &[WitType],
     gives: Option<WitType>,
-) -> Result<Function, AllocError> {
-    let mut named = Vec::new(alloc);
-    for ty in params {
-        named.push((String::from_str(alloc, "p")?, *ty))?;
+) -> Result<WasmSignature, Fail> {
+    let f = function(alloc, kind, params, gives)?;
+    if !resolve.has_function(&f) {
+        return Err("a type is missing".into());
     }
-    Ok(Function {
-        name: String::from_str(alloc, "f")?,
-        kind,
-        params: named,
-        result: gives,
-    })
+    Ok(resolve.wasm_signature(alloc, abi, &f)?)
 }
 
-/// The core signature of a freestanding function whose types are all there.
+/// The core signature of a freestanding function.
 fn signature(
     alloc: Global,
     resolve: &Resolve,
@@ -56,16 +37,38 @@ fn signature(
     params: &[WitType],
     gives: Option<WitType>,
 ) -> Result<WasmSignature, Fail> {
-    let f = function(alloc, FunctionKind::Freestanding, params, gives)?;
-    if !resolve.has_function(&f) {
-        return Err("a type is missing".into());
-    }
-    Ok(resolve.wasm_signature(alloc, abi, &f)?)
+    signature_of(
+        alloc,
+        resolve,
+        abi,
+        FunctionKind::Freestanding,
+        params,
+        gives,
+    )
 }
 
-/// The type at a place.
-fn defined(place: u32) -> WitType {
-    WitType::Id(TypeId(place))
+/// As `signature`, of a function over these types.
+fn signature_over(
+    alloc: Global,
+    types: Vec<TypeDef>,
+    abi: AbiVariant,
+    params: &[WitType],
+    gives: Option<WitType>,
+) -> Result<WasmSignature, Fail> {
+    let resolve = whole(alloc, types)?;
+    signature(alloc, &resolve, abi, params, gives)
+}
+
+fn expect_flat(rt: &impl Abort, found: &[WasmType], expected: &[WasmType]) {
+    assert_eq!(rt; found, expected);
+}
+
+fn expect_params(rt: &impl Abort, s: &WasmSignature, params: &[WasmType]) {
+    expect_flat(rt, s.params.as_slice(), params);
+}
+
+fn expect_results(rt: &impl Abort, s: &WasmSignature, results: &[WasmType]) {
+    expect_flat(rt, s.results.as_slice(), results);
 }
 
 fn variant(alloc: Global, payloads: &[WitType]) -> Result<TypeDefKind, AllocError> {
@@ -84,24 +87,42 @@ fn flags(alloc: Global, count: usize) -> Result<TypeDefKind, AllocError> {
     Ok(TypeDefKind::Flags(labels))
 }
 
+fn tuple(alloc: Global, types: &[WitType]) -> Result<TypeDefKind, AllocError> {
+    Ok(TypeDefKind::Tuple(Vec::from_slice(alloc, types)?))
+}
+
 /// The flat form of the one type of a whole, as an import's parameter.
 fn flat_form(alloc: Global, kind: TypeDefKind) -> Result<Vec<WasmType>, Fail> {
-    let resolve = whole(alloc, vec![in alloc; type_def(kind)]?)?;
-    let s = signature(alloc, &resolve, IMPORT, &[defined(0)], None)?;
+    let types = vec![in alloc; unnamed(kind)]?;
+    let s = signature_over(alloc, types, IMPORT, &[defined(0)], None)?;
     Ok(s.params)
+}
+
+fn expect_form(
+    rt: &impl Abort,
+    alloc: Global,
+    kind: TypeDefKind,
+    expected: &[WasmType],
+) -> Result<(), Fail> {
+    let form = flat_form(alloc, kind)?;
+    expect_flat(rt, form.as_slice(), expected);
+    Ok(())
 }
 
 #[test]
 fn flat_forms_of_types(rt: HostRuntime) -> Result<(), Fail> {
     let alloc = rt.alloc();
     let payloads = [WitType::U32, WitType::F32, WitType::U64];
-    let form = flat_form(alloc, variant(alloc, &payloads)?)?;
-    assert_eq!(rt; form.as_slice(), [WasmType::I32, WasmType::I64].as_slice());
-    let form = flat_form(alloc, flags(alloc, 33)?)?;
-    assert_eq!(rt; form.as_slice(), [WasmType::I32, WasmType::I32].as_slice());
-    let form = flat_form(alloc, flags(alloc, 32)?)?;
-    assert_eq!(rt; form.as_slice(), [WasmType::I32].as_slice());
-    Ok(())
+    let joined = [WasmType::I32, WasmType::I64];
+    expect_form(&rt, alloc, variant(alloc, &payloads)?, &joined)?;
+    expect_form(&rt, alloc, flags(alloc, 33)?, &[WasmType::I32; 2])?;
+    expect_form(&rt, alloc, flags(alloc, 32)?, &[WasmType::I32])
+}
+
+/// The core type that stands for the payload of either of two cases, or for the beginning of it.
+fn first_joined(alloc: Global, first: WitType, second: WitType) -> Result<Option<WasmType>, Fail> {
+    let form = flat_form(alloc, variant(alloc, &[first, second])?)?;
+    Ok(form.get(1).copied())
 }
 
 #[test]
@@ -115,8 +136,7 @@ fn first_places_joined(rt: HostRuntime) -> Result<(), Fail> {
         (WitType::F32, WitType::F64, WasmType::I64),
     ];
     for (first, second, joined) in rows {
-        let form = flat_form(alloc, variant(alloc, &[first, second])?)?;
-        assert_eq!(rt; form.get(1).copied(), Some(joined));
+        assert_eq!(rt; first_joined(alloc, first, second)?, Some(joined));
     }
     Ok(())
 }
@@ -125,27 +145,21 @@ fn first_places_joined(rt: HostRuntime) -> Result<(), Fail> {
 fn pointer_or_number_joined(rt: HostRuntime) -> Result<(), Fail> {
     let alloc = rt.alloc();
     let payloads = [WitType::String, WitType::U64, WitType::F32];
-    let form = flat_form(alloc, variant(alloc, &payloads)?)?;
-    assert_eq!(rt;
-        form.as_slice(),
-        [WasmType::I32, WasmType::PointerOrI64, WasmType::Length].as_slice()
-    );
-    Ok(())
+    let joined = [WasmType::I32, WasmType::PointerOrI64, WasmType::Length];
+    expect_form(&rt, alloc, variant(alloc, &payloads)?, &joined)
 }
 
 #[test]
 fn length_joined(rt: HostRuntime) -> Result<(), Fail> {
     let alloc = rt.alloc();
-    let numbers = [WitType::U64; 2];
-    let pair = TypeDefKind::Tuple(Vec::from_slice(alloc, &numbers)?);
-    let mut types = vec![in alloc; type_def(pair)]?;
-    let either = variant(alloc, &[WitType::String, defined(0)])?;
-    types.push(type_def(either))?;
-    let resolve = whole(alloc, types)?;
-    let s = signature(alloc, &resolve, IMPORT, &[defined(1)], None)?;
-    assert_eq!(rt;
-        s.params.as_slice(),
-        [WasmType::I32, WasmType::PointerOrI64, WasmType::I64].as_slice()
+    let pair = tuple(alloc, &[WitType::U64; 2])?;
+    let mut types = vec![in alloc; unnamed(pair)]?;
+    types.push(unnamed(variant(alloc, &[WitType::String, defined(0)])?))?;
+    let s = signature_over(alloc, types, IMPORT, &[defined(1)], None)?;
+    expect_params(
+        &rt,
+        &s,
+        &[WasmType::I32, WasmType::PointerOrI64, WasmType::I64],
     );
     Ok(())
 }
@@ -153,73 +167,77 @@ fn length_joined(rt: HostRuntime) -> Result<(), Fail> {
 #[test]
 fn result_behind_a_pointer(rt: HostRuntime) -> Result<(), Fail> {
     let alloc = rt.alloc();
-    let mut types = vec![in alloc; type_def(flags(alloc, 33)?)]?;
-    types.push(type_def(TypeDefKind::List(WitType::U8)))?;
-    let resolve = whole(alloc, types)?;
-    let s = signature(alloc, &resolve, IMPORT, &[defined(1)], Some(defined(0)))?;
-    assert_eq!(rt;
-        s.params.as_slice(),
-        [WasmType::Pointer, WasmType::Length, WasmType::Pointer].as_slice()
+    let mut types = vec![in alloc; unnamed(flags(alloc, 33)?)]?;
+    types.push(unnamed(TypeDefKind::List(WitType::U8)))?;
+    let s = signature_over(alloc, types, IMPORT, &[defined(1)], Some(defined(0)))?;
+    expect_params(
+        &rt,
+        &s,
+        &[WasmType::Pointer, WasmType::Length, WasmType::Pointer],
     );
-    assert!(rt; s.results.is_empty());
+    expect_results(&rt, &s, &[]);
     assert!(rt; s.retptr);
     assert!(rt; !s.indirect_params);
     Ok(())
+}
+
+/// The core signature of a function from text to text.
+fn text_signature(alloc: Global, abi: AbiVariant) -> Result<WasmSignature, Fail> {
+    let text = WitType::String;
+    signature_over(alloc, Vec::new(alloc), abi, &[text], Some(text))
 }
 
 #[test]
 fn text_to_text(rt: HostRuntime) -> Result<(), Fail> {
     let alloc = rt.alloc();
-    let resolve = whole(alloc, Vec::new(alloc))?;
-    let text = [WitType::String];
-    let s = signature(alloc, &resolve, IMPORT, &text, Some(WitType::String))?;
-    assert_eq!(rt;
-        s.params.as_slice(),
-        [WasmType::Pointer, WasmType::Length, WasmType::Pointer].as_slice()
+    let s = text_signature(alloc, IMPORT)?;
+    expect_params(
+        &rt,
+        &s,
+        &[WasmType::Pointer, WasmType::Length, WasmType::Pointer],
     );
-    assert!(rt; s.results.is_empty());
+    expect_results(&rt, &s, &[]);
     assert!(rt; s.retptr);
-    let s = signature(alloc, &resolve, EXPORT, &text, Some(WitType::String))?;
-    assert_eq!(rt;
-        s.params.as_slice(),
-        [WasmType::Pointer, WasmType::Length].as_slice()
-    );
-    assert_eq!(rt; s.results.as_slice(), [WasmType::Pointer].as_slice());
+    let s = text_signature(alloc, EXPORT)?;
+    expect_params(&rt, &s, &[WasmType::Pointer, WasmType::Length]);
+    expect_results(&rt, &s, &[WasmType::Pointer]);
     assert!(rt; s.retptr);
     Ok(())
+}
+
+/// A resource, and a handle of it.
+fn borrowed(alloc: Global) -> Result<Vec<TypeDef>, AllocError> {
+    let mut types = vec![in alloc; resource(alloc, "r")?]?;
+    types.push(unnamed(TypeDefKind::Handle(Handle::Borrow(TypeId(0)))))?;
+    Ok(types)
 }
 
 #[test]
 fn method_of_a_guest(rt: HostRuntime) -> Result<(), Fail> {
     let alloc = rt.alloc();
-    let resource = TypeDef {
-        name: Some(String::from_str(alloc, "r")?),
-        kind: TypeDefKind::Resource,
-        owner: TypeOwner::None,
-    };
-    let mut types = vec![in alloc; resource]?;
-    types.push(type_def(TypeDefKind::Handle(Handle::Borrow(TypeId(0)))))?;
-    let resolve = whole(alloc, types)?;
-    let f = function(alloc, FunctionKind::Method(TypeId(0)), &[defined(1)], None)?;
-    assert!(rt; resolve.has_function(&f));
-    let s = resolve.wasm_signature(alloc, EXPORT, &f)?;
-    assert_eq!(rt; s.params.as_slice(), [WasmType::Pointer].as_slice());
-    assert!(rt; s.results.is_empty());
-    let s = resolve.wasm_signature(alloc, IMPORT, &f)?;
-    assert_eq!(rt; s.params.as_slice(), [WasmType::I32].as_slice());
+    let resolve = whole(alloc, borrowed(alloc)?)?;
+    let method = FunctionKind::Method(TypeId(0));
+    let s = signature_of(alloc, &resolve, EXPORT, method, &[defined(1)], None)?;
+    expect_params(&rt, &s, &[WasmType::Pointer]);
+    expect_results(&rt, &s, &[]);
+    let s = signature_of(alloc, &resolve, IMPORT, method, &[defined(1)], None)?;
+    expect_params(&rt, &s, &[WasmType::I32]);
     Ok(())
+}
+
+/// The core signature of an import that takes numbers.
+fn number_signature(alloc: Global, words: &[WitType]) -> Result<WasmSignature, Fail> {
+    signature_over(alloc, Vec::new(alloc), IMPORT, words, None)
 }
 
 #[test]
 fn most_parameters(rt: HostRuntime) -> Result<(), Fail> {
     let alloc = rt.alloc();
-    let resolve = whole(alloc, Vec::new(alloc))?;
-    let words = [WitType::U32; 17];
-    let s = signature(alloc, &resolve, IMPORT, &words[..16], None)?;
-    assert_eq!(rt; s.params.as_slice(), [WasmType::I32; 16].as_slice());
+    let s = number_signature(alloc, &[WitType::U32; 16])?;
+    expect_params(&rt, &s, &[WasmType::I32; 16]);
     assert!(rt; !s.indirect_params);
-    let s = signature(alloc, &resolve, IMPORT, &words, None)?;
-    assert_eq!(rt; s.params.as_slice(), [WasmType::Pointer].as_slice());
+    let s = number_signature(alloc, &[WitType::U32; 17])?;
+    expect_params(&rt, &s, &[WasmType::Pointer]);
     assert!(rt; s.indirect_params);
     Ok(())
 }
@@ -227,87 +245,79 @@ fn most_parameters(rt: HostRuntime) -> Result<(), Fail> {
 #[test]
 fn asynchronous_import(rt: HostRuntime) -> Result<(), Fail> {
     let alloc = rt.alloc();
-    let resolve = whole(alloc, Vec::new(alloc))?;
-    let words = [WitType::U32; 5];
-    let s = signature(alloc, &resolve, IMPORT_ASYNC, &words, Some(WitType::U32))?;
-    assert_eq!(rt;
-        s.params.as_slice(),
-        [WasmType::Pointer, WasmType::Pointer].as_slice()
-    );
-    assert_eq!(rt; s.results.as_slice(), [WasmType::I32].as_slice());
+    let (words, gives) = ([WitType::U32; 5], Some(WitType::U32));
+    let s = signature_over(alloc, Vec::new(alloc), IMPORT_ASYNC, &words, gives)?;
+    expect_params(&rt, &s, &[WasmType::Pointer, WasmType::Pointer]);
+    expect_results(&rt, &s, &[WasmType::I32]);
     assert!(rt; s.indirect_params);
     assert!(rt; s.retptr);
     Ok(())
 }
 
+/// The core signature of a function from a number to text.
+fn spelled_signature(alloc: Global, abi: AbiVariant) -> Result<WasmSignature, Fail> {
+    let text = Some(WitType::String);
+    signature_over(alloc, Vec::new(alloc), abi, &[WitType::U64], text)
+}
+
 #[test]
 fn asynchronous_exports(rt: HostRuntime) -> Result<(), Fail> {
     let alloc = rt.alloc();
-    let resolve = whole(alloc, Vec::new(alloc))?;
-    let text = Some(WitType::String);
-    let abi = AbiVariant::GuestExportAsync;
-    let s = signature(alloc, &resolve, abi, &[WitType::U64], text)?;
-    assert_eq!(rt; s.params.as_slice(), [WasmType::I64].as_slice());
-    assert_eq!(rt; s.results.as_slice(), [WasmType::I32].as_slice());
+    let s = spelled_signature(alloc, AbiVariant::GuestExportAsync)?;
+    expect_params(&rt, &s, &[WasmType::I64]);
+    expect_results(&rt, &s, &[WasmType::I32]);
     assert!(rt; !s.retptr);
-    let abi = AbiVariant::GuestExportAsyncStackful;
-    let s = signature(alloc, &resolve, abi, &[WitType::U64], text)?;
-    assert_eq!(rt; s.params.as_slice(), [WasmType::I64].as_slice());
-    assert!(rt; s.results.is_empty());
+    let s = spelled_signature(alloc, AbiVariant::GuestExportAsyncStackful)?;
+    expect_params(&rt, &s, &[WasmType::I64]);
+    expect_results(&rt, &s, &[]);
     assert!(rt; !s.retptr);
     Ok(())
+}
+
+/// Pairs of pairs, 61 types deep.
+fn nested_tuples(alloc: Global) -> Result<Vec<TypeDef>, AllocError> {
+    let mut types = vec![in alloc; unnamed(tuple(alloc, &[WitType::U32; 2])?)]?;
+    for place in 0..60u32 {
+        types.push(unnamed(tuple(alloc, &[defined(place); 2])?))?;
+    }
+    Ok(types)
 }
 
 #[test]
 fn tuples_of_tuples(rt: HostRuntime) -> Result<(), Fail> {
     let alloc = rt.alloc();
-    let words = [WitType::U32; 2];
-    let mut types = Vec::new(alloc);
-    types.push(type_def(TypeDefKind::Tuple(Vec::from_slice(alloc, &words)?)))?;
-    for place in 0..60u32 {
-        let below = [defined(place); 2];
-        types.push(type_def(TypeDefKind::Tuple(Vec::from_slice(alloc, &below)?)))?;
-    }
-    let resolve = whole(alloc, types)?;
-    let s = signature(alloc, &resolve, IMPORT, &[defined(60)], Some(defined(60)))?;
-    assert_eq!(rt;
-        s.params.as_slice(),
-        [WasmType::Pointer, WasmType::Pointer].as_slice()
-    );
+    let types = nested_tuples(alloc)?;
+    let s = signature_over(alloc, types, IMPORT, &[defined(60)], Some(defined(60)))?;
+    expect_params(&rt, &s, &[WasmType::Pointer, WasmType::Pointer]);
     assert!(rt; s.indirect_params);
     Ok(())
+}
+
+/// Variants of variants, 61 types deep.
+fn nested_variants(alloc: Global) -> Result<Vec<TypeDef>, AllocError> {
+    let mut types = vec![in alloc; unnamed(variant(alloc, &[WitType::U32; 2])?)]?;
+    for place in 0..60u32 {
+        types.push(unnamed(variant(alloc, &[defined(place); 2])?))?;
+    }
+    Ok(types)
 }
 
 #[test]
 fn variants_of_variants(rt: HostRuntime) -> Result<(), Fail> {
     let alloc = rt.alloc();
-    let mut types = Vec::new(alloc);
-    types.push(type_def(variant(alloc, &[WitType::U32, WitType::U32])?))?;
-    for place in 0..60u32 {
-        let below = [defined(place); 2];
-        types.push(type_def(variant(alloc, &below)?))?;
-    }
-    let resolve = whole(alloc, types)?;
+    let resolve = whole(alloc, nested_variants(alloc)?)?;
     let s = signature(alloc, &resolve, IMPORT, &[defined(14)], None)?;
-    assert_eq!(rt; s.params.as_slice(), [WasmType::I32; 16].as_slice());
+    expect_params(&rt, &s, &[WasmType::I32; 16]);
     let s = signature(alloc, &resolve, IMPORT, &[defined(60)], None)?;
     assert!(rt; s.indirect_params);
     Ok(())
 }
 
 #[test]
-fn chain_of_aliases(rt: HostRuntime) -> Result<(), Fail> {
+fn aliases_of_aliases(rt: HostRuntime) -> Result<(), Fail> {
     let alloc = rt.alloc();
-    let mut types = Vec::new(alloc);
-    for place in 1..100_000u32 {
-        types.push(type_def(TypeDefKind::Alias(defined(place))))?;
-    }
-    types.push(type_def(TypeDefKind::List(WitType::U8)))?;
-    let resolve = whole(alloc, types)?;
-    let s = signature(alloc, &resolve, IMPORT, &[defined(0)], None)?;
-    assert_eq!(rt;
-        s.params.as_slice(),
-        [WasmType::Pointer, WasmType::Length].as_slice()
-    );
+    let types = chain_of_aliases(alloc, TypeDefKind::List(WitType::U8))?;
+    let s = signature_over(alloc, types, IMPORT, &[defined(0)], None)?;
+    expect_params(&rt, &s, &[WasmType::Pointer, WasmType::Length]);
     Ok(())
 }

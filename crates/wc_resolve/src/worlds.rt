@@ -32,6 +32,7 @@ impl WorldKey {
 pub enum WorldItem {
     Interface {
         id: InterfaceId,
+        /// What it is called outside, where it is called so.
         external_id: Option<String>,
     },
     Function(Function),

@@ -15,8 +15,8 @@ steps-init c = rw (c.in_ok-enter_all.ensures, c.new-steps.ensures.items, c.new-f
 pub steps-smaller-in-Continue-branch-2 : goal.steps-smaller-in-Continue-branch-2
 steps-smaller-in-Continue-branch-2 c = turns_leave c.args.resolve.now.types c.steps.steps.items c.pop.new.self.items c.in-Leave.id (c.in-Some.ensures.items ∙ ap (λ z. c.pop.new.self.items ++ z ∷ []) c.in-Leave.is)
 
-pub may_carry-requires : goal.may_carry-requires
-may_carry-requires c = future_within c.args.resolve.now.types (flat_map (futures_of c.args.resolve.now.types) (map id_place c.args.roots.items)) (map id_place c.steps.found.items) c.steps.steps.items c.pop.new.self.items (Enter c.in-Enter.id) c.steps.invariant (c.in-Some.ensures.items ∙ ap (λ z. c.pop.new.self.items ++ z ∷ []) c.in-Enter.is)
+pub carries-requires : goal.carries-requires
+carries-requires c = future_within c.args.resolve.now.types (flat_map (futures_of c.args.resolve.now.types) (map id_place c.args.roots.items)) (map id_place c.steps.found.items) c.steps.steps.items c.pop.new.self.items (Enter c.in-Enter.id) c.steps.invariant (c.in-Some.ensures.items ∙ ap (λ z. c.pop.new.self.items ++ z ∷ []) c.in-Enter.is)
 
 pub type_def-requires : goal.type_def-requires
 type_def-requires c = future_within c.args.resolve.now.types (flat_map (futures_of c.args.resolve.now.types) (map id_place c.args.roots.items)) (map id_place c.steps.found.items) c.steps.steps.items c.pop.new.self.items (Enter c.in-Enter.id) c.steps.invariant (c.in-Some.ensures.items ∙ ap (λ z. c.pop.new.self.items ++ z ∷ []) c.in-Enter.is)
