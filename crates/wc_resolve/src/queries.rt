@@ -1,12 +1,12 @@
 //! Names of interfaces and functions (component model, "Import and Export Names"), and other questions about items
 //! of a world.
 
-ghost use Rattle.std.specs.Prelude.{◌≡◌, ◌≢◌, ◌<◌, ◌^◌, ◌++◌, ◌∷◌, ℕ, IfNone, IfOk, IfSome, List, Some, length, string_bytes};
+ghost use Rattle.std.specs.Prelude.{◌≡◌, ◌≢◌, ◌<◌, ◌^◌, ◌++◌, ◌∷◌, ℕ, IfNone, IfOk, IfSome, List, None, Some, length, string_bytes};
 ghost use Rattle.std.specs.Option.{IsSome, option_copied, option_map};
 ghost use Rattle.semver.specs.Identifiers.{parts_of, parts_text};
 ghost use Rattle.wc_resolve.specs.Names.{track};
 ghost use Rattle.wc_resolve.specs.Views.{function_view, item_view, key_view, package_name_view};
-ghost use Rattle.wc_resolve.specs.Queries.{core_name, external_id, implemented, interface_id, key_text, member_text, package_name_at};
+ghost use Rattle.wc_resolve.specs.Queries.{VersionView, core_name, external_id, implemented, interface_id, key_text, member_text, package_name_at};
 ghost use Rattle.wc_resolve.specs.Ranges.{IsItemIn, IsKeyIn};
 ghost use Rattle.wc_resolve.specs.WellFormed.{interface_name};
 ghost use Rattle.wc_resolve.specs.declared.ids.InterfaceId.{InterfaceId};
@@ -101,17 +101,9 @@ impl Resolve {
         requires { id.0 < length self.now.interfaces }
         ensures { IfOk result (λ text. option_map string_bytes text ≡ interface_id parts_text self.now id.0) }
     {
-        self.formed();
-        let interface = self.interface(id);
-        match &interface.name {
+        match self.member(id) {
+            Some((package, name)) => Ok(Some(member_id(alloc, package, name)?)),
             None => Ok(None),
-            Some(name) => match interface.package {
-                None => Ok(None),
-                Some(place) => {
-                    let package = self.package(place);
-                    Ok(Some(member_id(alloc, &package.name, name)?))
-                }
-            },
         }
     }
 
@@ -124,16 +116,25 @@ impl Resolve {
         requires { id.0 < length self.now.interfaces }
         ensures { IfOk result (λ text. option_map string_bytes text ≡ interface_id track self.now id.0) }
     {
+        match self.member(id) {
+            Some((package, name)) => Ok(Some(canonical_member_id(alloc, package, name)?)),
+            None => Ok(None),
+        }
+    }
+
+    /// The name of an interface's package and its own, where it has both.
+    fn member(&self, id: InterfaceId) -> Option<(&PackageName, &str)>
+        requires { id.0 < length self.now.interfaces }
+        ensures some { IfSome result (λ m. (show : VersionView → List ℕ) → interface_id show self.now id.0 ≡ Some (member_text show (package_name_view m.0.now) m.1.now)) }
+        ensures none { IfNone result ((show : VersionView → List ℕ) → interface_id show self.now id.0 ≡ None) }
+    {
         self.formed();
         let interface = self.interface(id);
         match &interface.name {
-            None => Ok(None),
+            None => None,
             Some(name) => match interface.package {
-                None => Ok(None),
-                Some(place) => {
-                    let package = self.package(place);
-                    Ok(Some(canonical_member_id(alloc, &package.name, name)?))
-                }
+                None => None,
+                Some(place) => Some((&self.package(place).name, name)),
             },
         }
     }
