@@ -1,0 +1,18 @@
+-- What is wrong with an encoder's parts where a fault is named: the first in this order that is.
+use Rattle.wc_encoder.specs.declared.fault.EncoderFault.{EncoderFault}
+use Rattle.wc_encoder.specs.declared.fault.EncoderFault.TheVariants.{Memory, UnknownWorld, NotAnExport, TypeExported, InterfaceTwice, DependencyLater, ImportNameClash}
+use Rattle.wc_encoder.specs.Views.{EncoderView}
+use Rattle.wc_encoder.specs.WellFormed.{HasWorld, AreKeysExported, AreNoTypes, AreInterfacesOnce, AreDependenciesInFront, AreNamesApart, world_exports, world_imports}
+
+abbrev pub IsCause : EncoderView → EncoderFault → Type 0
+IsCause e Memory = Unit {0}
+IsCause e UnknownWorld = ¬ HasWorld e
+IsCause e NotAnExport = HasWorld e × ¬ AreKeysExported e (world_exports e)
+IsCause e TypeExported = HasWorld e × AreKeysExported e (world_exports e) × ¬ AreNoTypes (world_exports e)
+IsCause e InterfaceTwice = HasWorld e × AreKeysExported e (world_exports e) × AreNoTypes (world_exports e) × ¬ AreInterfacesOnce (world_exports e)
+IsCause e DependencyLater =
+    HasWorld e × AreKeysExported e (world_exports e) × AreNoTypes (world_exports e) × AreInterfacesOnce (world_exports e)
+    × ¬ AreDependenciesInFront e.resolve (world_exports e)
+IsCause e ImportNameClash =
+    HasWorld e × AreKeysExported e (world_exports e) × AreNoTypes (world_exports e) × AreInterfacesOnce (world_exports e)
+    × AreDependenciesInFront e.resolve (world_exports e) × ¬ AreNamesApart e.resolve (world_imports e)
