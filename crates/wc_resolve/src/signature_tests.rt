@@ -119,6 +119,57 @@ fn flat_forms_of_types(rt: HostRuntime) -> Result<(), Fail> {
     expect_form(&rt, alloc, flags(alloc, 32)?, &[WasmType::I32])
 }
 
+#[test]
+fn flat_forms_of_larger_flags(rt: HostRuntime) -> Result<(), Fail> {
+    let alloc = rt.alloc();
+    expect_form(&rt, alloc, flags(alloc, 64)?, &[WasmType::I32; 2])?;
+    expect_form(&rt, alloc, flags(alloc, 65)?, &[WasmType::I32; 3])
+}
+
+/// A record of these types.
+fn record(alloc: Global, types: &[WitType]) -> Result<TypeDefKind, AllocError> {
+    let mut fields = Vec::new(alloc);
+    for ty in types {
+        fields.push((String::from_str(alloc, "f")?, *ty))?;
+    }
+    Ok(TypeDefKind::Record(fields))
+}
+
+/// An enum of one case.
+fn enumeration(alloc: Global) -> Result<TypeDefKind, AllocError> {
+    let case = String::from_str(alloc, "c")?;
+    Ok(TypeDefKind::Enum(vec![in alloc; case]?))
+}
+
+#[test]
+fn flat_forms_of_parts(rt: HostRuntime) -> Result<(), Fail> {
+    let alloc = rt.alloc();
+    let fields = record(alloc, &[WitType::ErrorContext, WitType::F32])?;
+    expect_form(&rt, alloc, fields, &[WasmType::I32, WasmType::F32])?;
+    let option = TypeDefKind::Option(WitType::String);
+    let text = [WasmType::I32, WasmType::Pointer, WasmType::Length];
+    expect_form(&rt, alloc, option, &text)?;
+    let either = TypeDefKind::Result {
+        ok: Some(WitType::U8),
+        err: Some(WitType::F64),
+    };
+    expect_form(&rt, alloc, either, &[WasmType::I32, WasmType::I64])?;
+    let neither = TypeDefKind::Result {
+        ok: None,
+        err: None,
+    };
+    expect_form(&rt, alloc, neither, &[WasmType::I32])
+}
+
+#[test]
+fn flat_forms_of_one_number(rt: HostRuntime) -> Result<(), Fail> {
+    let alloc = rt.alloc();
+    expect_form(&rt, alloc, enumeration(alloc)?, &[WasmType::I32])?;
+    let stream = TypeDefKind::Stream(Some(WitType::U64));
+    expect_form(&rt, alloc, stream, &[WasmType::I32])?;
+    expect_form(&rt, alloc, TypeDefKind::Future(None), &[WasmType::I32])
+}
+
 /// The core type that stands for the payload of either of two cases, or for the beginning of it.
 fn first_joined(alloc: Global, first: WitType, second: WitType) -> Result<Option<WasmType>, Fail> {
     let form = flat_form(alloc, variant(alloc, &[first, second])?)?;
@@ -235,9 +286,11 @@ fn most_parameters(rt: HostRuntime) -> Result<(), Fail> {
     let alloc = rt.alloc();
     let s = number_signature(alloc, &[WitType::U32; 16])?;
     expect_params(&rt, &s, &[WasmType::I32; 16]);
+    expect_results(&rt, &s, &[]);
     assert!(rt; !s.indirect_params);
     let s = number_signature(alloc, &[WitType::U32; 17])?;
     expect_params(&rt, &s, &[WasmType::Pointer]);
+    expect_results(&rt, &s, &[]);
     assert!(rt; s.indirect_params);
     Ok(())
 }
