@@ -1,4 +1,4 @@
-use crate::{DedupeFault, ModuleImportMap};
+use crate::{DedupeFault, ModuleImportMap, laws};
 use std::borrow::CowSlice;
 use std::test::Fail;
 use wc_read::{Import, ImportType, ReadFault};
@@ -13,6 +13,18 @@ fn function<'a>(module: &'a str, name: &'a str) -> Import<'a> {
         name,
         ty: ImportType::Func(0),
     }
+}
+
+/// The functions of `laws` do nothing when they run.
+#[test]
+fn laws_leave_what_is_renamed(rt: HostRuntime) -> Result<(), Fail> {
+    laws::names_apart();
+    laws::names_determined();
+    laws::names_kept();
+    laws::names_tell();
+    let (bytes, _map) = ModuleImportMap::new(rt.alloc(), CowSlice::Borrowed(REPEATS))?;
+    assert_eq!(rt; bytes.as_slice().len(), 45);
+    Ok(())
 }
 
 #[test]

@@ -1,6 +1,6 @@
 use crate::{
     Def, Export, ExportKind, Func, ImportType, Memory, MemoryType, Module, ReadFault, Table,
-    TableType, ValType, read_module,
+    TableType, ValType, laws, read_module,
 };
 use std::alloc::Global;
 use std::test::Fail;
@@ -60,6 +60,24 @@ fn module_of_three_functions(rt: HostRuntime) -> Result<(), Fail> {
     assert_eq!(rt; module.imports.len(), 0);
     assert_eq!(rt; module.start, None);
     assert_eq!(rt; module.ids.len(), 0);
+    Ok(())
+}
+
+/// The functions of `laws` do nothing when they run.
+#[test]
+fn laws_leave_what_is_read(rt: HostRuntime) -> Result<(), Fail> {
+    laws::numbers_are_one();
+    laws::number_begins_no_other();
+    laws::imports_are_one();
+    laws::import_begins_no_other();
+    laws::frames_are_one();
+    laws::section_begins_no_other();
+    laws::bodies_are_one();
+    laws::operator_begins_no_other();
+    laws::initialisers_are_one();
+    laws::initialiser_begins_no_other();
+    laws::modules_are_one();
+    assert_eq!(rt; read_module(rt.alloc(), THREE)?.funcs.len(), 3);
     Ok(())
 }
 

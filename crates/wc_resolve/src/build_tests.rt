@@ -1,19 +1,15 @@
 use crate::test_parts::{
-    chain_of_aliases, defined, function, no_parts, resource, types_alone, unnamed, whole,
+    chain_of_aliases, defined, function, interface, no_parts, package, resource, text, types_alone,
+    unnamed, whole,
 };
 use crate::{
-    Function, FunctionKind, Handle, Interface, InterfaceId, Package, PackageId, PackageName, Parts,
-    Resolve, ResolveFault, TypeDef, TypeDefKind, TypeId, WitType, World, WorldId, WorldItem,
-    WorldKey,
+    Function, FunctionKind, Handle, Interface, InterfaceId, Package, PackageId, Parts, Resolve,
+    ResolveFault, TypeDef, TypeDefKind, TypeId, WitType, World, WorldId, WorldItem, WorldKey,
 };
 use indexmap::IndexMap;
 use semver::Version;
 use std::alloc::{AllocError, Global};
 use std::test::Fail;
-
-fn text(alloc: Global, name: &str) -> Result<String, AllocError> {
-    String::from_str(alloc, name)
-}
 
 fn record(alloc: Global, field: WitType) -> Result<TypeDefKind, AllocError> {
     let name = text(alloc, "field")?;
@@ -26,17 +22,6 @@ fn freestanding(alloc: Global, name: &str) -> Result<Function, AllocError> {
         kind: FunctionKind::Freestanding,
         params: Vec::new(alloc),
         result: None,
-    })
-}
-
-fn package(alloc: Global, name: &str, version: Option<Version>) -> Result<Package, AllocError> {
-    Ok(Package {
-        name: PackageName {
-            namespace: text(alloc, "my")?,
-            name: text(alloc, name)?,
-            version,
-        },
-        interfaces: IndexMap::new(alloc),
     })
 }
 
@@ -148,13 +133,7 @@ fn resource_without_a_name(rt: HostRuntime) -> Result<(), Fail> {
 #[test]
 fn interface_in_a_key_without_a_package(rt: HostRuntime) -> Result<(), Fail> {
     let alloc = rt.alloc();
-    let host = Interface {
-        name: Some(text(alloc, "host")?),
-        types: IndexMap::new(alloc),
-        functions: IndexMap::new(alloc),
-        package: None,
-        clone_of: None,
-    };
+    let host = interface(alloc, Some(text(alloc, "host")?), None);
     let interfaces = vec![in alloc; host]?;
     let id = InterfaceId(0);
     let item = WorldItem::Interface {

@@ -1,23 +1,11 @@
-use crate::test_parts::{function, no_parts};
+use crate::test_parts::{expect_text, function, interface, no_parts, package, text};
 use crate::{
-    FunctionKind, Interface, InterfaceId, Package, PackageId, PackageName, Resolve, TypeId, World,
-    WorldId, WorldItem, WorldKey,
+    FunctionKind, InterfaceId, PackageId, Resolve, TypeId, World, WorldId, WorldItem, WorldKey,
 };
 use indexmap::IndexMap;
 use semver::Version;
 use std::alloc::{AllocError, Global};
-use std::process::Abort;
 use std::test::Fail;
-
-fn text(alloc: Global, name: &str) -> Result<String, AllocError> {
-    String::from_str(alloc, name)
-}
-
-fn expect_text(rt: &impl Abort, found: Option<String>, expected: &str) -> Result<(), Fail> {
-    let found = found.ok_or("no text")?;
-    assert_eq!(rt; found.as_str(), expected);
-    Ok(())
-}
 
 #[test]
 fn core_names_of_functions(rt: HostRuntime) -> Result<(), Fail> {
@@ -44,34 +32,13 @@ fn types_have_no_external_id(rt: HostRuntime) -> Result<(), Fail> {
     Ok(())
 }
 
-/// The interface of `my:demo` that is called host.
-fn host(alloc: Global) -> Result<Interface, AllocError> {
-    Ok(Interface {
-        name: Some(text(alloc, "host")?),
-        types: IndexMap::new(alloc),
-        functions: IndexMap::new(alloc),
-        package: Some(PackageId(0)),
-        clone_of: None,
-    })
-}
-
-/// The package `my:demo` in a version.
-fn demo(alloc: Global, version: Version) -> Result<Package, AllocError> {
-    Ok(Package {
-        name: PackageName {
-            namespace: text(alloc, "my")?,
-            name: text(alloc, "demo")?,
-            version: Some(version),
-        },
-        interfaces: IndexMap::new(alloc),
-    })
-}
-
 /// The interface `my:demo/host@1.2.3`.
 fn whole_of_host(alloc: Global) -> Result<Resolve, Fail> {
     let mut parts = no_parts(alloc);
-    parts.interfaces.push(host(alloc)?)?;
-    parts.packages.push(demo(alloc, Version::new(1, 2, 3))?)?;
+    let host = interface(alloc, Some(text(alloc, "host")?), Some(PackageId(0)));
+    parts.interfaces.push(host)?;
+    let version = Version::new(1, 2, 3);
+    parts.packages.push(package(alloc, "demo", Some(version))?)?;
     Ok(Resolve::build(alloc, parts)?)
 }
 
@@ -142,12 +109,10 @@ fn interface_with_an_external_id(rt: HostRuntime) -> Result<(), Fail> {
 /// Two packages that differ in their builds, and a world.
 fn whole_of_builds(alloc: Global) -> Result<Resolve, Fail> {
     let mut parts = no_parts(alloc);
-    parts
-        .packages
-        .push(demo(alloc, Version::parse(alloc, "1.2.3+a")?)?)?;
-    parts
-        .packages
-        .push(demo(alloc, Version::parse(alloc, "1.2.3+b")?)?)?;
+    for version in ["1.2.3+a", "1.2.3+b"] {
+        let version = Version::parse(alloc, version)?;
+        parts.packages.push(package(alloc, "demo", Some(version))?)?;
+    }
     parts.worlds.push(World {
         name: text(alloc, "empty")?,
         imports: IndexMap::new(alloc),
@@ -159,8 +124,8 @@ fn whole_of_builds(alloc: Global) -> Result<Resolve, Fail> {
 /// The place of `my:demo` in a version.
 fn place_of(alloc: Global, resolve: &Resolve, version: &str) -> Result<Option<PackageId>, Fail> {
     let version = Version::parse(alloc, version)?;
-    let package = demo(alloc, version)?;
-    Ok(resolve.package_named(&package.name))
+    let demo = package(alloc, "demo", Some(version))?;
+    Ok(resolve.package_named(&demo.name))
 }
 
 #[test]

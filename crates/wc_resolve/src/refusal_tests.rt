@@ -1,8 +1,9 @@
-use crate::test_parts::{defined, function, named, no_parts, resource, types_alone, unnamed};
+use crate::test_parts::{
+    defined, function, interface, named, no_parts, package, resource, text, types_alone, unnamed,
+};
 use crate::{
-    Function, FunctionKind, Handle, Interface, InterfaceId, Package, PackageId, PackageName, Parts,
-    Resolve, ResolveFault, TypeDef, TypeDefKind, TypeId, TypeOwner, WitType, World, WorldItem,
-    WorldKey,
+    Function, FunctionKind, Handle, InterfaceId, PackageId, Parts, Resolve, ResolveFault, TypeDef,
+    TypeDefKind, TypeId, TypeOwner, WitType, World, WorldItem, WorldKey,
 };
 use indexmap::IndexMap;
 use std::alloc::{AllocError, Global};
@@ -10,10 +11,6 @@ use std::process::Abort;
 use std::test::Fail;
 
 const FIRST: InterfaceId = InterfaceId(0);
-
-fn text(alloc: Global, name: &str) -> Result<String, AllocError> {
-    String::from_str(alloc, name)
-}
 
 /// That parts are refused with this fault.
 fn expect_fault(rt: &impl Abort, alloc: Global, parts: Parts, fault: ResolveFault) {
@@ -56,14 +53,10 @@ fn of_interface(
     package: Option<PackageId>,
     clone_of: Option<InterfaceId>,
 ) -> Result<Parts, AllocError> {
+    let mut only = interface(alloc, name, package);
+    only.clone_of = clone_of;
     let mut parts = no_parts(alloc);
-    parts.interfaces.push(Interface {
-        name,
-        types: IndexMap::new(alloc),
-        functions: IndexMap::new(alloc),
-        package,
-        clone_of,
-    })?;
+    parts.interfaces.push(only)?;
     Ok(parts)
 }
 
@@ -118,14 +111,9 @@ fn ids_of_interfaces_past_their_list(rt: HostRuntime) -> Result<(), Fail> {
 fn with_package(alloc: Global, mut parts: Parts, member: &str) -> Result<Parts, Fail> {
     let mut interfaces = IndexMap::new(alloc);
     interfaces.insert(text(alloc, member)?, FIRST)?;
-    parts.packages.push(Package {
-        name: PackageName {
-            namespace: text(alloc, "my")?,
-            name: text(alloc, "demo")?,
-            version: None,
-        },
-        interfaces,
-    })?;
+    let mut demo = package(alloc, "demo", None)?;
+    demo.interfaces = interfaces;
+    parts.packages.push(demo)?;
     Ok(parts)
 }
 

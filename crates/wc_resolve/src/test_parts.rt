@@ -1,10 +1,59 @@
 //! What tests build wholes of.
 
 use crate::{
-    Function, FunctionKind, Parts, Resolve, ResolveFault, TypeDef, TypeDefKind, TypeId, TypeOwner,
-    WitType,
+    Function, FunctionKind, Interface, Package, PackageId, PackageName, Parts, Resolve,
+    ResolveFault, TypeDef, TypeDefKind, TypeId, TypeOwner, WitType,
 };
+use indexmap::IndexMap;
+use semver::Version;
 use std::alloc::{AllocError, Global};
+use std::process::Abort;
+use std::test::Fail;
+
+pub(crate) fn text(alloc: Global, name: &str) -> Result<String, AllocError> {
+    String::from_str(alloc, name)
+}
+
+pub(crate) fn expect_text(
+    rt: &impl Abort,
+    found: Option<String>,
+    expected: &str,
+) -> Result<(), Fail> {
+    let found = found.ok_or("no text")?;
+    assert_eq!(rt; found.as_str(), expected);
+    Ok(())
+}
+
+/// An interface without items.
+pub(crate) fn interface(
+    alloc: Global,
+    name: Option<String>,
+    package: Option<PackageId>,
+) -> Interface {
+    Interface {
+        name,
+        types: IndexMap::new(alloc),
+        functions: IndexMap::new(alloc),
+        package,
+        clone_of: None,
+    }
+}
+
+/// The package `my:name`, which holds no interfaces.
+pub(crate) fn package(
+    alloc: Global,
+    name: &str,
+    version: Option<Version>,
+) -> Result<Package, AllocError> {
+    Ok(Package {
+        name: PackageName {
+            namespace: text(alloc, "my")?,
+            name: text(alloc, name)?,
+            version,
+        },
+        interfaces: IndexMap::new(alloc),
+    })
+}
 
 /// The type at a place.
 pub(crate) fn defined(place: u32) -> WitType {

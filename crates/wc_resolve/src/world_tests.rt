@@ -1,54 +1,23 @@
-use crate::test_parts::{defined, function, no_parts, unnamed, whole};
+use crate::test_parts::{
+    defined, expect_text, function, interface, no_parts, package, text, unnamed, whole,
+};
 use crate::{
-    FunctionKind, Interface, InterfaceId, LiveTypes, Package, PackageId, PackageName, Resolve,
-    ResolveFault, TypeDefKind, TypeId, WitType, World, WorldId, WorldItem, WorldKey,
+    FunctionKind, InterfaceId, LiveTypes, PackageId, Resolve, ResolveFault, TypeDefKind, TypeId,
+    WitType, World, WorldId, WorldItem, WorldKey,
 };
 use indexmap::IndexMap;
-use std::alloc::{AllocError, Global};
-use std::process::Abort;
+use std::alloc::Global;
 use std::test::Fail;
 
 const HOST: InterfaceId = InterfaceId(0);
 
 const LOCAL: InterfaceId = InterfaceId(1);
 
-fn text(alloc: Global, name: &str) -> Result<String, AllocError> {
-    String::from_str(alloc, name)
-}
-
-fn expect_text(rt: &impl Abort, found: Option<String>, expected: &str) -> Result<(), Fail> {
-    let found = found.ok_or("no text")?;
-    assert_eq!(rt; found.as_str(), expected);
-    Ok(())
-}
-
-fn interface(alloc: Global, name: Option<String>, package: Option<PackageId>) -> Interface {
-    Interface {
-        name,
-        types: IndexMap::new(alloc),
-        functions: IndexMap::new(alloc),
-        package,
-        clone_of: None,
-    }
-}
-
 fn item(id: InterfaceId) -> WorldItem {
     WorldItem::Interface {
         id,
         external_id: None,
     }
-}
-
-/// The package `my:demo`, without a version.
-fn demo(alloc: Global) -> Result<Package, AllocError> {
-    Ok(Package {
-        name: PackageName {
-            namespace: text(alloc, "my")?,
-            name: text(alloc, "demo")?,
-            version: None,
-        },
-        interfaces: IndexMap::new(alloc),
-    })
 }
 
 /// A world that imports `my:demo/host`, and as `local` an interface without a name, and exports the first.
@@ -69,7 +38,7 @@ fn whole_of_world(alloc: Global) -> Result<Resolve, Fail> {
     let mut parts = no_parts(alloc);
     let host = interface(alloc, Some(text(alloc, "host")?), Some(PackageId(0)));
     parts.interfaces = vec![in alloc; host, interface(alloc, None, None)]?;
-    parts.packages.push(demo(alloc)?)?;
+    parts.packages.push(package(alloc, "demo", None)?)?;
     parts.worlds.push(world(alloc)?)?;
     Ok(Resolve::build(alloc, parts)?)
 }

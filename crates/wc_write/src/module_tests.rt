@@ -1,6 +1,6 @@
 //! Modules whose bytes were worked out by hand.
 
-use crate::{Built, WriteFault, write_module};
+use crate::{Built, WriteFault, laws, write_module};
 use std::alloc::Global;
 use std::test::Fail;
 use wc_read::{
@@ -93,6 +93,27 @@ const OWN_TEXTS: [&[u8]; 11] = [
     b"\0asm\x01\0\0\0\x06\x09\x01\x7f\x01\x41\x02\x41\x03\x6a\x0b",
     PRODUCERS,
 ];
+
+/// The functions of `laws` do nothing when they run.
+#[test]
+fn laws_leave_what_is_written(rt: HostRuntime) -> Result<(), Fail> {
+    laws::number_is_spelled();
+    laws::number_is_shortest();
+    laws::import_is_spelled();
+    laws::imports_are_spelled();
+    laws::spelled_are_imports();
+    laws::imports_are_shortest();
+    laws::section_is_spelled();
+    laws::section_is_shortest();
+    laws::body_text_read();
+    laws::spelled_are_bodies();
+    laws::body_is_shortest();
+    laws::text_read();
+    laws::spelled_are_modules();
+    laws::slices_are_bytes(FUNCS);
+    assert_eq!(rt; again(rt.alloc(), FUNCS)?.as_slice(), FUNCS);
+    Ok(())
+}
 
 #[test]
 fn texts_of_their_own(rt: HostRuntime) -> Result<(), Fail> {
