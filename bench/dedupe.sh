@@ -4,7 +4,7 @@ set -e
 top=$(CDPATH='' cd -P -- "$(dirname -- "$0")/.." && pwd -P)
 "$top/wctrim" </dev/null >/dev/null # builds the program where it must be
 [ -e "$top/bench/data/repeats-100000.wasm" ] || python3 "$top/bench/generate.py" "$top/bench/data"
-exec python3 - "$top/crates/wc_tool/out/wc_tool" "$top/bench/data" <<'END'
+exec python3 - "$top/crates/wctrim/out/wctrim" "$top/bench/data" <<'END'
 import os
 import subprocess
 import sys

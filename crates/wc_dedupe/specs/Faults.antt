@@ -1,4 +1,4 @@
--- The fault of a call that fails inside.
+-- The fault for the fault of a call inside.
 use Rattle.wc_read.specs.declared.fault.ReadFault.{ReadFault}
 use Rattle.wc_read.specs.declared.fault.ReadFault.TheVariants.{Memory as read_memory}
 use Rattle.wc_write.specs.declared.fault.WriteFault.{WriteFault}

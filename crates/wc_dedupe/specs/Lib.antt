@@ -1,9 +1,9 @@
-pub mod ByModule
+pub mod NamesInModules
 pub mod Renaming
 pub mod Modules
 pub mod Renames
 pub mod Laws
 pub mod Next
-pub mod Parts
+pub mod ParsedSections
 pub mod Dedupe
 pub mod Faults

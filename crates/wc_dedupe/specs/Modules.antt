@@ -1,10 +1,10 @@
--- The marks of names in all modules.
+-- The records of names in all modules.
 use Rattle.std.specs.Prelude.{ℕ, List, Option}
 use Rattle.std.specs.Option.{option_and_then}
 use Rattle.std.specs.HashMap.{get_by_text}
-use Rattle.wc_dedupe.specs.ByModule.{mark_of}
-use Rattle.wc_dedupe.specs.declared.by_module.ByModule.{ByModule}
+use Rattle.wc_dedupe.specs.NamesInModules.{name_record_of}
+use Rattle.wc_dedupe.specs.declared.names_in_modules.NamesInModules.{NamesInModules}
 
--- the mark of a name in a module
-abbrev pub mark_in : ByModule → List ℕ → List ℕ → Option (Option ℕ)
-mark_in b m n = option_and_then (λ table. mark_of table n) (get_by_text b.modules m)
+-- the record of a name in a module
+abbrev pub name_record_in : NamesInModules → List ℕ → List ℕ → Option (Option ℕ)
+name_record_in b m n = option_and_then (λ table. name_record_of table n) (get_by_text b.modules m)

@@ -6,48 +6,64 @@ ghost use Rattle.wc_read.specs.Sections.{IsComponent};
 ghost use Rattle.wc_dedupe.specs.Dedupe.{IsDeduped, IsCause, renames_in};
 
 use crate::fault::DedupeFault;
-use crate::parts::{all_imports, parts, write_parts};
+use crate::parsed_sections::{all_imports, parse_module, write_sections};
 use crate::renaming::{ModuleImportMap, rename_all};
 use std::alloc::Global;
 use std::borrow::CowSlice;
 use wc_read::ReadFault;
 
 impl ModuleImportMap {
-    /// Gives each repeated import of a module a name of its own: of the imports with one module and one name
-    /// the first keeps its name, and each later one gets ` [v`, a number and `]` behind it, the least number
-    /// from 2 whose name no earlier import of that module has.
+    /// Renames the imports of a module so that no two share a module and a name.
     ///
-    /// Where no import repeats, and for a component, the same bytes come back, borrowed ones borrowed, and
-    /// `None`; for a component no memory is taken. Else the import sections (WebAssembly core specification,
-    /// 5.5.5) are written anew, and all other sections are copied, each size in its shortest form.
+    /// Names are settled from the first import to the last. An import keeps its name where no earlier import of
+    /// its module has that name by then. Else its name becomes the original name and ` [v`, a number and `]`
+    /// after it: the least number from 2 whose name no earlier import of its module has by then. Three imports
+    /// `a.f` become `a.f`, `a.f [v2]` and `a.f [v3]`.
     ///
-    /// `Read` comes where the bytes are no component and aren't framed, or an import section spells no
-    /// imports; `TooLarge` where a size of the renamed module passes 2^32 - 1. The bytes are let go then.
+    /// - For a component the answer is always `Ok`, with the same bytes and `None`.
+    /// - Where no import repeats, the bytes are the same, borrowed ones borrowed, and the map is `None`.
+    /// - Else the import sections (WebAssembly core specification, 5.5.5) are written with the new names, and all
+    ///   other sections (5.5.2) have the same contents, in the same order. Numbers in import sections and the
+    ///   sizes of sections are minimal LEB128. The map has at least one rename.
+    ///
+    /// Only the cut into sections, and the import sections, are checked.
+    ///
+    /// # Errors
+    ///
+    /// - `Read`: the bytes are no component, and can't be cut into sections or have a malformed import section.
+    ///   It carries the reader's fault, never `Memory` or `Component`.
+    /// - `TooLarge`: an import repeats, and a section of the renamed module has a content of 2^32 bytes or more.
+    /// - `Memory`: an allocation failed.
+    ///
+    /// `wasm` is dropped on an error.
     pub fn new<'a>(
         alloc: Global,
         wasm: CowSlice<'a, u8>,
     ) -> Result<(CowSlice<'a, u8>, Option<ModuleImportMap>), DedupeFault>
-        ensures deduped { IfOk result (λ r. IsDeduped (cow_slice_items wasm.entry) (cow_slice_items r.0) (renames_in r.1)) }
+        ensures dedupe { IfOk result (λ r. IsDeduped
+            (cow_slice_items wasm.entry) (cow_slice_items r.0) (renames_in r.1)) }
         ensures borrowed { IfOk result (λ r. IsNone r.1 → r.0 ≡ wasm.entry) }
         ensures some { IfOk result (λ r. IfSome r.1 (λ map. map ≢ [])) }
-        ensures component { IsComponent (cow_slice_items wasm.entry) → result ≡ Ok (wasm.entry, None) }
+        ensures component { IsComponent (cow_slice_items wasm.entry)
+            → result ≡ Ok (wasm.entry, None) }
         ensures refused { IfErr result (IsCause (cow_slice_items wasm.entry)) }
     {
-        match deduped(alloc, wasm.as_slice())? {
+        match dedupe(alloc, wasm.as_slice())? {
             Some((bytes, map)) => Ok((CowSlice::Owned(bytes), Some(map))),
             None => Ok((wasm, None)),
         }
     }
 }
 
-/// The renamed module and its renames, or none where the bytes stay.
-fn deduped(alloc: Global, bytes: &[u8]) -> Result<Option<(Vec<u8>, ModuleImportMap)>, DedupeFault>
-    ensures renamed { IfOk result (λ o. IfSome o (λ r. (r.1 ≢ []) × IsDeduped bytes.now r.0.items r.1)) }
+/// The renamed module and its renames, `None` where the bytes stay the same.
+fn dedupe(alloc: Global, bytes: &[u8]) -> Result<Option<(Vec<u8>, ModuleImportMap)>, DedupeFault>
+    ensures renamed { IfOk result (λ o. IfSome o (λ r.
+        (r.1 ≢ []) × IsDeduped bytes.now r.0.items r.1)) }
     ensures same { IfOk result (λ o. IsNone o → IsDeduped bytes.now bytes.now []) }
     ensures component { IsComponent bytes.now → result ≡ Ok None }
     ensures refused { IfErr result (IsCause bytes.now) }
 {
-    let parts = match parts(alloc, bytes) {
+    let parts = match parse_module(alloc, bytes) {
         Ok(parts) => parts,
         Err(fault) => match fault {
             ReadFault::Component => return Ok(None),
@@ -60,6 +76,6 @@ fn deduped(alloc: Global, bytes: &[u8]) -> Result<Option<(Vec<u8>, ModuleImportM
     if renames.is_empty() {
         return Ok(None);
     }
-    let written = write_parts(alloc, bytes.len(), &parts, &renaming.places, renames)?;
+    let written = write_sections(alloc, bytes.len(), &parts, &renaming.indices, renames)?;
     Ok(Some((written, renaming.map)))
 }

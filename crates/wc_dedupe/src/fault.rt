@@ -11,13 +11,13 @@ use wc_write::WriteFault;
 /// Why the imports of a module could not be renamed.
 #[derive(Clone, Copy, Debug, PartialEq, Eq, Error)]
 pub enum DedupeFault {
-    /// A growth was refused.
+    /// An allocation failed.
     #[error("out of memory")]
     Memory,
-    /// The bytes are no component and aren't framed, or an import section spells no imports.
+    /// The bytes are no component, and can't be cut into sections or have a malformed import section.
     #[error("Read: {0}")]
     Read(ReadFault),
-    /// A size of the renamed module passes 2^32 - 1.
+    /// A section of the renamed module has a content of 2^32 bytes or more.
     #[error("TooLarge")]
     TooLarge,
 }

@@ -1,7 +1,7 @@
-pub mod Behind
-pub mod Fronts
-pub mod Keys
-pub mod Lookups
-pub mod Pairs
-pub mod Seen
-pub mod Worlds
+pub mod DependencyWalkLemmas
+pub mod EntriesAfterLemmas
+pub mod KeyLemmas
+pub mod LookupLemmas
+pub mod PairLemmas
+pub mod SeenLemmas
+pub mod WorldLemmas

@@ -15,9 +15,13 @@ pub enum MainOrAdapter {
 }
 
 impl MainOrAdapter {
-    ghost use Rattle.wc_encoder.specs.Views.{which_view};
+    ghost use Rattle.wc_encoder.specs.Adapters.{which_view};
 
-    /// A copy.
+    /// A copy of this `MainOrAdapter`.
+    ///
+    /// # Errors
+    ///
+    /// `AllocError`: an allocation failed.
     pub fn clone(&self, alloc: Global) -> Result<MainOrAdapter, AllocError>
         ensures { IfOk result (λ which. which_view which ≡ which_view self.now) }
     {
@@ -30,8 +34,8 @@ impl MainOrAdapter {
     }
 }
 
-/// An export of a module, as it is handed to a library: `alias` is the name by which the library imports it,
-/// `name` the one under which `which` exports it.
+/// An export of a module, as it is handed to a library: `alias` is the name by which the library
+/// imports it, `name` the one under which `which` exports it.
 #[derive(Debug, Drop)]
 pub struct Item {
     pub alias: String,
@@ -41,9 +45,13 @@ pub struct Item {
 }
 
 impl Item {
-    ghost use Rattle.wc_encoder.specs.Views.{library_item_view};
+    ghost use Rattle.wc_encoder.specs.Adapters.{library_item_view};
 
-    /// A copy.
+    /// A copy of this item.
+    ///
+    /// # Errors
+    ///
+    /// `AllocError`: an allocation failed.
     pub fn clone(&self, alloc: Global) -> Result<Item, AllocError>
         ensures { IfOk result (λ item. library_item_view item ≡ library_item_view self.now) }
     {
@@ -63,16 +71,16 @@ pub enum Instance {
     Items(Vec<Item>),
 }
 
-/// How a library is instantiated: with which arguments, each under the name of the module that it imports from,
-/// and whether behind the shims.
+/// How a library is instantiated: with which arguments, each under the name of the module that it
+/// imports from, and whether after the shims.
 #[derive(Drop)]
 pub struct LibraryInfo {
     pub arguments: Vec<(String, Instance)>,
     pub instantiate_after_shims: bool,
 }
 
-/// A module beside the main one: its bytes, which exports of the world it has to export, and how it is
-/// instantiated, where it is a library.
+/// A module beside the main one: its bytes, which exports of the world it has to export, and how it
+/// is instantiated, where it is a library.
 #[derive(Drop)]
 pub struct Adapter {
     pub wasm: Vec<u8>,

@@ -6,16 +6,18 @@ ghost use Rattle.wc_encoder.specs.declared.fault.EncoderFault.TheVariants.{Memor
 use std::alloc::{AllocError, AllocFailed};
 use thiserror::Error;
 
-/// Why parts were refused. Of several causes but `Memory` the one that stands first here is named.
+/// Why parts are refused. Of several causes, the first in the order from `UnknownWorld` to
+/// `ImportNameClash` is named; `Memory` may come in place of any.
 #[derive(Clone, Copy, Debug, PartialEq, Eq, Error)]
 pub enum EncoderFault {
-    /// A growth was refused.
+    /// An allocation failed.
     #[error("out of memory")]
     Memory,
-    /// There is no world at the place.
+    /// The `Resolve` has no world at the index.
     #[error("UnknownWorld")]
     UnknownWorld,
-    /// The world doesn't export a key of the main module's exports, or of an adapter's required exports.
+    /// The world doesn't export a key of `main_module_exports`, or of an adapter's
+    /// `required_exports`.
     #[error("NotAnExport")]
     NotAnExport,
     /// The world exports a type.
@@ -24,7 +26,8 @@ pub enum EncoderFault {
     /// The world exports one interface under two keys.
     #[error("InterfaceTwice")]
     InterfaceTwice,
-    /// An interface that the world exports depends directly on one that is exported behind it under its own id.
+    /// An interface that the world exports depends directly on one that is exported after it under
+    /// its own id.
     #[error("DependencyLater")]
     DependencyLater,
     /// Two imports of the world have one name.

@@ -1,24 +1,55 @@
-//! What a component is encoded from: a main module, the world that it is encoded for, adapters and libraries.
+//! What a component is encoded from: a main module, the world that it is encoded for, and adapters
+//! and libraries beside it. `ComponentEncoder::build` checks that modules can be encoded for that
+//! world. It does not read the modules.
+//!
+//! ```rust
+//! use indexmap::{IndexMap, IndexSet};
+//! use std::alloc::Global;
+//! use wc_encoder::{ComponentEncoder, EncoderFault, EncoderParts, Metadata};
+//! use wc_resolve::{Resolve, WorldId};
+//!
+//! /// An encoder of a main module without adapters, for a world of `resolve`.
+//! pub fn encoder_for(
+//!     alloc: Global,
+//!     main_module: Vec<u8>,
+//!     resolve: Resolve,
+//!     world: WorldId,
+//! ) -> Result<ComponentEncoder, EncoderFault>
+//!     ensures module { IfOk result (λ e. e.module_bytes ≡ main_module.items) }
+//!     ensures world { IfOk result (λ e. (e.resolve ≡ resolve) × (e.world ≡ world.0)) }
+//!     ensures well_formed { IfOk result IsWellFormed }
+//!     ensures unknown { IsErrOf result EncoderFault.UnknownWorld
+//!         → ¬ (world.0 < length resolve.worlds) }
+//! {
+//!     let parts = EncoderParts {
+//!         module: main_module,
+//!         module_import_map: None,
+//!         metadata: Metadata { resolve, world },
+//!         main_module_exports: IndexSet::new(alloc),
+//!         adapters: IndexMap::new(alloc),
+//!         reject_legacy_names: false,
+//!         realloc_via_memory_grow: false,
+//!         task_hook: String::new(alloc),
+//!     };
+//!     ComponentEncoder::build(alloc, parts)
+//! }
+//! ```
+//!
+//! This function is proved in `wc_bench`, as `examples::encoder::encoder_for`.
 #![tactic(auto)]
 
 mod adapters;
-mod apart;
-mod build;
 mod dependencies;
+mod distinct;
+mod encoder;
+mod encoder_parts;
 mod encoding;
 mod exported;
 mod fault;
-mod parts;
+mod well_formed;
 
 pub use adapters::{Adapter, Instance, Item, LibraryInfo, MainOrAdapter};
-pub use build::ComponentEncoder;
+pub use encoder::ComponentEncoder;
+pub use encoder_parts::{EncoderParts, Metadata};
 pub use encoding::StringEncoding;
 pub use fault::EncoderFault;
-pub use parts::{EncoderParts, Metadata};
-
-#[cfg(test)]
-mod build_tests;
-#[cfg(test)]
-mod fault_tests;
-#[cfg(test)]
-mod test_parts;

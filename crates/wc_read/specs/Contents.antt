@@ -6,17 +6,21 @@ use Rattle.wc_read.specs.Limits.{SpellsTable, SpellsMemory}
 use Rattle.wc_read.specs.declared.types.TableType.{TableType}
 use Rattle.wc_read.specs.declared.types.MemoryType.{MemoryType}
 
--- a function type (5.3.6): its byte, what is taken, what is given
+-- the byte that a function type begins with
+abbrev pub func_type_code : ℕ
+func_type_code = 0x60
+
+-- a function type (5.3.6): its byte, parameters, results
 pub record SpellsFuncType (bytes : List ℕ) (f : FuncTypeValue) : Type 0 where
   pub params_bytes : List ℕ
   pub results_bytes : List ℕ
-  pub cut : bytes ≡ 0x60 ∷ (params_bytes ++ results_bytes)
+  pub cut : bytes ≡ func_type_code ∷ (params_bytes ++ results_bytes)
   pub has_params : SpellsVector SpellsValType params_bytes f.params
   pub has_results : SpellsVector SpellsValType results_bytes f.results
 
--- bytes behind their number
-abbrev pub SpellsSized : Format (List ℕ)
-SpellsSized bytes content = (size : List ℕ) × (bytes ≡ size ++ content) × SpellsNumber 32 size (length content)
+-- bytes after their number
+abbrev pub SpellsSizePrefixed : Format (List ℕ)
+SpellsSizePrefixed bytes content = (size : List ℕ) × (bytes ≡ size ++ content) × SpellsNumber 32 size (length content)
 
 -- the content of a type section (5.5.4)
 abbrev pub SpellsFuncTypes : Format (List FuncTypeValue)
@@ -40,4 +44,4 @@ SpellsStart bytes index = SpellsNumber 32 bytes index
 
 -- the content of a code section (5.5.13), its bodies by their sizes
 abbrev pub SpellsBodies : Format (List (List ℕ))
-SpellsBodies bytes bodies = SpellsVector SpellsSized bytes bodies
+SpellsBodies bytes bodies = SpellsVector SpellsSizePrefixed bytes bodies

@@ -2,6 +2,7 @@
 use Rattle.std.specs.Prelude.{◌≡◌, ◌≢◌, ℕ, List, length, ◌==◌, if◌then◌else◌, Option, Some, None, Result, Ok, Err}
 use Rattle.wc_read.specs.Reading.{Read, ◌>>=◌, byte_at, bytes_at, where_at, coded_at, number_at, name_at, vector_at, val_type_at}
 use Rattle.wc_read.specs.Types.{FuncTypeValue}
+use Rattle.wc_read.specs.Contents.{func_type_code}
 use Rattle.wc_read.specs.Exports.{ExportValue}
 use Rattle.wc_read.specs.declared.fault.ReadFault.{ReadFault}
 use Rattle.wc_read.specs.declared.fault.ReadFault.TheVariants.{Memory as memory_fault, Component as component_fault}
@@ -13,19 +14,24 @@ abbrev pub Answers : {X A : Type 0} → (X → A) → Result X ReadFault → Opt
 Answers view (Ok x) read = read ≡ Some (view x)
 Answers view (Err e) read = (e ≢ memory_fault → read ≡ None) × (e ≢ component_fault)
 
+-- the same of a function that takes no memory: its fault is never Memory
+abbrev pub AnswersWithoutMemory : {X A : Type 0} → (X → A) → Result X ReadFault → Option A → Type 0
+AnswersWithoutMemory view (Ok x) read = read ≡ Some (view x)
+AnswersWithoutMemory view (Err e) read = (read ≡ None) × (e ≢ memory_fault) × (e ≢ component_fault)
+
 -- what is read to the end of the bytes
-unfoldable pub whole_of : {A : Type 0} → Read A → List ℕ → Option A
-whole_of read bytes = read bytes >>= λ x. if length x.1 == 0 then Some x.0 else None
+unfoldable pub read_all : {A : Type 0} → Read A → List ℕ → Option A
+read_all read bytes = read bytes >>= λ x. if length x.1 == 0 then Some x.0 else None
 
 unfoldable pub func_type_at : Read FuncTypeValue
 func_type_at bytes = do
-  form ← where_at (λ b. b == 0x60) byte_at bytes
+  form ← where_at (λ b. b == func_type_code) byte_at bytes
   params ← vector_at val_type_at form.1
   results ← vector_at val_type_at params.1
   Some (record { params = params.0; results = results.0 }, results.1)
 
-unfoldable pub sized_at : Read (List ℕ)
-sized_at bytes = do
+unfoldable pub size_prefixed_at : Read (List ℕ)
+size_prefixed_at bytes = do
   size ← number_at 32 bytes
   bytes_at size.0 size.1
 

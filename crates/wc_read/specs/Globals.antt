@@ -1,5 +1,5 @@
 -- Globals of a global section (WebAssembly core specification, 2.5.6 and 5.5.9).
-use Rattle.std.specs.Prelude.{◌≡◌, ℕ, List, ◌++◌, Some}
+use Rattle.std.specs.Prelude.{◌≡◌, ℕ, List, ◌++◌, map, Some}
 use Rattle.wc_read.specs.Reading.{Read, ◌>>=◌, global_at}
 use Rattle.wc_read.specs.Types.{SpellsGlobal}
 use Rattle.wc_read.specs.Operators.{InstrValue}
@@ -15,7 +15,10 @@ pub record LocalGlobalValue : Type 0 where
 abbrev pub local_global_value : LocalGlobal → LocalGlobalValue
 local_global_value g = record { ty = g.ty; init = g.init.now }
 
--- a type, and an initialiser behind it
+abbrev pub local_global_values : List LocalGlobal → List LocalGlobalValue
+local_global_values gs = map local_global_value gs
+
+-- a type, and an initialiser after it
 pub record SpellsLocalGlobal (bytes : List ℕ) (g : LocalGlobalValue) : Type 0 where
   pub type_bytes : List ℕ
   pub operators : List InstrValue

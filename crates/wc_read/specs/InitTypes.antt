@@ -1,5 +1,5 @@
 -- What initialisers leave (WebAssembly core specification, 3.3.10): one value, as a constant, or as two values and an
--- operator on integers behind them.
+-- operator on integers after them.
 use Rattle.std.specs.Prelude.{◌≡◌, ℕ, ◌+◌, ◌-◌, List, [], ◌∷◌, ◌++◌, map, Bool, ◌&&◌, ◌==◌, nat_lt, nat_le, if◌then◌else◌, Option, Some, None}
 use Rattle.std.specs.List.{slice_get}
 use Rattle.wc_read.specs.Reading.{Read, ◌>>=◌}
@@ -15,13 +15,13 @@ use Rattle.wc_read.specs.declared.operators.Opcode.{Opcode}
 use Rattle.wc_read.specs.declared.inits.Constant.{Constant}
 use Rattle.wc_read.specs.declared.inits.Constant.TheVariants.{Value, Null, Func, Global, Integer}
 use Rattle.wc_read.specs.declared.init_types.Scope.{Scope}
-use Rattle.wc_read.specs.declared.init_types.Step.{Step}
-use Rattle.wc_read.specs.declared.init_types.Step.TheVariants.{End, Leaves, Fails}
+use Rattle.wc_read.specs.declared.init_types.InitStep.{InitStep}
+use Rattle.wc_read.specs.declared.init_types.InitStep.TheVariants.{End, Leaves, Fails}
 
 abbrev pub types_of : List GlobalValue → List GlobalType
 types_of gs = map (λ g. g.ty) gs
 
--- what an initialiser may name: so many functions, and the globals in front of its own
+-- what an initialiser may name: so many functions, and the globals before its own
 pub record InitScope : Type 0 where
   pub functions : ℕ
   pub globals : List GlobalType
@@ -39,14 +39,14 @@ abbrev pub number_named : ImmediatesValue → Option ℕ
 number_named (WithIndex i) = Some i.number
 number_named _ = None
 
-abbrev pub held_by : List GlobalType → ℕ → Option ValType
-held_by globals n = slice_get globals n >>= λ g. if g.mutable then None else Some g.content_type
+abbrev pub global_value_type : List GlobalType → ℕ → Option ValType
+global_value_type globals n = slice_get globals n >>= λ g. if g.mutable then None else Some g.content_type
 
 abbrev pub given_by : InitScope → ImmediatesValue → Constant → Option ValType
 given_by scope v (Value t) = Some t
 given_by scope v Null = type_named v
 given_by scope v Func = number_named v >>= λ n. if nat_lt n scope.functions then Some FuncRef else None
-given_by scope v Global = number_named v >>= held_by scope.globals
+given_by scope v Global = number_named v >>= global_value_type scope.globals
 given_by scope v (Integer t) = None
 
 abbrev pub constant_type : InitScope → InstrValue → Option ValType
@@ -78,15 +78,19 @@ abbrev pub IsTypedDef : InitScope → ValType → DefValue (List ℕ) → Type 0
 IsTypedDef scope t (local init) = IsTyped scope t init
 IsTypedDef scope t (imported m n) = Unit
 
--- so many functions, and the globals in front of one
+-- the initialiser of a global that is not imported leaves one value of the global's type
+abbrev pub IsTypedGlobal : InitScope → GlobalValue → Type 0
+IsTypedGlobal scope g = IsTypedDef scope g.ty.content_type g.def
+
+-- so many functions, and the globals before one
 abbrev pub scope_of : ℕ → List GlobalValue → InitScope
 scope_of functions front = record { functions = functions; globals = types_of front }
 
 -- each initialiser of a local global leaves one value of its global's type
 abbrev pub AreTyped : ℕ → List GlobalValue → Type 0
-AreTyped functions gs = (front back : List GlobalValue) (g : GlobalValue) → gs ≡ front ++ (g ∷ back) → IsTypedDef (scope_of functions front) g.ty.content_type g.def
+AreTyped functions gs = (front back : List GlobalValue) (g : GlobalValue) → gs ≡ front ++ (g ∷ back) → IsTypedGlobal (scope_of functions front) g
 
--- how many values of a type there are behind an operator, and behind several
+-- how many values of a type there are after an operator, and after several
 
 abbrev pub is_same : ValType → ValType → Bool
 is_same a b = val_type_code a == val_type_code b
@@ -94,15 +98,15 @@ is_same a b = val_type_code a == val_type_code b
 abbrev pub one_more : ValType → ℕ → ValType → Option ℕ
 one_more t depth given = if is_same given t then Some (depth + 1) else None
 
-abbrev pub depth_behind : InitScope → ValType → ℕ → ImmediatesValue → Constant → Option ℕ
-depth_behind scope t depth v (Integer u) = if is_same u t && nat_le 2 depth then Some (depth - 1) else None
-depth_behind scope t depth v (Value u) = one_more t depth u
-depth_behind scope t depth v Null = given_by scope v Null >>= one_more t depth
-depth_behind scope t depth v Func = given_by scope v Func >>= one_more t depth
-depth_behind scope t depth v Global = given_by scope v Global >>= one_more t depth
+abbrev pub depth_after_constant : InitScope → ValType → ℕ → ImmediatesValue → Constant → Option ℕ
+depth_after_constant scope t depth v (Integer u) = if is_same u t && nat_le 2 depth then Some (depth - 1) else None
+depth_after_constant scope t depth v (Value u) = one_more t depth u
+depth_after_constant scope t depth v Null = given_by scope v Null >>= one_more t depth
+depth_after_constant scope t depth v Func = given_by scope v Func >>= one_more t depth
+depth_after_constant scope t depth v Global = given_by scope v Global >>= one_more t depth
 
 unfoldable pub next_depth : InitScope → ValType → ℕ → InstrValue → Option ℕ
-next_depth scope t depth i = constant_of i.opcode >>= depth_behind scope t depth i.immediates
+next_depth scope t depth i = constant_of i.opcode >>= depth_after_constant scope t depth i.immediates
 
 unfoldable pub depth_after : InitScope → ValType → ℕ → List InstrValue → Option ℕ
 depth_after scope t depth [] = Some depth
@@ -110,12 +114,12 @@ depth_after scope t depth (i ∷ is) = next_depth scope t depth i >>= λ next. d
 
 -- one operator, as what it does
 
-abbrev pub leaves_so : Option ℕ → Step
+abbrev pub leaves_so : Option ℕ → InitStep
 leaves_so None = Fails
 leaves_so (Some depth) = Leaves depth
 
-abbrev pub step_of : InitScope → ValType → ℕ → InstrValue → Step
+abbrev pub step_of : InitScope → ValType → ℕ → InstrValue → InitStep
 step_of scope t depth i = if is_end i.opcode then End else leaves_so (next_depth scope t depth i)
 
-unfoldable pub step_at : InitScope → ValType → ℕ → Read Step
+unfoldable pub step_at : InitScope → ValType → ℕ → Read InitStep
 step_at scope t depth bytes = instr_at bytes >>= λ i. Some (step_of scope t depth i.0, i.1)

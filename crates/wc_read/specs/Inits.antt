@@ -2,7 +2,7 @@
 use Rattle.std.specs.Prelude.{◌≡◌, ℕ, zero, suc, ◌-◌, List, [], ◌∷◌, ◌++◌, length, take, map, Bool, false, ◌||◌, ◌==◌, if◌then◌else◌, Option, Some, None, is_some, IsTrue}
 use Rattle.wc_read.specs.Formats.{Format, SpellsItems}
 use Rattle.wc_read.specs.Reading.{Read, ◌>>=◌, where_at}
-use Rattle.wc_read.specs.Operators.{is_within, InstrValue, WithNone, instr_value, SpellsInstr}
+use Rattle.wc_read.specs.Operators.{end_code, is_between, InstrValue, WithNone, instr_value, SpellsInstr}
 use Rattle.wc_read.specs.Instructions.{instr_at}
 use Rattle.wc_read.specs.declared.types.ValType.TheVariants.{I32, I64, F32, F64, V128}
 use Rattle.wc_read.specs.declared.operators.Opcode.{Opcode}
@@ -15,19 +15,26 @@ use Rattle.wc_read.specs.declared.inits.Init.{Init}
 
 unfoldable pub constant_byte : ℕ → Option Constant
 constant_byte b =
+    -- i32.const, i64.const, f32.const, f64.const
     if b == 0x41 then Some (Value I32)
     else (if b == 0x42 then Some (Value I64)
     else (if b == 0x43 then Some (Value F32)
     else (if b == 0x44 then Some (Value F64)
+    -- ref.null
     else (if b == 0xd0 then Some Null
+    -- ref.func
     else (if b == 0xd2 then Some Func
+    -- global.get
     else (if b == 0x23 then Some Global
-    else (if is_within 0x6a 0x6c b then Some (Integer I32)
-    else (if is_within 0x7c 0x7e b then Some (Integer I64) else None))))))))
+    -- i32.add, i32.sub, i32.mul
+    else (if is_between 0x6a 0x6c b then Some (Integer I32)
+    -- i64.add, i64.sub, i64.mul
+    else (if is_between 0x7c 0x7e b then Some (Integer I64) else None))))))))
 
 abbrev pub constant_of : Opcode → Option Constant
 constant_of (Byte b) = constant_byte b
 constant_of (Misc n) = None
+-- v128.const
 constant_of (Vector n) = if n == 12 then Some (Value V128) else None
 constant_of (Atomic n) = None
 
@@ -38,7 +45,7 @@ abbrev pub IsConstant : Opcode → Type 0
 IsConstant code = IsTrue (is_constant code)
 
 abbrev pub is_end : Opcode → Bool
-is_end (Byte b) = b == 0x0b
+is_end (Byte b) = b == end_code
 is_end (Misc n) = false
 is_end (Vector n) = false
 is_end (Atomic n) = false
@@ -50,13 +57,13 @@ init_value i = map instr_value i.operators.items
 
 -- `end`
 abbrev pub end_value : InstrValue
-end_value = record { opcode = Byte 0x0b; immediates = WithNone }
+end_value = record { opcode = Byte end_code; immediates = WithNone }
 
 abbrev pub AreConstant : List InstrValue → Type 0
 AreConstant [] = Unit
 AreConstant (i ∷ is) = IsConstant i.opcode × AreConstant is
 
--- constant operators, and `end` behind them
+-- constant operators, and `end` after them
 abbrev pub IsInit : List InstrValue → Type 0
 IsInit is = (front : List InstrValue) × (is ≡ front ++ (end_value ∷ [])) × AreConstant front
 
@@ -66,11 +73,11 @@ SpellsInit bytes is = SpellsItems SpellsInstr bytes is × IsInit is
 
 -- reading functions, as those of `Reading`
 
-abbrev pub may_stand : InstrValue → Bool
-may_stand i = is_end i.opcode || is_constant i.opcode
+abbrev pub is_init_operator : InstrValue → Bool
+is_init_operator i = is_end i.opcode || is_constant i.opcode
 
 unfoldable pub init_instr_at : Read InstrValue
-init_instr_at bytes = where_at may_stand instr_at bytes
+init_instr_at bytes = where_at is_init_operator instr_at bytes
 
 -- items to the first that passes a test, in so many steps at most
 unfoldable pub until_at : {A : Type 0} → (A → Bool) → Read A → ℕ → Read (List A)
@@ -90,10 +97,10 @@ init_end_at bytes = init_instr_at bytes >>= λ i. Some (ends i.0, i.1)
 unfoldable pub init_at : Read (List InstrValue)
 init_at bytes = until_at ends init_instr_at (length bytes) bytes
 
--- the bytes in front of the rest
-abbrev pub in_front : List ℕ → List ℕ → List ℕ
-in_front bytes rest = take (length bytes - length rest) bytes
+-- the bytes before the rest
+abbrev pub bytes_before : List ℕ → List ℕ → List ℕ
+bytes_before bytes rest = take (length bytes - length rest) bytes
 
 -- an initialiser as its bytes
 unfoldable pub init_bytes_at : Read (List ℕ)
-init_bytes_at bytes = init_at bytes >>= λ is. Some (in_front bytes is.1, is.1)
+init_bytes_at bytes = init_at bytes >>= λ is. Some (bytes_before bytes is.1, is.1)

@@ -18,8 +18,8 @@ as_made made x = Some (made x.0, x.1)
 
 -- codes
 
-abbrev pub opcode_behind : ℕ → Read Opcode
-opcode_behind b bytes =
+abbrev pub opcode_after : ℕ → Read Opcode
+opcode_after b bytes =
     if b == 0xfc then number_at 32 bytes >>= as_made Misc
     else (if b == 0xfd then number_at 32 bytes >>= as_made Vector
     else (if b == 0xfe then number_at 32 bytes >>= as_made Atomic else Some (Byte b, bytes)))
@@ -27,7 +27,7 @@ opcode_behind b bytes =
 unfoldable pub opcode_at : Read Opcode
 opcode_at bytes = do
   b ← byte_at bytes
-  opcode_behind b.0 b.1
+  opcode_after b.0 b.1
 
 -- parts
 
@@ -42,15 +42,15 @@ func_type_at bytes = signed_at 33 bytes >>= λ z. natural z.0 >>= λ n. Some (Fu
 abbrev pub is_value : ℕ → Bool
 is_value b = nat_lt 0x40 b && nat_lt b 0x80
 
-abbrev pub block_type_behind : ℕ → Read BlockType
-block_type_behind b bytes =
+abbrev pub block_type_after : ℕ → Read BlockType
+block_type_after b bytes =
     if b == 0x40 then byte_at bytes >>= as_made (λ _. Empty)
     else (if is_value b then val_type_at bytes >>= as_made Value else func_type_at bytes)
 
 unfoldable pub block_type_at : Read BlockType
 block_type_at bytes = do
   b ← byte_at bytes
-  block_type_behind b.0 bytes
+  block_type_after b.0 bytes
 
 abbrev pub are_flags : ℕ → Bool
 are_flags f = nat_lt f 128
@@ -90,11 +90,11 @@ abbrev pub instr_of : Opcode → ImmediatesValue → InstrValue
 instr_of code v = record { opcode = code; immediates = v }
 
 -- an operator by its code and its shape
-abbrev pub instr_behind : Opcode → Form → Read InstrValue
-instr_behind code form bytes = immediates_at form bytes >>= as_made (instr_of code)
+abbrev pub instr_after : Opcode → Form → Read InstrValue
+instr_after code form bytes = immediates_at form bytes >>= as_made (instr_of code)
 
 unfoldable pub instr_at : Read InstrValue
 instr_at bytes = do
   code ← opcode_at bytes
   form ← form_of code.0
-  instr_behind code.0 form code.1
+  instr_after code.0 form code.1

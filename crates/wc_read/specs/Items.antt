@@ -1,5 +1,5 @@
 -- The items of index spaces, as values.
-use Rattle.std.specs.Prelude.{ℕ, List, ⊤}
+use Rattle.std.specs.Prelude.{ℕ, List, map, ⊤}
 use Rattle.std.specs.Borrow.{Bor}
 use Rattle.wc_read.specs.declared.types.TableType.{TableType}
 use Rattle.wc_read.specs.declared.types.MemoryType.{MemoryType}
@@ -51,3 +51,9 @@ memory_value m = item_value (λ _. tt) m
 
 abbrev pub global_value : Item GlobalType (Bor (List ℕ)) → GlobalValue
 global_value g = item_value (λ b. b.now) g
+
+abbrev pub func_values : List (Item ℕ (Bor (List ℕ))) → List FuncValue
+func_values fs = map func_value fs
+
+abbrev pub global_values : List (Item GlobalType (Bor (List ℕ))) → List GlobalValue
+global_values gs = map global_value gs

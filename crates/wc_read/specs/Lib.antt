@@ -5,6 +5,7 @@ pub mod Limits
 pub mod Imports
 pub mod Items
 pub mod Spaces
+pub mod Faults
 pub mod Sections
 pub mod Exports
 pub mod Contents
@@ -17,7 +18,7 @@ pub mod Producers
 pub mod Inits
 pub mod Globals
 pub mod InitTypes
-pub mod Parts
+pub mod SectionContents
 pub mod Modules
 pub mod Signed
 pub mod Operators

@@ -1,6 +1,6 @@
 -- Operators (WebAssembly core specification, 5.4 "Instructions"): one table from codes to the shapes of immediates, and
 -- how bytes spell an operator by that table.
-use Rattle.std.specs.Prelude.{◌≡◌, ℕ, ◌+◌, ◌<◌, List, [], ◌∷◌, ◌++◌, length, Bool, false, ◌||◌, ◌&&◌, ◌==◌, nat_le, if◌then◌else◌, Option, Some, None, is_some, unwrap_or, ℤ, pos}
+use Rattle.std.specs.Prelude.{◌≡◌, ℕ, ◌+◌, ◌<◌, List, [], ◌∷◌, ◌++◌, length, map, Bool, false, ◌||◌, ◌&&◌, ◌==◌, nat_le, if◌then◌else◌, Option, Some, None, is_some, unwrap_or, ℤ, pos}
 use Rattle.wc_read.specs.Formats.{Format, SpellsNumber, SpellsOptional, SpellsVector, Joined}
 use Rattle.wc_read.specs.Types.{SpellsValType, IsReference}
 use Rattle.wc_read.specs.Signed.{SpellsSigned}
@@ -20,55 +20,95 @@ use Rattle.wc_read.specs.declared.operators.Instr.{Instr}
 use Rattle.wc_read.specs.declared.operators.Form.{Form}
 use Rattle.wc_read.specs.declared.operators.Form.TheVariants.{None as form_none, Block as form_block, Index as form_index, Indices as form_indices, Labels as form_labels, ValTypes as form_val_types, RefType as form_ref_type, MemArg as form_mem_arg, MemArgLane as form_mem_arg_lane, I32 as form_i32, I64 as form_i64, Bytes as form_bytes, Lane as form_lane, Zero as form_zero}
 
+-- the code of `end`
+abbrev pub end_code : ℕ
+end_code = 0x0b
+
 -- the operator table
 
-abbrev pub is_within : ℕ → ℕ → ℕ → Bool
-is_within low high n = nat_le low n && nat_le n high
+abbrev pub is_between : ℕ → ℕ → ℕ → Bool
+is_between low high n = nat_le low n && nat_le n high
 
 unfoldable pub byte_form : ℕ → Option Form
 byte_form b =
+    -- unreachable, nop, else, end, return, drop, select
     if b == 0x00 || b == 0x01 || b == 0x05 || b == 0x0b || b == 0x0f || b == 0x1a || b == 0x1b then Some form_none
-    else (if is_within 0x02 0x04 b then Some form_block
+    -- block, loop, if
+    else (if is_between 0x02 0x04 b then Some form_block
+    -- br, br_if
     else (if b == 0x0c || b == 0x0d then Some (form_index Label)
+    -- br_table
     else (if b == 0x0e then Some form_labels
+    -- call, return_call, ref.func
     else (if b == 0x10 || b == 0x12 || b == 0xd2 then Some (form_index (In Funcs))
+    -- call_indirect, return_call_indirect
     else (if b == 0x11 || b == 0x13 then Some (form_indices (In Types) (In Tables))
+    -- select, with the types of its values
     else (if b == 0x1c then Some form_val_types
-    else (if is_within 0x20 0x22 b then Some (form_index Local)
+    -- local.get, local.set, local.tee
+    else (if is_between 0x20 0x22 b then Some (form_index Local)
+    -- global.get, global.set
     else (if b == 0x23 || b == 0x24 then Some (form_index (In Globals))
+    -- table.get, table.set
     else (if b == 0x25 || b == 0x26 then Some (form_index (In Tables))
-    else (if is_within 0x28 0x3e b then Some form_mem_arg
+    -- i32.load to i64.store32
+    else (if is_between 0x28 0x3e b then Some form_mem_arg
+    -- memory.size, memory.grow
     else (if b == 0x3f || b == 0x40 then Some (form_index (In Memories))
+    -- i32.const
     else (if b == 0x41 then Some form_i32
+    -- i64.const
     else (if b == 0x42 then Some form_i64
+    -- f32.const
     else (if b == 0x43 then Some (form_bytes 4)
+    -- f64.const
     else (if b == 0x44 then Some (form_bytes 8)
-    else (if is_within 0x45 0xc4 b || b == 0xd1 then Some form_none
+    -- i32.eqz to i64.extend32_s, ref.is_null
+    else (if is_between 0x45 0xc4 b || b == 0xd1 then Some form_none
+    -- ref.null
     else (if b == 0xd0 then Some form_ref_type else None)))))))))))))))))
 
 unfoldable pub misc_form : ℕ → Option Form
 misc_form n =
+    -- i32.trunc_sat_f32_s to i64.trunc_sat_f64_u
     if nat_le n 7 then Some form_none
+    -- memory.init
     else (if n == 8 then Some (form_indices Data (In Memories))
+    -- data.drop
     else (if n == 9 then Some (form_index Data)
+    -- memory.copy
     else (if n == 10 then Some (form_indices (In Memories) (In Memories))
+    -- memory.fill
     else (if n == 11 then Some (form_index (In Memories))
+    -- table.init
     else (if n == 12 then Some (form_indices Elem (In Tables))
+    -- elem.drop
     else (if n == 13 then Some (form_index Elem)
+    -- table.copy
     else (if n == 14 then Some (form_indices (In Tables) (In Tables))
-    else (if is_within 15 17 n then Some (form_index (In Tables)) else None))))))))
+    -- table.grow, table.size, table.fill
+    else (if is_between 15 17 n then Some (form_index (In Tables)) else None))))))))
 
 unfoldable pub vector_form : ℕ → Option Form
 vector_form n =
+    -- v128.load to v128.store, v128.load32_zero, v128.load64_zero
     if nat_le n 11 || n == 92 || n == 93 then Some form_mem_arg
+    -- v128.const, i8x16.shuffle
     else (if n == 12 || n == 13 then Some (form_bytes 16)
-    else (if is_within 21 34 n then Some form_lane
-    else (if is_within 84 91 n then Some form_mem_arg_lane
+    -- i8x16.extract_lane_s to f64x2.replace_lane
+    else (if is_between 21 34 n then Some form_lane
+    -- v128.load8_lane to v128.store64_lane
+    else (if is_between 84 91 n then Some form_mem_arg_lane
+    -- i8x16.swizzle to i32x4.relaxed_dot_i8x16_i7x16_add_s; those between that are not assigned
+    -- count as operators
     else (if nat_le n 0x113 then Some form_none else None))))
 
 unfoldable pub atomic_form : ℕ → Option Form
 atomic_form n =
-    if nat_le n 2 || is_within 0x10 0x4e n then Some form_mem_arg
+    -- memory.atomic.notify, memory.atomic.wait32, memory.atomic.wait64;
+    -- i32.atomic.load to i64.atomic.rmw32.cmpxchg_u
+    if nat_le n 2 || is_between 0x10 0x4e n then Some form_mem_arg
+    -- atomic.fence
     else (if n == 3 then Some form_zero else None)
 
 abbrev pub form_of : Opcode → Option Form
@@ -79,7 +119,7 @@ form_of (Atomic n) = atomic_form n
 
 -- values
 
--- what stands behind an operator's code, lists and texts as such
+-- what is after an operator's code, lists and texts as such
 pub data ImmediatesValue : Type 0 where
   WithNone : ImmediatesValue
   WithBlock : BlockType → ImmediatesValue
@@ -116,6 +156,9 @@ immediates_value (has_lane l) = WithLane l
 
 abbrev pub instr_value : Instr → InstrValue
 instr_value i = record { opcode = i.opcode; immediates = immediates_value i.immediates }
+
+abbrev pub instr_values : List Instr → List InstrValue
+instr_values is = map instr_value is
 
 -- how bytes spell them
 

@@ -3,29 +3,30 @@ use Rattle.std.specs.Prelude.{◌≡◌, ◌≢◌, ℕ, ◌<◌, ◌≤◌, Lis
 use Rattle.std.specs.List.{AllPairs, find}
 use Rattle.std.specs.Option.{option_map}
 use Rattle.wc_read.specs.Formats.{SpellsName}
-use Rattle.wc_read.specs.Sections.{SectionValue}
+use Rattle.wc_read.specs.Sections.{SectionValue, custom_id, code_id, data_id, data_count_id}
 
--- the place of a section by its id: the data count (12) stands before the code (10), and the data (11) last
-abbrev pub place_of : ℕ → ℕ
-place_of id = if id == 12 then 10 else (if id == 10 then 11 else (if id == 11 then 12 else id))
+-- the position of a section by its id: the data count is before the code, and the data last
+abbrev pub section_position : ℕ → ℕ
+section_position id =
+    if id == data_count_id then 10 else (if id == code_id then 11 else (if id == data_id then 12 else id))
 
--- the section in front stands before the other; custom sections (0) may stand anywhere
-abbrev pub StandsBefore : SectionValue → SectionValue → Type 0
-StandsBefore s t = s.id ≢ 0 → t.id ≢ 0 → place_of s.id < place_of t.id
+-- the section at the front is before the other; custom sections may occur anywhere
+abbrev pub ComesBefore : SectionValue → SectionValue → Type 0
+ComesBefore s t = s.id ≢ custom_id → t.id ≢ custom_id → section_position s.id < section_position t.id
 
--- a name, and anything behind it
+-- a name, and anything after it
 abbrev pub BeginsWithName : List ℕ → Type 0
 BeginsWithName bytes = (name text rest : List ℕ) × (bytes ≡ text ++ rest) × SpellsName text name
 
 -- a section has one of the ids of the format, and a custom section begins with a name
 pub record IsSection (s : SectionValue) : Type 0 where
-  pub known : s.id ≤ 12
-  pub named : s.id ≡ 0 → BeginsWithName s.content
+  pub known : s.id ≤ data_count_id
+  pub named : s.id ≡ custom_id → BeginsWithName s.content
 
--- the sections of a module: all but the custom ones stand in their order, so none of them stands twice
+-- the sections of a module: all but the custom ones are in their order, so none of them is twice
 pub record AreInOrder (sections : List SectionValue) : Type 0 where
   pub each : All IsSection sections
-  pub ordered : AllPairs StandsBefore sections
+  pub ordered : AllPairs ComesBefore sections
 
 -- the content of the first section with an id
 abbrev pub content_of : ℕ → List SectionValue → Option (List ℕ)

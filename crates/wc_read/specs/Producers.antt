@@ -2,7 +2,7 @@
 use Rattle.std.specs.Prelude.{◌≡◌, ℕ, List, [], ◌∷◌, ◌++◌, map, Bool, true, false, Option, Some, None}
 use Rattle.wc_read.specs.Formats.{Format, SpellsName, SpellsVector}
 use Rattle.wc_read.specs.Sections.{SectionValue}
-use Rattle.wc_read.specs.Custom.{CustomNamed}
+use Rattle.wc_read.specs.Custom.{IsCustomSection}
 use Rattle.wc_read.specs.Reading.{Read, ◌>>=◌, name_at, vector_at}
 use Rattle.wc_read.specs.declared.producers.Producer.{Producer}
 use Rattle.wc_read.specs.declared.producers.ProducersField.{ProducersField}
@@ -33,26 +33,26 @@ SpellsProducer bytes p = (name version : List ℕ) × (bytes ≡ name ++ version
 abbrev pub SpellsField : Format FieldValue
 SpellsField bytes f = (name producers : List ℕ) × (bytes ≡ name ++ producers) × SpellsName name f.name × SpellsVector SpellsProducer producers f.producers
 
--- the bytes behind the name of a producers section, all of them
+-- the bytes after the name of a producers section, all of them
 abbrev pub IsProducers : List ℕ → Type 0
 IsProducers bytes = (fields : List FieldValue) × SpellsVector SpellsField bytes fields
 
--- a section that reads as a producers section with these bytes behind its name
+-- a section that reads as a producers section with these bytes after its name
 abbrev pub ReadsProducers : SectionValue → List ℕ → Type 0
-ReadsProducers s bytes = CustomNamed producers_text s bytes × IsProducers bytes
+ReadsProducers s bytes = IsCustomSection producers_text s bytes × IsProducers bytes
 
 abbrev pub NoneReads : List SectionValue → Type 0
 NoneReads [] = Unit {0}
 NoneReads (s ∷ sections) = ((bytes : List ℕ) → ReadsProducers s bytes → ⊥) × NoneReads sections
 
--- a section that reads as a producers section, and none behind it
+-- a section that reads as a producers section, and none after it
 pub record ReadsLast (sections : List SectionValue) (bytes : List ℕ) : Type 0 where
   pub front : List SectionValue
   pub section : SectionValue
   pub back : List SectionValue
   pub cut : sections ≡ front ++ section ∷ back
   pub reads : ReadsProducers section bytes
-  pub none_behind : NoneReads back
+  pub none_after : NoneReads back
 
 -- the bytes of the last section that reads as a producers section
 abbrev pub LastProducers : List SectionValue → Option (List ℕ) → Type 0

@@ -31,7 +31,12 @@ abbrev pub Gives : {X A : Type 0} → (X → A) → Result X ReadFault → List 
 Gives view (Ok x) rest read = read ≡ Some (view x, rest)
 Gives view (Err e) rest read = (e ≢ memory_fault → read ≡ None) × (e ≢ component_fault)
 
--- what a reader found, or that nothing stands in front; only memory refuses
+-- the same of a reader that takes no memory: its fault is never Memory, so nothing can be read where it comes
+abbrev pub GivesWithoutMemory : {X A : Type 0} → (X → A) → Result X ReadFault → List ℕ → Option (A × List ℕ) → Type 0
+GivesWithoutMemory view (Ok x) rest read = read ≡ Some (view x, rest)
+GivesWithoutMemory view (Err e) rest read = (read ≡ None) × (e ≢ memory_fault) × (e ≢ component_fault)
+
+-- what a reader found, or that there is nothing at the front; only memory refuses
 abbrev pub Finds : {X A : Type 0} → (X → A) → Result (Option X) ReadFault → List ℕ → Option (A × List ℕ) → Type 0
 Finds view (Ok (Some x)) rest read = read ≡ Some (view x, rest)
 Finds view (Ok None) rest read = read ≡ None
@@ -77,9 +82,9 @@ items_at read (suc n) bytes = do
   others ← items_at read n first.1
   Some (first.0 ∷ others.0, others.1)
 
--- an item, as the last of those in front of it
-abbrev pub behind_at : {A : Type 0} → List A → Read A → Read (List A)
-behind_at front read bytes = read bytes >>= λ x. Some (front ++ (x.0 ∷ []), x.1)
+-- an item, as the last of those before it
+abbrev pub appended_at : {A : Type 0} → List A → Read A → Read (List A)
+appended_at front read bytes = read bytes >>= λ x. Some (front ++ (x.0 ∷ []), x.1)
 
 unfoldable pub vector_at : {A : Type 0} → Read A → Read (List A)
 vector_at read bytes = do
@@ -120,7 +125,7 @@ is_reference V128 = false
 -- limits
 
 abbrev pub flags_of : ℕ → Flags
-flags_of b = record { limited = not (bit_and b 1 == 0); shared = not (bit_and b 2 == 0); wide = not (bit_and b 4 == 0); sized = not (bit_and b 8 == 0) }
+flags_of b = record { has_maximum = not (bit_and b 1 == 0); shared = not (bit_and b 2 == 0); is_64 = not (bit_and b 4 == 0); has_page_size = not (bit_and b 8 == 0) }
 
 unfoldable pub flags_at : Read Flags
 flags_at bytes = do
@@ -128,40 +133,44 @@ flags_at bytes = do
   Some (flags_of b.0, b.1)
 
 -- whether a number is at most the one that there may be
-abbrev pub is_within : ℕ → Option ℕ → Bool
-is_within n None = true
-is_within n (Some most) = nat_le n most
+abbrev pub is_at_most : ℕ → Option ℕ → Bool
+is_at_most n None = true
+is_at_most n (Some limit) = nat_le n limit
 
 unfoldable pub bounds_at : Bool → Bool → Read (ℕ × Option ℕ)
-bounds_at wide limited bytes = do
-  initial ← number_at (bound_bits wide) bytes
-  maximum ← where_at (is_within initial.0) (optional_at limited (number_at (bound_bits wide))) initial.1
+bounds_at is_64 has_maximum bytes = do
+  initial ← number_at (bound_bits is_64) bytes
+  maximum ← where_at (is_at_most initial.0) (optional_at has_maximum (number_at (bound_bits is_64))) initial.1
   Some ((initial.0, maximum.0), maximum.1)
 
 unfoldable pub table_at : Read TableType
 table_at bytes = do
   element ← where_at is_reference val_type_at bytes
-  flags ← where_at (λ f. not (f.shared || f.sized)) flags_at element.1
-  bounds ← bounds_at flags.0.wide flags.0.limited flags.1
-  Some (record { element_type = element.0; table64 = flags.0.wide; initial = bounds.0.0; maximum = bounds.0.1 }, bounds.1)
+  flags ← where_at (λ f. not (f.shared || f.has_page_size)) flags_at element.1
+  bounds ← bounds_at flags.0.is_64 flags.0.has_maximum flags.1
+  Some (record { element_type = element.0; table64 = flags.0.is_64; initial = bounds.0.0; maximum = bounds.0.1 }, bounds.1)
 
 abbrev pub is_page_size : Option ℕ → Bool
 is_page_size None = true
 is_page_size (Some exponent) = exponent == 0 || exponent == 16
 
+-- the exponent of a page's bytes, where it is given
+abbrev pub exponent_at : Bool → Read (Option ℕ)
+exponent_at given bytes = where_at is_page_size (optional_at given (number_at 32)) bytes
+
 -- the pages that 32-bit addresses reach
-abbrev pub most_pages : Option ℕ → ℕ
-most_pages exponent = if unwrap_or exponent 16 == 0 then 4294967296 else 65536
+abbrev pub max_pages : Option ℕ → ℕ
+max_pages exponent = if unwrap_or exponent 16 == 0 then 4294967296 else 65536
 
 abbrev pub fits_addresses : MemoryType → Bool
-fits_addresses m = m.memory64 || (nat_le m.initial (most_pages m.page_size_log2) && option_map_or (λ most. nat_le most (most_pages m.page_size_log2)) m.maximum true)
+fits_addresses m = m.memory64 || (nat_le m.initial (max_pages m.page_size_log2) && option_map_or (λ limit. nat_le limit (max_pages m.page_size_log2)) m.maximum true)
 
 unfoldable pub memory_at : Read MemoryType
 memory_at bytes = do
-  flags ← where_at (λ f. not f.shared || f.limited) flags_at bytes
-  bounds ← bounds_at flags.0.wide flags.0.limited flags.1
-  exponent ← where_at is_page_size (optional_at flags.0.sized (number_at 32)) bounds.1
-  let m : MemoryType = record { memory64 = flags.0.wide; shared = flags.0.shared; initial = bounds.0.0; maximum = bounds.0.1; page_size_log2 = exponent.0 }
+  flags ← where_at (λ f. not f.shared || f.has_maximum) flags_at bytes
+  bounds ← bounds_at flags.0.is_64 flags.0.has_maximum flags.1
+  exponent ← where_at is_page_size (optional_at flags.0.has_page_size (number_at 32)) bounds.1
+  let m : MemoryType = record { memory64 = flags.0.is_64; shared = flags.0.shared; initial = bounds.0.0; maximum = bounds.0.1; page_size_log2 = exponent.0 }
   if fits_addresses m then Some (m, exponent.1) else None
 
 -- imports

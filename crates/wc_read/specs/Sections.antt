@@ -2,7 +2,6 @@
 use Rattle.std.specs.Prelude.{◌≡◌, ℕ, List, [], ◌∷◌, ◌++◌, map, length}
 use Rattle.wc_read.specs.Formats.{Format, SpellsNumber, SpellsItems}
 use Rattle.wc_read.specs.declared.sections.Section.{Section}
-use Rattle.wc_read.specs.declared.sections.Frames.{Frames}
 
 -- `\0asm`, version 1
 abbrev pub module_header : List ℕ
@@ -24,8 +23,49 @@ pub record SectionValue : Type 0 where
 abbrev pub section_value : Section → SectionValue
 section_value s = record { id = s.id; content = s.content.now }
 
-abbrev pub section_values : Frames → List SectionValue
-section_values f = map section_value f.sections.items
+abbrev pub section_values : List Section → List SectionValue
+section_values ss = map section_value ss
+
+-- the ids of sections (5.5.2)
+
+abbrev pub custom_id : ℕ
+custom_id = 0
+
+abbrev pub type_id : ℕ
+type_id = 1
+
+abbrev pub import_id : ℕ
+import_id = 2
+
+abbrev pub function_id : ℕ
+function_id = 3
+
+abbrev pub table_id : ℕ
+table_id = 4
+
+abbrev pub memory_id : ℕ
+memory_id = 5
+
+abbrev pub global_id : ℕ
+global_id = 6
+
+abbrev pub export_id : ℕ
+export_id = 7
+
+abbrev pub start_id : ℕ
+start_id = 8
+
+abbrev pub element_id : ℕ
+element_id = 9
+
+abbrev pub code_id : ℕ
+code_id = 10
+
+abbrev pub data_id : ℕ
+data_id = 11
+
+abbrev pub data_count_id : ℕ
+data_count_id = 12
 
 -- an id, the content's size, the content
 pub record SpellsSection (bytes : List ℕ) (s : SectionValue) : Type 0 where

@@ -14,7 +14,7 @@ FitsBits bits (negsuc m) = m < 2 ^ (bits - 1)
 
 -- a signed number of so many bits, the low seven first: a byte below 128 is the last one. It is at least 0 where that
 -- byte is below 64, and else it is the byte less 128; it fits the bits that are left, so unused bits of the byte are as
--- the sign. Any other byte has seven bits, and more are left behind it
+-- the sign. Any other byte has seven bits, and more are left after it
 pub data SpellsSigned : ℕ → List ℕ → ℤ → Type 0 where
   last_positive : {bits b : ℕ} → b < 64 → b < 2 ^ (bits - 1) → SpellsSigned bits (b ∷ []) (pos b)
   last_negative : {bits b : ℕ} → 64 ≤ b → b < 128 → 127 - b < 2 ^ (bits - 1) → SpellsSigned bits (b ∷ []) (negsuc (127 - b))

@@ -1,6 +1,6 @@
--- Index spaces: imported items in the order of their imports, and then the module's own (WebAssembly core
+-- Index spaces: imported items in the order of their imports, and then defined ones (WebAssembly core
 -- specification, 2.5.1).
-use Rattle.std.specs.Prelude.{ℕ, List, map, ⊤, Option, Some, None}
+use Rattle.std.specs.Prelude.{ℕ, List, ◌++◌, map, ⊤, Option, Some, None}
 use Rattle.std.specs.List.{filter_map, zip}
 use Rattle.std.specs.Option.{option_map}
 use Rattle.wc_read.specs.Imports.{ImportValue}
@@ -45,14 +45,26 @@ imported_item of i = option_map (λ t. record { ty = t; def = imported i.module_
 abbrev pub imported_items : {T C : Type 0} → (ImportType → Option T) → List ImportValue → List (ItemValue T C)
 imported_items of imports = filter_map (imported_item of) imports
 
--- an item of the module's own that has no content
+-- a defined item that has no content
 abbrev pub local_item : {T : Type 0} → T → ItemValue T ⊤
 local_item t = record { ty = t; def = local tt }
 
--- a global of the module's own
-abbrev pub own_global : LocalGlobalValue → GlobalValue
-own_global g = record { ty = g.ty; def = local g.init }
+-- a defined global
+abbrev pub defined_global : LocalGlobalValue → GlobalValue
+defined_global g = record { ty = g.ty; def = local g.init }
 
 -- one function for each type and body
 abbrev pub local_funcs : List ℕ → List (List ℕ) → List FuncValue
 local_funcs types bodies = map (λ f. record { ty = f.0; def = local f.1 }) (zip types bodies)
+
+-- the spaces: imported items, and then defined ones
+
+abbrev pub func_space : List ImportValue → List ℕ → List (List ℕ) → List FuncValue
+func_space imports types bodies = imported_items func_of imports ++ local_funcs types bodies
+
+-- of tables or memories
+abbrev pub declared_space : {T : Type 0} → (ImportType → Option T) → List ImportValue → List T → List (ItemValue T ⊤)
+declared_space of imports types = imported_items of imports ++ map local_item types
+
+abbrev pub global_space : List ImportValue → List LocalGlobalValue → List GlobalValue
+global_space imports globals = imported_items global_of imports ++ map defined_global globals

@@ -1,10 +1,10 @@
 //! Bodies of functions.
 
-ghost use Rattle.std.specs.Prelude.{◌≡◌, ◌≢◌, ◌^◌, ℕ, List, map, nat_lt, IfOk, IfErr};
+ghost use Rattle.std.specs.Prelude.{◌≡◌, ◌≢◌, ◌^◌, nat_lt, IfOk, IfErr};
 ghost use Rattle.wc_read.specs.Formats.{SpellsItems};
-ghost use Rattle.wc_read.specs.Reading.{Gives};
-ghost use Rattle.wc_read.specs.Operators.{InstrValue, SpellsInstr, instr_value};
-ghost use Rattle.wc_read.specs.Bodies.{BodyValue, body_value, local_count, locals_at, SpellsBody};
+ghost use Rattle.wc_read.specs.Faults.{IfRefused, SpellsNothing};
+ghost use Rattle.wc_read.specs.Operators.{SpellsInstr, instr_values};
+ghost use Rattle.wc_read.specs.Bodies.{body_value, local_count, locals_at, SpellsBody};
 ghost use Rattle.wc_read.specs.declared.bodies.Locals.{Locals as locals_run};
 
 use crate::fault::ReadFault;
@@ -46,15 +46,24 @@ impl<'a> Spelled<'a> for Locals {
 /// Reads a function's body (WebAssembly core specification, 5.5.13): runs of locals, and operators to the end
 /// of the bytes.
 ///
-/// Locals of 2^32 or more are `TooLarge`, a code that is no operator's `UnknownOperator`. Blocks nest, an
-/// `else` stands at most once in an `if` and nowhere else, and the body's end is its last byte; else
-/// `BadNesting`. Bytes that end in an item are `Truncated`. Indices, labels and types of operands are not checked.
-/// Where a growth is refused, the answer is `Memory`.
+/// Indices, labels and types of operands are not checked.
+///
+/// # Errors
+///
+/// - `Truncated`: the bytes end inside the locals or an operator.
+/// - `BadNumber`: a number does not fit its bits in LEB128, flags of a memory argument are 128 or more, or the index of
+///   the type of a block is negative.
+/// - `BadType`: a byte is no value type, or no reference type where one is needed.
+/// - `TooLarge`: there are 2^32 locals or more.
+/// - `UnknownOperator`: an opcode is not assigned, or the byte of a fence is not 0.
+/// - `BadNesting`: blocks do not nest, an `else` is not the only one of an `if`, or the last operator is not
+///   the `end` of the body.
+/// - `Memory`: an allocation failed.
 pub fn read_body(alloc: Global, slice: &[u8]) -> Result<Body<'_>, ReadFault>
     // What is read is spelled so, by all of the bytes.
     ensures found { IfOk result (λ b. SpellsBody slice.now (body_value b)) }
     // Unless memory runs out, what is spelled is read.
-    ensures refused { IfErr result (λ f. f ≢ ReadFault.Memory → (v : BodyValue) → ¬ (SpellsBody slice.now v)) }
+    ensures refused { IfRefused result (SpellsNothing SpellsBody slice.now) }
     ensures no_component { IfErr result (λ f. f ≢ ReadFault.Component) }
 {
     let mut reader = Reader::new(slice);
@@ -85,8 +94,8 @@ fn are_few(locals: &[Locals]) -> bool
 
 /// Operators to the end of the bytes.
 fn operators(alloc: Global, bytes: &[u8]) -> Result<Vec<Instr<'_>>, ReadFault>
-    ensures found { IfOk result (λ v. SpellsItems SpellsInstr bytes.now (map instr_value v.items)) }
-    ensures refused { IfErr result (λ f. f ≢ ReadFault.Memory → (v : List InstrValue) → ¬ (SpellsItems SpellsInstr bytes.now v)) }
+    ensures found { IfOk result (λ v. SpellsItems SpellsInstr bytes.now (instr_values v.items)) }
+    ensures refused { IfRefused result (SpellsNothing (SpellsItems SpellsInstr) bytes.now) }
     ensures no_component { IfErr result (λ f. f ≢ ReadFault.Component) }
 {
     let mut reader = Reader::new(bytes);

@@ -1,19 +1,23 @@
 //! The contents of sections.
 
 ghost use Rattle.std.specs.Prelude.{ℕ, List, map};
-ghost use Rattle.wc_read.specs.Reading.{Gives, number_at, vector_at, val_type_at, table_at, memory_at};
+ghost use Rattle.wc_read.specs.Reading.{Gives, GivesWithoutMemory, number_at, vector_at, val_type_at, table_at, memory_at};
 ghost use Rattle.wc_read.specs.Types.{FuncTypeValue, func_type_value};
-ghost use Rattle.wc_read.specs.ContentsReading.{Answers, whole_of, func_type_at, sized_at};
+ghost use Rattle.wc_read.specs.ContentsReading.{Answers, AnswersWithoutMemory, read_all, func_type_at, size_prefixed_at};
 
 use crate::fault::ReadFault;
 use crate::reader::{Reader, Spelled};
 use crate::types::{FuncType, MemoryType, TableType, ValType};
 use std::alloc::Global;
 
+/// The byte that a function type begins with (5.3.6).
+const FUNC_TYPE: u8 = 0x60;
+
 impl<'a> Reader<'a> {
-    #[tactic(auto, unfolding(crate::specs::ContentsReading::sized_at))]
-    fn sized(&mut self) -> Result<&'a [u8], ReadFault>
-        ensures { Gives (λ x. x.now) result self.new.rest.now (sized_at self.old.rest.now) }
+    #[tactic(auto, unfolding(crate::specs::ContentsReading::size_prefixed_at))]
+    fn size_prefixed(&mut self) -> Result<&'a [u8], ReadFault>
+        ensures { GivesWithoutMemory (λ x. x.now) result self.new.rest.now
+            (size_prefixed_at self.old.rest.now) }
     {
         let size = self.u32()?;
         self.bytes(size as usize)
@@ -21,9 +25,10 @@ impl<'a> Reader<'a> {
 
     #[tactic(auto, unfolding(crate::specs::ContentsReading::func_type_at))]
     fn func_type(&mut self, alloc: Global) -> Result<FuncType, ReadFault>
-        ensures { Gives (λ f. func_type_value f) result self.new.rest.now (func_type_at self.old.rest.now) }
+        ensures { Gives (λ f. func_type_value f) result self.new.rest.now
+            (func_type_at self.old.rest.now) }
     {
-        if self.byte()? != 0x60 {
+        if self.byte()? != FUNC_TYPE {
             return Err(ReadFault::BadType);
         }
         let params = self.val_types(alloc)?;
@@ -77,20 +82,20 @@ impl<'a> Spelled<'a> for &'a [u8] {
 
     ghost view = { λ b. b.now };
 
-    ghost read = { sized_at };
+    ghost read = { size_prefixed_at };
 
     fn read_from(_alloc: Global, reader: &mut Reader<'a>) -> Result<&'a [u8], ReadFault> {
-        reader.sized()
+        reader.size_prefixed()
     }
 }
 
 /// The items of a section that holds a vector, up to the end of its content.
-#[tactic(auto, unfolding(crate::specs::ContentsReading::whole_of))]
+#[tactic(auto, unfolding(crate::specs::ContentsReading::read_all))]
 pub fn items<'a, T: Spelled<'a> + Drop>(
     alloc: Global,
     content: &'a [u8],
 ) -> Result<Vec<T>, ReadFault>
-    ensures { Answers (λ v. map T.view v.items) result (whole_of (vector_at T.read) content.now) }
+    ensures { Answers (λ v. map T.view v.items) result (read_all (vector_at T.read) content.now) }
 {
     let mut reader = Reader::new(content);
     let items = reader.vector::<T>(alloc)?;
@@ -101,9 +106,9 @@ pub fn items<'a, T: Spelled<'a> + Drop>(
 }
 
 /// The function that a start section names (5.5.11).
-#[tactic(auto, unfolding(crate::specs::ContentsReading::whole_of))]
+#[tactic(auto, unfolding(crate::specs::ContentsReading::read_all))]
 pub fn start(content: &[u8]) -> Result<u32, ReadFault>
-    ensures { Answers (λ n. n) result (whole_of (number_at 32) content.now) }
+    ensures { AnswersWithoutMemory (λ n. n) result (read_all (number_at 32) content.now) }
 {
     let mut reader = Reader::new(content);
     let index = reader.u32()?;

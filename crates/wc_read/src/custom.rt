@@ -1,26 +1,26 @@
 //! Custom sections by their names.
 
 ghost use Rattle.std.specs.Prelude.{◌≡◌, IfOk, IfErr};
-ghost use Rattle.std.specs.Option.{option_map};
-ghost use Rattle.wc_read.specs.Custom.{BehindName};
+ghost use Rattle.wc_read.specs.Custom.{ContentAfterName, optional_bytes};
 ghost use Rattle.wc_read.specs.Sections.{section_value};
 
 use crate::fault::ReadFault;
 use crate::reader::Reader;
-use crate::sections::Section;
+use crate::sections::{CUSTOM_ID, Section};
 use std::alloc::Global;
 
-/// The bytes behind the name of a custom section with a given name (WebAssembly core specification, 5.5.3);
+/// The bytes after the name of a custom section with a given name (WebAssembly core specification, 5.5.3);
 /// None of any other section.
-pub fn behind_name<'a>(
+pub fn content_after_name<'a>(
     alloc: Global,
     section: &Section<'a>,
     name: &str,
 ) -> Result<Option<&'a [u8]>, ReadFault>
-    ensures found { IfOk result (λ rest. BehindName name.now (section_value section.now) (option_map (λ r. r.now) rest)) }
+    ensures found { IfOk result (λ r. ContentAfterName name.now (section_value section.now)
+        (optional_bytes r)) }
     ensures memory { IfErr result (λ e. e ≡ ReadFault.Memory) }
 {
-    if section.id != 0 {
+    if section.id != CUSTOM_ID {
         return Ok(None);
     }
     let mut reader = Reader::new(section.content);

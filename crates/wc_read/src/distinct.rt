@@ -2,6 +2,7 @@
 
 ghost use Rattle.std.specs.Prelude.{◌≡◌, ◌≢◌, ◌↔◌, map, IfOk, IfErr, IsTrue, AllPairs, nat_eq};
 ghost use Rattle.std.specs.HashSet as bag;
+ghost use Rattle.wc_read.specs.Exports.{export_names};
 ghost use Rattle.std.specs.Cmp.Lexicographic.{pointwise};
 
 use crate::exports::Export;
@@ -11,7 +12,8 @@ use std::collections::HashSet;
 
 /// Whether no two exports have one name (WebAssembly core specification, 3.4.10).
 pub fn have_distinct_names(alloc: Global, exports: &[Export]) -> Result<bool, ReadFault>
-    ensures distinct { IfOk result (λ b. IsTrue b ↔ AllPairs (λ x y. x ≢ y) (map (λ e. e.name.now) exports.now)) }
+    ensures distinct { IfOk result (λ b. IsTrue b ↔ AllPairs (λ x y. x ≢ y)
+        (export_names exports.now)) }
     ensures memory { IfErr result (λ e. e ≡ ReadFault.Memory) }
 {
     let names = names_of(alloc, exports)?;
@@ -19,7 +21,8 @@ pub fn have_distinct_names(alloc: Global, exports: &[Export]) -> Result<bool, Re
 }
 
 fn names_of<'a>(alloc: Global, exports: &[Export<'a>]) -> Result<HashSet<&'a str>, AllocError>
-    ensures { IfOk result (bag.IsFromIterResult (λ x y. pointwise nat_eq x.now y.now) (map (λ e. e.name) exports.now)) }
+    ensures { IfOk result (bag.IsFromIterResult
+        (λ x y. pointwise nat_eq x.now y.now) (map (λ e. e.name) exports.now)) }
 {
     exports.iter().map(|export| export.name).collect(alloc)
 }

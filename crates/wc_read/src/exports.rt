@@ -1,6 +1,6 @@
 //! Exports.
 
-ghost use Rattle.wc_read.specs.Reading.{Gives};
+ghost use Rattle.wc_read.specs.Reading.{GivesWithoutMemory};
 ghost use Rattle.wc_read.specs.Exports.{ExportValue, export_value};
 ghost use Rattle.wc_read.specs.ContentsReading.{export_kind_at, export_at};
 
@@ -28,7 +28,8 @@ pub struct Export<'a> {
 impl<'a> Reader<'a> {
     #[tactic(auto, unfolding(crate::specs::ContentsReading::export_kind_at))]
     fn export_kind(&mut self) -> Result<ExportKind, ReadFault>
-        ensures { Gives (λ x. x) result self.new.rest.now (export_kind_at self.old.rest.now) }
+        ensures { GivesWithoutMemory (λ x. x) result self.new.rest.now
+            (export_kind_at self.old.rest.now) }
     {
         match self.byte()? {
             0 => Ok(ExportKind::Func),
@@ -41,7 +42,8 @@ impl<'a> Reader<'a> {
 
     #[tactic(auto, unfolding(crate::specs::ContentsReading::export_at))]
     fn export(&mut self) -> Result<Export<'a>, ReadFault>
-        ensures { Gives (λ e. export_value e) result self.new.rest.now (export_at self.old.rest.now) }
+        ensures { GivesWithoutMemory (λ e. export_value e) result self.new.rest.now
+            (export_at self.old.rest.now) }
     {
         let name = self.name()?;
         let kind = self.export_kind()?;

@@ -9,7 +9,7 @@ use thiserror::Error;
 /// Why bytes were refused. All but `Memory` come only where the bytes spell nothing.
 #[derive(Clone, Copy, Debug, PartialEq, Eq, Error)]
 pub enum ReadFault {
-    /// A growth was refused.
+    /// An allocation failed.
     #[error("out of memory")]
     Memory,
     /// The bytes begin with the header neither of a module nor of a component.
@@ -28,7 +28,7 @@ pub enum ReadFault {
     /// A name is not UTF-8.
     #[error("BadName")]
     BadName,
-    /// A section stands behind one that it belongs before, or twice.
+    /// A section is after one that it belongs before, or twice.
     #[error("SectionOrder")]
     SectionOrder,
     /// A section holds more bytes than its items.
@@ -37,7 +37,7 @@ pub enum ReadFault {
     /// A section's id is none of the format.
     #[error("UnknownSection")]
     UnknownSection,
-    /// A byte stands for no type, for none that may stand there, or for no mutability or kind of item.
+    /// A byte stands for no type, for none that may occur there, or for no mutability or kind of item.
     #[error("BadType")]
     BadType,
     /// Flags, bounds or a page size that no table or memory may have.
@@ -49,7 +49,7 @@ pub enum ReadFault {
     /// Two exports have one name.
     #[error("DuplicateExport")]
     DuplicateExport,
-    /// An initialiser has an operator that is not constant, or bytes behind its end, or does not leave one value of
+    /// An initialiser has an operator that is not constant, or bytes after its end, or does not leave one value of
     /// its global's type.
     #[error("BadInitialiser")]
     BadInitialiser,

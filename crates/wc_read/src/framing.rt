@@ -1,23 +1,23 @@
 //! The header of a module, and its sections by their sizes.
 
-ghost use Rattle.std.specs.Prelude.{◌≡◌, ◌≢◌, ◌↔◌, ℕ, List, map, IfOk, IfErr, IsErrOf};
-ghost use Rattle.wc_read.specs.Reading.{Gives, section_at};
+ghost use Rattle.std.specs.Prelude.{◌≡◌, ◌≢◌, ◌↔◌, IfOk, IfErr, IsErrOf};
+ghost use Rattle.wc_read.specs.Reading.{GivesWithoutMemory, section_at};
 ghost use Rattle.wc_read.specs.Sections.{SectionValue, section_value, section_values, SpellsFrames, SpellsSection, IsComponent};
 ghost use Rattle.wc_read.specs.Formats.{SpellsItems};
+ghost use Rattle.wc_read.specs.Faults.{IfRefused, SpellsNothing};
 
 use crate::fault::ReadFault;
 use crate::reader::{Reader, Spelled};
-use crate::sections::{Frames, Section};
+use crate::sections::{Frames, MODULE_HEADER, Section};
 use std::alloc::Global;
 
-const MODULE: &[u8] = b"\0asm\x01\0\0\0";
-
-const COMPONENT: &[u8] = b"\0asm\x0d\0\x01\0";
+const COMPONENT_HEADER: &[u8] = b"\0asm\x0d\0\x01\0";
 
 impl<'a> Reader<'a> {
     #[tactic(auto, unfolding(crate::specs::Reading::section_at))]
     fn section(&mut self) -> Result<Section<'a>, ReadFault>
-        ensures { Gives (λ s. section_value s) result self.new.rest.now (section_at self.old.rest.now) }
+        ensures { GivesWithoutMemory (λ s. section_value s) result self.new.rest.now
+            (section_at self.old.rest.now) }
     {
         let id = self.byte()?;
         let size = self.u32()?;
@@ -41,19 +41,24 @@ impl<'a> Spelled<'a> for Section<'a> {
 /// Cuts a module into its sections (WebAssembly core specification, 5.5.16): the header, and then ids, sizes
 /// and contents to the end of the bytes. Nothing else is checked: ids may be any, in any order.
 ///
-/// A component's header is `Component`, any other beginning `NotWasm`. A size of too many bytes is `BadNumber`, a
-/// section that the bytes end in `Truncated`. Where a growth is refused, the answer is `Memory`.
+/// # Errors
+///
+/// - `Component`: the bytes begin with the header of a component.
+/// - `NotWasm`: the bytes begin with the header of neither a module nor a component.
+/// - `Truncated`: the bytes end inside a section.
+/// - `BadNumber`: the size of a section is not a u32 in LEB128.
+/// - `Memory`: an allocation failed.
 pub fn frames(alloc: Global, bytes: &[u8]) -> Result<Frames<'_>, ReadFault>
     // What is cut is spelled so, by all of the bytes.
-    ensures found { IfOk result (λ f. SpellsFrames bytes.now (section_values f)) }
+    ensures found { IfOk result (λ f. SpellsFrames bytes.now (section_values f.sections.items)) }
     // Unless memory runs out, what is spelled is cut.
-    ensures refused { IfErr result (λ f. f ≢ ReadFault.Memory → (v : List SectionValue) → ¬ (SpellsFrames bytes.now v)) }
+    ensures refused { IfRefused result (SpellsNothing SpellsFrames bytes.now) }
     ensures component { IsErrOf result ReadFault.Component ↔ IsComponent bytes.now }
 {
-    if bytes.starts_with(COMPONENT) {
+    if bytes.starts_with(COMPONENT_HEADER) {
         return Err(ReadFault::Component);
     }
-    let Some(rest) = bytes.strip_prefix(MODULE) else {
+    let Some(rest) = bytes.strip_prefix(MODULE_HEADER) else {
         return Err(ReadFault::NotWasm);
     };
     Ok(Frames {
@@ -62,8 +67,9 @@ pub fn frames(alloc: Global, bytes: &[u8]) -> Result<Frames<'_>, ReadFault>
 }
 
 fn sections(alloc: Global, bytes: &[u8]) -> Result<Vec<Section<'_>>, ReadFault>
-    ensures found { IfOk result (λ v. SpellsItems SpellsSection bytes.now (map section_value v.items)) }
-    ensures refused { IfErr result (λ f. f ≢ ReadFault.Memory → (v : List SectionValue) → ¬ (SpellsItems SpellsSection bytes.now v)) }
+    ensures found { IfOk result (λ v. SpellsItems SpellsSection bytes.now
+        (section_values v.items)) }
+    ensures refused { IfRefused result (SpellsNothing (SpellsItems SpellsSection) bytes.now) }
     ensures no_component { IfErr result (λ f. f ≢ ReadFault.Component) }
 {
     let mut reader = Reader::new(bytes);

@@ -1,9 +1,11 @@
 //! Import sections.
 
-ghost use Rattle.std.specs.Prelude.{◌≢◌, ℕ, List, IfOk, IfErr};
-ghost use Rattle.wc_read.specs.Reading.{Gives, import_type_at, import_at};
+ghost use Rattle.std.specs.Prelude.{◌≢◌, IfOk, IfErr};
+ghost use Rattle.wc_read.specs.Reading.{GivesWithoutMemory, import_type_at, import_at};
+ghost use Rattle.wc_read.specs.Faults.{IfRefused, SpellsNothing};
 ghost use Rattle.wc_read.specs.Imports.{ImportValue, import_value, import_values, SpellsImports};
 
+use crate::contents::items;
 use crate::fault::ReadFault;
 use crate::reader::{Reader, Spelled};
 use crate::types::{Import, ImportType};
@@ -12,7 +14,8 @@ use std::alloc::Global;
 impl<'a> Reader<'a> {
     #[tactic(auto, unfolding(crate::specs::Reading::import_type_at))]
     fn import_type(&mut self) -> Result<ImportType, ReadFault>
-        ensures { Gives (λ x. x) result self.new.rest.now (import_type_at self.old.rest.now) }
+        ensures { GivesWithoutMemory (λ x. x) result self.new.rest.now
+            (import_type_at self.old.rest.now) }
     {
         match self.byte()? {
             0 => Ok(ImportType::Func(self.u32()?)),
@@ -25,7 +28,8 @@ impl<'a> Reader<'a> {
 
     #[tactic(auto, unfolding(crate::specs::Reading::import_at))]
     fn import(&mut self) -> Result<Import<'a>, ReadFault>
-        ensures { Gives (λ i. import_value i) result self.new.rest.now (import_at self.old.rest.now) }
+        ensures { GivesWithoutMemory (λ i. import_value i) result self.new.rest.now
+            (import_at self.old.rest.now) }
     {
         let module = self.name()?;
         let name = self.name()?;
@@ -48,21 +52,24 @@ impl<'a> Spelled<'a> for Import<'a> {
 
 /// Reads the content of an import section (WebAssembly core specification, 5.5.5).
 ///
-/// Names are slices of the content. An index of a function's type is not checked, all else of an import
-/// is: flags, bounds, page sizes (`BadLimits`), kinds and types (`BadType`), names (`BadName`), numbers
-/// (`BadNumber`). Bytes that end in an import are `Truncated`, bytes behind the last one `SectionSize`. Where a
-/// growth is refused, the answer is `Memory`.
+/// Names are slices of the content. The index of a function's type is not checked, all else of an import is.
+///
+/// # Errors
+///
+/// - `Truncated`: the bytes end inside an import, or before the last one that is counted.
+/// - `BadNumber`: a count, a length, an index, a bound or an exponent does not fit its bits in LEB128.
+/// - `BadName`: a name is not UTF-8.
+/// - `BadType`: a byte is no kind of import, no value type, no mutability, or no reference type in a table.
+/// - `BadLimits`: flags that no table or memory has, a maximum below the minimum, a shared memory without a maximum,
+///   an exponent of a page size that is neither 0 nor 16, or pages past 2^32 bytes of a 32-bit memory.
+/// - `SectionSize`: bytes follow the last import.
+/// - `Memory`: an allocation failed.
 pub fn read_imports(alloc: Global, content: &[u8]) -> Result<Vec<Import<'_>>, ReadFault>
     // What is read is spelled so, by all of the bytes.
     ensures found { IfOk result (λ v. SpellsImports content.now (import_values v.items)) }
     // Unless memory runs out, what is spelled is read.
-    ensures refused { IfErr result (λ f. f ≢ ReadFault.Memory → (v : List ImportValue) → ¬ (SpellsImports content.now v)) }
+    ensures refused { IfRefused result (SpellsNothing SpellsImports content.now) }
     ensures no_component { IfErr result (λ f. f ≢ ReadFault.Component) }
 {
-    let mut reader = Reader::new(content);
-    let imports = reader.vector::<Import>(alloc)?;
-    if !reader.rest.is_empty() {
-        return Err(ReadFault::SectionSize);
-    }
-    Ok(imports)
+    items::<Import>(alloc, content)
 }

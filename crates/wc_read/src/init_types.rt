@@ -1,11 +1,11 @@
 //! What initialisers leave.
 
-ghost use Rattle.std.specs.Prelude.{◌≡◌, ◌≢◌, ◌↔◌, ◌<◌, ◌-◌, ◌^◌, map, IfOk, IfErr, IsTrue};
+ghost use Rattle.std.specs.Prelude.{◌≡◌, ◌↔◌, ◌<◌, ◌-◌, ◌^◌, IfOk, IfErr, IsTrue};
+ghost use Rattle.wc_read.specs.Faults.{IfRefused};
 ghost use Rattle.wc_read.specs.Reading.{Gives};
-ghost use Rattle.wc_read.specs.Types.{val_type_code};
-ghost use Rattle.wc_read.specs.Items.{global_value};
+ghost use Rattle.wc_read.specs.Items.{global_value, global_values};
 ghost use Rattle.wc_read.specs.Operators.{immediates_value, instr_value};
-ghost use Rattle.wc_read.specs.InitTypes.{types_of, scope_value, type_named, number_named, held_by, given_by, IsTyped, IsTypedDef, AreTyped, next_depth, step_of, step_at};
+ghost use Rattle.wc_read.specs.InitTypes.{types_of, scope_value, type_named, number_named, global_value_type, given_by, IsTyped, IsTypedGlobal, AreTyped, is_same, next_depth, step_of, step_at};
 
 use crate::fault::ReadFault;
 use crate::inits::{Constant, constant_of, is_end};
@@ -15,7 +15,7 @@ use crate::reader::Reader;
 use crate::types::ValType;
 use std::alloc::Global;
 
-/// What an initialiser may name: so many functions, and the globals in front of its own.
+/// What an initialiser may name: so many functions, and the globals before its own.
 #[derive(Drop)]
 struct Scope<'a> {
     functions: usize,
@@ -24,7 +24,7 @@ struct Scope<'a> {
 
 /// What an operator of an initialiser does.
 #[derive(Clone, Copy, Debug, PartialEq, Eq)]
-enum Step {
+enum InitStep {
     /// It ends it.
     End,
     /// It leaves so many values of the type.
@@ -34,7 +34,7 @@ enum Step {
 }
 
 /// Whether the initialiser of each local global leaves one value of the global's type (WebAssembly core
-/// specification, 3.3.10): constants, functions by an index below `functions`, immutable globals in front of its
+/// specification, 3.3.10): constants, functions by an index below `functions`, immutable globals before its
 /// own, and sums, differences and products of integers.
 ///
 /// The fault is `Memory` alone.
@@ -43,7 +43,7 @@ pub fn are_typed(
     functions: usize,
     globals: &[items::Global<'_>],
 ) -> Result<bool, ReadFault>
-    ensures found { IfOk result (λ b. IsTrue b ↔ AreTyped functions (map global_value globals.now)) }
+    ensures found { IfOk result (λ b. IsTrue b ↔ AreTyped functions (global_values globals.now)) }
     ensures refused { IfErr result (λ f. f ≡ ReadFault.Memory) }
 {
     for index in 0..globals.len() {
@@ -59,7 +59,8 @@ pub fn are_typed(
 }
 
 fn is_typed(alloc: Global, scope: &Scope<'_>, global: &items::Global<'_>) -> Result<bool, ReadFault>
-    ensures found { IfOk result (λ b. IsTrue b ↔ IsTypedDef (scope_value scope.now) (global_value global.now).ty.content_type (global_value global.now).def) }
+    ensures found { IfOk result (λ b.
+        IsTrue b ↔ IsTypedGlobal (scope_value scope.now) (global_value global.now)) }
     ensures refused { IfErr result (λ f. f ≡ ReadFault.Memory) }
 {
     match global.def {
@@ -77,15 +78,15 @@ fn is_typed(alloc: Global, scope: &Scope<'_>, global: &items::Global<'_>) -> Res
 /// Whether an initialiser leaves one value of a type. There is a byte at least to each operator.
 fn leaves_one(alloc: Global, scope: &Scope<'_>, ty: ValType, init: &[u8]) -> Result<bool, ReadFault>
     ensures found { IfOk result (λ b. IsTrue b ↔ IsTyped (scope_value scope.now) ty init.now) }
-    ensures refused { IfErr result (λ f. f ≢ ReadFault.Memory → ¬ (IsTyped (scope_value scope.now) ty init.now)) }
+    ensures refused { IfRefused result (¬ (IsTyped (scope_value scope.now) ty init.now)) }
 {
     let mut reader = Reader::new(init);
     let mut depth = 0;
     for _ in 0..init.len() {
         match next_step(&mut reader, alloc, scope, ty, depth)? {
-            Step::End => return Ok(depth == 1 && reader.rest.is_empty()),
-            Step::Leaves(next) => depth = next,
-            Step::Fails => return Ok(false),
+            InitStep::End => return Ok(depth == 1 && reader.rest.is_empty()),
+            InitStep::Leaves(next) => depth = next,
+            InitStep::Fails => return Ok(false),
         }
     }
     Ok(false)
@@ -99,28 +100,29 @@ fn next_step(
     scope: &Scope<'_>,
     ty: ValType,
     depth: usize,
-) -> Result<Step, ReadFault>
+) -> Result<InitStep, ReadFault>
     requires { depth < 2 ^ 64 - 1 }
-    ensures { Gives (λ s. s) result reader.new.rest.now (step_at (scope_value scope.now) ty depth reader.old.rest.now) }
+    ensures { Gives (λ s. s) result reader.new.rest.now
+        (step_at (scope_value scope.now) ty depth reader.old.rest.now) }
 {
     let operator = reader.operator(alloc)?;
     Ok(step_of(scope, ty, depth, &operator))
 }
 
-fn step_of(scope: &Scope<'_>, ty: ValType, depth: usize, operator: &Instr<'_>) -> Step
+fn step_of(scope: &Scope<'_>, ty: ValType, depth: usize, operator: &Instr<'_>) -> InitStep
     requires { depth < 2 ^ 64 - 1 }
     ensures { result ≡ step_of (scope_value scope.now) ty depth (instr_value operator.now) }
 {
     if is_end(operator.opcode) {
-        return Step::End;
+        return InitStep::End;
     }
     match next_depth(scope, ty, depth, operator) {
-        Some(next) => Step::Leaves(next),
-        None => Step::Fails,
+        Some(next) => InitStep::Leaves(next),
+        None => InitStep::Fails,
     }
 }
 
-/// How many values of a type there are behind an operator.
+/// How many values of a type there are after an operator.
 #[tactic(auto, unfolding(crate::specs::InitTypes::next_depth))]
 fn next_depth(scope: &Scope<'_>, ty: ValType, depth: usize, operator: &Instr<'_>) -> Option<usize>
     requires { depth < 2 ^ 64 - 1 }
@@ -128,13 +130,13 @@ fn next_depth(scope: &Scope<'_>, ty: ValType, depth: usize, operator: &Instr<'_>
 {
     let constant = constant_of(operator.opcode)?;
     if let Constant::Integer(of) = constant {
-        if code(of) == code(ty) && depth >= 2 {
+        if is_same(of, ty) && depth >= 2 {
             return Some(depth - 1);
         }
         return None;
     }
     let given = given_by(scope, &operator.immediates, constant)?;
-    if code(given) == code(ty) {
+    if is_same(given, ty) {
         Some(depth + 1)
     } else {
         None
@@ -158,15 +160,15 @@ fn given_by(scope: &Scope<'_>, immediates: &Immediates<'_>, constant: Constant) 
         }
         Constant::Global => {
             let index = number_named(immediates)?;
-            held_by(scope.globals, index)
+            global_value_type(scope.globals, index)
         }
         Constant::Integer(_) => None,
     }
 }
 
 /// The type of what an immutable global holds.
-fn held_by(globals: &[items::Global<'_>], index: u32) -> Option<ValType>
-    ensures { result ≡ held_by (types_of (map global_value globals.now)) index }
+fn global_value_type(globals: &[items::Global<'_>], index: u32) -> Option<ValType>
+    ensures { result ≡ global_value_type (types_of (global_values globals.now)) index }
 {
     let global = globals.get(index as usize)?;
     if global.ty.mutable {
@@ -194,17 +196,8 @@ fn number_named(immediates: &Immediates<'_>) -> Option<u32>
     }
 }
 
-/// The byte of a type.
-fn code(ty: ValType) -> u8
-    ensures { result ≡ val_type_code ty }
+fn is_same(a: ValType, b: ValType) -> bool
+    ensures { result ≡ is_same a b }
 {
-    match ty {
-        ValType::I32 => 0x7f,
-        ValType::I64 => 0x7e,
-        ValType::F32 => 0x7d,
-        ValType::F64 => 0x7c,
-        ValType::V128 => 0x7b,
-        ValType::FuncRef => 0x70,
-        ValType::ExternRef => 0x6f,
-    }
+    a == b
 }

@@ -1,12 +1,13 @@
 //! Initialisers of globals.
 
-ghost use Rattle.std.specs.Prelude.{◌≡◌, ◌≢◌, List, map, IfOk, IfErr};
+ghost use Rattle.std.specs.Prelude.{◌≡◌, ◌≢◌, IfOk, IfErr};
+ghost use Rattle.wc_read.specs.Faults.{IfRefused, SpellsNothing};
 ghost use Rattle.wc_read.specs.Reading.{Gives};
-ghost use Rattle.wc_read.specs.Operators.{InstrValue, instr_value};
+ghost use Rattle.wc_read.specs.Operators.{instr_value, instr_values};
 ghost use Rattle.wc_read.specs.Inits.{constant_byte, constant_of, is_constant, is_end, init_value, SpellsInit, init_instr_at, init_end_at, init_at, init_bytes_at};
 
 use crate::fault::ReadFault;
-use crate::operators::{Instr, Opcode};
+use crate::operators::{END, Instr, Opcode};
 use crate::reader::Reader;
 use crate::types::ValType;
 use std::alloc::Global;
@@ -35,14 +36,20 @@ pub enum Constant {
 /// Reads an initialiser (WebAssembly core specification, 3.3.10 and 5.4.9): constant operators, and their end as
 /// the last byte. What they leave is not checked.
 ///
-/// An operator that is not constant is `BadInitialiser`, a code that is no operator's `UnknownOperator`. Bytes
-/// that end in front of the end are `Truncated`, bytes behind it `BadInitialiser`. Where a growth is refused, the
-/// answer is `Memory`.
+/// # Errors
+///
+/// - `Truncated`: the bytes end before the `end` of the initialiser.
+/// - `BadNumber`: a number does not fit its bits in LEB128, or an operator that is not constant has immediates that are
+///   `BadNumber` in a body.
+/// - `BadType`: a byte of an immediate is no value type, or no reference type where one is needed.
+/// - `UnknownOperator`: an opcode is not assigned, or the byte of a fence is not 0.
+/// - `BadInitialiser`: an operator is not constant, or bytes follow the `end`.
+/// - `Memory`: an allocation failed.
 pub fn read_init(alloc: Global, slice: &[u8]) -> Result<Init<'_>, ReadFault>
     // What is read is spelled so, by all of the bytes.
     ensures found { IfOk result (λ i. SpellsInit slice.now (init_value i)) }
     // Unless memory runs out, what is spelled is read.
-    ensures refused { IfErr result (λ f. f ≢ ReadFault.Memory → (v : List InstrValue) → ¬ (SpellsInit slice.now v)) }
+    ensures refused { IfRefused result (SpellsNothing SpellsInit slice.now) }
     ensures no_component { IfErr result (λ f. f ≢ ReadFault.Component) }
 {
     let mut reader = Reader::new(slice);
@@ -58,10 +65,10 @@ impl<'a> Reader<'a> {
     pub fn init(&mut self, alloc: Global) -> Result<&'a [u8], ReadFault>
         ensures { Gives (λ b. b.now) result self.new.rest.now (init_bytes_at self.old.rest.now) }
     {
-        let whole = self.rest;
+        let input = self.rest;
         loop {
             if self.init_end(alloc)? {
-                let (init, _) = whole.split_at(whole.len() - self.rest.len());
+                let (init, _) = input.split_at(input.len() - self.rest.len());
                 return Ok(init);
             }
         }
@@ -78,7 +85,8 @@ impl<'a> Reader<'a> {
 
     /// The operators of an initialiser.
     fn init_operators(&mut self, alloc: Global) -> Result<Vec<Instr<'a>>, ReadFault>
-        ensures { Gives (λ v. map instr_value v.items) result self.new.rest.now (init_at self.old.rest.now) }
+        ensures { Gives (λ v. instr_values v.items) result self.new.rest.now
+            (init_at self.old.rest.now) }
     {
         let mut operators = Vec::new(alloc);
         loop {
@@ -93,7 +101,8 @@ impl<'a> Reader<'a> {
 
     #[tactic(auto, unfolding(crate::specs::Inits::init_instr_at))]
     fn init_operator(&mut self, alloc: Global) -> Result<Instr<'a>, ReadFault>
-        ensures { Gives (λ i. instr_value i) result self.new.rest.now (init_instr_at self.old.rest.now) }
+        ensures { Gives (λ i. instr_value i) result self.new.rest.now
+            (init_instr_at self.old.rest.now) }
     {
         let operator = self.operator(alloc)?;
         if is_end(operator.opcode) || is_constant(operator.opcode) {
@@ -107,7 +116,7 @@ impl<'a> Reader<'a> {
 pub fn is_end(opcode: Opcode) -> bool
     ensures { result ≡ is_end opcode }
 {
-    matches!(opcode, Opcode::Byte(0x0b))
+    matches!(opcode, Opcode::Byte(END))
 }
 
 fn is_constant(opcode: Opcode) -> bool
@@ -122,6 +131,7 @@ pub fn constant_of(opcode: Opcode) -> Option<Constant>
 {
     match opcode {
         Opcode::Byte(code) => constant_byte(code),
+        // v128.const
         Opcode::Vector(12) => Some(Constant::Value(ValType::V128)),
         _ => None,
     }
@@ -132,14 +142,23 @@ fn constant_byte(code: u8) -> Option<Constant>
     ensures { result ≡ constant_byte code }
 {
     match code {
+        // i32.const
         0x41 => Some(Constant::Value(ValType::I32)),
+        // i64.const
         0x42 => Some(Constant::Value(ValType::I64)),
+        // f32.const
         0x43 => Some(Constant::Value(ValType::F32)),
+        // f64.const
         0x44 => Some(Constant::Value(ValType::F64)),
+        // ref.null
         0xd0 => Some(Constant::Null),
+        // ref.func
         0xd2 => Some(Constant::Func),
+        // global.get
         0x23 => Some(Constant::Global),
+        // i32.add, i32.sub, i32.mul
         0x6a..=0x6c => Some(Constant::Integer(ValType::I32)),
+        // i64.add, i64.sub, i64.mul
         0x7c..=0x7e => Some(Constant::Integer(ValType::I64)),
         _ => None,
     }

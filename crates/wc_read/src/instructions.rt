@@ -1,10 +1,10 @@
 //! The reading of operators.
 
-ghost use Rattle.std.specs.Prelude.{◌≡◌, ℕ, ℤ, [], ◌∷◌, ◌++◌, map, IfOk, IfErr};
-ghost use Rattle.wc_read.specs.Reading.{Gives, behind_at, number_at, val_type_at, vector_at};
+ghost use Rattle.std.specs.Prelude.{◌≡◌, ℕ, ℤ, [], ◌∷◌, ◌++◌, IfOk, IfErr};
+ghost use Rattle.wc_read.specs.Reading.{Gives, GivesWithoutMemory, appended_at, number_at, val_type_at, vector_at};
 ghost use Rattle.wc_read.specs.Signed.{signed_at};
-ghost use Rattle.wc_read.specs.Operators.{immediates_value, instr_value};
-ghost use Rattle.wc_read.specs.Instructions.{block_type_at, immediates_at, instr_at, instr_behind, instr_of, mem_arg_at, opcode_at, ref_type_at};
+ghost use Rattle.wc_read.specs.Operators.{immediates_value, instr_value, instr_values};
+ghost use Rattle.wc_read.specs.Instructions.{block_type_at, immediates_at, instr_at, instr_after, instr_of, mem_arg_at, opcode_at, ref_type_at};
 ghost use Rattle.wc_read.specs.declared.types.ValType.{ValType as val_type};
 
 use crate::fault::ReadFault;
@@ -12,6 +12,9 @@ use crate::operators::{BlockType, Form, Immediates, Index, Instr, MemArg, Opcode
 use crate::reader::{Reader, Spelled};
 use crate::types::ValType;
 use std::alloc::Global;
+
+/// The byte of a block's type without a result (5.4.1).
+const EMPTY_BLOCK: u8 = 0x40;
 
 impl<'a> Spelled<'a> for u32 {
     ghost Value = { ℕ };
@@ -38,7 +41,7 @@ impl<'a> Spelled<'a> for ValType {
 }
 
 impl<'a> Reader<'a> {
-    /// An operator, behind those that were read. The shapes that most operators have are put one by one: one that
+    /// An operator, after those that were read. The shapes that most operators have are put one by one: one that
     /// all of them join in is built part by part.
     #[tactic(auto, unfolding(crate::specs::Instructions::instr_at, crate::specs::Instructions::immediates_at))]
     pub fn push_operator(
@@ -46,7 +49,8 @@ impl<'a> Reader<'a> {
         alloc: Global,
         operators: &mut Vec<Instr<'a>>,
     ) -> Result<(), ReadFault>
-        ensures { Gives (λ _. map instr_value operators.new.items) result self.new.rest.now (behind_at (map instr_value operators.old.items) instr_at self.old.rest.now) }
+        ensures { Gives (λ _. instr_values operators.new.items) result self.new.rest.now
+            (appended_at (instr_values operators.old.items) instr_at self.old.rest.now) }
     {
         let opcode = self.opcode()?;
         let Some(form) = form_of(opcode) else {
@@ -74,7 +78,9 @@ impl<'a> Reader<'a> {
         opcode: Opcode,
         form: Form,
     ) -> Result<(), ReadFault>
-        ensures { Gives (λ _. map instr_value operators.new.items) result self.new.rest.now (behind_at (map instr_value operators.old.items) (instr_behind opcode form) self.old.rest.now) }
+        ensures { Gives (λ _. instr_values operators.new.items) result self.new.rest.now
+            (appended_at (instr_values operators.old.items) (instr_after opcode form)
+            self.old.rest.now) }
     {
         put(operators, opcode, self.immediates(alloc, form)?)
     }
@@ -95,11 +101,15 @@ impl<'a> Reader<'a> {
     #[inline(always)]
     #[tactic(auto, unfolding(crate::specs::Instructions::opcode_at))]
     fn opcode(&mut self) -> Result<Opcode, ReadFault>
-        ensures { Gives (λ x. x) result self.new.rest.now (opcode_at self.old.rest.now) }
+        ensures { GivesWithoutMemory (λ x. x) result self.new.rest.now
+            (opcode_at self.old.rest.now) }
     {
         match self.byte()? {
+            // memory.init and the like
             0xfc => Ok(Opcode::Misc(self.u32()?)),
+            // v128.load and the like
             0xfd => Ok(Opcode::Vector(self.u32()?)),
+            // memory.atomic.notify and the like
             0xfe => Ok(Opcode::Atomic(self.u32()?)),
             code => Ok(Opcode::Byte(code)),
         }
@@ -107,7 +117,8 @@ impl<'a> Reader<'a> {
 
     #[tactic(auto, unfolding(crate::specs::Instructions::immediates_at))]
     fn immediates(&mut self, alloc: Global, form: Form) -> Result<Immediates<'a>, ReadFault>
-        ensures { Gives (λ x. immediates_value x) result self.new.rest.now (immediates_at form self.old.rest.now) }
+        ensures { Gives (λ x. immediates_value x) result self.new.rest.now
+            (immediates_at form self.old.rest.now) }
     {
         match form {
             Form::None => Ok(Immediates::None),
@@ -142,6 +153,7 @@ impl<'a> Reader<'a> {
             Form::I64 => Ok(Immediates::I64(self.signed(64)?)),
             Form::Bytes(count) => Ok(Immediates::Bytes(self.bytes(count)?)),
             Form::Lane => Ok(Immediates::Lane(self.byte()?)),
+            // atomic.fence
             Form::Zero => match self.byte()? {
                 0 => Ok(Immediates::None),
                 _ => Err(ReadFault::UnknownOperator),
@@ -150,27 +162,31 @@ impl<'a> Reader<'a> {
     }
 
     fn labels(&mut self, alloc: Global) -> Result<Vec<u32>, ReadFault>
-        ensures { Gives (λ v. v.items) result self.new.rest.now (vector_at (number_at 32) self.old.rest.now) }
+        ensures { Gives (λ v. v.items) result self.new.rest.now
+            (vector_at (number_at 32) self.old.rest.now) }
     {
         self.vector::<u32>(alloc)
     }
 
     pub fn val_types(&mut self, alloc: Global) -> Result<Vec<ValType>, ReadFault>
-        ensures { Gives (λ v. v.items) result self.new.rest.now (vector_at val_type_at self.old.rest.now) }
+        ensures { Gives (λ v. v.items) result self.new.rest.now
+            (vector_at val_type_at self.old.rest.now) }
     {
         self.vector::<ValType>(alloc)
     }
 
     #[inline(always)]
     fn i32(&mut self) -> Result<i32, ReadFault>
-        ensures { Gives (λ x. x) result self.new.rest.now (signed_at 32 self.old.rest.now) }
+        ensures { GivesWithoutMemory (λ x. x) result self.new.rest.now
+            (signed_at 32 self.old.rest.now) }
     {
         let number = self.signed(32)?;
         Ok(number as i32)
     }
 
     fn ref_type(&mut self) -> Result<ValType, ReadFault>
-        ensures { Gives (λ x. x) result self.new.rest.now (ref_type_at self.old.rest.now) }
+        ensures { GivesWithoutMemory (λ x. x) result self.new.rest.now
+            (ref_type_at self.old.rest.now) }
     {
         let ty = self.val_type()?;
         if matches!(ty, ValType::FuncRef | ValType::ExternRef) {
@@ -182,14 +198,15 @@ impl<'a> Reader<'a> {
 
     #[tactic(auto, unfolding(crate::specs::Instructions::block_type_at))]
     fn block_type(&mut self) -> Result<BlockType, ReadFault>
-        ensures { Gives (λ x. x) result self.new.rest.now (block_type_at self.old.rest.now) }
+        ensures { GivesWithoutMemory (λ x. x) result self.new.rest.now
+            (block_type_at self.old.rest.now) }
     {
         let first = Reader::new(self.rest).byte()?;
-        if first == 0x40 {
+        if first == EMPTY_BLOCK {
             self.byte()?;
             return Ok(BlockType::Empty);
         }
-        if 0x40 < first && first < 0x80 {
+        if EMPTY_BLOCK < first && first < 0x80 {
             return Ok(BlockType::Value(self.val_type()?));
         }
         let index = self.signed(33)?;
@@ -202,7 +219,8 @@ impl<'a> Reader<'a> {
     #[inline(always)]
     #[tactic(auto, unfolding(crate::specs::Instructions::mem_arg_at))]
     fn mem_arg(&mut self) -> Result<MemArg, ReadFault>
-        ensures { Gives (λ x. x) result self.new.rest.now (mem_arg_at self.old.rest.now) }
+        ensures { GivesWithoutMemory (λ x. x) result self.new.rest.now
+            (mem_arg_at self.old.rest.now) }
     {
         let flags = self.u32()?;
         if flags >= 128 {
@@ -218,14 +236,16 @@ impl<'a> Reader<'a> {
     }
 }
 
-/// Puts an operator behind others.
+/// Puts an operator after others.
 #[inline(always)]
 fn put<'a>(
     operators: &mut Vec<Instr<'a>>,
     opcode: Opcode,
     immediates: Immediates<'a>,
 ) -> Result<(), ReadFault>
-    ensures found { IfOk result (λ _. map instr_value operators.new.items ≡ map instr_value operators.old.items ++ (instr_of opcode (immediates_value immediates.entry) ∷ [])) }
+    ensures found { IfOk result (λ _. instr_values operators.new.items ≡ instr_values
+        operators.old.items
+        ++ (instr_of opcode (immediates_value immediates.entry) ∷ [])) }
     ensures refused { IfErr result (λ f. f ≡ ReadFault.Memory) }
 {
     operators.push(Instr { opcode, immediates })?;

@@ -1,59 +1,190 @@
 //! Laws of the formats: bytes spell one value at most, and no spelling begins another.
+//!
+//! Where no spelling begins another, bytes spell one value at most.
 
-ghost use Rattle.wc_read.specs.Laws.{NumbersAreOne, ImportsAreOne, FramesAreOne, NumberBeginsNoOther, ImportBeginsNoOther, SectionBeginsNoOther, BodiesAreOne, OperatorBeginsNoOther, InitialisersAreOne, InitialiserBeginsNoOther, ModulesAreOne};
+ghost use Rattle.std.specs.Prelude.{ℕ};
+ghost use Rattle.wc_read.specs.Formats.{SpellsNumber, SpellsItems, SpellsVector, SpellsName};
+ghost use Rattle.wc_read.specs.Signed.{SpellsSigned};
+ghost use Rattle.wc_read.specs.Types.{SpellsValType, SpellsGlobal};
+ghost use Rattle.wc_read.specs.Limits.{SpellsTable, SpellsMemory};
+ghost use Rattle.wc_read.specs.Imports.{SpellsImport, SpellsImports, SpellsImportType};
+ghost use Rattle.wc_read.specs.Contents.{SpellsFuncTypes, SpellsIndices, SpellsTables, SpellsMemories, SpellsBodies, SpellsFuncType, SpellsSizePrefixed};
+ghost use Rattle.wc_read.specs.Globals.{SpellsLocalGlobal};
+ghost use Rattle.wc_read.specs.Exports.{SpellsExports, SpellsExport};
+ghost use Rattle.wc_read.specs.Operators.{SpellsInstr, SpellsImmediates, SpellsOpcode, SpellsBlockType, SpellsMemArg};
+ghost use Rattle.wc_read.specs.Bodies.{SpellsBody, SpellsLocals};
+ghost use Rattle.wc_read.specs.Inits.{SpellsInit};
+ghost use Rattle.wc_read.specs.Sections.{SpellsSection, SpellsFrames};
+ghost use Rattle.wc_read.specs.Names.{SpellsGlobalName};
+ghost use Rattle.wc_read.specs.Producers.{SpellsField};
+ghost use Rattle.wc_read.specs.Modules.{SpellsModule};
+ghost use Rattle.wc_read.specs.Laws.{HasOneValue, IsPrefixFree};
+ghost use Rattle.wc_read.specs.declared.operators.Form.{Form};
 
 /// No bytes spell two numbers of one width.
-pub fn numbers_are_one()
-    ensures { NumbersAreOne }
+pub fn numbers_unique()
+    ensures { (bits : ℕ) → HasOneValue (SpellsNumber bits) }
 {}
 
-/// No bytes spell two lists of imports.
-pub fn imports_are_one()
-    ensures { ImportsAreOne }
+/// No spelling of a number begins another: where two are before the same bytes, they are one
+/// number, and the same is left.
+pub fn number_prefix_free()
+    ensures { (bits : ℕ) → IsPrefixFree (SpellsNumber bits) }
 {}
 
-/// No bytes are cut into sections in two ways.
-pub fn frames_are_one()
-    ensures { FramesAreOne }
+/// No spelling of a signed number begins another.
+pub fn signed_number_prefix_free()
+    ensures { (bits : ℕ) → IsPrefixFree (SpellsSigned bits) }
 {}
 
-/// No spelling of a number begins another: where two stand in front of the same bytes, they are one number,
-/// and the same is left.
-pub fn number_begins_no_other()
-    ensures { NumberBeginsNoOther }
+/// No spelling of a name begins another.
+pub fn name_prefix_free()
+    ensures { IsPrefixFree SpellsName }
+{}
+
+/// No spelling of a value type begins another.
+pub fn value_type_prefix_free()
+    ensures { IsPrefixFree SpellsValType }
+{}
+
+/// No spelling of a global type begins another.
+pub fn global_type_prefix_free()
+    ensures { IsPrefixFree SpellsGlobal }
+{}
+
+/// No spelling of a table type begins another.
+pub fn table_type_prefix_free()
+    ensures { IsPrefixFree SpellsTable }
+{}
+
+/// No spelling of a memory type begins another.
+pub fn memory_type_prefix_free()
+    ensures { IsPrefixFree SpellsMemory }
+{}
+
+/// No spelling of a function type begins another.
+pub fn function_type_prefix_free()
+    ensures { IsPrefixFree SpellsFuncType }
+{}
+
+/// No spelling of what is imported begins another.
+pub fn import_type_prefix_free()
+    ensures { IsPrefixFree SpellsImportType }
 {}
 
 /// No spelling of an import begins another.
-pub fn import_begins_no_other()
-    ensures { ImportBeginsNoOther }
+pub fn import_prefix_free()
+    ensures { IsPrefixFree SpellsImport }
 {}
 
-/// No spelling of a section begins another.
-pub fn section_begins_no_other()
-    ensures { SectionBeginsNoOther }
+/// No bytes spell two lists of imports.
+pub fn imports_unique()
+    ensures { HasOneValue SpellsImports }
 {}
 
-/// No bytes spell two bodies.
-pub fn bodies_are_one()
-    ensures { BodiesAreOne }
+/// No spelling of a global of a global section begins another.
+pub fn global_prefix_free()
+    ensures { IsPrefixFree SpellsLocalGlobal }
+{}
+
+/// No spelling of an export begins another.
+pub fn export_prefix_free()
+    ensures { IsPrefixFree SpellsExport }
+{}
+
+/// No spelling of bytes after their size, as of a body in a code section, begins another.
+pub fn size_prefixed_prefix_free()
+    ensures { IsPrefixFree SpellsSizePrefixed }
+{}
+
+/// No spelling of a run of locals begins another.
+pub fn locals_prefix_free()
+    ensures { IsPrefixFree SpellsLocals }
+{}
+
+/// No spelling of an operator's code begins another.
+pub fn opcode_prefix_free()
+    ensures { IsPrefixFree SpellsOpcode }
+{}
+
+/// No spelling of a block's type begins another.
+pub fn block_type_prefix_free()
+    ensures { IsPrefixFree SpellsBlockType }
+{}
+
+/// No spelling of a memory argument begins another.
+pub fn memory_argument_prefix_free()
+    ensures { IsPrefixFree SpellsMemArg }
+{}
+
+/// No spelling of immediates of one shape begins another.
+pub fn immediates_prefix_free()
+    ensures { (form : Form) → IsPrefixFree (SpellsImmediates form) }
 {}
 
 /// No spelling of an operator begins another.
-pub fn operator_begins_no_other()
-    ensures { OperatorBeginsNoOther }
+pub fn operator_prefix_free()
+    ensures { IsPrefixFree SpellsInstr }
 {}
 
-/// No bytes spell two initialisers.
-pub fn initialisers_are_one()
-    ensures { InitialisersAreOne }
+/// No bytes spell two bodies.
+pub fn bodies_unique()
+    ensures { HasOneValue SpellsBody }
 {}
 
 /// No spelling of an initialiser begins another.
-pub fn initialiser_begins_no_other()
-    ensures { InitialiserBeginsNoOther }
+pub fn initialiser_prefix_free()
+    ensures { IsPrefixFree SpellsInit }
+{}
+
+/// No bytes spell two initialisers.
+pub fn initialisers_unique()
+    ensures { HasOneValue SpellsInit }
+{}
+
+/// No spelling of a section begins another.
+pub fn section_prefix_free()
+    ensures { IsPrefixFree SpellsSection }
+{}
+
+/// No bytes are cut into sections in two ways.
+pub fn frames_unique()
+    ensures { HasOneValue SpellsFrames }
+{}
+
+/// No spelling of a pair of a name section, an index and a name, begins another.
+pub fn global_name_prefix_free()
+    ensures { IsPrefixFree SpellsGlobalName }
+{}
+
+/// No spelling of a field of a producers section begins another.
+pub fn producers_field_prefix_free()
+    ensures { IsPrefixFree SpellsField }
+{}
+
+/// No spelling of a vector begins another, whatever its items are.
+pub fn vectors_prefix_free()
+    ensures value_types { IsPrefixFree (SpellsVector SpellsValType) }
+    ensures indices { IsPrefixFree SpellsIndices }
+    ensures function_types { IsPrefixFree SpellsFuncTypes }
+    ensures imports { IsPrefixFree SpellsImports }
+    ensures tables { IsPrefixFree SpellsTables }
+    ensures memories { IsPrefixFree SpellsMemories }
+    ensures globals { IsPrefixFree (SpellsVector SpellsLocalGlobal) }
+    ensures exports { IsPrefixFree SpellsExports }
+    ensures bodies { IsPrefixFree SpellsBodies }
+    ensures locals { IsPrefixFree (SpellsVector SpellsLocals) }
+    ensures global_names { IsPrefixFree (SpellsVector SpellsGlobalName) }
+    ensures producers { IsPrefixFree (SpellsVector SpellsField) }
+{}
+
+/// No bytes spell two runs to the end.
+pub fn runs_unique()
+    ensures operators { HasOneValue (SpellsItems SpellsInstr) }
+    ensures sections { HasOneValue (SpellsItems SpellsSection) }
 {}
 
 /// No bytes spell two modules.
-pub fn modules_are_one()
-    ensures { ModulesAreOne }
+pub fn modules_unique()
+    ensures { HasOneValue SpellsModule }
 {}

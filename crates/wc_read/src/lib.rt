@@ -1,11 +1,43 @@
-//! Reads core WebAssembly modules: whole, or a part of them: frames, imports, bodies of functions,
-//! initialisers.
+//! Reads core WebAssembly modules: all of a module (`read_module`), or a part of it: its sections
+//! (`frames`), the content of an import section (`read_imports`), the body of a function
+//! (`read_body`), an initialiser (`read_init`).
 //!
-//! Names, contents and other texts of the input are handed out as slices of it.
+//! What is read is a value that all of the bytes spell; names and contents are slices of the bytes.
+//! A `ReadFault` other than `Memory` comes only where the bytes spell no such value.
+//!
+//! ```rust
+//! use std::alloc::Global;
+//! use wc_read::{ExportKind, Module, ReadFault, read_module};
+//!
+//! /// Whether a module exports a memory.
+//! fn has_memory(parsed: &Module<'_>) -> bool
+//!     ensures { IsTrue result
+//!         ↔ Any (λ e. e.kind ≡ ExportKind.Memory) (module_value parsed.now).exports }
+//! {
+//!     parsed
+//!         .exports
+//!         .iter()
+//!         .any(|export| export.kind == ExportKind::Memory)
+//! }
+//!
+//! /// Whether the module that the bytes spell exports a memory.
+//! pub fn exports_memory(alloc: Global, bytes: &[u8]) -> Result<bool, ReadFault>
+//!     ensures found { IfOk result (λ answer. (m : ModuleValue) × SpellsModule bytes.now m
+//!         × (IsTrue answer ↔ Any (λ e. e.kind ≡ ExportKind.Memory) m.exports)) }
+//!     ensures refused { IfErr result (λ fault. fault ≢ ReadFault.Memory
+//!         → (m : ModuleValue) → ¬ (SpellsModule bytes.now m)) }
+//! {
+//!     let module = read_module(alloc, bytes)?;
+//!     Ok(has_memory(&module))
+//! }
+//! ```
+//!
+//! This function is proved in `wc_bench`, as `examples::read::exports_memory`.
 #![tactic(auto)]
 
 mod bodies;
 mod contents;
+mod core_module;
 mod custom;
 mod distinct;
 mod exports;
@@ -24,10 +56,10 @@ mod names;
 mod nesting;
 mod operators;
 mod order;
-mod parts;
 mod producers;
 mod reader;
 mod references;
+mod section_contents;
 mod sections;
 mod signed;
 mod spaces;
@@ -35,27 +67,17 @@ mod types;
 mod validity;
 
 pub use bodies::{Body, Locals, read_body};
+pub use core_module::Module;
 pub use exports::{Export, ExportKind};
 pub use fault::ReadFault;
 pub use framing::frames;
 pub use imports::read_imports;
 pub use inits::{Init, read_init};
 pub use items::{Def, Func, Global, Item, Memory, Table};
-pub use modules::{Module, read_module};
+pub use modules::read_module;
 pub use operators::{
     BlockType, Form, Immediates, Index, IndexKind, Instr, MemArg, Opcode, Refs, Space, form_of,
 };
 pub use references::refs;
-pub use sections::{Frames, Section};
+pub use sections::{Frames, MODULE_HEADER, Section};
 pub use types::{FuncType, GlobalType, Import, ImportType, MemoryType, TableType, ValType};
-
-#[cfg(test)]
-mod body_tests;
-#[cfg(test)]
-mod custom_tests;
-#[cfg(test)]
-mod init_tests;
-#[cfg(test)]
-mod module_tests;
-#[cfg(test)]
-mod tests;

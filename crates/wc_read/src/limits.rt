@@ -1,7 +1,7 @@
 //! Limits, and the types of tables and memories.
 
 ghost use Rattle.std.specs.Prelude.{◌≡◌};
-ghost use Rattle.wc_read.specs.Reading.{Gives, flags_at, bounds_at, table_at, memory_at, where_at, is_page_size, optional_at, number_at, fits_addresses};
+ghost use Rattle.wc_read.specs.Reading.{GivesWithoutMemory, flags_at, bounds_at, table_at, memory_at, exponent_at, fits_addresses};
 
 use crate::fault::ReadFault;
 use crate::reader::Reader;
@@ -11,39 +11,41 @@ use crate::types::{MemoryType, TableType, ValType};
 #[derive(Clone, Copy, Debug, PartialEq, Eq)]
 pub struct Flags {
     /// A maximum follows.
-    pub limited: bool,
+    pub has_maximum: bool,
     /// The memory is shared.
     pub shared: bool,
     /// Bounds have 64 bits.
-    pub wide: bool,
+    pub is_64: bool,
     /// The exponent of a page size follows.
-    pub sized: bool,
+    pub has_page_size: bool,
 }
 
 impl<'a> Reader<'a> {
     #[tactic(auto, unfolding(crate::specs::Reading::flags_at))]
     fn flags(&mut self) -> Result<Flags, ReadFault>
-        ensures { Gives (λ x. x) result self.new.rest.now (flags_at self.old.rest.now) }
+        ensures { GivesWithoutMemory (λ x. x) result self.new.rest.now
+            (flags_at self.old.rest.now) }
     {
         let byte = self.byte()?;
         if byte >= 16 {
             return Err(ReadFault::BadLimits);
         }
         Ok(Flags {
-            limited: byte & 1 != 0,
+            has_maximum: byte & 1 != 0,
             shared: byte & 2 != 0,
-            wide: byte & 4 != 0,
-            sized: byte & 8 != 0,
+            is_64: byte & 4 != 0,
+            has_page_size: byte & 8 != 0,
         })
     }
 
     #[tactic(auto, unfolding(crate::specs::Reading::bounds_at))]
-    fn bounds(&mut self, wide: bool, limited: bool) -> Result<(u64, Option<u64>), ReadFault>
-        ensures { Gives (λ x. x) result self.new.rest.now (bounds_at wide limited self.old.rest.now) }
+    fn bounds(&mut self, is_64: bool, has_maximum: bool) -> Result<(u64, Option<u64>), ReadFault>
+        ensures { GivesWithoutMemory (λ x. x) result self.new.rest.now
+            (bounds_at is_64 has_maximum self.old.rest.now) }
     {
-        let bits = if wide { 64 } else { 32 };
+        let bits = if is_64 { 64 } else { 32 };
         let initial = self.number(bits)?;
-        if !limited {
+        if !has_maximum {
             return Ok((initial, None));
         }
         let maximum = self.number(bits)?;
@@ -55,20 +57,21 @@ impl<'a> Reader<'a> {
 
     #[tactic(auto, unfolding(crate::specs::Reading::table_at))]
     pub fn table(&mut self) -> Result<TableType, ReadFault>
-        ensures { Gives (λ x. x) result self.new.rest.now (table_at self.old.rest.now) }
+        ensures { GivesWithoutMemory (λ x. x) result self.new.rest.now
+            (table_at self.old.rest.now) }
     {
         let element_type = self.val_type()?;
         if !matches!(element_type, ValType::FuncRef | ValType::ExternRef) {
             return Err(ReadFault::BadType);
         }
         let flags = self.flags()?;
-        if flags.shared || flags.sized {
+        if flags.shared || flags.has_page_size {
             return Err(ReadFault::BadLimits);
         }
-        let (initial, maximum) = self.bounds(flags.wide, flags.limited)?;
+        let (initial, maximum) = self.bounds(flags.is_64, flags.has_maximum)?;
         Ok(TableType {
             element_type,
-            table64: flags.wide,
+            table64: flags.is_64,
             initial,
             maximum,
         })
@@ -76,16 +79,17 @@ impl<'a> Reader<'a> {
 
     #[tactic(auto, unfolding(crate::specs::Reading::memory_at))]
     pub fn memory(&mut self) -> Result<MemoryType, ReadFault>
-        ensures { Gives (λ x. x) result self.new.rest.now (memory_at self.old.rest.now) }
+        ensures { GivesWithoutMemory (λ x. x) result self.new.rest.now
+            (memory_at self.old.rest.now) }
     {
         let flags = self.flags()?;
-        if flags.shared && !flags.limited {
+        if flags.shared && !flags.has_maximum {
             return Err(ReadFault::BadLimits);
         }
-        let (initial, maximum) = self.bounds(flags.wide, flags.limited)?;
-        let page_size_log2 = self.page_size_log2(flags.sized)?;
+        let (initial, maximum) = self.bounds(flags.is_64, flags.has_maximum)?;
+        let page_size_log2 = self.page_size_log2(flags.has_page_size)?;
         let memory = MemoryType {
-            memory64: flags.wide,
+            memory64: flags.is_64,
             shared: flags.shared,
             initial,
             maximum,
@@ -98,10 +102,11 @@ impl<'a> Reader<'a> {
         }
     }
 
-    fn page_size_log2(&mut self, sized: bool) -> Result<Option<u32>, ReadFault>
-        ensures { Gives (λ x. x) result self.new.rest.now (where_at is_page_size (optional_at sized (number_at 32)) self.old.rest.now) }
+    fn page_size_log2(&mut self, has_page_size: bool) -> Result<Option<u32>, ReadFault>
+        ensures { GivesWithoutMemory (λ x. x) result self.new.rest.now
+            (exponent_at has_page_size self.old.rest.now) }
     {
-        if !sized {
+        if !has_page_size {
             return Ok(None);
         }
         let exponent = self.u32()?;
@@ -121,5 +126,6 @@ fn fits_addresses(memory: &MemoryType) -> bool
     } else {
         1 << 16
     };
-    memory.memory64 || (memory.initial <= pages && memory.maximum.is_none_or(|most| most <= pages))
+    memory.memory64
+        || (memory.initial <= pages && memory.maximum.is_none_or(|limit| limit <= pages))
 }

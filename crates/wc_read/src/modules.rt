@@ -1,64 +1,56 @@
-//! Modules.
+//! The reading of modules.
 
-ghost use Rattle.std.specs.Prelude.{◌≡◌, ◌≢◌, ℕ, List, map, IfOk, IfErr, IsErrOf, IsTrue, length, ◌↔◌};
+ghost use Rattle.std.specs.Prelude.{◌≡◌, ◌≢◌, map, IfOk, IfErr, IsErrOf, IsTrue, ◌↔◌};
 ghost use Rattle.std.specs.List.{filter};
-ghost use Rattle.wc_read.specs.Sections.{section_value, IsComponent};
-ghost use Rattle.wc_read.specs.Parts.{parts_value};
-ghost use Rattle.wc_read.specs.Modules.{ModuleValue, module_value, IsAssembled, is_segments, AreModule, SpellsModule};
+ghost use Rattle.wc_read.specs.Sections.{section_values, IsComponent};
+ghost use Rattle.wc_read.specs.Faults.{IfRefused, SpellsNothing};
+ghost use Rattle.wc_read.specs.SectionContents.{section_contents_value};
+ghost use Rattle.wc_read.specs.Modules.{ModuleValue, module_value, ArePaired, IsAssembled, is_segments, AreModule, SpellsModule};
 
-use crate::exports::Export;
+use crate::core_module::Module;
 use crate::fault::ReadFault;
 use crate::framing::frames;
-use crate::items::{self, Func, Memory, Table};
 use crate::names::global_names;
 use crate::order::check_order;
-use crate::parts::{Parts, read_parts};
 use crate::producers::producers;
-use crate::sections::Section;
+use crate::section_contents::{SectionContents, read_section_contents};
+use crate::sections::{DATA_COUNT_ID, DATA_ID, ELEMENT_ID, Section};
 use crate::spaces::{declared, funcs, globals};
-use crate::types::{FuncType, Import, MemoryType, TableType};
+use crate::types::{MemoryType, TableType};
 use crate::validity::check_module;
-use indexmap::IndexMap;
 use std::alloc::{AllocError, Global};
-
-/// A module (WebAssembly core specification, 2.5). Names, bodies and initialisers are slices of the bytes that
-/// it was read from; bodies are read by `read_body`, initialisers by `read_init`.
-#[derive(Debug, Drop)]
-pub struct Module<'a> {
-    pub types: Vec<FuncType>,
-    /// All imports, in the order of the file.
-    pub imports: Vec<Import<'a>>,
-    /// The functions: imported ones, and then the module's own. So are the other spaces.
-    pub funcs: Vec<Func<'a>>,
-    pub tables: Vec<Table<'a>>,
-    pub memories: Vec<Memory<'a>>,
-    pub globals: Vec<items::Global<'a>>,
-    pub exports: Vec<Export<'a>>,
-    /// The function that starts the module.
-    pub start: Option<u32>,
-    /// Names of globals by their indices, out of name sections.
-    pub global_names: IndexMap<u32, &'a str>,
-    /// The content of the producers section behind its name.
-    pub producers: Option<&'a [u8]>,
-    /// Which of the sections of elements (9), data counts (12) and data (11) there are, in the order of the file.
-    pub ids: Vec<u8>,
-}
 
 /// Reads a module (WebAssembly core specification, 5.5.16).
 ///
 /// Sections are read to their end, bodies of functions and the sections of elements, data and data counts by their
 /// sizes alone.
 ///
-/// A component's header is `Component`, any other beginning `NotWasm`. Sections out of order or twice are
-/// `SectionOrder`, of other ids than 0 to 12 `UnknownSection`; as many bodies as functions have to be there
-/// (`CountMismatch`). Then the rules of a whole module: `BadIndex`, `DuplicateExport`, `BadInitialiser`, `BadStart`,
-/// and `TooLarge` for a space of 2^32 items. What is inside a section has the faults of `read_imports`. Where a
-/// growth is refused, the answer is `Memory`.
+/// # Errors
+///
+/// - `Component`: the bytes begin with the header of a component.
+/// - `NotWasm`: the bytes begin with the header of neither a module nor a component.
+/// - `Truncated`: the bytes, or those of a section, end inside an item.
+/// - `BadNumber`: a number does not fit its bits in LEB128, or an immediate of an initialiser is `BadNumber` in a body.
+/// - `BadName`: a name is not UTF-8, that of a custom section included.
+/// - `UnknownSection`: the id of a section is above 12.
+/// - `SectionOrder`: a section is out of order, or is there twice.
+/// - `SectionSize`: bytes of a section follow its last item.
+/// - `BadType`: a byte is no type, not the type that is needed, no mutability, or no kind of import or export.
+/// - `BadLimits`: limits are those that `read_imports` refuses.
+/// - `CountMismatch`: there are not as many bodies as defined functions.
+/// - `TooLarge`: an index space has 2^32 items or more.
+/// - `BadIndex`: the type of a function, the item of an export or the start function is out of range.
+/// - `DuplicateExport`: two exports have one name.
+/// - `UnknownOperator`: an opcode of an initialiser is not assigned, or the byte of a fence there is not 0.
+/// - `BadInitialiser`: an operator of an initialiser is not constant, or it does not leave one value of the type of its
+///   global.
+/// - `BadStart`: the start function has parameters or results.
+/// - `Memory`: an allocation failed.
 pub fn read_module(alloc: Global, bytes: &[u8]) -> Result<Module<'_>, ReadFault>
     // What is read is spelled so, by all of the bytes.
     ensures found { IfOk result (λ m. SpellsModule bytes.now (module_value m)) }
     // Unless memory runs out, what is spelled is read.
-    ensures refused { IfErr result (λ f. f ≢ ReadFault.Memory → (v : ModuleValue) → ¬ (SpellsModule bytes.now v)) }
+    ensures refused { IfRefused result (SpellsNothing SpellsModule bytes.now) }
     ensures component { IsErrOf result ReadFault.Component ↔ IsComponent bytes.now }
 {
     let frames = frames(alloc, bytes)?;
@@ -67,12 +59,13 @@ pub fn read_module(alloc: Global, bytes: &[u8]) -> Result<Module<'_>, ReadFault>
 
 /// The module that sections make.
 fn module_from<'a>(alloc: Global, sections: &[Section<'a>]) -> Result<Module<'a>, ReadFault>
-    ensures found { IfOk result (λ m. AreModule (map section_value sections.now) (module_value m)) }
-    ensures refused { IfErr result (λ f. f ≢ ReadFault.Memory → (v : ModuleValue) → ¬ (AreModule (map section_value sections.now) v)) }
+    ensures found { IfOk result (λ m. AreModule (section_values sections.now) (module_value m)) }
+    ensures refused { IfRefused result
+        ((v : ModuleValue) → ¬ (AreModule (section_values sections.now) v)) }
     ensures no_component { IfErr result (λ f. f ≢ ReadFault.Component) }
 {
     check_order(sections)?;
-    let parts = read_parts(alloc, sections)?;
+    let parts = read_section_contents(alloc, sections)?;
     if !are_paired(&parts) {
         return Err(ReadFault::CountMismatch);
     }
@@ -81,9 +74,9 @@ fn module_from<'a>(alloc: Global, sections: &[Section<'a>]) -> Result<Module<'a>
     Ok(module)
 }
 
-/// Whether there is a body for each function of the module's own.
-fn are_paired(parts: &Parts) -> bool
-    ensures { IsTrue result ↔ (length (parts_value parts.now).func_types ≡ length (parts_value parts.now).bodies) }
+/// Whether there is a body for each defined function.
+fn are_paired(parts: &SectionContents) -> bool
+    ensures { IsTrue result ↔ ArePaired (section_contents_value parts.now) }
 {
     parts.func_types.len() == parts.bodies.len()
 }
@@ -92,9 +85,10 @@ fn are_paired(parts: &Parts) -> bool
 fn assemble<'a>(
     alloc: Global,
     sections: &[Section<'a>],
-    parts: Parts<'a>,
+    parts: SectionContents<'a>,
 ) -> Result<Module<'a>, ReadFault>
-    ensures found { IfOk result (λ m. IsAssembled (map section_value sections.now) (parts_value parts.entry) (module_value m)) }
+    ensures found { IfOk result (λ m. IsAssembled
+        (section_values sections.now) (section_contents_value parts.entry) (module_value m)) }
     ensures memory { IfErr result (λ e. e ≡ ReadFault.Memory) }
 {
     let funcs = funcs(alloc, &parts.imports, &parts.func_types, &parts.bodies)?;
@@ -126,6 +120,6 @@ fn segment_ids(alloc: Global, sections: &[Section]) -> Result<Vec<u8>, AllocErro
     sections
         .iter()
         .map(|section| section.id)
-        .filter(|id| matches!(*id, 9 | 11 | 12))
+        .filter(|id| matches!(*id, ELEMENT_ID | DATA_ID | DATA_COUNT_ID))
         .collect(alloc)
 }

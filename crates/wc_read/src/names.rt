@@ -1,10 +1,10 @@
 //! Names of globals, out of name sections.
 
-ghost use Rattle.std.specs.Prelude.{◌≡◌, ℕ, List, map, IfOk, IfErr};
-ghost use Rattle.wc_read.specs.Names.{Named, named, named_at, PairsOf, NamesIn, NamesOf, name_entries, global_names_of};
-ghost use Rattle.wc_read.specs.Sections.{section_value};
+ghost use Rattle.std.specs.Prelude.{◌≡◌, IfOk, IfErr};
+ghost use Rattle.wc_read.specs.Names.{GlobalNameValue, global_name_value, global_name_at, PairsOf, NamesIn, NamesOf, AreGlobalNames, named_pairs, name_entries};
+ghost use Rattle.wc_read.specs.Sections.{section_values};
 
-use crate::custom::behind_name;
+use crate::custom::content_after_name;
 use crate::fault::ReadFault;
 use crate::reader::{Reader, Spelled};
 use crate::sections::Section;
@@ -25,17 +25,17 @@ struct GlobalName<'a> {
 #[derive(Drop)]
 struct Pairs<'a> {
     names: Vec<GlobalName<'a>>,
-    whole: bool,
+    complete: bool,
 }
 
 impl<'a> Spelled<'a> for GlobalName<'a> {
-    ghost Value = { Named };
+    ghost Value = { GlobalNameValue };
 
-    ghost view = { λ n. named n };
+    ghost view = { λ n. global_name_value n };
 
-    ghost read = { named_at };
+    ghost read = { global_name_at };
 
-    #[tactic(auto, unfolding(crate::specs::Names::named_at))]
+    #[tactic(auto, unfolding(crate::specs::Names::global_name_at))]
     fn read_from(_alloc: Global, reader: &mut Reader<'a>) -> Result<GlobalName<'a>, ReadFault> {
         let index = reader.u32()?;
         let name = reader.name()?;
@@ -44,15 +44,16 @@ impl<'a> Spelled<'a> for GlobalName<'a> {
 }
 
 /// The names of globals by their indices, as the subsections of global names give them (WebAssembly core
-/// specification, 7.4.1, and the proposal of extended name sections). Indices stand in the order of their first
-/// pairs; of several names for one index the last stands.
+/// specification, 7.4.1, and the proposal of extended name sections). Indices are in the order of their first
+/// pairs; of several names for one index the last is.
 ///
-/// A fault refuses nothing. It ends the names of its section; pairs in front of it stay.
+/// A fault refuses nothing. It ends the names of its section; pairs before it stay.
 pub fn global_names<'a>(
     alloc: Global,
     sections: &[Section<'a>],
 ) -> Result<IndexMap<u32, &'a str>, ReadFault>
-    ensures found { IfOk result (λ m. (pairs : List Named) × NamesOf (map section_value sections.now) pairs × (name_entries m ≡ global_names_of pairs)) }
+    ensures found { IfOk result (λ m. AreGlobalNames (section_values sections.now)
+        (name_entries m)) }
     ensures memory { IfErr result (λ e. e ≡ ReadFault.Memory) }
 {
     let pairs = all_pairs(alloc, sections)?;
@@ -65,12 +66,12 @@ pub fn global_names<'a>(
 
 /// The pairs of all sections, in order.
 fn all_pairs<'a>(alloc: Global, sections: &[Section<'a>]) -> Result<Vec<GlobalName<'a>>, ReadFault>
-    ensures found { IfOk result (λ v. NamesOf (map section_value sections.now) (map named v.items)) }
+    ensures found { IfOk result (λ v. NamesOf (section_values sections.now) (named_pairs v.items)) }
     ensures memory { IfErr result (λ e. e ≡ ReadFault.Memory) }
 {
     let mut all = Vec::new(alloc);
     for section in sections {
-        if let Some(bytes) = behind_name(alloc, section, "name")? {
+        if let Some(bytes) = content_after_name(alloc, section, "name")? {
             let pairs = section_pairs(alloc, bytes)?;
             all.extend_from_slice(&pairs)?;
         }
@@ -78,9 +79,9 @@ fn all_pairs<'a>(alloc: Global, sections: &[Section<'a>]) -> Result<Vec<GlobalNa
     Ok(all)
 }
 
-/// The pairs of a name section, of which `bytes` stand behind its name.
+/// The pairs of a name section, of which `bytes` are after its name.
 fn section_pairs(alloc: Global, bytes: &[u8]) -> Result<Vec<GlobalName<'_>>, ReadFault>
-    ensures found { IfOk result (λ v. NamesIn bytes.now (map named v.items)) }
+    ensures found { IfOk result (λ v. NamesIn bytes.now (named_pairs v.items)) }
     ensures memory { IfErr result (λ e. e ≡ ReadFault.Memory) }
 {
     let mut reader = Reader::new(bytes);
@@ -92,7 +93,7 @@ fn section_pairs(alloc: Global, bytes: &[u8]) -> Result<Vec<GlobalName<'_>>, Rea
         if subsection.id == GLOBAL_NAMES {
             let pairs = subsection_pairs(alloc, subsection.content)?;
             all.extend_from_slice(&pairs.names)?;
-            if !pairs.whole {
+            if !pairs.complete {
                 return Ok(all);
             }
         }
@@ -101,22 +102,22 @@ fn section_pairs(alloc: Global, bytes: &[u8]) -> Result<Vec<GlobalName<'_>>, Rea
 
 /// The pairs of a subsection of global names.
 fn subsection_pairs(alloc: Global, content: &[u8]) -> Result<Pairs<'_>, ReadFault>
-    ensures found { IfOk result (λ p. PairsOf content.now p.whole (map named p.names.items)) }
+    ensures found { IfOk result (λ p. PairsOf content.now p.complete (named_pairs p.names.items)) }
     ensures memory { IfErr result (λ e. e ≡ ReadFault.Memory) }
 {
     let mut reader = Reader::new(content);
     let mut names = Vec::new(alloc);
     let Some(count) = reader.find::<u32>(alloc)? else {
-        let whole = false;
-        return Ok(Pairs { names, whole });
+        let complete = false;
+        return Ok(Pairs { names, complete });
     };
     for _ in 0..count {
         let Some(name) = reader.find::<GlobalName>(alloc)? else {
-            let whole = false;
-            return Ok(Pairs { names, whole });
+            let complete = false;
+            return Ok(Pairs { names, complete });
         };
         names.push(name)?;
     }
-    let whole = reader.rest.is_empty();
-    Ok(Pairs { names, whole })
+    let complete = reader.rest.is_empty();
+    Ok(Pairs { names, complete })
 }

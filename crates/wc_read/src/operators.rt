@@ -6,15 +6,15 @@ ghost use Rattle.wc_read.specs.Operators.{byte_form, misc_form, vector_form, ato
 
 use crate::types::ValType;
 
-/// An operator's code: one byte, or a number behind a prefix.
+/// An operator's code: one byte, or a number after a prefix.
 #[derive(Clone, Copy, Debug, PartialEq, Eq)]
 pub enum Opcode {
     Byte(u8),
-    /// Behind `fc`: tables and memories in bulk, saturating conversions (5.4.5 to 5.4.7).
+    /// After `fc`: tables and memories in bulk, saturating conversions (5.4.5 to 5.4.7).
     Misc(u32),
-    /// Behind `fd`: vectors (5.4.8).
+    /// After `fd`: vectors (5.4.8).
     Vector(u32),
-    /// Behind `fe`: atomic accesses.
+    /// After `fe`: atomic accesses.
     Atomic(u32),
 }
 
@@ -62,7 +62,7 @@ pub struct MemArg {
     pub offset: u64,
 }
 
-/// What stands behind an operator's code (5.4).
+/// What is after an operator's code (5.4).
 #[derive(Debug, PartialEq, Eq, Drop)]
 pub enum Immediates<'a> {
     None,
@@ -86,7 +86,7 @@ pub enum Immediates<'a> {
     Lane(u8),
 }
 
-/// An operator (5.4): its code, and what stands behind it.
+/// An operator (5.4): its code, and what is after it.
 #[derive(Debug, PartialEq, Eq, Drop)]
 pub struct Instr<'a> {
     pub opcode: Opcode,
@@ -122,6 +122,9 @@ pub enum Form {
     Zero,
 }
 
+/// The code of `end`.
+pub const END: u8 = 0x0b;
+
 const TYPE: IndexKind = IndexKind::In(Space::Types);
 
 const FUNC: IndexKind = IndexKind::In(Space::Funcs);
@@ -132,7 +135,7 @@ const MEMORY: IndexKind = IndexKind::In(Space::Memories);
 
 const GLOBAL: IndexKind = IndexKind::In(Space::Globals);
 
-/// The operator table: which immediates stand behind a code, none for a code that is no operator's.
+/// The operator table: which immediates are after a code, none for a code that is no operator's.
 #[inline(always)]
 pub fn form_of(opcode: Opcode) -> Option<Form>
     ensures { result ≡ form_of opcode }
@@ -145,7 +148,7 @@ pub fn form_of(opcode: Opcode) -> Option<Form>
     }
 }
 
-/// Frequent codes that follow each other stand apart: one pattern for both is compiled to a chain of tests, and not
+/// Frequent codes that follow each other are separate: one pattern for both is compiled to a chain of tests, and not
 /// to an entry each in a table of jumps.
 #[inline(always)]
 #[tactic(auto, unfolding(crate::specs::Operators::byte_form))]
@@ -153,30 +156,55 @@ fn byte_form(code: u8) -> Option<Form>
     ensures { result ≡ byte_form code }
 {
     match code {
+        // unreachable, else, end, return, drop
         0x00 | 0x05 | 0x0b | 0x0f | 0x1a => Some(Form::None),
+        // nop, select
         0x01 | 0x1b => Some(Form::None),
+        // block
         0x02 => Some(Form::Block),
+        // loop
         0x03 => Some(Form::Block),
+        // if
         0x04 => Some(Form::Block),
+        // br
         0x0c => Some(Form::Index(IndexKind::Label)),
+        // br_if
         0x0d => Some(Form::Index(IndexKind::Label)),
+        // br_table
         0x0e => Some(Form::Labels),
+        // call, return_call, ref.func
         0x10 | 0x12 | 0xd2 => Some(Form::Index(FUNC)),
+        // call_indirect, return_call_indirect
         0x11 | 0x13 => Some(Form::Indices(TYPE, TABLE)),
+        // select, with the types of its values
         0x1c => Some(Form::ValTypes),
+        // local.get
         0x20 => Some(Form::Index(IndexKind::Local)),
+        // local.set
         0x21 => Some(Form::Index(IndexKind::Local)),
+        // local.tee
         0x22 => Some(Form::Index(IndexKind::Local)),
+        // global.get
         0x23 => Some(Form::Index(GLOBAL)),
+        // global.set
         0x24 => Some(Form::Index(GLOBAL)),
+        // table.get, table.set
         0x25 | 0x26 => Some(Form::Index(TABLE)),
+        // i32.load to i64.store32
         0x28..=0x3e => Some(Form::MemArg),
+        // memory.size, memory.grow
         0x3f | 0x40 => Some(Form::Index(MEMORY)),
+        // i32.const
         0x41 => Some(Form::I32),
+        // i64.const
         0x42 => Some(Form::I64),
+        // f32.const
         0x43 => Some(Form::Bytes(4)),
+        // f64.const
         0x44 => Some(Form::Bytes(8)),
+        // i32.eqz to i64.extend32_s, ref.is_null
         0x45..=0xc4 | 0xd1 => Some(Form::None),
+        // ref.null
         0xd0 => Some(Form::RefType),
         _ => None,
     }
@@ -187,14 +215,23 @@ fn misc_form(code: u32) -> Option<Form>
     ensures { result ≡ misc_form code }
 {
     match code {
+        // i32.trunc_sat_f32_s to i64.trunc_sat_f64_u
         0..=7 => Some(Form::None),
+        // memory.init
         8 => Some(Form::Indices(IndexKind::Data, MEMORY)),
+        // data.drop
         9 => Some(Form::Index(IndexKind::Data)),
+        // memory.copy
         10 => Some(Form::Indices(MEMORY, MEMORY)),
+        // memory.fill
         11 => Some(Form::Index(MEMORY)),
+        // table.init
         12 => Some(Form::Indices(IndexKind::Elem, TABLE)),
+        // elem.drop
         13 => Some(Form::Index(IndexKind::Elem)),
+        // table.copy
         14 => Some(Form::Indices(TABLE, TABLE)),
+        // table.grow, table.size, table.fill
         15..=17 => Some(Form::Index(TABLE)),
         _ => None,
     }
@@ -205,10 +242,15 @@ fn vector_form(code: u32) -> Option<Form>
     ensures { result ≡ vector_form code }
 {
     match code {
+        // v128.load to v128.store, v128.load32_zero, v128.load64_zero
         0..=11 | 92 | 93 => Some(Form::MemArg),
+        // v128.const, i8x16.shuffle
         12 | 13 => Some(Form::Bytes(16)),
+        // i8x16.extract_lane_s to f64x2.replace_lane
         21..=34 => Some(Form::Lane),
+        // v128.load8_lane to v128.store64_lane
         84..=91 => Some(Form::MemArgLane),
+        // i8x16.swizzle to i32x4.relaxed_dot_i8x16_i7x16_add_s, and numbers between that are not assigned
         _ => {
             if code <= 0x113 {
                 Some(Form::None)
@@ -224,7 +266,10 @@ fn atomic_form(code: u32) -> Option<Form>
     ensures { result ≡ atomic_form code }
 {
     match code {
+        // memory.atomic.notify, memory.atomic.wait32, memory.atomic.wait64;
+        // i32.atomic.load to i64.atomic.rmw32.cmpxchg_u
         0..=2 | 0x10..=0x4e => Some(Form::MemArg),
+        // atomic.fence
         3 => Some(Form::Zero),
         _ => None,
     }

@@ -1,64 +1,66 @@
 //! The order of a module's sections.
 
-ghost use Rattle.std.specs.Prelude.{◌≡◌, ◌≢◌, map, IfOk, IfErr};
+ghost use Rattle.std.specs.Prelude.{◌≡◌, ◌≢◌, IfOk, IfErr};
 ghost use Rattle.std.specs.Option.{option_map};
-ghost use Rattle.wc_read.specs.Sections.{section_value};
-ghost use Rattle.wc_read.specs.Order.{place_of, AreInOrder, content_of};
-ghost use Rattle.wc_read.specs.OrderReading.{next_place};
-ghost use Rattle.wc_read.specs.ContentsReading.{Answers};
+ghost use Rattle.wc_read.specs.Sections.{section_value, section_values};
+ghost use Rattle.wc_read.specs.Order.{section_position, AreInOrder, content_of};
+ghost use Rattle.wc_read.specs.OrderReading.{next_position};
+ghost use Rattle.wc_read.specs.ContentsReading.{AnswersWithoutMemory};
 
 use crate::fault::ReadFault;
 use crate::reader::Reader;
-use crate::sections::Section;
+use crate::sections::{CODE_ID, CUSTOM_ID, DATA_COUNT_ID, DATA_ID, Section};
 
 /// Whether a module may have these sections (WebAssembly core specification, 5.5.16): ids of the format, all
-/// but custom sections in their order and once at most, custom sections with a name in front (5.5.3).
+/// but custom sections in their order and once at most, custom sections with a name at the front (5.5.3).
 pub fn check_order(sections: &[Section]) -> Result<(), ReadFault>
-    ensures found { IfOk result (λ _. AreInOrder (map section_value sections.now)) }
-    ensures refused { IfErr result (λ f. f ≢ ReadFault.Memory → ¬ (AreInOrder (map section_value sections.now))) }
+    ensures found { IfOk result (λ _. AreInOrder (section_values sections.now)) }
+    ensures refused { IfErr result (λ _. ¬ (AreInOrder (section_values sections.now))) }
+    ensures no_memory { IfErr result (λ f. f ≢ ReadFault.Memory) }
     ensures no_component { IfErr result (λ f. f ≢ ReadFault.Component) }
 {
-    let mut place = 0;
+    let mut position = 0;
     for section in sections {
-        place = next_place(place, section)?;
+        position = next_position(position, section)?;
     }
     Ok(())
 }
 
-/// The place of a section behind one that has `place`; a custom section takes none.
-#[tactic(auto, unfolding(crate::specs::OrderReading::next_place))]
-fn next_place(place: u8, section: &Section) -> Result<u8, ReadFault>
-    ensures { Answers (λ n. n) result (next_place place (section_value section.now)) }
+/// The position of a section after one that has `position`; a custom section takes none.
+#[tactic(auto, unfolding(crate::specs::OrderReading::next_position))]
+fn next_position(position: u8, section: &Section) -> Result<u8, ReadFault>
+    ensures { AnswersWithoutMemory (λ n. n) result
+        (next_position position (section_value section.now)) }
 {
-    if section.id == 0 {
+    if section.id == CUSTOM_ID {
         let mut reader = Reader::new(section.content);
         reader.name()?;
-        return Ok(place);
+        return Ok(position);
     }
-    if section.id > 12 {
+    if section.id > DATA_COUNT_ID {
         return Err(ReadFault::UnknownSection);
     }
-    let next = place_of(section.id);
-    if next <= place {
+    let next = section_position(section.id);
+    if next <= position {
         return Err(ReadFault::SectionOrder);
     }
     Ok(next)
 }
 
-fn place_of(id: u8) -> u8
-    ensures { result ≡ place_of id }
+fn section_position(id: u8) -> u8
+    ensures { result ≡ section_position id }
 {
     match id {
-        12 => 10,
-        10 => 11,
-        11 => 12,
+        DATA_COUNT_ID => 10,
+        CODE_ID => 11,
+        DATA_ID => 12,
         _ => id,
     }
 }
 
 /// The content of the first section with an id.
 pub fn content<'a>(sections: &[Section<'a>], id: u8) -> Option<&'a [u8]>
-    ensures { option_map (λ b. b.now) result ≡ content_of id (map section_value sections.now) }
+    ensures { option_map (λ b. b.now) result ≡ content_of id (section_values sections.now) }
 {
     for section in sections {
         if section.id == id {

@@ -1,11 +1,11 @@
 //! The producers section.
 
-ghost use Rattle.std.specs.Prelude.{◌≡◌, map, IfOk, IfErr};
-ghost use Rattle.std.specs.Option.{option_map};
+ghost use Rattle.std.specs.Prelude.{◌≡◌, IfOk, IfErr};
+ghost use Rattle.wc_read.specs.Custom.{optional_bytes};
 ghost use Rattle.wc_read.specs.Producers.{ProducerValue, FieldValue, producer_value, field_value, producer_at, field_at, AreFields, LastProducers, ProducersOf};
-ghost use Rattle.wc_read.specs.Sections.{section_value};
+ghost use Rattle.wc_read.specs.Sections.{section_value, section_values};
 
-use crate::custom::behind_name;
+use crate::custom::content_after_name;
 use crate::fault::ReadFault;
 use crate::reader::{Reader, Spelled};
 use crate::sections::Section;
@@ -55,10 +55,11 @@ impl<'a> Spelled<'a> for ProducersField<'a> {
     }
 }
 
-/// The bytes behind the name of the last producers section that reads: fields to the end of the bytes, as the
+/// The bytes after the name of the last producers section that reads: fields to the end of the bytes, as the
 /// tool conventions spell them. One that does not read is passed over.
 pub fn producers<'a>(alloc: Global, sections: &[Section<'a>]) -> Result<Option<&'a [u8]>, ReadFault>
-    ensures found { IfOk result (λ p. LastProducers (map section_value sections.now) (option_map (λ b. b.now) p)) }
+    ensures found { IfOk result (λ p. LastProducers (section_values sections.now)
+        (optional_bytes p)) }
     ensures memory { IfErr result (λ e. e ≡ ReadFault.Memory) }
 {
     let mut last = None;
@@ -71,15 +72,15 @@ pub fn producers<'a>(alloc: Global, sections: &[Section<'a>]) -> Result<Option<&
     Ok(last)
 }
 
-/// The bytes behind the name of a producers section, where it reads.
+/// The bytes after the name of a producers section, where it reads.
 fn section_producers<'a>(
     alloc: Global,
     section: &Section<'a>,
 ) -> Result<Option<&'a [u8]>, ReadFault>
-    ensures found { IfOk result (λ p. ProducersOf (section_value section.now) (option_map (λ b. b.now) p)) }
+    ensures found { IfOk result (λ p. ProducersOf (section_value section.now) (optional_bytes p)) }
     ensures memory { IfErr result (λ e. e ≡ ReadFault.Memory) }
 {
-    let Some(bytes) = behind_name(alloc, section, "producers")? else {
+    let Some(bytes) = content_after_name(alloc, section, "producers")? else {
         return Ok(None);
     };
     if !are_fields(alloc, bytes)? {

@@ -1,7 +1,7 @@
 //! A reader that moves along the bytes: numbers, names, value types, vectors.
 
 ghost use Rattle.std.specs.Prelude.{◌≡◌, ◌<◌, ◌≤◌, ◌^◌, ℕ, List, Option, map, IfOk};
-ghost use Rattle.wc_read.specs.Reading.{Gives, Finds, byte_at, bytes_at, number_at, name_at, val_type_at, mutable_at, global_at, vector_at};
+ghost use Rattle.wc_read.specs.Reading.{Gives, GivesWithoutMemory, Finds, byte_at, bytes_at, number_at, name_at, val_type_at, mutable_at, global_at, vector_at};
 
 use crate::fault::ReadFault;
 use crate::types::{GlobalType, ValType};
@@ -34,7 +34,7 @@ impl<'a> Reader<'a> {
     }
 
     pub fn byte(&mut self) -> Result<u8, ReadFault>
-        ensures { Gives (λ x. x) result self.new.rest.now (byte_at self.old.rest.now) }
+        ensures { GivesWithoutMemory (λ x. x) result self.new.rest.now (byte_at self.old.rest.now) }
     {
         match self.rest.split_first() {
             Some((first, rest)) => {
@@ -46,7 +46,8 @@ impl<'a> Reader<'a> {
     }
 
     pub fn bytes(&mut self, count: usize) -> Result<&'a [u8], ReadFault>
-        ensures { Gives (λ x. x.now) result self.new.rest.now (bytes_at count self.old.rest.now) }
+        ensures { GivesWithoutMemory (λ x. x.now) result self.new.rest.now
+            (bytes_at count self.old.rest.now) }
     {
         if self.rest.len() < count {
             return Err(ReadFault::Truncated);
@@ -60,8 +61,9 @@ impl<'a> Reader<'a> {
     #[inline(always)]
     pub fn number(&mut self, bits: u32) -> Result<u64, ReadFault>
         requires some { 0 < bits }
-        requires most { bits ≤ 64 }
-        ensures read { Gives (λ x. x) result self.new.rest.now (number_at bits self.old.rest.now) }
+        requires limit { bits ≤ 64 }
+        ensures read { GivesWithoutMemory (λ x. x) result self.new.rest.now
+            (number_at bits self.old.rest.now) }
         ensures bound { IfOk result (λ x. x < 2 ^ bits) }
     {
         if let Some((first, rest)) = self.rest.split_first()
@@ -78,8 +80,9 @@ impl<'a> Reader<'a> {
     #[inline(never)]
     fn digits(&mut self, bits: u32) -> Result<u64, ReadFault>
         requires some { 0 < bits }
-        requires most { bits ≤ 64 }
-        ensures read { Gives (λ x. x) result self.new.rest.now (number_at bits self.old.rest.now) }
+        requires limit { bits ≤ 64 }
+        ensures read { GivesWithoutMemory (λ x. x) result self.new.rest.now
+            (number_at bits self.old.rest.now) }
         ensures bound { IfOk result (λ x. x < 2 ^ bits) }
     {
         let mut value: u64 = 0;
@@ -103,15 +106,17 @@ impl<'a> Reader<'a> {
 
     #[inline(always)]
     pub fn u32(&mut self) -> Result<u32, ReadFault>
-        ensures { Gives (λ x. x) result self.new.rest.now (number_at 32 self.old.rest.now) }
+        ensures { GivesWithoutMemory (λ x. x) result self.new.rest.now
+            (number_at 32 self.old.rest.now) }
     {
         let number = self.number(32)?;
         Ok(number as u32)
     }
 
-    #[tactic(auto, using(crate::proofs::Text::text), unfolding(crate::specs::Reading::name_at))]
+    #[tactic(auto, using(crate::proofs::TextLemmas::text), unfolding(crate::specs::Reading::name_at))]
     pub fn name(&mut self) -> Result<&'a str, ReadFault>
-        ensures { Gives (λ x. x.now) result self.new.rest.now (name_at self.old.rest.now) }
+        ensures { GivesWithoutMemory (λ x. x.now) result self.new.rest.now
+            (name_at self.old.rest.now) }
     {
         let size = self.u32()?;
         let bytes = self.bytes(size as usize)?;
@@ -123,7 +128,8 @@ impl<'a> Reader<'a> {
 
     #[tactic(auto, unfolding(crate::specs::Reading::val_type_at))]
     pub fn val_type(&mut self) -> Result<ValType, ReadFault>
-        ensures { Gives (λ x. x) result self.new.rest.now (val_type_at self.old.rest.now) }
+        ensures { GivesWithoutMemory (λ x. x) result self.new.rest.now
+            (val_type_at self.old.rest.now) }
     {
         match self.byte()? {
             0x7f => Ok(ValType::I32),
@@ -139,7 +145,8 @@ impl<'a> Reader<'a> {
 
     #[tactic(auto, unfolding(crate::specs::Reading::mutable_at))]
     fn mutable(&mut self) -> Result<bool, ReadFault>
-        ensures { Gives (λ x. x) result self.new.rest.now (mutable_at self.old.rest.now) }
+        ensures { GivesWithoutMemory (λ x. x) result self.new.rest.now
+            (mutable_at self.old.rest.now) }
     {
         match self.byte()? {
             0 => Ok(false),
@@ -150,7 +157,8 @@ impl<'a> Reader<'a> {
 
     #[tactic(auto, unfolding(crate::specs::Reading::global_at))]
     pub fn global(&mut self) -> Result<GlobalType, ReadFault>
-        ensures { Gives (λ x. x) result self.new.rest.now (global_at self.old.rest.now) }
+        ensures { GivesWithoutMemory (λ x. x) result self.new.rest.now
+            (global_at self.old.rest.now) }
     {
         let content_type = self.val_type()?;
         let mutable = self.mutable()?;
@@ -163,7 +171,8 @@ impl<'a> Reader<'a> {
     /// A vector. Memory is taken item by item, and not for a count whose items were not read.
     #[tactic(auto, unfolding(crate::specs::Reading::vector_at))]
     pub fn vector<T: Spelled<'a> + Drop>(&mut self, alloc: Global) -> Result<Vec<T>, ReadFault>
-        ensures { Gives (λ v. map T.view v.items) result self.new.rest.now (vector_at T.read self.old.rest.now) }
+        ensures { Gives (λ v. map T.view v.items) result self.new.rest.now
+            (vector_at T.read self.old.rest.now) }
     {
         let count = self.u32()?;
         let mut items = Vec::new(alloc);
@@ -174,7 +183,7 @@ impl<'a> Reader<'a> {
         Ok(items)
     }
 
-    /// An item, or None where none stands in front.
+    /// An item, or None where there is none at the front.
     pub fn find<T: Spelled<'a>>(&mut self, alloc: Global) -> Result<Option<T>, ReadFault>
         ensures { Finds T.view result self.new.rest.now (T.read self.old.rest.now) }
     {

@@ -1,7 +1,7 @@
 //! Signed numbers.
 
 ghost use Rattle.std.specs.Prelude.{◌≡◌, ◌<◌, ◌≤◌, ◌^◌, ◌+◌, ◌-◌, ◌*◌, IfOk, IfSome, nat_lt, if◌then◌else◌, option_map};
-ghost use Rattle.wc_read.specs.Reading.{Gives};
+ghost use Rattle.wc_read.specs.Reading.{GivesWithoutMemory};
 ghost use Rattle.wc_read.specs.Signed.{above, FitsBits, last_of, signed_at};
 
 use crate::fault::ReadFault;
@@ -11,8 +11,9 @@ impl<'a> Reader<'a> {
     /// A signed number of so many bits (WebAssembly core specification, 5.2.2).
     pub fn signed(&mut self, bits: u32) -> Result<i64, ReadFault>
         requires some { 0 < bits }
-        requires most { bits ≤ 64 }
-        ensures read { Gives (λ x. x) result self.new.rest.now (signed_at bits self.old.rest.now) }
+        requires limit { bits ≤ 64 }
+        ensures read { GivesWithoutMemory (λ x. x) result self.new.rest.now
+            (signed_at bits self.old.rest.now) }
         ensures bound { IfOk result (λ x. FitsBits bits x) }
     {
         let mut low: u64 = 0;
@@ -35,7 +36,7 @@ impl<'a> Reader<'a> {
 /// A number by its low bits and its last byte, where that fits the bits that are left.
 fn completed(low: u64, shift: u32, left: u32, byte: u8) -> Option<i64>
     requires some { 0 < left }
-    requires most { shift + left ≤ 64 }
+    requires limit { shift + left ≤ 64 }
     requires low { low < 2 ^ shift }
     requires last { byte < 128 }
     ensures value { result ≡ option_map (above (2 ^ shift) low) (last_of left byte) }
@@ -53,10 +54,11 @@ fn completed(low: u64, shift: u32, left: u32, byte: u8) -> Option<i64>
 /// Low bits with the last digits, where these leave a bit for the sign.
 fn magnitude(low: u64, shift: u32, left: u32, digits: u8) -> Option<u64>
     requires some { 0 < left }
-    requires most { shift + left ≤ 64 }
+    requires limit { shift + left ≤ 64 }
     requires low { low < 2 ^ shift }
     requires last { digits < 64 }
-    ensures value { result ≡ (if nat_lt digits (2 ^ (left - 1)) then Some (low + 2 ^ shift * digits) else None) }
+    ensures value { result ≡ (if nat_lt digits (2 ^ (left - 1)) then Some
+        (low + 2 ^ shift * digits) else None) }
     ensures bound { IfSome result (λ x. x < 2 ^ (shift + left - 1)) }
 {
     if left < 7 && digits >> (left - 1) != 0 {

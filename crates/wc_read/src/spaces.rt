@@ -1,11 +1,11 @@
-//! Index spaces: imported items, and then the module's own.
+//! Index spaces: imported items, and then defined ones.
 
-ghost use Rattle.std.specs.Prelude.{◌≡◌, ◌++◌, ℕ, List, Option, ⊤, map, IfOk};
+ghost use Rattle.std.specs.Prelude.{◌≡◌, ℕ, List, Option, ⊤, map, IfOk};
 ghost use Rattle.wc_read.specs.declared.types.ImportType.{ImportType as import_type};
-ghost use Rattle.wc_read.specs.Imports.{import_value};
-ghost use Rattle.wc_read.specs.Globals.{local_global_value};
-ghost use Rattle.wc_read.specs.Items.{ItemValue, item_value, func_value, global_value};
-ghost use Rattle.wc_read.specs.Spaces.{func_of, table_of, memory_of, global_of, imported_items, local_funcs, local_item, own_global};
+ghost use Rattle.wc_read.specs.Imports.{import_values};
+ghost use Rattle.wc_read.specs.Globals.{local_global_values};
+ghost use Rattle.wc_read.specs.Items.{item_value, func_values, global_values};
+ghost use Rattle.wc_read.specs.Spaces.{func_of, table_of, memory_of, global_of, imported_items, func_space, declared_space, global_space};
 
 use crate::globals::LocalGlobal;
 use crate::items::{self, Def, Func, Item};
@@ -65,7 +65,7 @@ impl ItemType for GlobalType {
     }
 }
 
-/// What an item of the module's own holds.
+/// What a defined item holds.
 pub trait Content: Sized {
     ghost Value: { Type 0 };
 
@@ -89,7 +89,8 @@ pub fn imported<'a, T: ItemType + Drop, C: Content + Drop>(
     alloc: Global,
     imports: &[Import<'a>],
 ) -> Result<Vec<Item<'a, T, C>>, AllocError>
-    ensures { IfOk result (λ v. map (item_value C.view) v.items ≡ imported_items T.of (map import_value imports.now)) }
+    ensures { IfOk result (λ v.
+        map (item_value C.view) v.items ≡ imported_items T.of (import_values imports.now)) }
 {
     let mut items = Vec::new(alloc);
     for import in imports {
@@ -110,7 +111,8 @@ pub fn funcs<'a>(
     types: &[u32],
     bodies: &[&'a [u8]],
 ) -> Result<Vec<Func<'a>>, AllocError>
-    ensures { IfOk result (λ v. map func_value v.items ≡ imported_items func_of (map import_value imports.now) ++ local_funcs types.now (map (λ b. b.now) bodies.now)) }
+    ensures { IfOk result (λ v. func_values v.items
+        ≡ func_space (import_values imports.now) types.now (map (λ b. b.now) bodies.now)) }
 {
     let mut funcs = imported::<u32, &[u8]>(alloc, imports)?;
     for (ty, body) in types.iter().zip(bodies) {
@@ -128,7 +130,8 @@ pub fn declared<'a, T: ItemType + Copy + Drop>(
     imports: &[Import<'a>],
     types: &[T],
 ) -> Result<Vec<Item<'a, T, ()>>, AllocError>
-    ensures { IfOk result (λ v. map (item_value (λ _. tt)) v.items ≡ imported_items T.of (map import_value imports.now) ++ map local_item types.now) }
+    ensures { IfOk result (λ v. map (item_value (λ _. tt)) v.items
+        ≡ declared_space T.of (import_values imports.now) types.now) }
 {
     let mut items = imported::<T, ()>(alloc, imports)?;
     for ty in types {
@@ -140,13 +143,14 @@ pub fn declared<'a, T: ItemType + Copy + Drop>(
     Ok(items)
 }
 
-/// The globals: imported ones, and then the module's own.
+/// The globals: imported ones, and then defined ones.
 pub fn globals<'a>(
     alloc: Global,
     imports: &[Import<'a>],
     locals: &[LocalGlobal<'a>],
 ) -> Result<Vec<items::Global<'a>>, AllocError>
-    ensures { IfOk result (λ v. map global_value v.items ≡ imported_items global_of (map import_value imports.now) ++ map own_global (map local_global_value locals.now)) }
+    ensures { IfOk result (λ v. global_values v.items
+        ≡ global_space (import_values imports.now) (local_global_values locals.now)) }
 {
     let mut globals = imported::<GlobalType, &[u8]>(alloc, imports)?;
     for global in locals {

@@ -1,6 +1,7 @@
 //! The types of core modules (WebAssembly core specification, 2.3 "Types" and 2.5.11 "Imports").
 
-ghost use Rattle.std.specs.Prelude.{◌≡◌, ◌-◌, ◌^◌, ◌<◌, ◌≤◌, unwrap_or};
+ghost use Rattle.std.specs.Prelude.{◌≡◌, ◌-◌, ◌^◌, ◌<◌, ◌≤◌};
+ghost use Rattle.wc_read.specs.Limits.{page_exponent};
 
 use std::alloc::{AllocError, Global};
 
@@ -27,14 +28,18 @@ pub struct MemoryType {
     pub page_size_log2: Option<u32>,
 }
 
+/// The exponent of a page's bytes, where a memory type gives none.
+const DEFAULT_PAGE_EXPONENT: u32 = 16;
+
 impl MemoryType {
     /// The bytes in a page: 2 to the exponent, 65536 where none is given. An exponent past 63, which no
     /// module spells, gives `u64::MAX`.
     pub fn page_size(&self) -> u64
-        ensures exponent { unwrap_or self.now.page_size_log2 16 < 64 → result ≡ 2 ^ unwrap_or self.now.page_size_log2 16 }
-        ensures past { 64 ≤ unwrap_or self.now.page_size_log2 16 → result ≡ 2 ^ 64 - 1 }
+        ensures exponent { page_exponent self.now.page_size_log2 < 64
+            → result ≡ 2 ^ page_exponent self.now.page_size_log2 }
+        ensures past { 64 ≤ page_exponent self.now.page_size_log2 → result ≡ 2 ^ 64 - 1 }
     {
-        let exponent = self.page_size_log2.unwrap_or(16);
+        let exponent = self.page_size_log2.unwrap_or(DEFAULT_PAGE_EXPONENT);
         if exponent < 64 {
             1 << exponent
         } else {
@@ -76,7 +81,7 @@ pub struct Import<'a> {
     pub ty: ImportType,
 }
 
-/// A function type: what a function takes and what it gives (2.3.6).
+/// A function type: a function's parameters and results (2.3.6).
 #[derive(Debug, PartialEq, Eq, Drop)]
 pub struct FuncType {
     params: Vec<ValType>,
@@ -95,21 +100,21 @@ impl FuncType {
         Self { params, results }
     }
 
-    /// What is taken, in order.
+    /// The parameters, in order.
     pub fn params(&self) -> &[ValType]
         ensures { result.now ≡ (func_type_value self.now).params }
     {
         self.params.as_slice()
     }
 
-    /// What is given, in order.
+    /// The results, in order.
     pub fn results(&self) -> &[ValType]
         ensures { result.now ≡ (func_type_value self.now).results }
     {
         self.results.as_slice()
     }
 
-    /// A copy.
+    /// A copy of this value.
     pub fn clone(&self, alloc: Global) -> Result<FuncType, AllocError>
         ensures { IfOk result (λ f. func_type_value f ≡ func_type_value self.now) }
     {

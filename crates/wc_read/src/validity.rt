@@ -1,26 +1,25 @@
 //! What holds of a module beside its sections (WebAssembly core specification, 3.4).
 
-ghost use Rattle.std.specs.Prelude.{◌≡◌, ◌≢◌, ◌<◌, ◌^◌, ◌↔◌, ℕ, List, length, map, All, IfOk, IfErr, IsTrue, nat_lt};
-ghost use Rattle.std.specs.List.{list_all};
-ghost use Rattle.wc_read.specs.Types.{func_type_value};
-ghost use Rattle.wc_read.specs.Items.{func_value};
-ghost use Rattle.wc_read.specs.Exports.{export_value};
-ghost use Rattle.wc_read.specs.Modules.{module_value, count_of, IsStart, IsModule, AreFew};
+ghost use Rattle.std.specs.Prelude.{◌≡◌, ◌≢◌, ◌<◌, ◌^◌, ◌↔◌, ℕ, List, length, map, All, IfOk, IfErr, IsTrue, Some, nat_lt};
+ghost use Rattle.std.specs.List.{list_all, slice_get};
+ghost use Rattle.wc_read.specs.Faults.{IfRefused};
+ghost use Rattle.wc_read.specs.Types.{func_type_value, is_nullary};
+ghost use Rattle.wc_read.specs.Modules.{module_value, count_of, HaveTypes, IsStart, IsModule, AreFew};
 
+use crate::core_module::Module;
 use crate::distinct::have_distinct_names;
 use crate::exports::{Export, ExportKind};
 use crate::fault::ReadFault;
 use crate::init_types::are_typed;
 use crate::items::Func;
-use crate::modules::Module;
 use crate::types::FuncType;
 use std::alloc::Global;
 
 /// Whether all indices name an item, names of exports are distinct, initialisers leave one value of their
-/// globals' types, the start function takes and gives nothing, and there are less than 2^32 items in each space.
+/// globals' types, the start function has no parameters and no results, and there are less than 2^32 items in each space.
 pub fn check_module(alloc: Global, module: &Module) -> Result<(), ReadFault>
     ensures found { IfOk result (λ _. IsModule (module_value «module».now)) }
-    ensures refused { IfErr result (λ f. f ≢ ReadFault.Memory → ¬ (IsModule (module_value «module».now))) }
+    ensures refused { IfRefused result (¬ (IsModule (module_value «module».now))) }
     ensures no_component { IfErr result (λ f. f ≢ ReadFault.Component) }
 {
     if !are_few(module) {
@@ -49,11 +48,11 @@ pub fn check_module(alloc: Global, module: &Module) -> Result<(), ReadFault>
 fn are_few(module: &Module) -> bool
     ensures { IsTrue result ↔ AreFew (module_value «module».now) }
 {
-    let most = u32::MAX as usize;
-    module.funcs.len() <= most
-        && module.tables.len() <= most
-        && module.memories.len() <= most
-        && module.globals.len() <= most
+    let limit = u32::MAX as usize;
+    module.funcs.len() <= limit
+        && module.tables.len() <= limit
+        && module.memories.len() <= limit
+        && module.globals.len() <= limit
 }
 
 /// Whether functions have types of the module.
@@ -65,7 +64,8 @@ fn have_types(funcs: &[Func], types: &[FuncType]) -> bool
 
 /// Whether exports name items of the module.
 fn name_items(exports: &[Export], module: &Module) -> bool
-    ensures { result ≡ list_all (λ e. nat_lt e.index (count_of (module_value «module».now) e.kind)) exports.now }
+    ensures { result ≡ list_all
+        (λ e. nat_lt e.index (count_of (module_value «module».now) e.kind)) exports.now }
 {
     exports.iter().all(|export| (export.index as usize) < count_of(module, export.kind))
 }
@@ -82,19 +82,35 @@ fn count_of(module: &Module, kind: ExportKind) -> usize
     }
 }
 
-/// Whether a function of the module takes nothing and gives nothing.
+/// Checks that a function of the module has no parameters and no results.
 fn check_start(module: &Module, index: u32) -> Result<(), ReadFault>
+    requires typed { HaveTypes (module_value «module».now) }
     ensures found { IfOk result (λ _. IsStart (module_value «module».now) index) }
-    ensures refused { IfErr result (λ f. (f ≢ ReadFault.Component) × ¬ (IsStart (module_value «module».now) index)) }
+    ensures refused { IfErr result (λ _. ¬ (IsStart (module_value «module».now) index)) }
+    ensures no_memory { IfErr result (λ f. f ≢ ReadFault.Memory) }
+    ensures no_component { IfErr result (λ f. f ≢ ReadFault.Component) }
 {
     let Some(func) = module.funcs.get(index as usize) else {
         return Err(ReadFault::BadIndex);
     };
-    let Some(ty) = module.types.get(func.ty as usize) else {
-        return Err(ReadFault::BadIndex);
-    };
-    if !ty.params().is_empty() || !ty.results().is_empty() {
+    let ty = type_of(&module.types, func.ty);
+    if !is_nullary(ty) {
         return Err(ReadFault::BadStart);
     }
     Ok(())
+}
+
+/// Whether functions of a type take nothing and give nothing.
+fn is_nullary(ty: &FuncType) -> bool
+    ensures { result ≡ is_nullary (func_type_value ty.now) }
+{
+    ty.params().is_empty() && ty.results().is_empty()
+}
+
+/// The type with an index.
+fn type_of(types: &[FuncType], index: u32) -> &FuncType
+    requires { index < length types.now }
+    ensures { slice_get types.now index ≡ Some result.now }
+{
+    &types[index as usize]
 }

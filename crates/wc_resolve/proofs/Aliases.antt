@@ -7,20 +7,20 @@ use Rattle.std.proofs.lemmas.List.Elements.{All-contains, Contains-append_right,
 use Rattle.wc_resolve.specs.declared.ids.TypeId.{TypeId}
 use Rattle.wc_resolve.specs.declared.types.WitType.TheVariants.{Id}
 use Rattle.wc_resolve.specs.Views.{KindView, alias_kind, InterfaceView, type_entry}
-use Rattle.wc_resolve.specs.World.{ResolveView, kind_at, mentioned_places}
+use Rattle.wc_resolve.specs.World.{ResolveView, kind_at, referenced_indices}
 use Rattle.wc_resolve.specs.Ranges.{AreIdsInRange, AreNamesIn}
 use Rattle.wc_resolve.specs.Dependencies.{alias_target, dependency}
 use Rattle.wc_resolve.proofs.Acyclic.{children_within, ids_of_types}
 use Rattle.wc_resolve.proofs.Search.{contains_none, contains_head, contains_tail, contains_cons}
 use Rattle.wc_resolve.proofs.Pushed.{IsPushed, push_end}
 
-target_mentioned : (o : Option KindView) (t : ℕ) → option_and_then alias_target o ≡ Some t → Contains (option_map_or mentioned_places o []) t
-target_mentioned None t e = absurd (let bad : ⊥ = cc e in bad)
-target_mentioned (Some (alias_kind (Id i))) t e = let same : i.0 ≡ t = cc e in subst (λ (z : ℕ). Contains (i.0 ∷ []) z) same (Contains-push [] i.0)
-target_mentioned (Some k) t e = absurd (let bad : ⊥ = cc e in bad)
+target_referenced : (o : Option KindView) (t : ℕ) → option_and_then alias_target o ≡ Some t → Contains (option_map_or referenced_indices o []) t
+target_referenced None t e = absurd (let bad : ⊥ = cc e in bad)
+target_referenced (Some (alias_kind (Id i))) t e = let same : i.0 ≡ t = cc e in subst (λ (z : ℕ). Contains (i.0 ∷ []) z) same (Contains-push [] i.0)
+target_referenced (Some k) t e = absurd (let bad : ⊥ = cc e in bad)
 
 pub target_within : (r : ResolveView) (x t : ℕ) → AreIdsInRange r → Some t ≡ option_and_then alias_target (kind_at r.types x) → t < length r.types
-target_within r x t h e = children_within r (ids_of_types r h) x t (target_mentioned (kind_at r.types x) t (sym e))
+target_within r x t h e = children_within r (ids_of_types r h) x t (target_referenced (kind_at r.types x) t (sym e))
 
 types_in : (r : ResolveView) (v : InterfaceView) → AreNamesIn r v → All (λ e. e.1 < length r.types) v.types
 unfolding AreNamesIn
@@ -38,8 +38,8 @@ contains_mapped (d ∷ entries) e h =
 pub entry_within : (r : ResolveView) (v : InterfaceView) (f : String Global × TypeId → List ℕ) (entries left rest : List (String Global × TypeId)) (e : String Global × TypeId) (old new : List ℕ) → AreNamesIn r v
     → v.types ≡ map type_entry entries → IsPushed f entries left old new → left ≡ e ∷ rest → e.1.0 < length r.types
 entry_within r v f entries left rest e old new h seen p next =
-    let whole : entries ≡ p.front ++ e ∷ rest = p.split ∙ ap (λ z. p.front ++ z) next in
-    let there : Contains entries e = subst (λ (z : List (String Global × TypeId)). Contains z e) (sym whole) (Contains-append_right p.front (e ∷ rest) e (contains_head rest e)) in
+    let full : entries ≡ p.front ++ e ∷ rest = p.split ∙ ap (λ z. p.front ++ z) next in
+    let there : Contains entries e = subst (λ (z : List (String Global × TypeId)). Contains z e) (sym full) (Contains-append_right p.front (e ∷ rest) e (contains_head rest e)) in
     let all : All (λ (x : List ℕ × ℕ). x.1 < length r.types) (map type_entry entries) = subst (All (λ (x : List ℕ × ℕ). x.1 < length r.types)) seen (types_in r v h) in
     All-contains (λ (x : List ℕ × ℕ). x.1 < length r.types) (map type_entry entries) (type_entry e) all (contains_mapped entries e there)
 

@@ -1,4 +1,4 @@
--- Lists that agree in their first n places, and what is made of such lists.
+-- Lists that agree in their first n elements, and what is made of such lists.
 use Rattle.std.proofs.Common.{◌≡◌, ℕ, zero, suc, ◌+◌, ◌≤◌, List, [], ◌∷◌, ◌++◌, length, take, refl, sym, ap, ◌∙◌, arith}
 use Rattle.std.specs.List.{Contains, flat_map}
 use Rattle.std.proofs.lemmas.List.{take-take, take_all}
@@ -11,7 +11,7 @@ Alike n xs ys = take n xs ≡ take n ys
 pub alike_less : {X : Type 0} (m n : ℕ) (xs ys : List X) → m ≤ n → Alike n xs ys → Alike m xs ys
 alike_less m n xs ys h e = sym (take-take m n xs h) ∙ ap (λ z. take m z) e ∙ take-take m n ys h
 
--- the first n of a list are alike the whole
+-- a list and its first n elements agree in these
 pub alike_cut : {X : Type 0} (n : ℕ) (xs : List X) → Alike n (take n xs) xs
 alike_cut n xs = take-take n n xs (omega arith)
 
@@ -28,14 +28,14 @@ alike_append (suc n) (x ∷ xs) (v ∷ vs) ys ws e f =
     let head : x ≡ v = cc e in
     let tail : take n xs ≡ take n vs = cc e in
     let rest : take n (xs ++ ys) ≡ take n (vs ++ ws) = alike_append n xs vs ys ws tail (alike_less n (suc n) ys ws (omega arith) f) in
-    let whole : x ∷ take n (xs ++ ys) ≡ v ∷ take n (vs ++ ws) = cc (head, rest) in
-    whole
+    let full : x ∷ take n (xs ++ ys) ≡ v ∷ take n (vs ++ ws) = cc (head, rest) in
+    full
 
 pub alike_flat_map : {A X : Type 0} (n : ℕ) (f g : A → List X) (things : List A) → ((a : A) → Contains things a → Alike n (f a) (g a)) → Alike n (flat_map f things) (flat_map g things)
 alike_flat_map n f g [] h = refl
 alike_flat_map n f g (a ∷ things) h =
     alike_append n (f a) (g a) (flat_map f things) (flat_map g things) (h a (contains_head things a)) (alike_flat_map n f g things (λ b k. h b (Contains-append_right (a ∷ []) things b k)))
 
--- lists that agree in all places are one
+-- lists that agree in all elements are equal
 pub alike_same : {X : Type 0} (xs ys : List X) → ((n : ℕ) → Alike n xs ys) → xs ≡ ys
 alike_same xs ys h = sym (take_all (length xs + length ys) xs (omega arith)) ∙ h (length xs + length ys) ∙ take_all (length xs + length ys) ys (omega arith)

@@ -1,4 +1,4 @@
--- Steps of loops that make flat forms.
+-- Steps of loops that make flat types.
 use Rattle.std.proofs.Common.{◌≡◌, ℕ, zero, suc, ◌+◌, ◌-◌, ◌<◌, ◌≤◌, min, List, [], ◌∷◌, ◌++◌, map, length, take, drop, set, get_or, replicate, Option, refl, sym, ap, ◌∙◌, arith, add-one}
 use Rattle.std.specs.List.{fold}
 use Rattle.std.proofs.lemmas.Grind.{flat_map-append}
@@ -8,22 +8,22 @@ use Rattle.std.proofs.Math.Nat.{min-zero, zero-min, suc-min-suc}
 use Rattle.std.proofs.Math.Seq.{take-append-add}
 use Rattle.wc_resolve.specs.declared.flat.WasmType.{WasmType}
 use Rattle.wc_resolve.specs.declared.types.WitType.{WitType}
-use Rattle.wc_resolve.specs.Flat.{join, join_flats, flat_type, flat_types, flat_payload}
+use Rattle.wc_resolve.specs.Flat.{join, join_flats, flatten_type, flatten_types, flat_payload}
 use Rattle.wc_resolve.proofs.Alike.{Alike, alike_append, alike_cut}
 
--- what fits behind others
+-- what fits after others
 pub put_room : {X : Type 0} (n room : ℕ) (xs ys : List X) → length xs ≤ n → room ≡ n - length xs → xs ++ take (min room (length ys)) ys ≡ take n (xs ++ ys)
 put_room n room xs ys h e =
-    let whole : length xs + room ≡ n = omega (arith, e) in
-    ap (λ z. xs ++ z) (take_min room ys) ∙ sym (take-append-add xs ys room) ∙ ap (λ z. take z (xs ++ ys)) whole
+    let full : length xs + room ≡ n = omega (arith, e) in
+    ap (λ z. xs ++ z) (take_min room ys) ∙ sym (take-append-add xs ys room) ∙ ap (λ z. take z (xs ++ ys)) full
 
 pub types_more : (flat : ℕ → List WasmType) (types : List WitType) (i : ℕ) (d : WitType) (old new more : List WasmType) → i < length types
-    → old ≡ take 17 (flat_types flat (take i types)) → more ≡ flat_type flat (get_or types i d) → new ≡ take 17 (old ++ more) → new ≡ take 17 (flat_types flat (take (i + 1) types))
+    → old ≡ take 17 (flatten_types flat (take i types)) → more ≡ flatten_type flat (get_or types i d) → new ≡ take 17 (old ++ more) → new ≡ take 17 (flatten_types flat (take (i + 1) types))
 types_more flat types i d old new more small was read made =
-    let front : List WasmType = flat_types flat (take i types) in
-    let next : flat_types flat (take (i + 1) types) ≡ front ++ (flat_type flat (get_or types i d) ++ []) =
-    ap (flat_types flat) (take_more types i d small) ∙ flat_map-append (flat_type flat) (take i types) (get_or types i d ∷ []) in
-    let plain : flat_types flat (take (i + 1) types) ≡ front ++ more = next ∙ ap (λ z. front ++ z) (append-nil (flat_type flat (get_or types i d)) ∙ sym read) in
+    let front : List WasmType = flatten_types flat (take i types) in
+    let next : flatten_types flat (take (i + 1) types) ≡ front ++ (flatten_type flat (get_or types i d) ++ []) =
+    ap (flatten_types flat) (take_more types i d small) ∙ flat_map-append (flatten_type flat) (take i types) (get_or types i d ∷ []) in
+    let plain : flatten_types flat (take (i + 1) types) ≡ front ++ more = next ∙ ap (λ z. front ++ z) (append-nil (flatten_type flat (get_or types i d)) ∙ sym read) in
     let alike : Alike 17 (old ++ more) (front ++ more) = alike_append 17 old front more more (ap (λ z. take 17 z) was ∙ alike_cut 17 front) refl in
     made ∙ alike ∙ ap (λ z. take 17 z) (sym plain)
 
@@ -40,7 +40,7 @@ copies_cut zero n x = rw min-zero refl
 copies_cut (suc m) zero x = rw zero-min refl
 copies_cut (suc m) (suc n) x = rw suc-min-suc (ap (λ z. x ∷ z) (copies_cut m n x))
 
--- a part of the thing at a place
+-- a part of the element at an index
 pub part_read : {T Y : Type 0} (part : T → Y) (things : List T) (i : ℕ) (thing : T) (d : Y) → i < length things → thing ≡ get_or things i thing → part thing ≡ get_or (map part things) i d
 part_read part things i thing d small read = sym (get_or-map part things i thing d small ∙ ap part (sym read))
 
@@ -48,12 +48,12 @@ pub part_small : {T Y : Type 0} (part : T → Y) (things : List T) (i : ℕ) →
 part_small part things i small = rw (length-map things part) small
 
 pub all_parts : {T Y : Type 0} (part : T → Y) (things : List T) (i : ℕ) → length things ≤ i → take i (map part things) ≡ map part things
-all_parts part things i behind = take_all i (map part things) (rw (length-map things part) behind)
+all_parts part things i past = take_all i (map part things) (rw (length-map things part) past)
 
 pub cut_small : {X : Type 0} (n : ℕ) (xs ys : List X) → xs ≡ take n ys → length xs ≤ n
 cut_small n xs ys e = omega (arith, ap (λ z. length z) e, length-take n ys)
 
--- the first n places joined
+-- the first n elements joined
 pub joined_first : ℕ → List WasmType → List WasmType → List WasmType
 joined_first zero xs ys = xs
 joined_first (suc n) [] ys = []

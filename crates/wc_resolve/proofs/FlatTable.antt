@@ -1,64 +1,60 @@
--- The table of flat forms, made along an order in which each type is behind those that it mentions.
+-- The table of flat types, made along an order in which each type is after those that it refers to.
 use Rattle.std.proofs.Common.{◌≡◌, ℕ, ◌<◌, ◌≤◌, ◌+◌, List, [], ◌∷◌, ◌++◌, length, take, set, get_or, replicate, Vec, sym, ap, ◌∙◌, subst, length-set}
 use Rattle.std.specs.List.{Contains}
 use Rattle.std.specs.declared.alloc.Global.{Global}
 use Rattle.std.proofs.lemmas.Grind.{replicate_next}
 use Rattle.std.proofs.lemmas.List.{length-replicate, map-append, map-set}
 use Rattle.wc_resolve.specs.declared.flat.WasmType.{WasmType}
-use Rattle.wc_resolve.specs.Flat.{AreFlattened, flat_of, flat_rule, kept_flat, lists}
-use Rattle.wc_resolve.specs.Followed.{Follows}
-use Rattle.wc_resolve.specs.Kept.{IsOrder}
+use Rattle.wc_resolve.specs.Flat.{AreFlattened, flat_of, flat_rule, flat_entry, lists}
+use Rattle.wc_resolve.specs.TypeRules.{Follows}
+use Rattle.wc_resolve.specs.TypeTables.{IsOrder}
 use Rattle.wc_resolve.specs.Views.{TypeView}
 use Rattle.wc_resolve.specs.World.{children, kind_at}
 use Rattle.wc_resolve.proofs.Alike.{Alike, alike_cut}
-use Rattle.wc_resolve.proofs.AlikeForms.{alike_rule, flat_looks_down}
-use Rattle.wc_resolve.proofs.Followed.{followed_follows, follows_once}
-use Rattle.wc_resolve.proofs.Told.{IsTold, told_start, told_turn, told_end}
+use Rattle.wc_resolve.proofs.AlikeFlattenings.{alike_rule, flat_looks_down}
+use Rattle.wc_resolve.proofs.TypeRules.{value_by_rule_follows}
+use Rattle.wc_resolve.proofs.TableEntries.{AreEntries, table_start, table_turn, table_end}
 
 pub flats_follow : (types : List TypeView) (order : List ℕ) → IsOrder types order → Follows flat_rule types (flat_of types)
-flats_follow types order o = followed_follows flat_rule [] types order o (flat_looks_down types)
+flats_follow types order o = value_by_rule_follows flat_rule [] types order o (flat_looks_down types)
 
-pub flats_alone : (types : List TypeView) (order : List ℕ) → IsOrder types order → (flat : ℕ → List WasmType) → Follows flat_rule types flat → (x : ℕ) → x < length types
-    → flat x ≡ flat_of types x
-flats_alone types order o flat made x small = follows_once flat_rule types order flat (flat_of types) o (flat_looks_down types) made (flats_follow types order o) x small
+-- the flat types of the type at an index, as many as are kept
+abbrev pub IsFlattening : List TypeView → ℕ → List WasmType → Type 0
+IsFlattening types x flat = flat ≡ take 17 (flat_of types x)
 
--- the form of the type at a place, as far as it is kept
-abbrev pub IsFormOf : List TypeView → ℕ → List WasmType → Type 0
-IsFormOf types x flat = flat ≡ take 17 (flat_of types x)
-
--- the forms of all types that stand in the list
+-- the flat types of all types that are in the list
 pub record FlatsOf (types : List TypeView) (flats : List (List WasmType)) (listed : List ℕ) : Type 0 where
-  pub sized : length flats ≡ length types
-  pub told : IsTold (IsFormOf types) [] flats listed
+  pub same_length : length flats ≡ length types
+  pub each : AreEntries (IsFlattening types) [] flats listed
 
 pub flats_start : (types : List TypeView) (n : ℕ) (flats : List (List WasmType)) → flats ≡ replicate n [] → n ≡ length types → FlatsOf types flats []
 flats_start types n flats made e = record {
-  sized = ap (λ z. length z) made ∙ length-replicate n [] ∙ e;
-  told = told_start (IsFormOf types) [] flats;
+  same_length = ap (λ z. length z) made ∙ length-replicate n [] ∙ e;
+  each = table_start (IsFlattening types) [] flats;
 }
 
-form_right : (types : List TypeView) (order : List ℕ) (flats : List (List WasmType)) (x : ℕ) (flat : List WasmType) → IsOrder types order → x < length types
-    → flat ≡ take 17 (flat_rule (kept_flat flats) x (kind_at types x)) → ((c : ℕ) → Contains (children types x) c → kept_flat flats c ≡ take 17 (flat_of types c)) → IsFormOf types x flat
-form_right types order flats x flat o small made below =
-    let alike : Alike 17 (flat_rule (kept_flat flats) x (kind_at types x)) (flat_rule (flat_of types) x (kind_at types x)) =
-    alike_rule 17 (kept_flat flats) (flat_of types) types x (λ c h. ap (λ z. take 17 z) (below c h) ∙ alike_cut 17 (flat_of types c)) in
+flattening_right : (types : List TypeView) (order : List ℕ) (flats : List (List WasmType)) (x : ℕ) (flat : List WasmType) → IsOrder types order → x < length types
+    → flat ≡ take 17 (flat_rule (flat_entry flats) x (kind_at types x)) → ((c : ℕ) → Contains (children types x) c → flat_entry flats c ≡ take 17 (flat_of types c)) → IsFlattening types x flat
+flattening_right types order flats x flat o small made below =
+    let alike : Alike 17 (flat_rule (flat_entry flats) x (kind_at types x)) (flat_rule (flat_of types) x (kind_at types x)) =
+    alike_rule 17 (flat_entry flats) (flat_of types) types x (λ c h. ap (λ z. take 17 z) (below c h) ∙ alike_cut 17 (flat_of types c)) in
     made ∙ alike ∙ ap (λ z. take 17 z) (sym (flats_follow types order o x small))
 
 pub flats_turn : (types : List TypeView) (order : List ℕ) (flats : List (List WasmType)) (i x : ℕ) (flat : List WasmType) → IsOrder types order → i < length order
-    → x ≡ get_or order i 0 → x < length types → flat ≡ take 17 (flat_rule (kept_flat flats) x (kind_at types x)) → FlatsOf types flats (take i order)
+    → x ≡ get_or order i 0 → x < length types → flat ≡ take 17 (flat_rule (flat_entry flats) x (kind_at types x)) → FlatsOf types flats (take i order)
     → FlatsOf types (set flats x flat) (take (i + 1) order)
 flats_turn types order flats i x flat o small x_at bound made m =
-    let below : (c : ℕ) → Contains (children types x) c → kept_flat flats c ≡ take 17 (flat_of types c) =
-    λ c h. m.told.told c (o.first i c small (subst (λ (z : ℕ). Contains (children types z) c) x_at h)) in
-    let within : x < length flats = rw m.sized bound in
+    let below : (c : ℕ) → Contains (children types x) c → flat_entry flats c ≡ take 17 (flat_of types c) =
+    λ c h. m.each.each c (o.first i c small (subst (λ (z : ℕ). Contains (children types z) c) x_at h)) in
+    let within : x < length flats = rw m.same_length bound in
     record {
-      sized = length-set flats x flat ∙ m.sized;
-      told = told_turn (IsFormOf types) [] flats order i x flat small x_at within (form_right types order flats x flat o bound made below) m.told;
+      same_length = length-set flats x flat ∙ m.same_length;
+      each = table_turn (IsFlattening types) [] flats order i x flat small x_at within (flattening_right types order flats x flat o bound made below) m.each;
     }
 
 pub flats_end : (types : List TypeView) (order : List ℕ) (flats : List (List WasmType)) (i : ℕ) → IsOrder types order → length order ≤ i → FlatsOf types flats (take i order)
     → AreFlattened types flats
-flats_end types order flats i o behind m = record { sized = m.sized; told = λ x h. told_end (IsFormOf types) [] flats order i behind m.told x (o.all x h) }
+flats_end types order flats i o past m = record { same_length = m.same_length; each = λ x h. table_end (IsFlattening types) [] flats order i past m.each x (o.all x h) }
 
 pub lists-set : (vectors : List (Vec WasmType Global)) (x : ℕ) (v : Vec WasmType Global) → lists (set vectors x v) ≡ set (lists vectors) x v.items
 lists-set vectors x v = map-set (λ (w : Vec WasmType Global). w.items) vectors x v

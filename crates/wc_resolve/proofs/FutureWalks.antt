@@ -7,129 +7,129 @@ use Rattle.std.proofs.lemmas.List.{reverse-append, reverse-reverse}
 use Rattle.std.proofs.lemmas.List.Elements.{Contains-append_left, Contains-append_cases, Contains-push, Contains-push_cases}
 use Rattle.indexmap.proofs.ReorderLemmas.{map-reverse}
 use Rattle.wc_resolve.specs.declared.ids.TypeId.{TypeId}
-use Rattle.wc_resolve.specs.declared.walk.Step.{Step}
-use Rattle.wc_resolve.specs.declared.walk.Step.TheVariants.{Enter, Leave}
+use Rattle.wc_resolve.specs.declared.walk.TypeStep.{TypeStep}
+use Rattle.wc_resolve.specs.declared.walk.TypeStep.TheVariants.{Enter, Leave}
 use Rattle.wc_resolve.specs.Views.{KindView, record_kind, resource_kind, handle_kind, flags_kind, tuple_kind, variant_kind, enum_kind, option_kind, result_kind, list_kind, future_kind, stream_kind, alias_kind, TypeView}
-use Rattle.wc_resolve.specs.World.{children, kind_at, mentioned_places}
-use Rattle.wc_resolve.specs.Followed.{Follows}
-use Rattle.wc_resolve.specs.Roots.{id_place}
+use Rattle.wc_resolve.specs.World.{children, kind_at, referenced_indices}
+use Rattle.wc_resolve.specs.TypeRules.{Follows}
+use Rattle.wc_resolve.specs.Roots.{id_index}
 use Rattle.wc_resolve.specs.Live.{listing_rule, listing_of}
-use Rattle.wc_resolve.specs.Futures.{carried_places, is_carrier, futures_of, futures_rule}
+use Rattle.wc_resolve.specs.Futures.{carried_indices, is_carrier, futures_of, futures_rule}
 use Rattle.wc_resolve.proofs.Search.{contains_none}
-use Rattle.wc_resolve.proofs.Carriers.{carried_mentioned}
-use Rattle.wc_resolve.proofs.Listings.{step_place, turns, turns_append, turns_reverse}
+use Rattle.wc_resolve.proofs.Carriers.{carried_referenced}
+use Rattle.wc_resolve.proofs.Listings.{step_index, turns, turns_append, turns_reverse}
 use Rattle.wc_resolve.proofs.Walks.{contains_reverse, ids_within, one_listed}
 
 -- what steps are going to list, the next one first
-abbrev pub remaining : (ℕ → List ℕ) → List Step → List ℕ
+abbrev pub remaining : (ℕ → List ℕ) → List TypeStep → List ℕ
 remaining listed [] = []
 remaining listed (Enter id ∷ steps) = listed id.0 ++ remaining listed steps
 remaining listed (Leave id ∷ steps) = id.0 ∷ remaining listed steps
 
-remaining_enters : (listed : ℕ → List ℕ) (ids : List TypeId) (steps : List Step) → remaining listed (map Enter ids ++ steps) ≡ flat_map listed (map id_place ids) ++ remaining listed steps
+remaining_enters : (listed : ℕ → List ℕ) (ids : List TypeId) (steps : List TypeStep) → remaining listed (map Enter ids ++ steps) ≡ flat_map listed (map id_index ids) ++ remaining listed steps
 remaining_enters listed [] steps = refl
 remaining_enters listed (id ∷ ids) steps =
-    ap (λ z. listed id.0 ++ z) (remaining_enters listed ids steps) ∙ sym (append_assoc (listed id.0) (flat_map listed (map id_place ids)) (remaining listed steps))
+    ap (λ z. listed id.0 ++ z) (remaining_enters listed ids steps) ∙ sym (append_assoc (listed id.0) (flat_map listed (map id_index ids)) (remaining listed steps))
 
--- the step that takes a future or a stream
-abbrev pub own_steps : Bool → TypeId → List Step
-own_steps carrier id = if carrier then Leave id ∷ [] else []
+-- the step that adds a future or a stream
+abbrev pub self_steps : Bool → TypeId → List TypeStep
+self_steps carrier id = if carrier then Leave id ∷ [] else []
 
-remaining_own : (listed : ℕ → List ℕ) (carrier : Bool) (id : TypeId) (steps : List Step) → remaining listed (own_steps carrier id ++ steps) ≡ (if carrier then id.0 ∷ [] else []) ++ remaining listed steps
-remaining_own listed true id steps = refl
-remaining_own listed false id steps = refl
+remaining_self : (listed : ℕ → List ℕ) (carrier : Bool) (id : TypeId) (steps : List TypeStep) → remaining listed (self_steps carrier id ++ steps) ≡ (if carrier then id.0 ∷ [] else []) ++ remaining listed steps
+remaining_self listed true id steps = refl
+remaining_self listed false id steps = refl
 
-own_turned : (carrier : Bool) (id : TypeId) → reverse (own_steps carrier id) ≡ own_steps carrier id
-own_turned true id = refl
-own_turned false id = refl
+self_turned : (carrier : Bool) (id : TypeId) → reverse (self_steps carrier id) ≡ self_steps carrier id
+self_turned true id = refl
+self_turned false id = refl
 
--- steps stand with the next one last
-pub record IsFutureWalk (types : List TypeView) (goal found : List ℕ) (steps : List Step) : Type 0 where
-  pub within : (s : Step) → Contains steps s → step_place s < length types
-  pub told : goal ≡ found ++ remaining (futures_of types) (reverse steps)
+-- steps are stored with the next one last
+pub record IsFutureWalk (types : List TypeView) (goal found : List ℕ) (steps : List TypeStep) : Type 0 where
+  pub within : (s : TypeStep) → Contains steps s → step_index s < length types
+  pub each : goal ≡ found ++ remaining (futures_of types) (reverse steps)
 
-pub futures_start : (types : List TypeView) (ids : List TypeId) → ((x : ℕ) → Contains (map id_place ids) x → x < length types)
-    → IsFutureWalk types (flat_map (futures_of types) (map id_place ids)) [] (map Enter (reverse ids))
+pub futures_start : (types : List TypeView) (ids : List TypeId) → ((x : ℕ) → Contains (map id_index ids) x → x < length types)
+    → IsFutureWalk types (flat_map (futures_of types) (map id_index ids)) [] (map Enter (reverse ids))
 futures_start types ids within =
-    let below : (c : ℕ) → Contains (map id_place (reverse ids)) c → c < length types =
-    λ c h. within c (contains_reverse (map id_place ids) c (subst (λ (z : List ℕ). Contains z c) (map-reverse id_place ids) h)) in
+    let below : (c : ℕ) → Contains (map id_index (reverse ids)) c → c < length types =
+    λ c h. within c (contains_reverse (map id_index ids) c (subst (λ (z : List ℕ). Contains z c) (map-reverse id_index ids) h)) in
     let turned : reverse (map Enter (reverse ids)) ≡ map Enter ids ++ [] = ap reverse (map-reverse Enter ids) ∙ reverse-reverse (map Enter ids) ∙ sym (append-nil (map Enter ids)) in
     record {
       within = ids_within types (reverse ids) below;
-      told = sym (ap (remaining (futures_of types)) turned ∙ remaining_enters (futures_of types) ids [] ∙ append-nil (flat_map (futures_of types) (map id_place ids)));
+      each = sym (ap (remaining (futures_of types)) turned ∙ remaining_enters (futures_of types) ids [] ∙ append-nil (flat_map (futures_of types) (map id_index ids)));
     }
 
-pub future_within : (types : List TypeView) (goal found : List ℕ) (steps rest : List Step) (s : Step) → IsFutureWalk types goal found steps → steps ≡ rest ++ s ∷ [] → step_place s < length types
-future_within types goal found steps rest s w e = w.within s (subst (λ (z : List Step). Contains z s) (sym e) (Contains-push rest s))
+pub future_within : (types : List TypeView) (goal found : List ℕ) (steps rest : List TypeStep) (s : TypeStep) → IsFutureWalk types goal found steps → steps ≡ rest ++ s ∷ [] → step_index s < length types
+future_within types goal found steps rest s w e = w.within s (subst (λ (z : List TypeStep). Contains z s) (sym e) (Contains-push rest s))
 
-rest_within : (types : List TypeView) (goal found : List ℕ) (steps rest : List Step) (s : Step) → IsFutureWalk types goal found steps → steps ≡ rest ++ s ∷ []
-    → (t : Step) → Contains rest t → step_place t < length types
-rest_within types goal found steps rest s w e t h = w.within t (subst (λ (z : List Step). Contains z t) (sym e) (Contains-append_left rest (s ∷ []) t h))
+rest_within : (types : List TypeView) (goal found : List ℕ) (steps rest : List TypeStep) (s : TypeStep) → IsFutureWalk types goal found steps → steps ≡ rest ++ s ∷ []
+    → (t : TypeStep) → Contains rest t → step_index t < length types
+rest_within types goal found steps rest s w e t h = w.within t (subst (λ (z : List TypeStep). Contains z t) (sym e) (Contains-append_left rest (s ∷ []) t h))
 
-facing : (types : List TypeView) (goal found : List ℕ) (steps rest : List Step) (s : Step) → IsFutureWalk types goal found steps → steps ≡ rest ++ s ∷ []
+facing : (types : List TypeView) (goal found : List ℕ) (steps rest : List TypeStep) (s : TypeStep) → IsFutureWalk types goal found steps → steps ≡ rest ++ s ∷ []
     → goal ≡ found ++ remaining (futures_of types) (s ∷ reverse rest)
-facing types goal found steps rest s w e = w.told ∙ ap (λ z. found ++ remaining (futures_of types) z) (ap reverse e ∙ reverse-append rest (s ∷ []))
+facing types goal found steps rest s w e = w.each ∙ ap (λ z. found ++ remaining (futures_of types) z) (ap reverse e ∙ reverse-append rest (s ∷ []))
 
-pub future_skip : (types : List TypeView) (goal found : List ℕ) (steps rest : List Step) (id : TypeId) → IsFutureWalk types goal found steps → steps ≡ rest ++ Enter id ∷ []
+pub future_skip : (types : List TypeView) (goal found : List ℕ) (steps rest : List TypeStep) (id : TypeId) → IsFutureWalk types goal found steps → steps ≡ rest ++ Enter id ∷ []
     → futures_of types id.0 ≡ [] → IsFutureWalk types goal found rest
 future_skip types goal found steps rest id w e none = record {
   within = rest_within types goal found steps rest (Enter id) w e;
-  told = facing types goal found steps rest (Enter id) w e ∙ ap (λ z. found ++ (z ++ remaining (futures_of types) (reverse rest))) none;
+  each = facing types goal found steps rest (Enter id) w e ∙ ap (λ z. found ++ (z ++ remaining (futures_of types) (reverse rest))) none;
 }
 
-pub future_leave : (types : List TypeView) (goal found new : List ℕ) (steps rest : List Step) (id : TypeId) → IsFutureWalk types goal found steps → steps ≡ rest ++ Leave id ∷ []
+pub future_leave : (types : List TypeView) (goal found new : List ℕ) (steps rest : List TypeStep) (id : TypeId) → IsFutureWalk types goal found steps → steps ≡ rest ++ Leave id ∷ []
     → new ≡ found ++ id.0 ∷ [] → IsFutureWalk types goal new rest
 future_leave types goal found new steps rest id w e more = record {
   within = rest_within types goal found steps rest (Leave id) w e;
-  told = facing types goal found steps rest (Leave id) w e ∙ sym (append_assoc found (id.0 ∷ []) (remaining (futures_of types) (reverse rest))) ∙ ap (λ z. z ++ remaining (futures_of types) (reverse rest)) (sym more);
+  each = facing types goal found steps rest (Leave id) w e ∙ sym (append_assoc found (id.0 ∷ []) (remaining (futures_of types) (reverse rest))) ∙ ap (λ z. z ++ remaining (futures_of types) (reverse rest)) (sym more);
 }
 
-entered_first : (rest : List Step) (carrier : Bool) (id : TypeId) (ids : List TypeId) → reverse ((rest ++ own_steps carrier id) ++ map Enter (reverse ids)) ≡ map Enter ids ++ (own_steps carrier id ++ reverse rest)
+entered_first : (rest : List TypeStep) (carrier : Bool) (id : TypeId) (ids : List TypeId) → reverse ((rest ++ self_steps carrier id) ++ map Enter (reverse ids)) ≡ map Enter ids ++ (self_steps carrier id ++ reverse rest)
 entered_first rest carrier id ids =
-    let whole = reverse-append (rest ++ own_steps carrier id) (map Enter (reverse ids)) in
+    let full = reverse-append (rest ++ self_steps carrier id) (map Enter (reverse ids)) in
     let front : reverse (map Enter (reverse ids)) ≡ map Enter ids = ap reverse (map-reverse Enter ids) ∙ reverse-reverse (map Enter ids) in
-    let back : reverse (rest ++ own_steps carrier id) ≡ own_steps carrier id ++ reverse rest = reverse-append rest (own_steps carrier id) ∙ ap (λ z. z ++ reverse rest) (own_turned carrier id) in
-    whole ∙ ap (λ z. z ++ reverse (rest ++ own_steps carrier id)) front ∙ ap (λ z. map Enter ids ++ z) back
+    let back : reverse (rest ++ self_steps carrier id) ≡ self_steps carrier id ++ reverse rest = reverse-append rest (self_steps carrier id) ∙ ap (λ z. z ++ reverse rest) (self_turned carrier id) in
+    full ∙ ap (λ z. z ++ reverse (rest ++ self_steps carrier id)) front ∙ ap (λ z. map Enter ids ++ z) back
 
-own_within : (types : List TypeView) (carrier : Bool) (id : TypeId) → id.0 < length types → (s : Step) → Contains (own_steps carrier id) s → step_place s < length types
-own_within types true id small s h = elim (Contains-push_cases [] (Leave id) s h) [ inl none ↦ absurd (contains_none s none) | inr same ↦ subst (λ (z : Step). step_place z < length types) same small ]
-own_within types false id small s h = absurd (contains_none s h)
+self_within : (types : List TypeView) (carrier : Bool) (id : TypeId) → id.0 < length types → (s : TypeStep) → Contains (self_steps carrier id) s → step_index s < length types
+self_within types true id small s h = elim (Contains-push_cases [] (Leave id) s h) [ inl none ↦ absurd (contains_none s none) | inr same ↦ subst (λ (z : TypeStep). step_index z < length types) same small ]
+self_within types false id small s h = absurd (contains_none s h)
 
-pub future_enter : (types : List TypeView) (goal found : List ℕ) (steps rest : List Step) (id : TypeId) (ids : List TypeId) (k : KindView) → Follows futures_rule types (futures_of types)
-    → ((x c : ℕ) → Contains (children types x) c → c < length types) → kind_at types id.0 ≡ Some k → map id_place ids ≡ carried_places k
-    → IsFutureWalk types goal found steps → steps ≡ rest ++ Enter id ∷ [] → IsFutureWalk types goal found ((rest ++ own_steps (is_carrier k) id) ++ map Enter (reverse ids))
+pub future_enter : (types : List TypeView) (goal found : List ℕ) (steps rest : List TypeStep) (id : TypeId) (ids : List TypeId) (k : KindView) → Follows futures_rule types (futures_of types)
+    → ((x c : ℕ) → Contains (children types x) c → c < length types) → kind_at types id.0 ≡ Some k → map id_index ids ≡ carried_indices k
+    → IsFutureWalk types goal found steps → steps ≡ rest ++ Enter id ∷ [] → IsFutureWalk types goal found ((rest ++ self_steps (is_carrier k) id) ++ map Enter (reverse ids))
 future_enter types goal found steps rest id ids k follows inside at same w e =
     let small : id.0 < length types = future_within types goal found steps rest (Enter id) w e in
-    let below : (c : ℕ) → Contains (map id_place (reverse ids)) c → c < length types =
+    let below : (c : ℕ) → Contains (map id_index (reverse ids)) c → c < length types =
     λ c h.
-    let carried : Contains (carried_places k) c = subst (λ (z : List ℕ). Contains z c) same (contains_reverse (map id_place ids) c (subst (λ (z : List ℕ). Contains z c) (map-reverse id_place ids) h)) in
-    inside id.0 c (carried_mentioned (kind_at types id.0) c (subst (λ (o : Option KindView). Contains (option_map_or carried_places o []) c) (sym at) carried)) in
-    let rule : futures_of types id.0 ≡ flat_map (futures_of types) (carried_places k) ++ (if is_carrier k then id.0 ∷ [] else []) =
-    follows id.0 small ∙ ap (λ o. flat_map (futures_of types) (option_map_or carried_places o []) ++ (if option_map_or is_carrier o false then id.0 ∷ [] else [])) at in
-    let own : List ℕ = if is_carrier k then id.0 ∷ [] else [] in
+    let carried : Contains (carried_indices k) c = subst (λ (z : List ℕ). Contains z c) same (contains_reverse (map id_index ids) c (subst (λ (z : List ℕ). Contains z c) (map-reverse id_index ids) h)) in
+    inside id.0 c (carried_referenced (kind_at types id.0) c (subst (λ (o : Option KindView). Contains (option_map_or carried_indices o []) c) (sym at) carried)) in
+    let rule : futures_of types id.0 ≡ flat_map (futures_of types) (carried_indices k) ++ (if is_carrier k then id.0 ∷ [] else []) =
+    follows id.0 small ∙ ap (λ o. flat_map (futures_of types) (option_map_or carried_indices o []) ++ (if option_map_or is_carrier o false then id.0 ∷ [] else [])) at in
+    let itself : List ℕ = if is_carrier k then id.0 ∷ [] else [] in
     let after : List ℕ = remaining (futures_of types) (reverse rest) in
-    let shown : remaining (futures_of types) (reverse ((rest ++ own_steps (is_carrier k) id) ++ map Enter (reverse ids))) ≡ flat_map (futures_of types) (carried_places k) ++ (own ++ after) =
-    ap (remaining (futures_of types)) (entered_first rest (is_carrier k) id ids) ∙ remaining_enters (futures_of types) ids (own_steps (is_carrier k) id ++ reverse rest)
-    ∙ ap (λ z. flat_map (futures_of types) z ++ remaining (futures_of types) (own_steps (is_carrier k) id ++ reverse rest)) same
-    ∙ ap (λ z. flat_map (futures_of types) (carried_places k) ++ z) (remaining_own (futures_of types) (is_carrier k) id (reverse rest)) in
+    let shown : remaining (futures_of types) (reverse ((rest ++ self_steps (is_carrier k) id) ++ map Enter (reverse ids))) ≡ flat_map (futures_of types) (carried_indices k) ++ (itself ++ after) =
+    ap (remaining (futures_of types)) (entered_first rest (is_carrier k) id ids) ∙ remaining_enters (futures_of types) ids (self_steps (is_carrier k) id ++ reverse rest)
+    ∙ ap (λ z. flat_map (futures_of types) z ++ remaining (futures_of types) (self_steps (is_carrier k) id ++ reverse rest)) same
+    ∙ ap (λ z. flat_map (futures_of types) (carried_indices k) ++ z) (remaining_self (futures_of types) (is_carrier k) id (reverse rest)) in
     record {
-      within = λ s h. elim (Contains-append_cases (rest ++ own_steps (is_carrier k) id) (map Enter (reverse ids)) s h) [
-        | inl front ↦ elim (Contains-append_cases rest (own_steps (is_carrier k) id) s front) [
+      within = λ s h. elim (Contains-append_cases (rest ++ self_steps (is_carrier k) id) (map Enter (reverse ids)) s h) [
+        | inl front ↦ elim (Contains-append_cases rest (self_steps (is_carrier k) id) s front) [
           | inl before ↦ rest_within types goal found steps rest (Enter id) w e s before
-          | inr mine ↦ own_within types (is_carrier k) id small s mine
+          | inr mine ↦ self_within types (is_carrier k) id small s mine
         ]
         | inr back ↦ ids_within types (reverse ids) below s back
       ];
-      told = facing types goal found steps rest (Enter id) w e ∙ ap (λ z. found ++ (z ++ after)) rule
-          ∙ ap (λ z. found ++ z) (append_assoc (flat_map (futures_of types) (carried_places k)) own after ∙ sym shown);
+      each = facing types goal found steps rest (Enter id) w e ∙ ap (λ z. found ++ (z ++ after)) rule
+          ∙ ap (λ z. found ++ z) (append_assoc (flat_map (futures_of types) (carried_indices k)) itself after ∙ sym shown);
     }
 
-pub future_end : (types : List TypeView) (goal found : List ℕ) (steps : List Step) → IsFutureWalk types goal found steps → steps ≡ [] → found ≡ goal
-future_end types goal found steps w none = sym (w.told ∙ ap (λ z. found ++ remaining (futures_of types) (reverse z)) none ∙ append-nil found)
+pub future_end : (types : List TypeView) (goal found : List ℕ) (steps : List TypeStep) → IsFutureWalk types goal found steps → steps ≡ [] → found ≡ goal
+future_end types goal found steps w none = sym (w.each ∙ ap (λ z. found ++ remaining (futures_of types) (reverse z)) none ∙ append-nil found)
 
 -- turns
 
-carried_less : (f : ℕ → List ℕ) (k : KindView) → length (flat_map f (carried_places k)) ≤ length (flat_map f (mentioned_places k))
+carried_less : (f : ℕ → List ℕ) (k : KindView) → length (flat_map f (carried_indices k)) ≤ length (flat_map f (referenced_indices k))
 carried_less f (handle_kind h) = omega arith
 carried_less f (record_kind h) = omega arith
 carried_less f resource_kind = omega arith
@@ -144,24 +144,24 @@ carried_less f (future_kind h) = omega arith
 carried_less f (stream_kind h) = omega arith
 carried_less f (alias_kind h) = omega arith
 
-own_turns : (listed : ℕ → List ℕ) (carrier : Bool) (id : TypeId) → turns listed (own_steps carrier id) ≤ 1
-own_turns listed true id = omega arith
-own_turns listed false id = omega arith
+self_turns : (listed : ℕ → List ℕ) (carrier : Bool) (id : TypeId) → turns listed (self_steps carrier id) ≤ 1
+self_turns listed true id = omega arith
+self_turns listed false id = omega arith
 
-pub future_turns : (types : List TypeView) (steps rest : List Step) (id : TypeId) (ids : List TypeId) (k : KindView) → Follows listing_rule types (listing_of types) → id.0 < length types
-    → kind_at types id.0 ≡ Some k → map id_place ids ≡ carried_places k → steps ≡ rest ++ Enter id ∷ []
-    → turns (listing_of types) ((rest ++ own_steps (is_carrier k) id) ++ map Enter (reverse ids)) < turns (listing_of types) steps
+pub future_turns : (types : List TypeView) (steps rest : List TypeStep) (id : TypeId) (ids : List TypeId) (k : KindView) → Follows listing_rule types (listing_of types) → id.0 < length types
+    → kind_at types id.0 ≡ Some k → map id_index ids ≡ carried_indices k → steps ≡ rest ++ Enter id ∷ []
+    → turns (listing_of types) ((rest ++ self_steps (is_carrier k) id) ++ map Enter (reverse ids)) < turns (listing_of types) steps
 future_turns types steps rest id ids k follows small at same e =
     let listed : ℕ → List ℕ = listing_of types in
     let sum : turns listed steps ≡ turns listed rest + turns listed (Enter id ∷ []) = ap (turns listed) e ∙ turns_append listed rest (Enter id ∷ []) in
     let one : length (listed id.0) ≡ length (flat_map listed (children types id.0)) + 1 = one_listed types id.0 follows small in
-    let mentioned : length (flat_map listed (children types id.0)) ≡ length (flat_map listed (mentioned_places k)) = ap (λ o. length (flat_map listed (option_map_or mentioned_places o []))) at in
-    let front : turns listed (rest ++ own_steps (is_carrier k) id) ≡ turns listed rest + turns listed (own_steps (is_carrier k) id) = turns_append listed rest (own_steps (is_carrier k) id) in
-    let whole = turns_append listed (rest ++ own_steps (is_carrier k) id) (map Enter (reverse ids)) in
-    let below : turns listed (map Enter (reverse ids)) ≡ 2 * length (flat_map listed (carried_places k)) = turns_reverse listed ids ∙ ap (λ z. 2 * length (flat_map listed z)) same in
+    let referenced : length (flat_map listed (children types id.0)) ≡ length (flat_map listed (referenced_indices k)) = ap (λ o. length (flat_map listed (option_map_or referenced_indices o []))) at in
+    let front : turns listed (rest ++ self_steps (is_carrier k) id) ≡ turns listed rest + turns listed (self_steps (is_carrier k) id) = turns_append listed rest (self_steps (is_carrier k) id) in
+    let full = turns_append listed (rest ++ self_steps (is_carrier k) id) (map Enter (reverse ids)) in
+    let below : turns listed (map Enter (reverse ids)) ≡ 2 * length (flat_map listed (carried_indices k)) = turns_reverse listed ids ∙ ap (λ z. 2 * length (flat_map listed z)) same in
     let less = carried_less listed k in
-    let own = own_turns listed (is_carrier k) id in
-    omega (arith, sum, one, mentioned, front, whole, below, less, own)
+    let itself = self_turns listed (is_carrier k) id in
+    omega (arith, sum, one, referenced, front, full, below, less, itself)
 
-pub told_kind : (types : List TypeView) (x : ℕ) (t : TypeView) → slice_get types x ≡ Some t → kind_at types x ≡ Some t.kind
-told_kind types x t at = ap (option_map (λ (v : TypeView). v.kind)) at
+pub kind_is : (types : List TypeView) (x : ℕ) (t : TypeView) → slice_get types x ≡ Some t → kind_at types x ≡ Some t.kind
+kind_is types x t at = ap (option_map (λ (v : TypeView). v.kind)) at

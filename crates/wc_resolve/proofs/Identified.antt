@@ -1,4 +1,4 @@
--- The package of an interface is there.
+-- The package of an interface is in range.
 use Rattle.std.proofs.Common.{◌≡◌, ℕ, ◌<◌, length, Option, Some, subst}
 use Rattle.std.specs.Prelude.{slice_get}
 use Rattle.std.specs.List.{All}

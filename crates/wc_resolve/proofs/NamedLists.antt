@@ -1,4 +1,4 @@
--- Lists of things under names: what stands under the names is there before and after the names are read as bytes.
+-- Lists of values under names: the values are the same before and after the names are read as bytes.
 use Rattle.std.proofs.Common.{◌≡◌, List, [], ◌∷◌, map, Option, String, refl, ap}
 use Rattle.std.specs.List.{filter_map, cons_option}
 use Rattle.std.specs.declared.alloc.Global.{Global}

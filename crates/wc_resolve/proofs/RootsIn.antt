@@ -1,4 +1,4 @@
--- The types that things name are there, where the things' ids are in range.
+-- The types that functions, interfaces and items name are in range, where the ids in these are.
 use Rattle.std.proofs.Common.{◌≡◌, ℕ, ◌<◌, List, [], ◌∷◌, ◌++◌, map, length, Option, Some, None, refl, subst, inl, inr}
 use Rattle.std.specs.List.{flat_map, slice_get, Contains, All}
 use Rattle.std.specs.Option.{IfSome, option_map_or}
@@ -10,12 +10,12 @@ use Rattle.wc_resolve.specs.declared.types.WitType.TheVariants.{Id}
 use Rattle.wc_resolve.specs.declared.functions.FunctionKind.{FunctionKind}
 use Rattle.wc_resolve.specs.declared.functions.FunctionKind.TheVariants.{Static, AsyncStatic}
 use Rattle.wc_resolve.specs.Views.{FunctionView, InterfaceView, ItemView, interface_item, function_item, type_item}
-use Rattle.wc_resolve.specs.World.{ResolveView, TakesOnly}
+use Rattle.wc_resolve.specs.World.{ResolveView, SignatureHasOnly}
 use Rattle.wc_resolve.specs.Ranges.{AreIdsInRange, AreNamesIn, IsFunctionIn, IsInterfaceIn, IsItemIn, IsKindIn, IsTypeIn}
 use Rattle.wc_resolve.specs.Roots.{type_roots, static_roots, passed_roots, function_roots, interface_roots, item_roots}
 use Rattle.wc_resolve.proofs.Acyclic.{slice_get_in}
 use Rattle.wc_resolve.proofs.Search.{contains_none}
-use Rattle.wc_resolve.proofs.Struck.{joined_from}
+use Rattle.wc_resolve.proofs.ListUnion.{joined_from}
 
 -- numbers that are all below a bound
 abbrev pub AreBelow : ℕ → List ℕ → Type 0
@@ -46,7 +46,7 @@ outcome_in : (n : ℕ) (outcome : Option WitType) → IfSome outcome (IsTypeIn n
 outcome_in n None h = below_none n
 outcome_in n (Some t) h = type_in n t h
 
-pub passed_in : (n : ℕ) (f : FunctionView) → TakesOnly (IsTypeIn n) f → AreBelow n (passed_roots f)
+pub passed_in : (n : ℕ) (f : FunctionView) → SignatureHasOnly (IsTypeIn n) f → AreBelow n (passed_roots f)
 passed_in n f h =
     below_append n (flat_map (λ p. type_roots p.1) f.params) (option_map_or type_roots f.outcome [])
     (below_joined n (λ p. type_roots p.1) f.params (λ k d small. type_in n _ (h.0 k d small)))

@@ -1,4 +1,4 @@
--- What holds of each thing of a list, and of each thing's view.
+-- What is true of each element of a list, and of each element's view.
 use Rattle.std.proofs.Common.{◌≡◌, ℕ, zero, suc, ◌<◌, ◌≤◌, ◌+◌, ◌↔◌, Bool, true, false, IsTrue, List, [], ◌∷◌, map, length, take, get_or, Some, None, Result, Ok, Err, refl, sym, ap, subst, ◌∙◌, arith}
 use Rattle.std.specs.Prelude.{slice_get, IfOk}
 use Rattle.std.specs.Option.{option_map}
@@ -14,12 +14,12 @@ all_unviewed f P (x ∷ xs) h = All-cons (λ x. P (f x)) x xs (All-head P (f x) 
 pub viewed : {X Y : Type 0} (f : X → Y) (P : Y → Type 0) (xs : List X) (b : Bool) → IsTrue b ↔ All (λ x. P (f x)) xs → IsTrue b ↔ All P (map f xs)
 viewed f P xs b h = ((λ t. All-map P f xs (h.0 t)), (λ all. h.1 (all_unviewed f P xs all)))
 
--- a loop that has come one thing further
+-- a loop that has come one element further
 pub all_more : {X Y : Type 0} (f : X → Y) (P : Y → Type 0) (xs : List X) (i : ℕ) (d : X) (b : Bool) → i < length xs → All P (map f (take i xs))
     → IsTrue b ↔ P (f (get_or xs i d)) → b ≡ true → All P (map f (take (i + 1) xs))
 all_more f P xs i d b small h test pass = rw (map_more f xs i d small) (All-push P (map f (take i xs)) (f (get_or xs i d)) h (test.0 pass))
 
--- a loop that has found a thing that doesn't pass
+-- a loop that has found an element that doesn't pass
 pub not_all : {X Y : Type 0} (f : X → Y) (P : Y → Type 0) (xs : List X) (i : ℕ) (x : X) (b : Bool) → i < length xs → x ≡ get_or xs i x
     → IsTrue b ↔ P (f x) → b ≡ false → IsTrue false ↔ All P (map f xs)
 not_all f P xs i x b small read test fail = (
@@ -29,7 +29,7 @@ not_all f P xs i x b small read test fail = (
       sym fail ∙ test.1 mine),
 )
 
--- the view of the thing at a place
+-- the view of the element at an index
 pub view_found : {X Y : Type 0} (f : X → Y) (xs : List X) (i : ℕ) (d : X) → i < length xs → slice_get (map f xs) i ≡ Some (f (get_or xs i d))
 view_found f xs i d small = slice_get-map f xs i ∙ ap (λ o. option_map f o) (slice_get-get_or xs i d small)
 

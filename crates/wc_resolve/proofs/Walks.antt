@@ -10,42 +10,42 @@ use Rattle.std.proofs.lemmas.List.{map-append, reverse-append, reverse-reverse}
 use Rattle.std.proofs.lemmas.List.Elements.{Contains-append_left, Contains-append_right, Contains-append_cases, Contains-push, Contains-push_cases}
 use Rattle.indexmap.proofs.ReorderLemmas.{map-reverse}
 use Rattle.wc_resolve.specs.declared.ids.TypeId.{TypeId}
-use Rattle.wc_resolve.specs.declared.walk.Step.{Step}
-use Rattle.wc_resolve.specs.declared.walk.Step.TheVariants.{Enter, Leave}
+use Rattle.wc_resolve.specs.declared.walk.TypeStep.{TypeStep}
+use Rattle.wc_resolve.specs.declared.walk.TypeStep.TheVariants.{Enter, Leave}
 use Rattle.wc_resolve.specs.Views.{TypeView}
-use Rattle.wc_resolve.specs.World.{children, mentioned_places}
+use Rattle.wc_resolve.specs.World.{children, referenced_indices}
 use Rattle.std.specs.Option.{option_map, option_map_or}
 use Rattle.std.specs.Result.{OnErr}
-use Rattle.wc_resolve.specs.Followed.{Follows}
-use Rattle.wc_resolve.specs.Roots.{id_place}
-use Rattle.wc_resolve.specs.Live.{listing_rule, listing_of, listing_from, with_live, struck, IsComplete, AddsAll, AddsSome, Keeps}
+use Rattle.wc_resolve.specs.TypeRules.{Follows}
+use Rattle.wc_resolve.specs.Roots.{id_index}
+use Rattle.wc_resolve.specs.Live.{listing_rule, listing_of, listing_from, with_live, list_union, IsComplete, AddsAll, AddsSome, Keeps}
 use Rattle.wc_resolve.proofs.Search.{contains_none}
-use Rattle.wc_resolve.proofs.Struck.{keeps_same, keeps_more, with_extends, struck_extends}
-use Rattle.wc_resolve.proofs.Listings.{step_place, finished, finished_extends, IsAdding, finished_enters, ready_enters, adding_skip, adding_leave, adding_enter, turns, turns_append, turns_reverse}
+use Rattle.wc_resolve.proofs.ListUnion.{keeps_same, keeps_more, with_extends, list_union_extends}
+use Rattle.wc_resolve.proofs.Listings.{step_index, finished, finished_extends, IsAdding, finished_enters, ready_enters, adding_skip, adding_leave, adding_enter, turns, turns_append, turns_reverse}
 
--- steps stand with the next one last
-pub record IsLiveWalk (types : List TypeView) (old goal live : List ℕ) (steps : List Step) : Type 0 where
-  pub within : (s : Step) → Contains steps s → step_place s < length types
+-- steps are stored with the next one last
+pub record IsLiveWalk (types : List TypeView) (old goal live : List ℕ) (steps : List TypeStep) : Type 0 where
+  pub within : (s : TypeStep) → Contains steps s → step_index s < length types
   pub kept : Keeps old live
   pub adding : IsComplete types old → IsAdding types goal live (reverse steps)
 
--- the next step, in front
-next_first : (rest : List Step) (s : Step) → reverse (rest ++ s ∷ []) ≡ s ∷ reverse rest
+-- the next step, at the front
+next_first : (rest : List TypeStep) (s : TypeStep) → reverse (rest ++ s ∷ []) ≡ s ∷ reverse rest
 next_first rest s = reverse-append rest (s ∷ [])
 
-pub step_within : (types : List TypeView) (old goal live : List ℕ) (steps rest : List Step) (s : Step) → IsLiveWalk types old goal live steps → steps ≡ rest ++ s ∷ [] → step_place s < length types
-step_within types old goal live steps rest s w e = w.within s (subst (λ (z : List Step). Contains z s) (sym e) (Contains-push rest s))
+pub step_within : (types : List TypeView) (old goal live : List ℕ) (steps rest : List TypeStep) (s : TypeStep) → IsLiveWalk types old goal live steps → steps ≡ rest ++ s ∷ [] → step_index s < length types
+step_within types old goal live steps rest s w e = w.within s (subst (λ (z : List TypeStep). Contains z s) (sym e) (Contains-push rest s))
 
-rest_within : (types : List TypeView) (old goal live : List ℕ) (steps rest : List Step) (s : Step) → IsLiveWalk types old goal live steps → steps ≡ rest ++ s ∷ []
-    → (t : Step) → Contains rest t → step_place t < length types
-rest_within types old goal live steps rest s w e t h = w.within t (subst (λ (z : List Step). Contains z t) (sym e) (Contains-append_left rest (s ∷ []) t h))
+rest_within : (types : List TypeView) (old goal live : List ℕ) (steps rest : List TypeStep) (s : TypeStep) → IsLiveWalk types old goal live steps → steps ≡ rest ++ s ∷ []
+    → (t : TypeStep) → Contains rest t → step_index t < length types
+rest_within types old goal live steps rest s w e t h = w.within t (subst (λ (z : List TypeStep). Contains z t) (sym e) (Contains-append_left rest (s ∷ []) t h))
 
-facing : (types : List TypeView) (old goal live : List ℕ) (steps rest : List Step) (s : Step) → IsLiveWalk types old goal live steps → steps ≡ rest ++ s ∷ []
+facing : (types : List TypeView) (old goal live : List ℕ) (steps rest : List TypeStep) (s : TypeStep) → IsLiveWalk types old goal live steps → steps ≡ rest ++ s ∷ []
     → IsComplete types old → IsAdding types goal live (s ∷ reverse rest)
 facing types old goal live steps rest s w e complete =
     subst (IsAdding types goal live) (ap reverse e ∙ next_first rest s) (w.adding complete)
 
-pub walk_skip : (types : List TypeView) (old goal live : List ℕ) (steps rest : List Step) (id : TypeId) → IsLiveWalk types old goal live steps → steps ≡ rest ++ Enter id ∷ []
+pub walk_skip : (types : List TypeView) (old goal live : List ℕ) (steps rest : List TypeStep) (id : TypeId) → IsLiveWalk types old goal live steps → steps ≡ rest ++ Enter id ∷ []
     → Contains live id.0 → IsLiveWalk types old goal live rest
 walk_skip types old goal live steps rest id w e h = record {
   within = rest_within types old goal live steps rest (Enter id) w e;
@@ -53,7 +53,7 @@ walk_skip types old goal live steps rest id w e h = record {
   adding = λ complete. adding_skip types goal live id (reverse rest) (facing types old goal live steps rest (Enter id) w e complete) h;
 }
 
-pub walk_leave : (types : List TypeView) (old goal live : List ℕ) (steps rest : List Step) (id : TypeId) → IsLiveWalk types old goal live steps → steps ≡ rest ++ Leave id ∷ []
+pub walk_leave : (types : List TypeView) (old goal live : List ℕ) (steps rest : List TypeStep) (id : TypeId) → IsLiveWalk types old goal live steps → steps ≡ rest ++ Leave id ∷ []
     → IsLiveWalk types old goal (with_live live id.0) rest
 walk_leave types old goal live steps rest id w e = record {
   within = rest_within types old goal live steps rest (Leave id) w e;
@@ -61,21 +61,21 @@ walk_leave types old goal live steps rest id w e = record {
   adding = λ complete. adding_leave types goal live id (reverse rest) (facing types old goal live steps rest (Leave id) w e complete);
 }
 
-entered_first : (rest : List Step) (id : TypeId) (ids : List TypeId) → reverse ((rest ++ Leave id ∷ []) ++ map Enter (reverse ids)) ≡ map Enter ids ++ Leave id ∷ reverse rest
+entered_first : (rest : List TypeStep) (id : TypeId) (ids : List TypeId) → reverse ((rest ++ Leave id ∷ []) ++ map Enter (reverse ids)) ≡ map Enter ids ++ Leave id ∷ reverse rest
 entered_first rest id ids =
-    let whole : reverse ((rest ++ Leave id ∷ []) ++ map Enter (reverse ids)) ≡ reverse (map Enter (reverse ids)) ++ reverse (rest ++ Leave id ∷ []) = reverse-append (rest ++ Leave id ∷ []) (map Enter (reverse ids)) in
+    let full : reverse ((rest ++ Leave id ∷ []) ++ map Enter (reverse ids)) ≡ reverse (map Enter (reverse ids)) ++ reverse (rest ++ Leave id ∷ []) = reverse-append (rest ++ Leave id ∷ []) (map Enter (reverse ids)) in
     let front : reverse (map Enter (reverse ids)) ≡ map Enter ids = ap reverse (map-reverse Enter ids) ∙ reverse-reverse (map Enter ids) in
     let back : reverse (rest ++ Leave id ∷ []) ≡ Leave id ∷ reverse rest = next_first rest (Leave id) in
-    rw (whole, front, back) refl
+    rw (full, front, back) refl
 
-pub ids_within : (types : List TypeView) (ids : List TypeId) → ((c : ℕ) → Contains (map id_place ids) c → c < length types) → (s : Step) → Contains (map Enter ids) s → step_place s < length types
+pub ids_within : (types : List TypeView) (ids : List TypeId) → ((c : ℕ) → Contains (map id_index ids) c → c < length types) → (s : TypeStep) → Contains (map Enter ids) s → step_index s < length types
 ids_within types [] h s k = absurd (contains_none s k)
 ids_within types (id ∷ ids) h s k =
     elim (Contains-append_cases (Enter id ∷ []) (map Enter ids) s k) [
       | inl front ↦
-          (let small : id.0 < length types = h id.0 (Contains-append_left (id.0 ∷ []) (map id_place ids) id.0 (Contains-push [] id.0)) in
-          elim (Contains-push_cases [] (Enter id) s front) [ inl none ↦ absurd (contains_none s none) | inr same ↦ subst (λ (z : Step). step_place z < length types) same small ])
-      | inr back ↦ ids_within types ids (λ c m. h c (Contains-append_right (id.0 ∷ []) (map id_place ids) c m)) s back
+          (let small : id.0 < length types = h id.0 (Contains-append_left (id.0 ∷ []) (map id_index ids) id.0 (Contains-push [] id.0)) in
+          elim (Contains-push_cases [] (Enter id) s front) [ inl none ↦ absurd (contains_none s none) | inr same ↦ subst (λ (z : TypeStep). step_index z < length types) same small ])
+      | inr back ↦ ids_within types ids (λ c m. h c (Contains-append_right (id.0 ∷ []) (map id_index ids) c m)) s back
     ]
 
 pub contains_reverse : {X : Type 0} (xs : List X) (x : X) → Contains (reverse xs) x → Contains xs x
@@ -87,34 +87,34 @@ contains_reverse (y ∷ xs) x h =
       | inr same ↦ Contains-append_left (y ∷ []) xs x (subst (Contains (y ∷ [])) same (Contains-push [] y))
     ]
 
-pub walk_start : (types : List TypeView) (old : List ℕ) (ids : List TypeId) → ((x : ℕ) → Contains (map id_place ids) x → x < length types)
-    → IsLiveWalk types old (struck old (listing_from types (map id_place ids))) old (map Enter (reverse ids))
+pub walk_start : (types : List TypeView) (old : List ℕ) (ids : List TypeId) → ((x : ℕ) → Contains (map id_index ids) x → x < length types)
+    → IsLiveWalk types old (list_union old (listing_from types (map id_index ids))) old (map Enter (reverse ids))
 walk_start types old ids within =
-    let below : (c : ℕ) → Contains (map id_place (reverse ids)) c → c < length types =
-    λ c h. within c (contains_reverse (map id_place ids) c (subst (λ (z : List ℕ). Contains z c) (map-reverse id_place ids) h)) in
+    let below : (c : ℕ) → Contains (map id_index (reverse ids)) c → c < length types =
+    λ c h. within c (contains_reverse (map id_index ids) c (subst (λ (z : List ℕ). Contains z c) (map-reverse id_index ids) h)) in
     let turned : reverse (map Enter (reverse ids)) ≡ map Enter ids ++ [] = ap reverse (map-reverse Enter ids) ∙ reverse-reverse (map Enter ids) ∙ sym (append-nil (map Enter ids)) in
     record {
       within = ids_within types (reverse ids) below;
       kept = keeps_same old;
-      adding = λ complete. subst (IsAdding types (struck old (listing_from types (map id_place ids))) old) (sym turned) (record {
+      adding = λ complete. subst (IsAdding types (list_union old (listing_from types (map id_index ids))) old) (sym turned) (record {
         complete = complete;
         ready = ready_enters (children types) (listing_of types) old ids [] tt;
         ends = finished_enters (listing_of types) old ids [];
       });
     }
 
-pub walk_enter : (types : List TypeView) (old goal live : List ℕ) (steps rest : List Step) (id : TypeId) (ids : List TypeId) → Follows listing_rule types (listing_of types)
-    → ((x c : ℕ) → Contains (children types x) c → c < length types) → map id_place ids ≡ children types id.0
+pub walk_enter : (types : List TypeView) (old goal live : List ℕ) (steps rest : List TypeStep) (id : TypeId) (ids : List TypeId) → Follows listing_rule types (listing_of types)
+    → ((x c : ℕ) → Contains (children types x) c → c < length types) → map id_index ids ≡ children types id.0
     → IsLiveWalk types old goal live steps → steps ≡ rest ++ Enter id ∷ [] → IsLiveWalk types old goal live ((rest ++ Leave id ∷ []) ++ map Enter (reverse ids))
 walk_enter types old goal live steps rest id ids follows inside same w e =
     let small : id.0 < length types = step_within types old goal live steps rest (Enter id) w e in
-    let below : (c : ℕ) → Contains (map id_place (reverse ids)) c → c < length types =
-    λ c h. inside id.0 c (subst (λ (z : List ℕ). Contains z c) same (contains_reverse (map id_place ids) c (subst (λ (z : List ℕ). Contains z c) (map-reverse id_place ids) h))) in
+    let below : (c : ℕ) → Contains (map id_index (reverse ids)) c → c < length types =
+    λ c h. inside id.0 c (subst (λ (z : List ℕ). Contains z c) same (contains_reverse (map id_index ids) c (subst (λ (z : List ℕ). Contains z c) (map-reverse id_index ids) h))) in
     record {
       within = λ s h. elim (Contains-append_cases (rest ++ Leave id ∷ []) (map Enter (reverse ids)) s h) [
         | inl front ↦ elim (Contains-push_cases rest (Leave id) s front) [
           | inl before ↦ rest_within types old goal live steps rest (Enter id) w e s before
-          | inr own ↦ subst (λ (z : Step). step_place z < length types) own small
+          | inr itself ↦ subst (λ (z : TypeStep). step_index z < length types) itself small
         ]
         | inr back ↦ ids_within types (reverse ids) below s back
       ];
@@ -123,16 +123,16 @@ walk_enter types old goal live steps rest id ids follows inside same w e =
           (adding_enter types goal live id ids (reverse rest) follows small (inside id.0) same (facing types old goal live steps rest (Enter id) w e complete));
     }
 
--- what a call gives when the walk ends, and where memory ran out
+-- what a call has added when the walk ends, and where memory ran out
 
-pub walk_end : (types : List TypeView) (old live listing : List ℕ) (steps : List Step) → IsLiveWalk types old (struck old listing) live steps → steps ≡ [] → AddsAll types old live listing
+pub walk_end : (types : List TypeView) (old live listing : List ℕ) (steps : List TypeStep) → IsLiveWalk types old (list_union old listing) live steps → steps ≡ [] → AddsAll types old live listing
 walk_end types old live listing steps w e complete =
-    let a : IsAdding types (struck old listing) live [] = subst (IsAdding types (struck old listing) live) (ap reverse e) (w.adding complete) in
+    let a : IsAdding types (list_union old listing) live [] = subst (IsAdding types (list_union old listing) live) (ap reverse e) (w.adding complete) in
     (a.complete, a.ends)
 
-pub walk_stop : (types : List TypeView) (old live listing : List ℕ) (steps : List Step) → IsLiveWalk types old (struck old listing) live steps → AddsSome types old live listing
+pub walk_stop : (types : List TypeView) (old live listing : List ℕ) (steps : List TypeStep) → IsLiveWalk types old (list_union old listing) live steps → AddsSome types old live listing
 walk_stop types old live listing steps w complete =
-    let a : IsAdding types (struck old listing) live (reverse steps) = w.adding complete in
+    let a : IsAdding types (list_union old listing) live (reverse steps) = w.adding complete in
     let more : Keeps live (finished (listing_of types) live (reverse steps)) = finished_extends (listing_of types) live (reverse steps) in
     (a.complete, more.0, sym a.ends ∙ more.1)
 
@@ -142,66 +142,66 @@ pub one_listed : (types : List TypeView) (x : ℕ) → Follows listing_rule type
     → length (listing_of types x) ≡ length (flat_map (listing_of types) (children types x)) + 1
 one_listed types x follows small = ap length (follows x small) ∙ length-append (flat_map (listing_of types) (children types x)) (x ∷ [])
 
-pub turns_leave : (types : List TypeView) (steps rest : List Step) (id : TypeId) → steps ≡ rest ++ Leave id ∷ [] → turns (listing_of types) rest < turns (listing_of types) steps
+pub turns_leave : (types : List TypeView) (steps rest : List TypeStep) (id : TypeId) → steps ≡ rest ++ Leave id ∷ [] → turns (listing_of types) rest < turns (listing_of types) steps
 turns_leave types steps rest id e =
     let sum : turns (listing_of types) steps ≡ turns (listing_of types) rest + turns (listing_of types) (Leave id ∷ []) = ap (turns (listing_of types)) e ∙ turns_append (listing_of types) rest (Leave id ∷ []) in
     omega (arith, sum)
 
-pub turns_skip : (types : List TypeView) (steps rest : List Step) (id : TypeId) → Follows listing_rule types (listing_of types) → id.0 < length types → steps ≡ rest ++ Enter id ∷ []
+pub turns_skip : (types : List TypeView) (steps rest : List TypeStep) (id : TypeId) → Follows listing_rule types (listing_of types) → id.0 < length types → steps ≡ rest ++ Enter id ∷ []
     → turns (listing_of types) rest < turns (listing_of types) steps
 turns_skip types steps rest id follows small e =
     let sum : turns (listing_of types) steps ≡ turns (listing_of types) rest + turns (listing_of types) (Enter id ∷ []) = ap (turns (listing_of types)) e ∙ turns_append (listing_of types) rest (Enter id ∷ []) in
     let one = one_listed types id.0 follows small in
     omega (arith, sum, one)
 
-pub turns_enter : (types : List TypeView) (steps rest : List Step) (id : TypeId) (ids : List TypeId) → Follows listing_rule types (listing_of types) → id.0 < length types
-    → map id_place ids ≡ children types id.0 → steps ≡ rest ++ Enter id ∷ [] → turns (listing_of types) ((rest ++ Leave id ∷ []) ++ map Enter (reverse ids)) < turns (listing_of types) steps
+pub turns_enter : (types : List TypeView) (steps rest : List TypeStep) (id : TypeId) (ids : List TypeId) → Follows listing_rule types (listing_of types) → id.0 < length types
+    → map id_index ids ≡ children types id.0 → steps ≡ rest ++ Enter id ∷ [] → turns (listing_of types) ((rest ++ Leave id ∷ []) ++ map Enter (reverse ids)) < turns (listing_of types) steps
 turns_enter types steps rest id ids follows small same e =
     let listed : ℕ → List ℕ = listing_of types in
     let sum : turns listed steps ≡ turns listed rest + turns listed (Enter id ∷ []) = ap (turns listed) e ∙ turns_append listed rest (Enter id ∷ []) in
     let one : length (listed id.0) ≡ length (flat_map listed (children types id.0)) + 1 = one_listed types id.0 follows small in
     let front : turns listed (rest ++ Leave id ∷ []) ≡ turns listed rest + turns listed (Leave id ∷ []) = turns_append listed rest (Leave id ∷ []) in
-    let whole : turns listed ((rest ++ Leave id ∷ []) ++ map Enter (reverse ids)) ≡ turns listed (rest ++ Leave id ∷ []) + turns listed (map Enter (reverse ids)) = turns_append listed (rest ++ Leave id ∷ []) (map Enter (reverse ids)) in
+    let full : turns listed ((rest ++ Leave id ∷ []) ++ map Enter (reverse ids)) ≡ turns listed (rest ++ Leave id ∷ []) + turns listed (map Enter (reverse ids)) = turns_append listed (rest ++ Leave id ∷ []) (map Enter (reverse ids)) in
     let below : turns listed (map Enter (reverse ids)) ≡ 2 * length (flat_map listed (children types id.0)) = turns_reverse listed ids ∙ ap (λ z. 2 * length (flat_map listed z)) same in
-    omega (arith, sum, one, front, whole, below)
+    omega (arith, sum, one, front, full, below)
 
--- the set of ids, seen as a list of places
+-- the set of ids, seen as a list of indices
 
-any_placed : (keys : List TypeId) (x : ℕ) → list_any (λ y. x == y) (map id_place keys) ≡ list_any (λ (k : TypeId). x == k.0) keys
-any_placed [] x = refl
-any_placed (k ∷ keys) x = ap (λ b. (x == k.0) || b) (any_placed keys x)
+any_index : (keys : List TypeId) (x : ℕ) → list_any (λ y. x == y) (map id_index keys) ≡ list_any (λ (k : TypeId). x == k.0) keys
+any_index [] x = refl
+any_index (k ∷ keys) x = ap (λ b. (x == k.0) || b) (any_index keys x)
 
 abbrev same_id : TypeId → TypeId → Bool
 same_id a b = a.0 == b.0
 
-pub inserted : (keys : List TypeId) (id : TypeId) → map id_place (insert_key same_id keys id) ≡ with_live (map id_place keys) id.0
+pub inserted : (keys : List TypeId) (id : TypeId) → map id_index (insert_key same_id keys id) ≡ with_live (map id_index keys) id.0
 inserted keys id =
     elim (cases_Bool (list_any (same_id id) keys)) [
       | inl there ↦
-          (let seen : list_any (λ y. id.0 == y) (map id_place keys) ≡ true = any_placed keys id.0 ∙ there in
+          (let seen : list_any (λ y. id.0 == y) (map id_index keys) ≡ true = any_index keys id.0 ∙ there in
           rw (there, seen) refl)
       | inr new ↦
-          (let unseen : list_any (λ y. id.0 == y) (map id_place keys) ≡ false = any_placed keys id.0 ∙ new in
-          rw (new, unseen) (map-append id_place keys (id ∷ [])))
+          (let unseen : list_any (λ y. id.0 == y) (map id_index keys) ≡ false = any_index keys id.0 ∙ new in
+          rw (new, unseen) (map-append id_index keys (id ∷ [])))
     ]
 
-pub found : (keys : List TypeId) (id : TypeId) → IsTrue (list_any (same_id id) keys) ↔ Contains (map id_place keys) id.0
+pub found : (keys : List TypeId) (id : TypeId) → IsTrue (list_any (same_id id) keys) ↔ Contains (map id_index keys) id.0
 found keys id = (
-  (λ t. Contains-from_any eqb-true id.0 (map id_place keys) (any_placed keys id.0 ∙ t)),
-  (λ h. sym (any_placed keys id.0) ∙ list_any-from_Contains nat_eq_equiv id.0 (map id_place keys) h),
+  (λ t. Contains-from_any eqb-true id.0 (map id_index keys) (any_index keys id.0 ∙ t)),
+  (λ h. sym (any_index keys id.0) ∙ list_any-from_Contains nat_eq_equiv id.0 (map id_index keys) h),
 )
 
-pub told_children : (types : List TypeView) (x : ℕ) (t : TypeView) (xs : List ℕ) → slice_get types x ≡ Some t → xs ≡ mentioned_places t.kind → xs ≡ children types x
-told_children types x t xs at e = e ∙ sym (ap (λ o. option_map_or mentioned_places (option_map (λ (v : TypeView). v.kind) o) []) at)
+pub children_are : (types : List TypeView) (x : ℕ) (t : TypeView) (xs : List ℕ) → slice_get types x ≡ Some t → xs ≡ referenced_indices t.kind → xs ≡ children types x
+children_are types x t xs at e = e ∙ sym (ap (λ o. option_map_or referenced_indices (option_map (λ (v : TypeView). v.kind) o) []) at)
 
 pub stopped : {X : Type 0} (r : Result Unit X) (P : Type 0) → P → OnErr r P
 stopped (Ok u) P p = tt
 stopped (Err e) P p = p
 
-pub none_left : (steps : List Step) → length steps ≡ 0 → steps ≡ []
+pub none_left : (steps : List TypeStep) → length steps ≡ 0 → steps ≡ []
 none_left [] h = refl
 none_left (s ∷ steps) h = absurd (omega (arith, h))
 
 -- nothing was added yet
 pub stopped_first : (types : List TypeView) (old listing : List ℕ) → AddsSome types old old listing
-stopped_first types old listing complete = let more = struck_extends old listing in (complete, more.0, more.1)
+stopped_first types old listing complete = let more = list_union_extends old listing in (complete, more.0, more.1)

@@ -1,19 +1,25 @@
--- What is wrong with parts where a fault is named: the first in this order that is.
+-- The cause of each fault: its rule is broken, and no earlier one is.
+use Rattle.std.specs.Prelude.{◌≡◌, ◌⊎◌, List}
 use Rattle.wc_resolve.specs.declared.fault.ResolveFault.{ResolveFault}
 use Rattle.wc_resolve.specs.declared.fault.ResolveFault.TheVariants.{Memory, IdRange, Cycle, Unnamed, KeyMismatch, NameClash, BadCharacter, ByValueResource, Empty}
 use Rattle.wc_resolve.specs.Ranges.{AreIdsInRange}
-use Rattle.wc_resolve.specs.World.{ResolveView, HasRing}
-use Rattle.wc_resolve.specs.WellFormed.{AreNamed, DoKeysMatch, ArePackagesApart, AreNamesSpelled, AreResourcesHandled, AreCasesThere}
+use Rattle.wc_resolve.specs.Views.{TypeView}
+use Rattle.wc_resolve.specs.World.{ResolveView, HasCycle}
+use Rattle.wc_resolve.specs.WellFormed.{AreNamed, KeysMatch, ArePackagesDistinct, AreNamesSpelled, HasNoResourceByValue, HasNoEmptyType}
 
 abbrev pub IsCause : ResolveView → ResolveFault → Type 0
 IsCause r Memory = Unit {0}
 IsCause r IdRange = ¬ AreIdsInRange r
-IsCause r Cycle = AreIdsInRange r × HasRing r.types
-IsCause r Unnamed = AreIdsInRange r × (¬ HasRing r.types) × ¬ AreNamed r
-IsCause r KeyMismatch = AreIdsInRange r × (¬ HasRing r.types) × AreNamed r × ¬ DoKeysMatch r
-IsCause r NameClash = AreIdsInRange r × (¬ HasRing r.types) × AreNamed r × DoKeysMatch r × ¬ ArePackagesApart r
-IsCause r BadCharacter = AreIdsInRange r × (¬ HasRing r.types) × AreNamed r × DoKeysMatch r × ArePackagesApart r × ¬ AreNamesSpelled r
+IsCause r Cycle = AreIdsInRange r × HasCycle r.types
+IsCause r Unnamed = AreIdsInRange r × (¬ HasCycle r.types) × ¬ AreNamed r
+IsCause r KeyMismatch = AreIdsInRange r × (¬ HasCycle r.types) × AreNamed r × ¬ KeysMatch r
+IsCause r NameClash = AreIdsInRange r × (¬ HasCycle r.types) × AreNamed r × KeysMatch r × ¬ ArePackagesDistinct r
+IsCause r BadCharacter = AreIdsInRange r × (¬ HasCycle r.types) × AreNamed r × KeysMatch r × ArePackagesDistinct r × ¬ AreNamesSpelled r
 IsCause r ByValueResource =
-    AreIdsInRange r × (¬ HasRing r.types) × AreNamed r × DoKeysMatch r × ArePackagesApart r × AreNamesSpelled r × ¬ AreResourcesHandled r
+    AreIdsInRange r × (¬ HasCycle r.types) × AreNamed r × KeysMatch r × ArePackagesDistinct r × AreNamesSpelled r × ¬ HasNoResourceByValue r
 IsCause r Empty =
-    AreIdsInRange r × (¬ HasRing r.types) × AreNamed r × DoKeysMatch r × ArePackagesApart r × AreNamesSpelled r × AreResourcesHandled r × ¬ AreCasesThere r
+    AreIdsInRange r × (¬ HasCycle r.types) × AreNamed r × KeysMatch r × ArePackagesDistinct r × AreNamesSpelled r × HasNoResourceByValue r × ¬ HasNoEmptyType r
+
+-- why there is no order of the types
+abbrev pub IsOrderCause : List TypeView → ResolveFault → Type 0
+IsOrderCause types e = (e ≡ Memory) ⊎ ((e ≡ Cycle) × HasCycle types)

@@ -1,12 +1,14 @@
+pub mod Characters
 pub mod Dependencies
 pub mod Faults
 pub mod Flat
-pub mod Followed
+pub mod TypeRules
 pub mod Futures
-pub mod Kept
+pub mod TypeTables
+pub mod Laws
 pub mod Live
 pub mod Names
-pub mod Parts
+pub mod ResolveParts
 pub mod Queries
 pub mod Ranges
 pub mod Resources

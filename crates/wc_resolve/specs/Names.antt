@@ -1,14 +1,15 @@
--- What names are made of, and the track of a version.
-use Rattle.std.specs.Prelude.{◌≡◌, ◌≢◌, ℕ, ◌≤◌, ◌⊎◌, zero, suc, List, [], ◌∷◌, ◌++◌, All}
+-- The characters of names, and the track of a version.
+use Rattle.std.specs.Prelude.{◌≡◌, ◌≢◌, ℕ, ◌⊎◌, zero, suc, List, [], ◌∷◌, ◌++◌, All}
 use Rattle.std.specs.Fmt.{decimal}
+use Rattle.wc_resolve.specs.Characters.{hyphen, full_stop, digit_zero, opening_bracket, closing_bracket, IsSmallLetter, IsCapitalLetter, IsDigit}
 
 -- a small letter, a capital letter, a digit or a hyphen
 abbrev pub IsNameCharacter : ℕ → Type 0
-IsNameCharacter c = ((97 ≤ c) × (c ≤ 122)) ⊎ (((65 ≤ c) × (c ≤ 90)) ⊎ (((48 ≤ c) × (c ≤ 57)) ⊎ (c ≡ 45)))
+IsNameCharacter c = IsSmallLetter c ⊎ (IsCapitalLetter c ⊎ (IsDigit c ⊎ (c ≡ hyphen)))
 
--- of a name, or a bracket or a full stop
+-- a character of a name, a bracket or a full stop
 abbrev pub IsFunctionCharacter : ℕ → Type 0
-IsFunctionCharacter c = IsNameCharacter c ⊎ ((c ≡ 91) ⊎ ((c ≡ 93) ⊎ (c ≡ 46)))
+IsFunctionCharacter c = IsNameCharacter c ⊎ ((c ≡ opening_bracket) ⊎ ((c ≡ closing_bracket) ⊎ (c ≡ full_stop)))
 
 unfoldable pub IsName : List ℕ → Type 0
 IsName text = (text ≢ []) × All IsNameCharacter text
@@ -17,17 +18,19 @@ unfoldable pub IsFunctionName : List ℕ → Type 0
 IsFunctionName text = (text ≢ []) × All IsFunctionCharacter text
 
 -- a version without its build
-abbrev pub whole_version : ℕ → ℕ → ℕ → List ℕ → List ℕ
-whole_version major minor patch [] = decimal major ++ (46 ∷ (decimal minor ++ (46 ∷ decimal patch)))
-whole_version major minor patch (c ∷ pre) = decimal major ++ (46 ∷ (decimal minor ++ (46 ∷ (decimal patch ++ (45 ∷ c ∷ pre)))))
+abbrev pub full_version : ℕ → ℕ → ℕ → List ℕ → List ℕ
+full_version major minor patch [] =
+    decimal major ++ (full_stop ∷ (decimal minor ++ (full_stop ∷ decimal patch)))
+full_version major minor patch (c ∷ pre) =
+    decimal major ++ (full_stop ∷ (decimal minor ++ (full_stop ∷ (decimal patch ++ (hyphen ∷ c ∷ pre)))))
 
 -- the track of a release
 abbrev pub release_track : ℕ → ℕ → ℕ → List ℕ
-release_track zero zero patch = whole_version 0 0 patch []
-release_track zero (suc minor) patch = 48 ∷ 46 ∷ decimal (suc minor)
+release_track zero zero patch = full_version 0 0 patch []
+release_track zero (suc minor) patch = digit_zero ∷ full_stop ∷ decimal (suc minor)
 release_track (suc major) minor patch = decimal (suc major)
 
 -- the track of a version's numbers, prerelease and build
 abbrev pub track : ℕ × ℕ × ℕ × List ℕ × List ℕ → List ℕ
 track (major, minor, patch, [], build) = release_track major minor patch
-track (major, minor, patch, (c ∷ pre), build) = whole_version major minor patch (c ∷ pre)
+track (major, minor, patch, (c ∷ pre), build) = full_version major minor patch (c ∷ pre)

@@ -1,4 +1,4 @@
--- Ids that are places of the lists that they point into.
+-- Ids that are in range: indices of their lists.
 use Rattle.std.specs.Prelude.{ℕ, ◌<◌, length, All}
 use Rattle.std.specs.Option.{IfSome}
 use Rattle.wc_resolve.specs.declared.types.WitType.{WitType}
@@ -8,9 +8,9 @@ use Rattle.wc_resolve.specs.declared.types.TypeOwner.TheVariants.{World as OfWor
 use Rattle.wc_resolve.specs.declared.functions.FunctionKind.{FunctionKind}
 use Rattle.wc_resolve.specs.declared.functions.FunctionKind.TheVariants.{Freestanding, AsyncFreestanding, Method, AsyncMethod, Static, AsyncStatic, Constructor}
 use Rattle.wc_resolve.specs.Views.{FunctionView, KeyView, plain_key, interface_key, ItemView, interface_item, function_item, type_item, WorldView, InterfaceView, TypeView, PackageView}
-use Rattle.wc_resolve.specs.World.{ResolveView, TakesOnly, mentioned_types}
+use Rattle.wc_resolve.specs.World.{ResolveView, SignatureHasOnly, referenced_types}
 
--- among so many types
+-- primitive, or a defined type with an index below a count
 abbrev pub IsTypeIn : ℕ → WitType → Type 0
 IsTypeIn count (Id i) = i.0 < count
 IsTypeIn count t = Unit {0}
@@ -25,7 +25,7 @@ IsKindIn count (AsyncStatic i) = i.0 < count
 IsKindIn count (Constructor i) = i.0 < count
 
 unfoldable pub IsFunctionIn : ℕ → FunctionView → Type 0
-IsFunctionIn count f = IsKindIn count f.kind × TakesOnly (IsTypeIn count) f
+IsFunctionIn count f = IsKindIn count f.kind × SignatureHasOnly (IsTypeIn count) f
 
 abbrev pub IsKeyIn : ResolveView → KeyView → Type 0
 IsKeyIn r (plain_key n) = Unit {0}
@@ -46,7 +46,7 @@ IsWorldIn r w = All (IsEntryIn r) w.imports × All (IsEntryIn r) w.exports
 unfoldable pub AreNamesIn : ResolveView → InterfaceView → Type 0
 AreNamesIn r i = All (λ e. e.1 < length r.types) i.types × All (λ e. IsFunctionIn (length r.types) e.1) i.functions
 
--- its package, and the interface that it was copied from
+-- its package, and the interface that it is a copy of
 unfoldable pub AreLinksIn : ResolveView → InterfaceView → Type 0
 AreLinksIn r i = IfSome i.in_package (λ p. p < length r.packages) × IfSome i.clone_of (λ c. c < length r.interfaces)
 
@@ -59,11 +59,11 @@ IsOwnerIn r (OfInterface i) = i.0 < length r.interfaces
 IsOwnerIn r OfNone = Unit {0}
 
 unfoldable pub IsTypeDefIn : ResolveView → TypeView → Type 0
-IsTypeDefIn r t = All (IsTypeIn (length r.types)) (mentioned_types t.kind) × IsOwnerIn r t.owner
+IsTypeDefIn r t = All (IsTypeIn (length r.types)) (referenced_types t.kind) × IsOwnerIn r t.owner
 
 unfoldable pub IsPackageIn : ResolveView → PackageView → Type 0
 IsPackageIn r p = All (λ e. e.1 < length r.interfaces) p.interfaces
 
--- every id points into its list
+-- every id is an index of its list
 unfoldable pub AreIdsInRange : ResolveView → Type 0
 AreIdsInRange r = All (IsWorldIn r) r.worlds × All (IsInterfaceIn r) r.interfaces × All (IsTypeDefIn r) r.types × All (IsPackageIn r) r.packages

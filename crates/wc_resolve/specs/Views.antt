@@ -24,7 +24,7 @@ use Rattle.wc_resolve.specs.declared.worlds.Interface.{Interface}
 use Rattle.wc_resolve.specs.declared.packages.PackageName.{PackageName}
 use Rattle.wc_resolve.specs.declared.packages.Package.{Package}
 
--- a name with what it stands for
+-- a name with its value
 abbrev pub named_view : {Y : Type 0} → String Global × Y → List ℕ × Y
 named_view p = (string_bytes p.0, p.1)
 
@@ -104,7 +104,7 @@ pub record WorldView : Type 0 where
 abbrev pub world_view : World → WorldView
 world_view w = record { name = string_bytes w.name; imports = map world_entry w.imports.entries; exports = map world_entry w.exports.entries }
 
--- a name with the place of the type that stands under it
+-- a name with the index of the type that is listed under it
 abbrev pub type_entry : String Global × TypeId → List ℕ × ℕ
 type_entry e = (string_bytes e.0, e.1.0)
 
@@ -136,7 +136,7 @@ pub record PackageNameView : Type 0 where
 abbrev pub package_name_view : PackageName → PackageNameView
 package_name_view p = record { namespace = string_bytes p.namespace; name = string_bytes p.name; version = option_map parts_of p.version }
 
--- a name with the place of the interface that stands under it
+-- a name with the index of the interface that is listed under it
 abbrev pub interface_entry : String Global × InterfaceId → List ℕ × ℕ
 interface_entry e = (string_bytes e.0, e.1.0)
 

@@ -1,26 +1,27 @@
--- Worlds, interfaces, types and packages that form a whole.
-use Rattle.std.specs.Prelude.{◌≡◌, ℕ, List, [], ◌∷◌, map, length, Option, Some, slice_get, All, Contains}
+-- Worlds, interfaces, types and packages that are well-formed.
+use Rattle.std.specs.Prelude.{◌≡◌, ℕ, List, [], ◌∷◌, map, length, Option, Some, slice_get, All, ◌≢◌}
+use Rattle.std.specs.List.{AllPairs}
 use Rattle.std.specs.Option.{IfSome, IsSome, option_and_then}
 use Rattle.wc_resolve.specs.declared.types.WitType.{WitType}
 use Rattle.wc_resolve.specs.declared.types.WitType.TheVariants.{Id}
-use Rattle.wc_resolve.specs.Views.{KindView, resource_kind, flags_kind, variant_kind, enum_kind, FunctionView, KeyView, plain_key, interface_key, ItemView, interface_item, function_item, type_item, WorldView, InterfaceView, TypeView, PackageView, PackageNameView}
+use Rattle.wc_resolve.specs.Views.{KindView, resource_kind, flags_kind, variant_kind, enum_kind, FunctionView, KeyView, plain_key, interface_key, ItemView, interface_item, function_item, type_item, WorldView, InterfaceView, TypeView, PackageView}
 use Rattle.wc_resolve.specs.Names.{IsName, IsFunctionName}
 use Rattle.wc_resolve.specs.Ranges.{AreIdsInRange, IsFunctionIn}
-use Rattle.wc_resolve.specs.World.{ResolveView, HasRing, IsResource, DoAllTypesPass, TakesOnly}
+use Rattle.wc_resolve.specs.World.{ResolveView, HasCycle, IsResource, DoAllTypesPass, SignatureHasOnly}
 
--- the name of the interface at a place
+-- the name of the interface at an index
 abbrev pub interface_name : ResolveView → ℕ → Option (List ℕ)
 interface_name r i = option_and_then (λ (v : InterfaceView). v.name) (slice_get r.interfaces i)
 
--- the package of the interface at a place
+-- the package of the interface at an index
 abbrev pub interface_package : ResolveView → ℕ → Option ℕ
 interface_package r i = option_and_then (λ (v : InterfaceView). v.in_package) (slice_get r.interfaces i)
 
--- the name of the type at a place
+-- the name of the type at an index
 abbrev pub type_name : ResolveView → ℕ → Option (List ℕ)
 type_name r t = option_and_then (λ (v : TypeView). v.name) (slice_get r.types t)
 
--- the interface at a place has a name and a package
+-- the interface at an index has a name and a package
 unfoldable pub IsIdentified : ResolveView → ℕ → Type 0
 IsIdentified r i = IsSome (interface_name r i) × IsSome (interface_package r i)
 
@@ -43,37 +44,35 @@ HasNeededName k name = Unit {0}
 unfoldable pub AreNamed : ResolveView → Type 0
 AreNamed r = All (λ t. HasNeededName t.kind t.name) r.types × All (AreKeysIdentified r) r.worlds × All (AreMembersIdentified r) r.packages
 
--- the item that stands under a key: under an interface's key that interface, and under a name an interface, or a function
+-- the item of a key: under an interface's key that interface, and under a name an interface, or a function
 -- or type of that name
-abbrev pub IsOwnKey : ResolveView → KeyView → ItemView → Type 0
-IsOwnKey r (plain_key n) (interface_item i external) = Unit {0}
-IsOwnKey r (plain_key n) (function_item f) = f.name ≡ n
-IsOwnKey r (plain_key n) (type_item t) = type_name r t ≡ Some n
-IsOwnKey r (interface_key k) (interface_item i external) = i ≡ k
-IsOwnKey r (interface_key k) (function_item f) = ⊥
-IsOwnKey r (interface_key k) (type_item t) = ⊥
+abbrev pub IsMatchingKey : ResolveView → KeyView → ItemView → Type 0
+IsMatchingKey r (plain_key n) (interface_item i external) = Unit {0}
+IsMatchingKey r (plain_key n) (function_item f) = f.name ≡ n
+IsMatchingKey r (plain_key n) (type_item t) = type_name r t ≡ Some n
+IsMatchingKey r (interface_key k) (interface_item i external) = i ≡ k
+IsMatchingKey r (interface_key k) (function_item f) = ⊥
+IsMatchingKey r (interface_key k) (type_item t) = ⊥
 
-unfoldable pub HasOwnKeys : ResolveView → WorldView → Type 0
-HasOwnKeys r w = All (λ e. IsOwnKey r e.0 e.1) w.imports × All (λ e. IsOwnKey r e.0 e.1) w.exports
+unfoldable pub HasMatchingKeys : ResolveView → WorldView → Type 0
+HasMatchingKeys r w = All (λ e. IsMatchingKey r e.0 e.1) w.imports × All (λ e. IsMatchingKey r e.0 e.1) w.exports
 
-unfoldable pub HasOwnNames : ResolveView → InterfaceView → Type 0
-HasOwnNames r i = All (λ e. type_name r e.1 ≡ Some e.0) i.types × All (λ e. e.1.name ≡ e.0) i.functions
+unfoldable pub HasMatchingNames : ResolveView → InterfaceView → Type 0
+HasMatchingNames r i = All (λ e. type_name r e.1 ≡ Some e.0) i.types × All (λ e. e.1.name ≡ e.0) i.functions
 
-unfoldable pub HasOwnMembers : ResolveView → PackageView → Type 0
-HasOwnMembers r p = All (λ e. interface_name r e.1 ≡ Some e.0) p.interfaces
+unfoldable pub HasMatchingMembers : ResolveView → PackageView → Type 0
+HasMatchingMembers r p = All (λ e. interface_name r e.1 ≡ Some e.0) p.interfaces
 
--- each thing stands under its own name
-unfoldable pub DoKeysMatch : ResolveView → Type 0
-DoKeysMatch r = All (HasOwnKeys r) r.worlds × All (HasOwnNames r) r.interfaces × All (HasOwnMembers r) r.packages
+-- items, functions, types and interfaces of packages are listed under their own names or keys
+unfoldable pub KeysMatch : ResolveView → Type 0
+KeysMatch r = All (HasMatchingKeys r) r.worlds × All (HasMatchingNames r) r.interfaces × All (HasMatchingMembers r) r.packages
 
--- no two of the names are equal
-abbrev pub IsApart : List PackageNameView → Type 0
-IsApart [] = Unit {0}
-IsApart (n ∷ ns) = (¬ Contains ns n) × IsApart ns
+-- no two packages have the same name and version
+abbrev pub HaveDistinctNames : List PackageView → Type 0
+HaveDistinctNames packages = AllPairs (λ m n. m ≢ n) (map (λ (p : PackageView). p.name) packages)
 
--- packages have names of their own
-abbrev pub ArePackagesApart : ResolveView → Type 0
-ArePackagesApart r = IsApart (map (λ (p : PackageView). p.name) r.packages)
+abbrev pub ArePackagesDistinct : ResolveView → Type 0
+ArePackagesDistinct r = HaveDistinctNames r.packages
 
 abbrev pub IsKeySpelled : KeyView → ItemView → Type 0
 IsKeySpelled (plain_key n) (interface_item i external) = IsName n
@@ -93,7 +92,7 @@ IsTypeSpelled t = IfSome t.name IsName
 unfoldable pub IsPackageSpelled : PackageView → Type 0
 IsPackageSpelled p = IsName p.name.namespace × IsName p.name.name
 
--- names are made of the characters that they may have
+-- the names that are checked have only the characters that they can have
 unfoldable pub AreNamesSpelled : ResolveView → Type 0
 AreNamesSpelled r = All IsWorldSpelled r.worlds × All IsInterfaceSpelled r.interfaces × All IsTypeSpelled r.types × All IsPackageSpelled r.packages
 
@@ -102,30 +101,34 @@ abbrev pub IsFree : List TypeView → WitType → Type 0
 IsFree types (Id i) = ¬ IsResource types i.0
 IsFree types t = Unit {0}
 
--- no parameter, result, field or payload is a resource
-abbrev pub AreResourcesHandled : ResolveView → Type 0
-AreResourcesHandled r = DoAllTypesPass (IsFree r.types) r
+-- no parameter, result, field, item, element or payload is a resource
+abbrev pub HasNoResourceByValue : ResolveView → Type 0
+HasNoResourceByValue r = DoAllTypesPass (IsFree r.types) r
 
--- a variant, an enum and flags have a case
+-- variants and enums have cases, and flags have labels
 abbrev pub HasCases : KindView → Type 0
 HasCases (variant_kind []) = ⊥
 HasCases (enum_kind []) = ⊥
 HasCases (flags_kind []) = ⊥
 HasCases k = Unit {0}
 
-abbrev pub AreCasesThere : ResolveView → Type 0
-AreCasesThere r = All (λ t. HasCases t.kind) r.types
+abbrev pub HasNoEmptyType : ResolveView → Type 0
+HasNoEmptyType r = All (λ t. HasCases t.kind) r.types
 
 pub record IsWellFormed (r : ResolveView) : Type 0 where
   pub in_range : AreIdsInRange r
-  pub acyclic : ¬ HasRing r.types
+  pub acyclic : ¬ HasCycle r.types
   pub named : AreNamed r
-  pub keyed : DoKeysMatch r
-  pub apart : ArePackagesApart r
+  pub keyed : KeysMatch r
+  pub distinct : ArePackagesDistinct r
   pub spelled : AreNamesSpelled r
-  pub handled : AreResourcesHandled r
-  pub filled : AreCasesThere r
+  pub no_resource_by_value : HasNoResourceByValue r
+  pub filled : HasNoEmptyType r
 
--- a function whose types are there, and that takes and gives no resource by value
+-- a function with no resource by value as a parameter or result
+abbrev pub IsFunctionFree : List TypeView → FunctionView → Type 0
+IsFunctionFree types f = SignatureHasOnly (IsFree types) f
+
+-- a function whose ids are in range, and that has no resource by value as a parameter or result
 abbrev pub IsUsable : ResolveView → FunctionView → Type 0
-IsUsable r f = IsFunctionIn (length r.types) f × TakesOnly (IsFree r.types) f
+IsUsable r f = IsFunctionIn (length r.types) f × IsFunctionFree r.types f

@@ -1,15 +1,16 @@
-//! Flat forms of types: the core types that stand for a value (component model, Canonical ABI, "Flattening").
+//! Flat types of a type: the core types that represent a value of it (component model, Canonical ABI, "Flattening").
 //!
-//! A form is cut off behind its seventeenth core type: a function with more flat parameters than sixteen passes
-//! them all behind one pointer, so no more are ever told apart.
+//! Of each type at most `KEPT_FLAT_TYPES` core types are kept: a function with more than `MAX_FLAT_PARAMS` flat
+//! parameters passes all of them indirectly, by one pointer, so the rest makes no difference.
 
-ghost use Rattle.std.specs.Prelude.{◌≡◌, ◌≤◌, ◌++◌, OnOk, length, take};
-ghost use Rattle.wc_resolve.specs.Flat.{flat_payload, flat_type, join, join_flats, kept_flat, lists};
+ghost use Rattle.std.specs.Prelude.{◌≡◌, ◌≤◌, ◌++◌, OnOk, length};
+ghost use Rattle.wc_resolve.specs.Flat.{cut, flat_payload, flatten_type, flat_types_kept, flats_in, join, join_flats};
 
 use crate::WitType;
 use std::alloc::{AllocError, Global};
 
-/// The type of a core parameter or result. Pointers and lengths are as wide as the memory's addresses.
+/// The type of a core parameter or result (component model, Canonical ABI, "Flattening"). A `Pointer` is an address
+/// in a memory and a `Length` a number of elements there: both have the core type of the memory's addresses.
 #[derive(Clone, Copy, Debug, PartialEq, Eq)]
 pub enum WasmType {
     I32,
@@ -17,15 +18,24 @@ pub enum WasmType {
     F32,
     F64,
     Pointer,
-    /// Holds a pointer or an `I64`.
+    /// Either a `Pointer` or an `I64`: what the two join to.
     PointerOrI64,
     Length,
 }
 
-/// How many core types of a flat form are kept.
-pub(crate) const MOST: usize = 17;
+/// The most core parameters that are passed one by one.
+pub(crate) const MAX_FLAT_PARAMS: usize = 16;
 
-/// The core type that holds a value of either.
+/// The most core parameters of an asynchronous import that are passed one by one.
+pub(crate) const MAX_FLAT_ASYNC_PARAMS: usize = 4;
+
+/// The most core results.
+pub(crate) const MAX_FLAT_RESULTS: usize = 1;
+
+/// How many core types are kept of each type: one more than can be passed one by one.
+pub(crate) const KEPT_FLAT_TYPES: usize = MAX_FLAT_PARAMS + 1;
+
+/// The core type that can represent a value of either.
 fn join(a: WasmType, b: WasmType) -> WasmType
     ensures { result ≡ join a b }
 {
@@ -62,9 +72,9 @@ fn join(a: WasmType, b: WasmType) -> WasmType
     }
 }
 
-/// The flat form of a type, by those of the defined types.
-pub(crate) fn flat_type(flats: &[Vec<WasmType>], ty: WitType) -> &[WasmType]
-    ensures { result.now ≡ flat_type (kept_flat (lists flats.now)) ty }
+/// The flat types of a type, by those of the defined types.
+pub(crate) fn flatten_type(flats: &[Vec<WasmType>], ty: WitType) -> &[WasmType]
+    ensures { result.now ≡ flatten_type (flats_in flats.now) ty }
 {
     match ty {
         WitType::Bool
@@ -87,34 +97,34 @@ pub(crate) fn flat_type(flats: &[Vec<WasmType>], ty: WitType) -> &[WasmType]
     }
 }
 
-/// The flat form of a type, where there is one.
+/// The flat types of a type, and no core types where there is no type.
 pub(crate) fn flat_payload(flats: &[Vec<WasmType>], ty: Option<WitType>) -> &[WasmType]
-    ensures { result.now ≡ flat_payload (kept_flat (lists flats.now)) ty }
+    ensures { result.now ≡ flat_payload (flats_in flats.now) ty }
 {
     match ty {
-        Some(ty) => flat_type(flats, ty),
+        Some(ty) => flatten_type(flats, ty),
         None => &[],
     }
 }
 
-/// Puts core types behind others, as far as they are kept.
+/// Appends core types, as many as are kept.
 pub(crate) fn put_flat(flat: &mut Vec<WasmType>, more: &[WasmType]) -> Result<(), AllocError>
-    requires { length flat.old.items ≤ 17 }
-    ensures { OnOk result (flat.new.items ≡ take 17 (flat.old.items ++ more.now)) }
+    requires { length flat.old.items ≤ flat_types_kept }
+    ensures { OnOk result (flat.new.items ≡ cut (flat.old.items ++ more.now)) }
 {
-    let room = MOST - flat.len();
+    let room = KEPT_FLAT_TYPES - flat.len();
     let count = room.min(more.len());
     flat.extend_from_slice(&more[..count])?;
     Ok(())
 }
 
-/// Joins core types to others, place by place.
+/// Joins core types to others, index by index. Those past the end of the shorter list stay as they are.
 pub(crate) fn join_flat(flat: &mut Vec<WasmType>, more: &[WasmType]) -> Result<(), AllocError>
     ensures { OnOk result (flat.new.items ≡ join_flats flat.old.items more.now) }
 {
     let shared = flat.len().min(more.len());
-    for place in 0..shared {
-        flat[place] = join(flat[place], more[place]);
+    for index in 0..shared {
+        flat[index] = join(flat[index], more[index]);
     }
     flat.extend_from_slice(&more[shared..])?;
     Ok(())

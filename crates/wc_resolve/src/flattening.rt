@@ -1,74 +1,75 @@
-//! The flat forms of defined types, made once for all types, each out of those that it mentions.
+//! The flat types of defined types, made once for all types, each from those of the types that it refers to.
 
-ghost use Rattle.std.specs.Prelude.{◌≡◌, ◌<◌, ◌∷◌, [], Option, Some, String, IfOk, length, map, replicate, take};
-ghost use Rattle.std.specs.Int.{div_ceil};
-ghost use Rattle.std.specs.declared.alloc.Global.{Global};
-ghost use Rattle.wc_resolve.specs.Flat.{AreFlattened, flat_cases, flat_kind, flat_rule, flat_types, kept_flat, lists};
-ghost use Rattle.wc_resolve.specs.Kept.{IsOrder};
+ghost use Rattle.std.specs.Prelude.{◌≡◌, ◌<◌, ◌∷◌, [], IfOk, length, map, replicate};
+ghost use Rattle.wc_resolve.specs.Flat.{AreFlattened, cut, flat_cases, flat_fields, flat_flags, flat_kind, flat_rule, flatten_types, flat_variant, flats_in, lists};
+ghost use Rattle.wc_resolve.specs.TypeTables.{IsOrder};
 ghost use Rattle.wc_resolve.specs.Views.{kind_view, type_view};
 ghost use Rattle.wc_resolve.specs.World.{kind_at};
-ghost use Rattle.wc_resolve.specs.declared.types.WitType.{WitType};
 
-use crate::flat::{MOST, flat_payload, flat_type, join_flat, put_flat};
+use crate::flat::{KEPT_FLAT_TYPES, flat_payload, flatten_type, join_flat, put_flat};
 use crate::{TypeDef, TypeDefKind, WasmType, WitType};
 use std::alloc::{AllocError, Global};
 
-/// The flat forms of named types, one behind the other.
+/// How many labels of flags one core type has bits for.
+const LABELS_PER_FLAG_WORD: usize = 32;
+
+/// The flat types of named types, in order.
 pub(crate) fn flat_fields(
     alloc: Global,
     flats: &[Vec<WasmType>],
     fields: &[(String, WitType)],
 ) -> Result<Vec<WasmType>, AllocError>
-    ensures { IfOk result (λ flat. flat.items ≡ take 17 (flat_types (kept_flat (lists flats.now)) (map (λ (f : String Global × WitType). f.1) fields.now))) }
+    ensures { IfOk result (λ v. v.items ≡ cut (flat_fields (flats_in flats.now) fields.now)) }
 {
     let mut flat = Vec::new(alloc);
     for field in fields {
-        put_flat(&mut flat, flat_type(flats, field.1))?;
+        put_flat(&mut flat, flatten_type(flats, field.1))?;
     }
     Ok(flat)
 }
 
-/// The flat forms of types, one behind the other.
+/// The flat types of types, in order.
 fn flat_tuple(
     alloc: Global,
     flats: &[Vec<WasmType>],
     types: &[WitType],
 ) -> Result<Vec<WasmType>, AllocError>
-    ensures { IfOk result (λ flat. flat.items ≡ take 17 (flat_types (kept_flat (lists flats.now)) types.now)) }
+    ensures { IfOk result (λ v. v.items ≡ cut (flatten_types (flats_in flats.now) types.now)) }
 {
     let mut flat = Vec::new(alloc);
     for ty in types {
-        put_flat(&mut flat, flat_type(flats, *ty))?;
+        put_flat(&mut flat, flatten_type(flats, *ty))?;
     }
     Ok(flat)
 }
 
-/// A word for each 32 labels.
+/// An `I32` for each `LABELS_PER_FLAG_WORD` labels begun.
 fn flat_flags(alloc: Global, labels: usize) -> Result<Vec<WasmType>, AllocError>
-    ensures { IfOk result (λ flat. flat.items ≡ take 17 (replicate (div_ceil labels 32) WasmType.I32)) }
+    ensures { IfOk result (λ v. v.items ≡ cut (flat_flags labels)) }
 {
-    let words = labels.div_ceil(32).min(MOST);
-    let flat = vec![in alloc; WasmType::I32; words]?;
+    let count = labels.div_ceil(LABELS_PER_FLAG_WORD).min(KEPT_FLAT_TYPES);
+    let flat = vec![in alloc; WasmType::I32; count]?;
     Ok(flat)
 }
 
-/// Which case it is, in front of the places that payloads share.
+/// An `I32` for the case, before the core types that the payloads share.
 fn with_case(mut shared: Vec<WasmType>) -> Result<Vec<WasmType>, AllocError>
-    ensures { IfOk result (λ flat. flat.items ≡ take 17 (WasmType.I32 ∷ shared.items)) }
+    ensures { IfOk result (λ v. v.items ≡ cut (WasmType.I32 ∷ shared.items)) }
 {
-    shared.truncate(MOST - 1);
+    shared.truncate(KEPT_FLAT_TYPES - 1);
     shared.insert(0, WasmType::I32)?;
     Ok(shared)
 }
 
-/// The flat form of two cases with these payloads.
+/// The flat types of a variant of two cases with these payloads.
 fn flat_pair(
     alloc: Global,
     flats: &[Vec<WasmType>],
     first: Option<WitType>,
     second: Option<WitType>,
 ) -> Result<Vec<WasmType>, AllocError>
-    ensures { IfOk result (λ flat. flat.items ≡ take 17 (flat_cases (kept_flat (lists flats.now)) (first ∷ second ∷ []))) }
+    ensures { IfOk result (λ v. v.items ≡
+        cut (flat_cases (flats_in flats.now) (first ∷ second ∷ []))) }
 {
     let mut shared = Vec::new(alloc);
     join_flat(&mut shared, flat_payload(flats, first))?;
@@ -76,13 +77,13 @@ fn flat_pair(
     with_case(shared)
 }
 
-/// The flat form of named cases.
+/// The flat types of a variant with these cases.
 fn flat_variant(
     alloc: Global,
     flats: &[Vec<WasmType>],
     cases: &[(String, Option<WitType>)],
 ) -> Result<Vec<WasmType>, AllocError>
-    ensures { IfOk result (λ flat. flat.items ≡ take 17 (flat_cases (kept_flat (lists flats.now)) (map (λ (c : String Global × Option WitType). c.1) cases.now))) }
+    ensures { IfOk result (λ v. v.items ≡ cut (flat_variant (flats_in flats.now) cases.now)) }
 {
     let mut shared = Vec::new(alloc);
     for case in cases {
@@ -91,13 +92,14 @@ fn flat_variant(
     with_case(shared)
 }
 
-/// The flat form of a defined type, by those of the types that it mentions.
+/// The flat types of a defined type, by those of the types that it refers to.
 fn flat_kind(
     alloc: Global,
     flats: &[Vec<WasmType>],
     kind: &TypeDefKind,
 ) -> Result<Vec<WasmType>, AllocError>
-    ensures { IfOk result (λ flat. flat.items ≡ take 17 (flat_kind (kept_flat (lists flats.now)) (kind_view kind.now))) }
+    ensures { IfOk result (λ v. v.items ≡
+        cut (flat_kind (flats_in flats.now) (kind_view kind.now))) }
 {
     match kind {
         TypeDefKind::Record(fields) => flat_fields(alloc, flats, fields),
@@ -116,21 +118,22 @@ fn flat_kind(
     }
 }
 
-/// The flat form of the type at a place, by those of the types that it mentions.
+/// The flat types of the type at an index, by those of the types that it refers to.
 fn flat_at(
     alloc: Global,
     flats: &[Vec<WasmType>],
     types: &[TypeDef],
-    place: usize,
+    index: usize,
 ) -> Result<Vec<WasmType>, AllocError>
-    requires { place < length types.now }
-    ensures { IfOk result (λ flat. flat.items ≡ take 17 (flat_rule (kept_flat (lists flats.now)) place (kind_at (map type_view types.now) place))) }
+    requires { index < length types.now }
+    ensures { IfOk result (λ v. v.items ≡
+        cut (flat_rule (flats_in flats.now) index (kind_at (map type_view types.now) index))) }
 {
-    flat_kind(alloc, flats, &types[place].kind)
+    flat_kind(alloc, flats, &types[index].kind)
 }
 
-/// As many empty forms.
-fn empty_forms(alloc: Global, count: usize) -> Result<Vec<Vec<WasmType>>, AllocError>
+/// So many empty lists.
+fn empty_lists(alloc: Global, count: usize) -> Result<Vec<Vec<WasmType>>, AllocError>
     ensures { IfOk result (λ flats. lists flats.items ≡ replicate count []) }
 {
     let mut flats = Vec::with_capacity(alloc, count)?;
@@ -140,8 +143,8 @@ fn empty_forms(alloc: Global, count: usize) -> Result<Vec<Vec<WasmType>>, AllocE
     Ok(flats)
 }
 
-/// The flat forms of all types. `order` has each behind those that it mentions.
-pub(crate) fn flat_forms(
+/// The flat types of all types. In `order` each type is after those that it refers to.
+pub(crate) fn flatten_all(
     alloc: Global,
     types: &[TypeDef],
     order: &[usize],
@@ -149,10 +152,10 @@ pub(crate) fn flat_forms(
     requires { IsOrder (map type_view types.now) order.now }
     ensures { IfOk result (λ flats. AreFlattened (map type_view types.now) (lists flats.items)) }
 {
-    let mut flats = empty_forms(alloc, types.len())?;
-    for place in order {
-        let flat = flat_at(alloc, &flats, types, *place)?;
-        flats[*place] = flat;
+    let mut flats = empty_lists(alloc, types.len())?;
+    for index in order {
+        let flat = flat_at(alloc, &flats, types, *index)?;
+        flats[*index] = flat;
     }
     Ok(flats)
 }

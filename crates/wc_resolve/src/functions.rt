@@ -1,11 +1,14 @@
 //! Functions of interfaces and worlds.
 
-ghost use Rattle.std.specs.Prelude.{◌≡◌, IfOk};
+ghost use Rattle.std.specs.Prelude.{◌≡◌, IfOk, string_bytes};
+ghost use Rattle.std.specs.Option.{option_copied};
+ghost use Rattle.wc_resolve.specs.Queries.{core_name};
 
 use crate::{TypeId, WitType};
 use std::alloc::{AllocError, Global};
 
-/// What kind of function it is; those of a resource name it.
+/// What kind of function it is, and of which resource it is a method, a static function or the constructor. That the
+/// id is of a resource is not checked.
 #[derive(Clone, Copy, Debug, PartialEq, Eq)]
 pub enum FunctionKind {
     Freestanding,
@@ -17,23 +20,24 @@ pub enum FunctionKind {
     Constructor(TypeId),
 }
 
-/// How a core function stands for a function (component model, Canonical ABI, "canon lower" and "canon lift").
+/// How a guest imports or exports a function as a core function (component model, Canonical ABI, "canon lower" for
+/// imports and "canon lift" for exports).
 #[derive(Clone, Copy, Debug, PartialEq, Eq, Hash)]
 pub enum AbiVariant {
-    /// A guest imports it, and gets the result when the call returns.
+    /// A synchronous import: the result is there when the call returns.
     GuestImport,
-    /// A guest exports it, and gives the result when the call returns.
+    /// A synchronous export: the result is there when the call returns.
     GuestExport,
-    /// A guest imports it, and is told later that the result is there.
+    /// An asynchronous import: the call returns a state, and the result may be written to memory later.
     GuestImportAsync,
-    /// A guest exports it, and is called back until it has given the result.
+    /// An asynchronous export with a callback, which is called until the function is done.
     GuestExportAsync,
-    /// A guest exports it, and waits on a stack of its own until it has given the result.
+    /// An asynchronous export without a callback: it waits on a stack of its own until it is done.
     GuestExportAsyncStackful,
 }
 
-/// A function: its name, its parameters in order, each a name and a type, and its result's type, where it has
-/// one.
+/// A function: its name, its kind, its parameters in order, each a name and a type, and the type of its result, if it
+/// has one. The name is the key under which it is listed: of a method `[method]file.read`.
 #[derive(Debug, Drop)]
 pub struct Function {
     pub name: String,
@@ -45,7 +49,11 @@ pub struct Function {
 impl Function {
     ghost use Rattle.wc_resolve.specs.Views.{function_view};
 
-    /// A copy.
+    /// A copy of this function: the same name, kind, parameters and result.
+    ///
+    /// # Errors
+    ///
+    /// `AllocError`: an allocation failed.
     pub fn clone(&self, alloc: Global) -> Result<Function, AllocError>
         ensures { IfOk result (λ f. function_view f ≡ function_view self.now) }
     {
@@ -61,5 +69,26 @@ impl Function {
             params,
             result: self.result,
         })
+    }
+
+    /// The name of the core export for this function: its name, and after `interface` and `#` where that is passed
+    /// (the name of the interface that has the function): `run`, `my:demo/host#run`.
+    ///
+    /// # Errors
+    ///
+    /// `AllocError`: an allocation failed.
+    pub fn legacy_core_export_name(
+        &self,
+        alloc: Global,
+        interface: Option<&str>,
+    ) -> Result<String, AllocError>
+        ensures { IfOk result (λ text. string_bytes text ≡
+            core_name (option_copied interface.entry) (function_view self.now).name) }
+    {
+        let name = self.name.as_str();
+        match interface {
+            Some(interface) => format!(in alloc; "{interface}#{name}"),
+            None => String::from_str(alloc, name),
+        }
     }
 }

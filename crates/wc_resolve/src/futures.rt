@@ -1,18 +1,16 @@
-//! The futures and streams that stand in types.
+//! The futures and streams that types contain.
 
-ghost use Rattle.std.specs.Prelude.{◌≡◌, ◌<◌, ◌++◌, ◌∷◌, ◌||◌, ℕ, [], false, if◌then◌else◌, Contains, IfOk, OnOk, length, map, slice_index_or};
-ghost use Rattle.std.specs.List.{flat_map, list_any};
-ghost use Rattle.std.specs.Option.{option_map_or};
-ghost use Rattle.wc_resolve.specs.Futures.{AreCarriersMarked, carried_places, futures_of, is_carrier};
-ghost use Rattle.wc_resolve.specs.Kept.{IsOrder};
+ghost use Rattle.std.specs.Prelude.{◌≡◌, ◌<◌, ◌++◌, ◌∷◌, ℕ, [], false, if◌then◌else◌, Contains, IfOk, OnOk, length, map, slice_index_or};
+ghost use Rattle.std.specs.List.{list_any};
+ghost use Rattle.wc_resolve.specs.Futures.{AreCarrierFlags, carried_children, carried_indices, carries_by, function_futures, futures_from, is_carrier};
+ghost use Rattle.wc_resolve.specs.TypeTables.{IsOrder};
 ghost use Rattle.wc_resolve.specs.Ranges.{IsFunctionIn};
-ghost use Rattle.wc_resolve.specs.Roots.{id_place, passed_roots};
+ghost use Rattle.wc_resolve.specs.Roots.{indices};
 ghost use Rattle.wc_resolve.specs.Views.{function_view, kind_view, type_view};
-ghost use Rattle.wc_resolve.specs.World.{kind_at};
 
-use crate::kinds::{carried_places, carried_types};
+use crate::kinds::{carried_indices, carried_types};
 use crate::roots::push_passed;
-use crate::walk::{Step, enter_all, ids_of};
+use crate::walk::{TypeStep, enter_all, ids_of};
 use crate::{Function, Resolve, TypeDef, TypeDefKind, TypeId};
 use std::alloc::{AllocError, Global};
 
@@ -23,85 +21,94 @@ fn is_carrier(kind: &TypeDefKind) -> bool
     matches!(kind, TypeDefKind::Future(_) | TypeDefKind::Stream(_))
 }
 
-/// Whether one of these places is marked.
-fn is_any_marked(places: &[usize], marks: &[bool]) -> bool
-    ensures { result ≡ list_any (λ c. slice_index_or marks.now c false) places.now }
+/// Whether one of these indices is flagged.
+fn is_any_flagged(indices: &[usize], carrier_flags: &[bool]) -> bool
+    ensures { result ≡ list_any (λ c. slice_index_or carrier_flags.now c false) indices.now }
 {
-    places.iter().any(|place| is_marked(marks, *place))
+    indices
+        .iter()
+        .any(|index| is_flagged(carrier_flags, *index))
 }
 
-fn is_marked(marks: &[bool], place: usize) -> bool
-    ensures { result ≡ slice_index_or marks.now place false }
+fn is_flagged(carrier_flags: &[bool], index: usize) -> bool
+    ensures { result ≡ slice_index_or carrier_flags.now index false }
 {
-    match marks.get(place) {
-        Some(mark) => *mark,
+    match carrier_flags.get(index) {
+        Some(flag) => *flag,
         None => false,
     }
 }
 
-/// The places of the types that stand in the type at a place, and of an alias's target.
-fn carried_below(alloc: Global, types: &[TypeDef], place: usize) -> Result<Vec<usize>, AllocError>
-    requires { place < length types.now }
-    ensures { IfOk result (λ v. v.items ≡ option_map_or carried_places (kind_at (map type_view types.now) place) []) }
+/// The indices of the types that the type at an index contains by value, or of an alias's target.
+fn carried_below(alloc: Global, types: &[TypeDef], index: usize) -> Result<Vec<usize>, AllocError>
+    requires { index < length types.now }
+    ensures { IfOk result (λ v. v.items ≡ carried_children (map type_view types.now) index) }
 {
-    carried_places(alloc, &types[place].kind)
+    carried_indices(alloc, &types[index].kind)
 }
 
-/// Whether a future or a stream is at a place or, by the marks, below it.
-fn is_marked_below(
+/// Whether the type at an index is a future or a stream or, by the flags, contains one.
+fn is_carrier_below(
     alloc: Global,
     types: &[TypeDef],
-    place: usize,
-    marks: &[bool],
+    index: usize,
+    carrier_flags: &[bool],
 ) -> Result<bool, AllocError>
-    requires { place < length types.now }
-    ensures { IfOk result (λ b. b ≡ (option_map_or is_carrier (kind_at (map type_view types.now) place) false || list_any (λ c. slice_index_or marks.now c false) (option_map_or carried_places (kind_at (map type_view types.now) place) []))) }
+    requires { index < length types.now }
+    ensures { IfOk result (λ b. b ≡ carries_by carrier_flags.now (map type_view types.now) index) }
 {
-    let is_own = is_carrier(&types[place].kind);
-    let places = carried_below(alloc, types, place)?;
-    Ok(is_own || is_any_marked(&places, marks))
+    let is_itself_carrier = is_carrier(&types[index].kind);
+    let indices = carried_below(alloc, types, index)?;
+    Ok(is_itself_carrier || is_any_flagged(&indices, carrier_flags))
 }
 
-/// For each type whether a future or a stream stands in it. `order` has each behind those that it mentions.
+/// For each type whether it is or contains a future or a stream. In `order` each type is after those that it refers to.
 pub(crate) fn carriers(
     alloc: Global,
     types: &[TypeDef],
     order: &[usize],
 ) -> Result<Vec<bool>, AllocError>
     requires { IsOrder (map type_view types.now) order.now }
-    ensures { IfOk result (λ marks. AreCarriersMarked (map type_view types.now) marks.items) }
+    ensures { IfOk result (λ carrier_flags. AreCarrierFlags (map type_view types.now)
+        carrier_flags.items) }
 {
-    let mut marks = vec![in alloc; false; types.len()]?;
-    for place in order {
-        let mark = is_marked_below(alloc, types, *place, &marks)?;
-        marks[*place] = mark;
+    let mut carrier_flags = vec![in alloc; false; types.len()]?;
+    for index in order {
+        let flag = is_carrier_below(alloc, types, *index, &carrier_flags)?;
+        carrier_flags[*index] = flag;
     }
-    Ok(marks)
+    Ok(carrier_flags)
 }
 
-/// Puts the step behind the others that takes the type itself, where it is a future or a stream.
-fn leave_carrier(kind: &TypeDefKind, id: TypeId, steps: &mut Vec<Step>) -> Result<(), AllocError>
-    ensures { OnOk result (steps.new.items ≡ steps.old.items ++ (if is_carrier (kind_view kind.now) then Step.Leave id ∷ [] else [])) }
+/// Appends the step that adds the type itself, where it is a future or a stream.
+fn leave_carrier(
+    kind: &TypeDefKind,
+    id: TypeId,
+    steps: &mut Vec<TypeStep>,
+) -> Result<(), AllocError>
+    ensures { OnOk result (steps.new.items ≡ steps.old.items
+        ++ (if is_carrier (kind_view kind.now) then TypeStep.Leave id ∷ [] else [])) }
 {
     if is_carrier(kind) {
-        steps.push(Step::Leave(id))?;
+        steps.push(TypeStep::Leave(id))?;
     }
     Ok(())
 }
 
-/// The types that stand in a type, and an alias's target.
+/// The defined types that a type contains by value, or an alias's target.
 fn carried_ids(alloc: Global, kind: &TypeDefKind) -> Result<Vec<TypeId>, AllocError>
-    ensures { IfOk result (λ v. map id_place v.items ≡ carried_places (kind_view kind.now)) }
+    ensures { IfOk result (λ v. indices v.items ≡ carried_indices (kind_view kind.now)) }
 {
     let types = carried_types(alloc, kind)?;
     let ids = ids_of(alloc, &types)?;
     Ok(ids)
 }
 
-/// The listings of types, one behind another.
+/// The futures and streams of types, those of one type after those of another.
 fn list(alloc: Global, resolve: &Resolve, roots: Vec<TypeId>) -> Result<Vec<TypeId>, AllocError>
-    requires { (x : ℕ) → Contains (map id_place roots.items) x → x < length resolve.now.types }
-    ensures { IfOk result (λ v. map id_place v.items ≡ flat_map (futures_of resolve.now.types) (map id_place roots.items)) }
+    requires { (x : ℕ) → Contains (indices roots.items) x → x < length resolve.now.types }
+    ensures { IfOk result (λ v. indices v.items ≡
+        futures_from resolve.now.types (indices roots.items)) }
 {
     resolve.formed();
     resolve.listed();
@@ -111,8 +118,8 @@ fn list(alloc: Global, resolve: &Resolve, roots: Vec<TypeId>) -> Result<Vec<Type
     enter_all(roots, &mut steps)?;
     'steps: while let Some(step) = steps.pop() {
         match step {
-            Step::Leave(id) => found.push(id)?,
-            Step::Enter(id) => {
+            TypeStep::Leave(id) => found.push(id)?,
+            TypeStep::Enter(id) => {
                 if resolve.carries(id) {
                     let kind = &resolve.type_def(id).kind;
                     leave_carrier(kind, id, &mut steps)?;
@@ -126,16 +133,23 @@ fn list(alloc: Global, resolve: &Resolve, roots: Vec<TypeId>) -> Result<Vec<Type
 }
 
 impl Function {
-    /// The futures and streams that a function takes and gives, from left to right: those inside of one in front of
-    /// it, repeats with the others. They are sought through all types but handles. The types have to be there
-    /// (`has_function`).
+    /// The futures and streams in this function's parameters, and after them those in its result, in order. Those in
+    /// the payload of a future or a stream are before it. Each is listed as often as it occurs; aliases have those of
+    /// their targets, handles have none.
+    ///
+    /// The ids of the function must be in range (`has_function`).
+    ///
+    /// # Errors
+    ///
+    /// `AllocError`: an allocation failed.
     pub fn find_futures_and_streams(
         &self,
         alloc: Global,
         resolve: &Resolve,
     ) -> Result<Vec<TypeId>, AllocError>
         requires { IsFunctionIn (length resolve.now.types) (function_view self.now) }
-        ensures { IfOk result (λ v. map id_place v.items ≡ flat_map (futures_of resolve.now.types) (passed_roots (function_view self.now))) }
+        ensures { IfOk result (λ v. indices v.items ≡
+            function_futures resolve.now (function_view self.now)) }
     {
         let mut roots = Vec::new(alloc);
         push_passed(&mut roots, self)?;

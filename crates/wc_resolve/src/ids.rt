@@ -1,17 +1,17 @@
-//! Names of things by their places in the lists that they stand in.
+//! Ids: indices, from 0, in the lists of a `Resolve`.
 
-/// The place of a world in the list of worlds.
+/// The index of a world in `Parts::worlds`.
 #[derive(Clone, Copy, Debug, PartialEq, Eq, Hash)]
 pub struct WorldId(pub u32);
 
-/// The place of an interface in the list of interfaces.
+/// The index of an interface in `Parts::interfaces`.
 #[derive(Clone, Copy, Debug, PartialEq, Eq, Hash)]
 pub struct InterfaceId(pub u32);
 
-/// The place of a type in the list of types.
+/// The index of a type in `Parts::types`.
 #[derive(Clone, Copy, Debug, PartialEq, Eq, Hash)]
 pub struct TypeId(pub u32);
 
-/// The place of a package in the list of packages.
+/// The index of a package in `Parts::packages`.
 #[derive(Clone, Copy, Debug, PartialEq, Eq, Hash)]
 pub struct PackageId(pub u32);

@@ -1,19 +1,19 @@
-//! What the definition of a type mentions.
+//! The types to which the definition of a type refers.
 
 ghost use Rattle.std.specs.Prelude.{◌≡◌, map, Option, String, IfOk};
 ghost use Rattle.std.specs.List.{filter_map};
 ghost use Rattle.std.specs.declared.alloc.Global.{Global};
 ghost use Rattle.wc_resolve.specs.declared.types.WitType.{WitType};
 ghost use Rattle.wc_resolve.specs.Views.{kind_view};
-ghost use Rattle.wc_resolve.specs.Futures.{carried_places, carried_types};
-ghost use Rattle.wc_resolve.specs.World.{held_types, mentioned_places, mentioned_types, place_of, resource_of};
+ghost use Rattle.wc_resolve.specs.Futures.{carried_indices, carried_types};
+ghost use Rattle.wc_resolve.specs.World.{contained_types, referenced_indices, referenced_types, resource_of, type_index};
 ghost use Rattle.std.specs.Option.{option_to_list};
 
 use crate::{Handle, TypeDefKind, TypeId, WitType};
 use std::alloc::{AllocError, Global};
 
 impl Handle {
-    /// The resource of a handle.
+    /// The resource of this handle, owned or borrowed.
     pub fn resource(&self) -> TypeId
         ensures { result ≡ resource_of self.now }
     {
@@ -24,9 +24,9 @@ impl Handle {
     }
 }
 
-/// The place of a defined type.
-fn place_of(ty: WitType) -> Option<usize>
-    ensures { result ≡ place_of ty }
+/// The index of a defined type.
+fn type_index(ty: WitType) -> Option<usize>
+    ensures { result ≡ type_index ty }
 {
     match ty {
         WitType::Id(id) => Some(id.0 as usize),
@@ -34,7 +34,7 @@ fn place_of(ty: WitType) -> Option<usize>
     }
 }
 
-/// A list of the type, where there is one.
+/// The list of the type, or no type.
 fn optional(alloc: Global, ty: Option<WitType>) -> Result<Vec<WitType>, AllocError>
     ensures { IfOk result (λ v. v.items ≡ option_to_list ty) }
 {
@@ -57,14 +57,15 @@ fn payload_types(
     alloc: Global,
     cases: &[(String, Option<WitType>)],
 ) -> Result<Vec<WitType>, AllocError>
-    ensures { IfOk result (λ v. v.items ≡ filter_map (λ (c : String Global × Option WitType). c.1) cases.now) }
+    ensures { IfOk result (λ v. v.items ≡
+        filter_map (λ (c : String Global × Option WitType). c.1) cases.now) }
 {
     cases.iter().filter_map(|case| case.1).collect(alloc)
 }
 
-/// The types that stand in a type by value.
-pub(crate) fn held_types(alloc: Global, kind: &TypeDefKind) -> Result<Vec<WitType>, AllocError>
-    ensures { IfOk result (λ v. v.items ≡ held_types (kind_view kind.now)) }
+/// The types that a type contains by value.
+pub(crate) fn contained_types(alloc: Global, kind: &TypeDefKind) -> Result<Vec<WitType>, AllocError>
+    ensures { IfOk result (λ v. v.items ≡ contained_types (kind_view kind.now)) }
 {
     match kind {
         TypeDefKind::Record(fields) => field_types(alloc, fields),
@@ -87,39 +88,46 @@ pub(crate) fn held_types(alloc: Global, kind: &TypeDefKind) -> Result<Vec<WitTyp
     }
 }
 
-/// The types that stand in a type, and an alias's target.
+/// The types that a type contains by value, or an alias's target.
 pub(crate) fn carried_types(alloc: Global, kind: &TypeDefKind) -> Result<Vec<WitType>, AllocError>
     ensures { IfOk result (λ v. v.items ≡ carried_types (kind_view kind.now)) }
 {
     match kind {
         TypeDefKind::Alias(ty) => optional(alloc, Some(*ty)),
-        _ => held_types(alloc, kind),
+        _ => contained_types(alloc, kind),
     }
 }
 
-/// The types that a type's definition mentions: those that it holds, a handle's resource, an alias's target.
-pub(crate) fn mentioned_types(alloc: Global, kind: &TypeDefKind) -> Result<Vec<WitType>, AllocError>
-    ensures { IfOk result (λ v. v.items ≡ mentioned_types (kind_view kind.now)) }
+/// The types that a type's definition refers to: those that it contains by value, a handle's resource, an alias's
+/// target.
+pub(crate) fn referenced_types(
+    alloc: Global,
+    kind: &TypeDefKind,
+) -> Result<Vec<WitType>, AllocError>
+    ensures { IfOk result (λ v. v.items ≡ referenced_types (kind_view kind.now)) }
 {
     match kind {
         TypeDefKind::Handle(handle) => optional(alloc, Some(WitType::Id(handle.resource()))),
         TypeDefKind::Alias(ty) => optional(alloc, Some(*ty)),
-        _ => held_types(alloc, kind),
+        _ => contained_types(alloc, kind),
     }
 }
 
-/// The places of the types that a type's definition mentions.
-pub(crate) fn mentioned_places(alloc: Global, kind: &TypeDefKind) -> Result<Vec<usize>, AllocError>
-    ensures { IfOk result (λ v. v.items ≡ mentioned_places (kind_view kind.now)) }
+/// The indices of the defined types that a type's definition refers to.
+pub(crate) fn referenced_indices(
+    alloc: Global,
+    kind: &TypeDefKind,
+) -> Result<Vec<usize>, AllocError>
+    ensures { IfOk result (λ v. v.items ≡ referenced_indices (kind_view kind.now)) }
 {
-    let types = mentioned_types(alloc, kind)?;
-    types.iter().filter_map(|ty| place_of(*ty)).collect(alloc)
+    let types = referenced_types(alloc, kind)?;
+    types.iter().filter_map(|ty| type_index(*ty)).collect(alloc)
 }
 
-/// The places of the types that stand in a type, and of an alias's target.
-pub(crate) fn carried_places(alloc: Global, kind: &TypeDefKind) -> Result<Vec<usize>, AllocError>
-    ensures { IfOk result (λ v. v.items ≡ carried_places (kind_view kind.now)) }
+/// The indices of the defined types that a type contains by value, or of an alias's target.
+pub(crate) fn carried_indices(alloc: Global, kind: &TypeDefKind) -> Result<Vec<usize>, AllocError>
+    ensures { IfOk result (λ v. v.items ≡ carried_indices (kind_view kind.now)) }
 {
     let types = carried_types(alloc, kind)?;
-    types.iter().filter_map(|ty| place_of(*ty)).collect(alloc)
+    types.iter().filter_map(|ty| type_index(*ty)).collect(alloc)
 }

@@ -1,63 +1,85 @@
-//! The world of types: worlds, interfaces, packages and types, and what follows from them.
+//! A `Resolve`: the worlds, interfaces, types and packages of the component model, each named by
+//! its index in its list. `Resolve::build` checks that they are well-formed. A `Resolve` then
+//! answers the ids of interfaces, the core signatures of functions (Canonical ABI), and the live
+//! types of worlds and functions.
 //!
-//! A call that takes an allocator answers `AllocError`, or the fault `Memory`, where a growth is refused, and hands out
-//! nothing then. A call that names a thing by its id asks that the thing is there.
+//! Where an allocation fails the answer is `AllocError`, or the fault `Memory`. A call that names a
+//! thing by its id requires that the id is in range.
+//!
+//! ```rust
+//! use indexmap::IndexMap;
+//! use std::alloc::Global;
+//! use wc_resolve::{
+//!     Interface, InterfaceId, Package, PackageId, PackageName, Parts, Resolve, ResolveFault,
+//! };
+//!
+//! /// The id of an interface of a package without a version: `namespace:name/interface`.
+//! pub fn interface_id(
+//!     alloc: Global,
+//!     namespace: &str,
+//!     name: &str,
+//!     interface: &str,
+//! ) -> Result<Option<String>, ResolveFault>
+//!     ensures { IfOk result (λ id. option_map string_bytes id ≡ Some (namespace.now
+//!         ++ (codes ":" ++ (name.now ++ (codes "/" ++ interface.now))))) }
+//! {
+//!     let package_name = PackageName {
+//!         namespace: String::from_str(alloc, namespace)?,
+//!         name: String::from_str(alloc, name)?,
+//!         version: None,
+//!     };
+//!     let package = Package {
+//!         name: package_name,
+//!         interfaces: IndexMap::new(alloc),
+//!     };
+//!     let definition = Interface {
+//!         name: Some(String::from_str(alloc, interface)?),
+//!         types: IndexMap::new(alloc),
+//!         functions: IndexMap::new(alloc),
+//!         package: Some(PackageId(0)),
+//!         clone_of: None,
+//!     };
+//!     let parts = Parts {
+//!         worlds: Vec::new(alloc),
+//!         interfaces: vec![in alloc; definition]?,
+//!         types: Vec::new(alloc),
+//!         packages: vec![in alloc; package]?,
+//!     };
+//!     let resolve = Resolve::build(alloc, parts)?;
+//!     Ok(resolve.id_of(alloc, InterfaceId(0))?)
+//! }
+//! ```
+//!
+//! This function is proved in `wc_bench`, as `examples::resolve::interface_id`.
 #![tactic(auto)]
 
-mod apart;
-mod build;
-mod cases;
-mod dependencies;
 mod fault;
 mod flat;
 mod flattening;
 mod functions;
 mod futures;
 mod ids;
+mod interface_ids;
 mod kinds;
 pub mod laws;
 mod live;
 mod names;
-mod naming;
-mod order;
 mod packages;
-mod parts;
-mod queries;
-mod ranges;
-mod resources;
+mod resolve;
 mod roots;
 mod signature;
-mod spelling;
-mod type_test;
 mod types;
+mod validate;
 mod walk;
 mod worlds;
 
-pub use build::Resolve;
 pub use fault::ResolveFault;
 pub use flat::WasmType;
 pub use functions::{AbiVariant, Function, FunctionKind};
 pub use ids::{InterfaceId, PackageId, TypeId, WorldId};
 pub use live::LiveTypes;
 pub use packages::{Package, PackageName};
-pub use parts::Parts;
+pub use resolve::{Parts, Resolve};
 pub use signature::WasmSignature;
 pub use types::{Handle, TypeDef, TypeDefKind, TypeOwner, WitType};
 pub use worlds::{Interface, World, WorldItem, WorldKey};
-
-#[cfg(test)]
-mod build_tests;
-#[cfg(test)]
-mod live_tests;
-#[cfg(test)]
-mod name_tests;
-#[cfg(test)]
-mod query_tests;
-#[cfg(test)]
-mod refusal_tests;
-#[cfg(test)]
-mod signature_tests;
-#[cfg(test)]
-mod test_parts;
-#[cfg(test)]
-mod world_tests;

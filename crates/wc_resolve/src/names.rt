@@ -1,4 +1,4 @@
-//! What names are made of, and the track of a version (component model, "Import and Export Names").
+//! The characters of names, and the track of a version (component model, "Import and Export Definitions").
 
 ghost use Rattle.std.specs.Prelude.{◌≡◌, ◌↔◌, IfOk, IsTrue, string_bytes};
 ghost use Rattle.semver.specs.Identifiers.{parts_of};
@@ -8,22 +8,22 @@ use crate::PackageName;
 use semver::Version;
 use std::alloc::{AllocError, Global};
 
-/// Whether a byte may stand in a name.
+/// Whether a byte can occur in a name.
 fn is_name_character(byte: u8) -> bool
     ensures { IsTrue result ↔ IsNameCharacter byte }
 {
     byte.is_ascii_alphanumeric() || byte == b'-'
 }
 
-/// Whether a byte may stand in a function's name.
+/// Whether a byte can occur in the name of a function.
 fn is_function_character(byte: u8) -> bool
     ensures { IsTrue result ↔ IsFunctionCharacter byte }
 {
     is_name_character(byte) || byte == b'[' || byte == b']' || byte == b'.'
 }
 
-/// Whether a text may name a namespace, a package, an interface, a type or, as a plain key, an item that is no
-/// function.
+/// Whether a text can be the name of a namespace, a package, an interface or a type, or the plain key of an item that
+/// is no function.
 #[tactic(auto, unfolding(crate::specs::Names::IsName))]
 pub(crate) fn is_name(text: &str) -> bool
     ensures { IsTrue result ↔ IsName text.now }
@@ -31,7 +31,7 @@ pub(crate) fn is_name(text: &str) -> bool
     !text.is_empty() && text.as_bytes().iter().all(|byte| is_name_character(*byte))
 }
 
-/// Whether a text may name a function.
+/// Whether a text can be the name of a function.
 #[tactic(auto, unfolding(crate::specs::Names::IsFunctionName))]
 pub(crate) fn is_function_name(text: &str) -> bool
     ensures { IsTrue result ↔ IsFunctionName text.now }
@@ -44,9 +44,14 @@ pub(crate) fn is_function_name(text: &str) -> bool
 }
 
 impl PackageName {
-    /// The track of a version: what versions that are taken for compatible have in common. With a prerelease it
-    /// is the whole version without its build; else the major number where that isn't 0; else `0.` and the minor
-    /// number where that isn't 0; else the whole version without its build.
+    /// The track of a version: the part that compatible versions share. With a prerelease it is the version without
+    /// its build; else the major number, if that isn't 0; else `0.` and the minor number, if that isn't 0; else the
+    /// version without its build. Of 1.2.3 it is `1`, of 0.2.3 `0.2`, of 0.0.4 `0.0.4`, and of 1.0.0-rc.1+x
+    /// `1.0.0-rc.1`.
+    ///
+    /// # Errors
+    ///
+    /// `AllocError`: an allocation failed.
     pub fn version_compat_track(alloc: Global, version: &Version) -> Result<String, AllocError>
         ensures { IfOk result (λ text. string_bytes text ≡ track (parts_of version.now)) }
     {

@@ -1,14 +1,15 @@
 //! Packages and their names.
 
-ghost use Rattle.std.specs.Prelude.{◌≡◌, ◌≢◌, ◌↔◌, ◌<◌, ◌^◌, ℕ, IfNone, IfSome, IsTrue, Some, map};
-ghost use Rattle.wc_resolve.specs.Queries.{package_name_at};
+ghost use Rattle.std.specs.Prelude.{◌≡◌, ◌↔◌, IfNone, IfSome, IsTrue, map};
+ghost use Rattle.wc_resolve.specs.Queries.{HasNoPackage, IsPackageAt};
 ghost use Rattle.wc_resolve.specs.Views.{package_name_view, package_view};
 
 use crate::InterfaceId;
 use indexmap::IndexMap;
 use semver::Version;
 
-/// A package's name, `namespace:name`, with `@version` where there is one.
+/// The name of a package: `namespace:name`, or `namespace:name@version`. Names are equal where all three are, the build
+/// of the version included.
 #[derive(PartialEq, Eq, Hash, Drop)]
 pub struct PackageName {
     pub namespace: String,
@@ -16,7 +17,8 @@ pub struct PackageName {
     pub version: Option<Version>,
 }
 
-/// A package: its name and its interfaces by their names.
+/// A package: its name, and its interfaces by their names, in order. `Resolve::build` doesn't check that the `package`
+/// of these interfaces is this one.
 #[derive(Drop)]
 pub struct Package {
     pub name: PackageName,
@@ -30,17 +32,19 @@ fn is_called(package: &Package, name: &PackageName) -> bool
     package.name == *name
 }
 
-/// The place of the first package of this name and version, among those that an id can name.
-pub(crate) fn place_of(packages: &[Package], name: &PackageName) -> Option<u32>
-    ensures found { IfSome result (λ place. package_name_at (map package_view packages.now) place ≡ Some (package_name_view name.now)) }
-    ensures none { IfNone result ((place : ℕ) → place < 2 ^ 32 → package_name_at (map package_view packages.now) place ≢ Some (package_name_view name.now)) }
+/// The index of the first package with this name and version, if it is below 2^32.
+pub(crate) fn package_index(packages: &[Package], name: &PackageName) -> Option<u32>
+    ensures found { IfSome result (λ position.
+        IsPackageAt (map package_view packages.now) (package_name_view name.now) position) }
+    ensures none { IfNone result
+        (HasNoPackage (map package_view packages.now) (package_name_view name.now)) }
 {
-    let mut place: u32 = 0;
+    let mut position: u32 = 0;
     for package in packages {
         if is_called(package, name) {
-            return Some(place);
+            return Some(position);
         }
-        place = place.checked_add(1)?;
+        position = position.checked_add(1)?;
     }
     None
 }

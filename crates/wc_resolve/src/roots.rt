@@ -1,21 +1,16 @@
-//! The defined types that things name, in order.
+//! The defined types that functions, interfaces and items of worlds name, in order.
 
-ghost use Rattle.std.specs.Prelude.{◌≡◌, ◌++◌, ◌∷◌, [], IfOk, OnOk, String, map};
-ghost use Rattle.std.specs.List.{flat_map};
+ghost use Rattle.std.specs.Prelude.{◌≡◌, ◌∷◌, [], IfOk, OnOk};
 ghost use Rattle.std.specs.Option.{option_map_or};
-ghost use Rattle.std.specs.declared.alloc.Global.{Global};
-ghost use Rattle.wc_resolve.specs.Roots.{function_roots, id_place, interface_roots, item_roots, passed_roots, static_roots, type_roots};
+ghost use Rattle.wc_resolve.specs.Roots.{AddsRoots, function_roots, indices, interface_roots, item_roots, named_function_roots, named_type_roots, param_roots, passed_roots, static_roots, type_roots};
 ghost use Rattle.wc_resolve.specs.Ranges.{IsItemIn};
 ghost use Rattle.wc_resolve.specs.Views.{function_view, interface_view, item_view};
-ghost use Rattle.wc_resolve.specs.declared.functions.Function.{Function};
-ghost use Rattle.wc_resolve.specs.declared.ids.TypeId.{TypeId};
-ghost use Rattle.wc_resolve.specs.declared.types.WitType.{WitType};
 
 use crate::{Function, FunctionKind, Interface, Resolve, TypeId, WitType, WorldItem};
 use std::alloc::{AllocError, Global};
 
 fn push_type(roots: &mut Vec<TypeId>, ty: WitType) -> Result<(), AllocError>
-    ensures { OnOk result (map id_place roots.new.items ≡ map id_place roots.old.items ++ type_roots ty) }
+    ensures { OnOk result (AddsRoots roots.old.items roots.new.items (type_roots ty)) }
 {
     if let WitType::Id(id) = ty {
         roots.push(id)?;
@@ -25,7 +20,7 @@ fn push_type(roots: &mut Vec<TypeId>, ty: WitType) -> Result<(), AllocError>
 
 /// The resource of a static function.
 fn push_static(roots: &mut Vec<TypeId>, kind: FunctionKind) -> Result<(), AllocError>
-    ensures { OnOk result (map id_place roots.new.items ≡ map id_place roots.old.items ++ static_roots kind) }
+    ensures { OnOk result (AddsRoots roots.old.items roots.new.items (static_roots kind)) }
 {
     if let FunctionKind::Static(id) | FunctionKind::AsyncStatic(id) = kind {
         roots.push(id)?;
@@ -34,7 +29,7 @@ fn push_static(roots: &mut Vec<TypeId>, kind: FunctionKind) -> Result<(), AllocE
 }
 
 fn push_params(roots: &mut Vec<TypeId>, params: &[(String, WitType)]) -> Result<(), AllocError>
-    ensures { OnOk result (map id_place roots.new.items ≡ map id_place roots.old.items ++ flat_map (λ (p : String Global × WitType). type_roots p.1) params.now) }
+    ensures { OnOk result (AddsRoots roots.old.items roots.new.items (param_roots params.now)) }
 {
     for param in params {
         push_type(roots, param.1)?;
@@ -43,7 +38,8 @@ fn push_params(roots: &mut Vec<TypeId>, params: &[(String, WitType)]) -> Result<
 }
 
 fn push_result(roots: &mut Vec<TypeId>, outcome: Option<WitType>) -> Result<(), AllocError>
-    ensures { OnOk result (map id_place roots.new.items ≡ map id_place roots.old.items ++ option_map_or type_roots outcome []) }
+    ensures { OnOk result
+        (AddsRoots roots.old.items roots.new.items (option_map_or type_roots outcome [])) }
 {
     if let Some(ty) = outcome {
         push_type(roots, ty)?;
@@ -51,9 +47,10 @@ fn push_result(roots: &mut Vec<TypeId>, outcome: Option<WitType>) -> Result<(), 
     Ok(())
 }
 
-/// What a function takes, then what it gives.
+/// The types of a function's parameters, then of its result.
 pub(crate) fn push_passed(roots: &mut Vec<TypeId>, function: &Function) -> Result<(), AllocError>
-    ensures { OnOk result (map id_place roots.new.items ≡ map id_place roots.old.items ++ passed_roots (function_view function.now)) }
+    ensures { OnOk result
+        (AddsRoots roots.old.items roots.new.items (passed_roots (function_view function.now))) }
 {
     push_params(roots, &function.params)?;
     push_result(roots, function.result)?;
@@ -62,7 +59,8 @@ pub(crate) fn push_passed(roots: &mut Vec<TypeId>, function: &Function) -> Resul
 
 /// The types of a function.
 pub(crate) fn push_function(roots: &mut Vec<TypeId>, function: &Function) -> Result<(), AllocError>
-    ensures { OnOk result (map id_place roots.new.items ≡ map id_place roots.old.items ++ function_roots (function_view function.now)) }
+    ensures { OnOk result
+        (AddsRoots roots.old.items roots.new.items (function_roots (function_view function.now))) }
 {
     push_static(roots, function.kind)?;
     push_passed(roots, function)?;
@@ -71,7 +69,8 @@ pub(crate) fn push_function(roots: &mut Vec<TypeId>, function: &Function) -> Res
 
 /// The types of an interface.
 fn push_types(roots: &mut Vec<TypeId>, interface: &Interface) -> Result<(), AllocError>
-    ensures { OnOk result (map id_place roots.new.items ≡ map id_place roots.old.items ++ flat_map (λ (e : String Global × TypeId). e.1.0 ∷ []) interface.now.types.entries) }
+    ensures { OnOk result
+        (AddsRoots roots.old.items roots.new.items (named_type_roots interface.now.types.entries)) }
 {
     for (_name, id) in interface.types.iter() {
         roots.push(*id)?;
@@ -81,7 +80,8 @@ fn push_types(roots: &mut Vec<TypeId>, interface: &Interface) -> Result<(), Allo
 
 /// The functions of an interface.
 fn push_functions(roots: &mut Vec<TypeId>, interface: &Interface) -> Result<(), AllocError>
-    ensures { OnOk result (map id_place roots.new.items ≡ map id_place roots.old.items ++ flat_map (λ (e : String Global × Function). function_roots (function_view e.1)) interface.now.functions.entries) }
+    ensures { OnOk result (AddsRoots roots.old.items roots.new.items
+        (named_function_roots interface.now.functions.entries)) }
 {
     for (_name, function) in interface.functions.iter() {
         push_function(roots, function)?;
@@ -91,7 +91,7 @@ fn push_functions(roots: &mut Vec<TypeId>, interface: &Interface) -> Result<(), 
 
 /// The types of an interface, then its functions.
 fn roots_of_interface(alloc: Global, interface: &Interface) -> Result<Vec<TypeId>, AllocError>
-    ensures { IfOk result (λ v. map id_place v.items ≡ interface_roots (interface_view interface.now)) }
+    ensures { IfOk result (λ v. indices v.items ≡ interface_roots (interface_view interface.now)) }
 {
     let mut roots = Vec::new(alloc);
     push_types(&mut roots, interface)?;
@@ -101,26 +101,26 @@ fn roots_of_interface(alloc: Global, interface: &Interface) -> Result<Vec<TypeId
 
 /// One type.
 pub(crate) fn roots_of_id(alloc: Global, id: TypeId) -> Result<Vec<TypeId>, AllocError>
-    ensures { IfOk result (λ v. map id_place v.items ≡ id.0 ∷ []) }
+    ensures { IfOk result (λ v. indices v.items ≡ id.0 ∷ []) }
 {
     Ok(vec![in alloc; id]?)
 }
 
-/// A defined type, and of a primitive one nothing.
+/// A defined type; of a primitive one none.
 pub(crate) fn roots_of_type(alloc: Global, ty: WitType) -> Result<Vec<TypeId>, AllocError>
-    ensures { IfOk result (λ v. map id_place v.items ≡ type_roots ty) }
+    ensures { IfOk result (λ v. indices v.items ≡ type_roots ty) }
 {
     let mut roots = Vec::new(alloc);
     push_type(&mut roots, ty)?;
     Ok(roots)
 }
 
-/// The types of a function: its resource where it is static, what it takes, what it gives.
+/// The types of a function: its resource where it is static, its parameters, its result.
 pub(crate) fn roots_of_function(
     alloc: Global,
     function: &Function,
 ) -> Result<Vec<TypeId>, AllocError>
-    ensures { IfOk result (λ v. map id_place v.items ≡ function_roots (function_view function.now)) }
+    ensures { IfOk result (λ v. indices v.items ≡ function_roots (function_view function.now)) }
 {
     let mut roots = Vec::new(alloc);
     push_function(&mut roots, function)?;
@@ -134,7 +134,7 @@ pub(crate) fn roots_of_item(
     item: &WorldItem,
 ) -> Result<Vec<TypeId>, AllocError>
     requires { IsItemIn resolve.now (item_view item.now) }
-    ensures { IfOk result (λ v. map id_place v.items ≡ item_roots resolve.now (item_view item.now)) }
+    ensures { IfOk result (λ v. indices v.items ≡ item_roots resolve.now (item_view item.now)) }
 {
     match item {
         WorldItem::Interface { id, .. } => roots_of_interface(alloc, resolve.interface(*id)),

@@ -1,40 +1,41 @@
-//! Core signatures: the core function type that stands for a function (component model, Canonical ABI,
-//! "flatten_functype").
+//! Core signatures: the core function type of a function (component model, Canonical ABI, "Flattening",
+//! `flatten_functype`).
 
 ghost use Rattle.std.specs.Prelude.{◌≡◌, ◌≤◌, ◌<◌, IfOk, OnOk, is_some, length};
-ghost use Rattle.wc_resolve.specs.Flat.{AreFlattened, flat_of, kept_flat, lists};
+ghost use Rattle.wc_resolve.specs.Flat.{flats_in};
 ghost use Rattle.wc_resolve.specs.Ranges.{IsFunctionIn};
-ghost use Rattle.wc_resolve.specs.Signatures.{core_signature, core_of, first_as_pointer, is_behind_pointer, is_export, most_params, passed_types, returned_types, result_pointer, signature_view, takes_own};
+ghost use Rattle.wc_resolve.specs.Signatures.{flatten_functype, core_of, first_as_pointer, has_indirect_result, is_export, max_flat_params_of, passed_types, returned_types, result_pointer, signature_view, is_exported_method};
 ghost use Rattle.wc_resolve.specs.Views.{function_view};
 
-use crate::flat::flat_payload;
+use crate::flat::{MAX_FLAT_ASYNC_PARAMS, MAX_FLAT_PARAMS, MAX_FLAT_RESULTS, flat_payload};
 use crate::flattening::flat_fields;
 use crate::{AbiVariant, Function, FunctionKind, WasmType};
 use std::alloc::{AllocError, Global};
 
-/// The core function type that stands for a function.
+/// The core function type of a function, as `Resolve::wasm_signature` makes it.
 #[derive(Debug, Drop)]
 pub struct WasmSignature {
+    /// The core parameters, a pointer to the result among them.
     pub params: Vec<WasmType>,
-    /// At most one.
+    /// The core results, of which there is at most one.
     pub results: Vec<WasmType>,
-    /// Whether the parameters stand in memory, behind the one pointer that is passed for them.
+    /// Whether all parameters are passed indirectly: in memory, by one pointer.
     pub indirect_params: bool,
-    /// Whether the result stands in memory, behind a pointer: of an import its last parameter, of an export
-    /// its result.
+    /// Whether the result is passed indirectly: in memory, by a pointer, which is the last core parameter of an import
+    /// and the core result of an export.
     pub retptr: bool,
 }
 
 /// The most flat parameters that are passed one by one.
-fn most_params(abi: AbiVariant) -> usize
-    ensures { result ≡ most_params abi }
+fn max_flat_params_of(abi: AbiVariant) -> usize
+    ensures { result ≡ max_flat_params_of abi }
 {
     match abi {
-        AbiVariant::GuestImportAsync => 4,
+        AbiVariant::GuestImportAsync => MAX_FLAT_ASYNC_PARAMS,
         AbiVariant::GuestImport
         | AbiVariant::GuestExport
         | AbiVariant::GuestExportAsync
-        | AbiVariant::GuestExportAsyncStackful => 16,
+        | AbiVariant::GuestExportAsyncStackful => MAX_FLAT_PARAMS,
     }
 }
 
@@ -49,9 +50,9 @@ fn is_export(abi: AbiVariant) -> bool
     }
 }
 
-/// Whether the first parameter is what a guest keeps of its own resource.
-fn takes_own(kind: FunctionKind, abi: AbiVariant) -> bool
-    ensures { result ≡ takes_own kind abi }
+/// Whether the first parameter is the representation of a resource that the guest itself implements.
+fn is_exported_method(kind: FunctionKind, abi: AbiVariant) -> bool
+    ensures { result ≡ is_exported_method kind abi }
 {
     match kind {
         FunctionKind::Method(_) | FunctionKind::AsyncMethod(_) => is_export(abi),
@@ -72,7 +73,7 @@ fn make_first_pointer(params: &mut [WasmType])
     }
 }
 
-/// The parameters, but for a pointer to the result, out of their flat forms.
+/// The core parameters, but for a pointer to the result, by the flat types of all parameters.
 fn passed_types(
     abi: AbiVariant,
     kind: FunctionKind,
@@ -80,43 +81,45 @@ fn passed_types(
 ) -> Result<Vec<WasmType>, AllocError>
     ensures { IfOk result (λ p. p.items ≡ passed_types abi kind params.items) }
 {
-    if params.len() > most_params(abi) {
+    if params.len() > max_flat_params_of(abi) {
         params.clear();
         params.push(WasmType::Pointer)?;
-    } else if takes_own(kind, abi) {
+    } else if is_exported_method(kind, abi) {
         make_first_pointer(&mut params);
     }
     Ok(params)
 }
 
-/// Whether the result stands behind a pointer.
-fn is_behind_pointer(abi: AbiVariant, results: &[WasmType], answers: bool) -> bool
-    ensures { result ≡ is_behind_pointer abi results.now answers }
+/// Whether the result is passed indirectly.
+fn has_indirect_result(abi: AbiVariant, results: &[WasmType], has_result: bool) -> bool
+    ensures { result ≡ has_indirect_result abi results.now has_result }
 {
     match abi {
-        AbiVariant::GuestImport | AbiVariant::GuestExport => results.len() > 1,
-        AbiVariant::GuestImportAsync => answers,
+        AbiVariant::GuestImport | AbiVariant::GuestExport => results.len() > MAX_FLAT_RESULTS,
+        AbiVariant::GuestImportAsync => has_result,
         AbiVariant::GuestExportAsync | AbiVariant::GuestExportAsyncStackful => false,
     }
 }
 
-/// The pointer to the result that an import is passed.
-fn result_pointer(abi: AbiVariant, behind: bool) -> &'static [WasmType]
-    ensures { result.now ≡ result_pointer abi behind }
+/// The pointer to the result that is a parameter of an import.
+fn result_pointer(abi: AbiVariant, indirect_result: bool) -> &'static [WasmType]
+    ensures { result.now ≡ result_pointer abi indirect_result }
 {
     match abi {
-        AbiVariant::GuestImport | AbiVariant::GuestImportAsync if behind => &[WasmType::Pointer],
+        AbiVariant::GuestImport | AbiVariant::GuestImportAsync if indirect_result => &[
+            WasmType::Pointer,
+        ],
         _ => &[],
     }
 }
 
-/// What is returned.
-fn returned_types(abi: AbiVariant, behind: bool, results: &[WasmType]) -> &[WasmType]
-    ensures { result.now ≡ returned_types abi behind results.now }
+/// The core results.
+fn returned_types(abi: AbiVariant, indirect_result: bool, results: &[WasmType]) -> &[WasmType]
+    ensures { result.now ≡ returned_types abi indirect_result results.now }
 {
     match abi {
-        AbiVariant::GuestImport => if behind { &[] } else { results },
-        AbiVariant::GuestExport => if behind {
+        AbiVariant::GuestImport => if indirect_result { &[] } else { results },
+        AbiVariant::GuestExport => if indirect_result {
             &[WasmType::Pointer]
         } else {
             results
@@ -126,19 +129,20 @@ fn returned_types(abi: AbiVariant, behind: bool, results: &[WasmType]) -> &[Wasm
     }
 }
 
-/// The core signature, by the flat forms of the parameters and of the result, and whether there is a result.
+/// The core signature, by the flat types of the parameters and of the result, and by whether there is a result.
 fn core_of(
     alloc: Global,
     abi: AbiVariant,
     kind: FunctionKind,
     params: Vec<WasmType>,
     results: &[WasmType],
-    answers: bool,
+    has_result: bool,
 ) -> Result<WasmSignature, AllocError>
-    ensures { IfOk result (λ s. signature_view s ≡ core_of abi kind params.items results.now answers) }
+    ensures { IfOk result (λ s. signature_view s ≡
+        core_of abi kind params.items results.now has_result) }
 {
-    let indirect_params = params.len() > most_params(abi);
-    let retptr = is_behind_pointer(abi, results, answers);
+    let indirect_params = params.len() > max_flat_params_of(abi);
+    let retptr = has_indirect_result(abi, results, has_result);
     let mut params = passed_types(abi, kind, params)?;
     params.extend_from_slice(result_pointer(abi, retptr))?;
     let results = Vec::from_slice(alloc, returned_types(abi, retptr, results))?;
@@ -150,14 +154,15 @@ fn core_of(
     })
 }
 
-/// The core signature of a function, by the flat forms of all types.
+/// The core signature of a function, by the flat types of all defined types.
 pub(crate) fn signature_of(
     alloc: Global,
     flats: &[Vec<WasmType>],
     abi: AbiVariant,
     function: &Function,
 ) -> Result<WasmSignature, AllocError>
-    ensures { IfOk result (λ s. signature_view s ≡ core_signature (kept_flat (lists flats.now)) abi (function_view function.now)) }
+    ensures { IfOk result (λ s. signature_view s ≡
+        flatten_functype (flats_in flats.now) abi (function_view function.now)) }
 {
     let params = flat_fields(alloc, flats, &function.params)?;
     let results = flat_payload(flats, function.result);

@@ -1,26 +1,26 @@
-//! Walks over types, by steps that are left to do.
+//! Walks over types, by a stack of steps.
 
 ghost use Rattle.std.specs.Prelude.{◌≡◌, ◌++◌, IfOk, OnOk, map, reverse};
 ghost use Rattle.std.specs.List.{filter_map};
 ghost use Rattle.wc_resolve.specs.Views.{kind_view};
-ghost use Rattle.wc_resolve.specs.World.{mentioned_places};
-ghost use Rattle.wc_resolve.specs.Roots.{id_place, type_id};
+ghost use Rattle.wc_resolve.specs.World.{referenced_indices};
+ghost use Rattle.wc_resolve.specs.Roots.{indices, type_id};
 
-use crate::kinds::mentioned_types;
+use crate::kinds::referenced_types;
 use crate::{TypeDefKind, TypeId, WitType};
 use std::alloc::{AllocError, Global};
 
-/// What is left to do at a type.
+/// A step that is left to do at a type.
 #[derive(Clone, Copy)]
-pub(crate) enum Step {
-    /// To go through the types below it.
+pub(crate) enum TypeStep {
+    /// To visit the types that it refers to.
     Enter(TypeId),
-    /// To take the type itself.
+    /// To add the type itself.
     Leave(TypeId),
 }
 
 /// The id of a defined type.
-fn id_of(ty: WitType) -> Option<TypeId>
+fn type_id(ty: WitType) -> Option<TypeId>
     ensures { result ≡ type_id ty }
 {
     match ty {
@@ -33,31 +33,32 @@ fn id_of(ty: WitType) -> Option<TypeId>
 pub(crate) fn ids_of(alloc: Global, types: &[WitType]) -> Result<Vec<TypeId>, AllocError>
     ensures { IfOk result (λ v. v.items ≡ filter_map type_id types.now) }
 {
-    types.iter().filter_map(|ty| id_of(*ty)).collect(alloc)
+    types.iter().filter_map(|ty| type_id(*ty)).collect(alloc)
 }
 
-/// The types that a type's definition mentions.
-pub(crate) fn mentioned_ids(alloc: Global, kind: &TypeDefKind) -> Result<Vec<TypeId>, AllocError>
-    ensures { IfOk result (λ v. map id_place v.items ≡ mentioned_places (kind_view kind.now)) }
+/// The ids of the defined types that a type's definition refers to.
+pub(crate) fn referenced_ids(alloc: Global, kind: &TypeDefKind) -> Result<Vec<TypeId>, AllocError>
+    ensures { IfOk result (λ v. indices v.items ≡ referenced_indices (kind_view kind.now)) }
 {
-    let types = mentioned_types(alloc, kind)?;
+    let types = referenced_types(alloc, kind)?;
     let ids = ids_of(alloc, &types)?;
     Ok(ids)
 }
 
-/// Puts steps behind the others that enter these types.
-fn enter_each(ids: &[TypeId], steps: &mut Vec<Step>) -> Result<(), AllocError>
-    ensures { OnOk result (steps.new.items ≡ steps.old.items ++ map Step.Enter ids.now) }
+/// Appends steps that enter these types.
+fn enter_each(ids: &[TypeId], steps: &mut Vec<TypeStep>) -> Result<(), AllocError>
+    ensures { OnOk result (steps.new.items ≡ steps.old.items ++ map TypeStep.Enter ids.now) }
 {
     for id in ids {
-        steps.push(Step::Enter(*id))?;
+        steps.push(TypeStep::Enter(*id))?;
     }
     Ok(())
 }
 
-/// Puts steps behind the others that enter these types, the first of them last, so that it is entered first.
-pub(crate) fn enter_all(mut ids: Vec<TypeId>, steps: &mut Vec<Step>) -> Result<(), AllocError>
-    ensures { OnOk result (steps.new.items ≡ steps.old.items ++ map Step.Enter (reverse ids.items)) }
+/// Appends steps that enter these types in reverse order: the last step, which is done first, enters the first type.
+pub(crate) fn enter_all(mut ids: Vec<TypeId>, steps: &mut Vec<TypeStep>) -> Result<(), AllocError>
+    ensures { OnOk result (steps.new.items ≡
+        steps.old.items ++ map TypeStep.Enter (reverse ids.items)) }
 {
     ids.reverse();
     enter_each(&ids, steps)

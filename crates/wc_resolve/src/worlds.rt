@@ -6,7 +6,7 @@ use crate::{Function, InterfaceId, PackageId, TypeId};
 use indexmap::IndexMap;
 use std::alloc::{AllocError, Global};
 
-/// What an item of a world stands under: a plain name, or an interface.
+/// The key of an item of a world: a plain name, or an interface by its id. Keys are equal where these are.
 #[derive(Debug, PartialEq, Eq, Hash, Drop)]
 pub enum WorldKey {
     Name(String),
@@ -16,7 +16,11 @@ pub enum WorldKey {
 impl WorldKey {
     ghost use Rattle.wc_resolve.specs.Views.{key_view};
 
-    /// A copy.
+    /// A copy of this key: the same name, or the same interface.
+    ///
+    /// # Errors
+    ///
+    /// `AllocError`: an allocation failed.
     pub fn clone(&self, alloc: Global) -> Result<WorldKey, AllocError>
         ensures { IfOk result (λ k. key_view k ≡ key_view self.now) }
     {
@@ -27,12 +31,12 @@ impl WorldKey {
     }
 }
 
-/// An item that a world imports or exports.
+/// An item that a world imports or exports: an interface, a function or a type.
 #[derive(Debug, Drop)]
 pub enum WorldItem {
     Interface {
         id: InterfaceId,
-        /// What it is called outside, where it is called so.
+        /// The name that it has outside of the world, if it has one of its own there.
         external_id: Option<String>,
     },
     Function(Function),
@@ -41,7 +45,7 @@ pub enum WorldItem {
     },
 }
 
-/// A world: what it imports and what it exports, in order.
+/// A world: its name, and the items that it imports and exports by their keys, in order.
 #[derive(Drop)]
 pub struct World {
     pub name: String,
@@ -49,8 +53,8 @@ pub struct World {
     pub exports: IndexMap<WorldKey, WorldItem>,
 }
 
-/// An interface: its types and functions by their names, in order. `package` is where it is defined, `clone_of`
-/// the interface that it was copied from, where it was.
+/// An interface: its name, if it has one, and its types and functions by their names, in order. `package` is where it
+/// is defined, `clone_of` the interface that it is a copy of, if it is one.
 #[derive(Drop)]
 pub struct Interface {
     pub name: Option<String>,

@@ -1,3 +1,5 @@
-mod Words
-mod Causes
-mod Answered
+mod CommandLemmas
+mod FaultsLemmas
+mod ExecutionLemmas
+mod OutputLemmas
+mod ProgramLemmas

@@ -2,4 +2,7 @@ pub mod Command
 pub mod Lines
 pub mod Scan
 pub mod Faults
-pub mod Execute
+pub mod Execution
+pub mod Files
+pub mod Output
+pub mod Program

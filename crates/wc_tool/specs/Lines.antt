@@ -1,11 +1,25 @@
--- The lines that tell renamed imports.
+-- The lines that print renamed imports.
 use Rattle.std.specs.Prelude.{ℕ, List, ◌++◌, codes}
 use Rattle.std.specs.List.{flat_map}
 use Rattle.wc_dedupe.specs.Renaming.{RenameValue}
 
+-- between a module's name and an import's, between an import's name and its new one, between the parts of a line, and
+-- the end of a line
+abbrev pub colon : List ℕ
+colon = codes ": "
+
+abbrev pub arrow : List ℕ
+arrow = codes " -> "
+
+abbrev pub space : List ℕ
+space = codes " "
+
+abbrev pub line_feed : List ℕ
+line_feed = codes "\n"
+
 -- `MODULE: OLD -> NEW`, and the end of the line
 abbrev pub line_of : RenameValue → List ℕ
-line_of r = r.module_name ++ (codes ": " ++ (r.source ++ (codes " -> " ++ (r.name ++ codes "\n"))))
+line_of r = r.module_name ++ (colon ++ (r.original ++ (arrow ++ (r.name ++ line_feed))))
 
 -- a line for each rename, in order
 abbrev pub lines_of : List RenameValue → List ℕ

@@ -1,5 +1,6 @@
--- The lines that tell the imports and the exports of a module.
+-- The lines that print the imports and the exports of a module.
 use Rattle.std.specs.Prelude.{ℕ, List, ◌++◌, codes, decimal, flat_map}
+use Rattle.wc_tool.specs.Lines.{space, line_feed}
 use Rattle.wc_read.specs.Imports.{ImportValue}
 use Rattle.wc_read.specs.Exports.{ExportValue}
 use Rattle.wc_read.specs.Modules.{ModuleValue}
@@ -8,27 +9,27 @@ use Rattle.wc_read.specs.declared.types.ImportType.TheVariants.{Func as import_f
 use Rattle.wc_read.specs.declared.exports.ExportKind.{ExportKind}
 use Rattle.wc_read.specs.declared.exports.ExportKind.TheVariants.{Func, Table, Memory, Global}
 
--- the kind of what is imported
+-- the kind of an import
 abbrev pub kind_of : ImportType → ExportKind
 kind_of (import_func index) = Func
 kind_of (import_table t) = Table
 kind_of (import_memory m) = Memory
 kind_of (import_global g) = Global
 
--- the word for a kind
-abbrev pub kind_word : ExportKind → List ℕ
-kind_word Func = codes "func"
-kind_word Table = codes "table"
-kind_word Memory = codes "memory"
-kind_word Global = codes "global"
+-- the name of a kind
+abbrev pub kind_name : ExportKind → List ℕ
+kind_name Func = codes "func"
+kind_name Table = codes "table"
+kind_name Memory = codes "memory"
+kind_name Global = codes "global"
 
 -- `import MODULE NAME KIND`, and the end of the line
 abbrev pub import_line : ImportValue → List ℕ
-import_line i = codes "import " ++ (i.module_name ++ (codes " " ++ (i.name ++ (codes " " ++ (kind_word (kind_of i.ty) ++ codes "\n")))))
+import_line i = codes "import " ++ (i.module_name ++ (space ++ (i.name ++ (space ++ (kind_name (kind_of i.ty) ++ line_feed)))))
 
 -- `export NAME KIND INDEX` with the index in decimal, and the end of the line
 abbrev pub export_line : ExportValue → List ℕ
-export_line e = codes "export " ++ (e.name ++ (codes " " ++ (kind_word e.kind ++ (codes " " ++ (decimal e.index ++ codes "\n")))))
+export_line e = codes "export " ++ (e.name ++ (space ++ (kind_name e.kind ++ (space ++ (decimal e.index ++ line_feed)))))
 
 -- a line for each import, and then for each export, in order
 abbrev pub scan_lines : ModuleValue → List ℕ

@@ -1,4 +1,4 @@
-//! Why a command is refused.
+//! Why a command could not be executed.
 
 ghost use Rattle.std.specs.Prelude.{◌≡◌};
 ghost use Rattle.wc_tool.specs.declared.fault.ToolFault.TheVariants.{Memory, Output};
@@ -12,16 +12,16 @@ use wc_write::PutFailed;
 /// Why a command could not be executed.
 #[derive(Clone, Copy, Debug, PartialEq, Eq, Error)]
 pub enum ToolFault {
-    /// A growth was refused.
+    /// An allocation failed.
     #[error("out of memory")]
     Memory,
-    /// The imports of the module could not be renamed.
+    /// The imports of the module could not be renamed. It carries why, never `Memory`.
     #[error("Dedupe: {0}")]
     Dedupe(DedupeFault),
-    /// The bytes are no module.
+    /// The bytes are no module. It carries why, never `Memory`.
     #[error("Read: {0}")]
     Read(ReadFault),
-    /// The lines could not be told.
+    /// The lines could not be written.
     #[error("Output")]
     Output,
 }

@@ -1,104 +1,264 @@
-//! The program: its words, its files and what it prints.
+//! The program: its arguments, its files, what it prints, and its exit status.
 
-ghost use Rattle.std.specs.Prelude.{◌≡◌, ◌<◌, ◌≤◌, ◌⊎◌, ℕ, List, IfOk, IfErr};
+ghost use Rattle.std.specs.Prelude.{◌≡◌, ◌≢◌, ◌++◌, false, true, List, ℕ, map, string_bytes, IfOk, IfErr, IsErr, IsErrOf, OnOk, OnErr};
 ghost use Rattle.std.specs.Option.{option_map};
-ghost use Rattle.std.specs.Process.{exit_status};
+ghost use Rattle.std.specs.Io.KnownBytes.{Appends};
+ghost use Rattle.std.specs.IoError.{error_kind};
 ghost use Rattle.wc_tool.specs.Command.{command_value};
-ghost use Rattle.wc_tool.specs.Execute.{Runs, IsCause};
+ghost use Rattle.wc_tool.specs.Execution.{Runs, IsCause};
+ghost use Rattle.wc_tool.specs.Program.{HandsOn, EndsWell, IsRunCause, HasPut, IsFaultText, Prints, CommandEnds, ProgramEnds, EndsWithoutArguments, fault_line, usage_text, failure};
 
 use crate::command::{Command, Usage, parse};
-use crate::execute::execute;
+use crate::execution::execute;
 use crate::fault::ToolFault;
-use std::fmt::Display;
-use std::io::{self, BufWriter};
-use std::process::ExitCode;
-use std::rt::{Env, Files};
-use std::{env, fs};
-use wc_write::WriterSink;
+use crate::files::FileStore;
+use crate::lines::LINE_FEED;
+use crate::output::Output;
+use std::alloc::Global;
+use std::fmt::InlineText;
+use std::io::{self, ErrorKind};
+use wc_write::PutFailed;
 
-const USAGE: &str = "usage: wctrim dedupe IN OUT
+const USAGE: &[u8] = b"usage: wctrim dedupe IN OUT
        wctrim trim IN OUT [--realloc NAME] [--page 0|16] EXPORT...
-       wctrim scan IN";
+       wctrim scan IN
+";
 
-/// The status of a program whose words are those of no command.
-const WRONG_WORDS: u8 = 2;
+/// The exit status of a program that did what its arguments say.
+const SUCCESS: u8 = 0;
 
-/// Does what the program's words say, and gives the program's status.
-pub(crate) fn run<R: Env + Files + Print + AllocGlobal>(rt: &R) -> ExitCode
-    ensures { exit_status result ≤ 2 }
+/// The exit status of a program that failed.
+const FAILURE: u8 = 1;
+
+/// The exit status of a program whose arguments are those of no command.
+const WRONG_ARGUMENTS: u8 = 2;
+
+/// How many bytes of a fault's text are printed.
+const TEXT_SIZE: usize = 64;
+
+/// Why a command could not be run on its files.
+#[derive(Clone, Copy, Debug, PartialEq, Eq)]
+pub enum RunFault<'a> {
+    /// The file of this path could not be read.
+    CannotRead(&'a str),
+    /// The file of this path could not be written.
+    CannotWrite(&'a str),
+    /// The command could not be executed.
+    Tool(ToolFault),
+}
+
+/// Runs the program with these arguments, the first of them the one after the program's name. The answer is its exit
+/// status:
+///
+/// | Status | Where | Printed |
+/// |---|---|---|
+/// | 0 | there are no arguments | the usage text |
+/// | 2 | the arguments are those of no command, or no text | the usage text |
+/// | 0 | the command was run | its lines |
+/// | 1 | the command could not be run | the lines that it put, and then the line `wctrim: TEXT` |
+/// | 1 | there was no memory for the arguments | the line `wctrim: TEXT` |
+/// | 1 | `out` failed | not known |
+///
+/// TEXT is `cannot read IN` or `cannot write OUT` with the path; which text another fault has is not promised. All that
+/// is printed is flushed. Files are as `run_command` leaves them; without a command they are unchanged.
+pub fn run<F: FileStore, O: Output>(
+    alloc: Global,
+    arguments: &io::Result<Vec<String>>,
+    files: &mut F,
+    out: &mut O,
+) -> u8
+    ensures known { IfOk arguments.now (λ v. ProgramEnds (map string_bytes v.items)
+        (F.held files.old) (F.held files.new)
+        (HandsOn (O.written out.old) (O.written out.new) (O.sent out.new)) (O.is_failed out.new)
+        result) }
+    ensures unknown { IfErr arguments.now (λ e. EndsWithoutArguments
+        (error_kind e ≡ ErrorKind.OutOfMemory)
+        (HandsOn (O.written out.old) (O.written out.new) (O.sent out.new)) (O.is_failed out.new)
+        result) }
+    ensures kept { IsErr arguments.now → F.held files.new ≡ F.held files.old }
 {
-    let words = match words(rt) {
-        Ok(words) => words,
-        Err(e) if e.kind() == io::ErrorKind::OutOfMemory => return failed(rt, ToolFault::Memory),
-        Err(_) => return usage(rt, ExitCode::from(WRONG_WORDS)),
-    };
-    if words.is_empty() {
-        return usage(rt, ExitCode::SUCCESS);
-    }
-    match parse(words.as_slice()) {
-        Ok(command) => run_command(rt, &command),
-        Err(Usage) => usage(rt, ExitCode::from(WRONG_WORDS)),
+    match arguments {
+        Ok(arguments) => run_with(alloc, arguments.as_slice(), files, out),
+        Err(e) if e.kind() == ErrorKind::OutOfMemory => {
+            report(out, &RunFault::Tool(ToolFault::Memory))
+        }
+        Err(_) => print_usage(out, WRONG_ARGUMENTS),
     }
 }
 
-/// The program's words, without its name.
-fn words<R: Env + AllocGlobal>(rt: &R) -> io::Result<Vec<String>> {
-    let words = env::args(rt)?.skip(1).collect(rt.alloc())?;
-    Ok(words)
+/// Runs the program with arguments that are known.
+fn run_with<F: FileStore, O: Output>(
+    alloc: Global,
+    arguments: &[String],
+    files: &mut F,
+    out: &mut O,
+) -> u8
+    ensures { ProgramEnds (map string_bytes arguments.now) (F.held files.old) (F.held files.new)
+        (HandsOn (O.written out.old) (O.written out.new) (O.sent out.new)) (O.is_failed out.new)
+        result }
+{
+    if arguments.is_empty() {
+        return print_usage(out, SUCCESS);
+    }
+    match parse(arguments) {
+        Ok(command) => run_and_report(alloc, &command, files, out),
+        Err(Usage) => print_usage(out, WRONG_ARGUMENTS),
+    }
 }
 
-/// Reads the command's input, executes it and writes its output, where it has one.
-fn run_command<R: Files + Print + AllocGlobal>(rt: &R, command: &Command<'_>) -> ExitCode
-    ensures { exit_status result < 2 }
+/// Runs a command on its files, and prints why it could not be run. The answer is the exit status.
+fn run_and_report<F: FileStore, O: Output>(
+    alloc: Global,
+    command: &Command<'_>,
+    files: &mut F,
+    out: &mut O,
+) -> u8
+    ensures { CommandEnds (command_value command.now) (F.held files.old) (F.held files.new)
+        (HandsOn (O.written out.old) (O.written out.new) (O.sent out.new)) (O.is_failed out.new)
+        result }
+{
+    match run_command(alloc, command, files, out) {
+        Ok(()) => SUCCESS,
+        Err(fault) => report(out, &fault),
+    }
+}
+
+/// Reads the command's input file, executes the command, flushes its lines, and writes its output file, where it has
+/// one. Every other file stays the same. At `Ok` all lines were handed on.
+///
+/// # Errors
+///
+/// - `CannotRead`: the input file could not be read. Nothing is put.
+/// - `Tool`: the fault of `execute`. Nothing is put; with `Tool(Output)` `out` is failed instead, and how much was
+///   written is left open.
+/// - `CannotWrite`: the output file could not be written. The lines were put before. What bytes that file has is left
+///   open.
+///
+/// With `CannotRead` and `Tool` no file is created or changed.
+pub fn run_command<'a, F: FileStore, O: Output>(
+    alloc: Global,
+    command: &Command<'a>,
+    files: &mut F,
+    out: &mut O,
+) -> Result<(), RunFault<'a>>
+    ensures done { OnOk result (EndsWell
+        (command_value command.now) (F.held files.old) (F.held files.new)
+        (HandsOn (O.written out.old) (O.written out.new) (O.sent out.new)) (O.is_failed out.new)) }
+    ensures fault { IfErr result (λ f. (lines : List ℕ)
+        × IsRunCause (command_value command.now) (F.held files.old) (F.held files.new) lines f
+        × HasPut (Appends (O.written out.old) (O.written out.new)) (O.is_failed out.new) lines f) }
 {
     let source = command.source();
-    let Ok(input) = fs::read(rt, source) else {
-        return failed(rt, format_args!("cannot read {source}"));
+    let Ok(input) = files.read(source) else {
+        return Err(RunFault::CannotRead(source));
     };
-    let answer = match executed(rt, command, input.as_slice()) {
+    let answer = match execute_and_flush(alloc, command, input.as_slice(), out) {
         Ok(answer) => answer,
-        Err(fault) => return failed(rt, fault),
+        Err(fault) => return Err(RunFault::Tool(fault)),
     };
-    if let (Some(target), Some(bytes)) = (command.target(), answer)
-        && fs::write(rt, target, bytes.as_slice()).is_err()
-    {
-        return failed(rt, format_args!("cannot write {target}"));
+    let (Some(target), Some(bytes)) = (command.target(), answer) else {
+        return Ok(());
+    };
+    if files.write(target, bytes.as_slice()).is_err() {
+        return Err(RunFault::CannotWrite(target));
     }
-    ExitCode::SUCCESS
+    Ok(())
 }
 
-/// Executes the command, with its lines on standard output. All of them are written before this returns.
-fn executed<R: Print + AllocGlobal>(
-    rt: &R,
+/// Executes the command, and flushes its lines.
+fn execute_and_flush<O: Output>(
+    alloc: Global,
     command: &Command<'_>,
     input: &[u8],
+    out: &mut O,
 ) -> Result<Option<Vec<u8>>, ToolFault>
-    ensures done { IfOk result (λ r. (lines : List ℕ) × Runs (command_value command.now) input.now lines (option_map (λ v. v.items) r)) }
+    ensures done { IfOk result (λ r. (lines : List ℕ)
+        × Runs (command_value command.now) input.now lines (option_map (λ v. v.items) r)
+        × HandsOn (O.written out.old) (O.written out.new) (O.sent out.new) lines) }
+    ensures works { OnOk result (O.is_failed out.new ≡ false) }
     ensures fault { IfErr result (IsCause (command_value command.now) input.now) }
+    ensures output { IsErrOf result ToolFault.Output → O.is_failed out.new ≡ true }
+    ensures quiet { IfErr result (λ e. e ≢ ToolFault.Output → out.new ≡ out.old) }
 {
-    let Ok(writer) = BufWriter::new(rt.alloc(), io::writer(rt)) else {
-        return Err(ToolFault::Memory);
-    };
-    let mut out = WriterSink::new(writer);
-    let answer = execute(rt.alloc(), command, input, &mut out)?;
+    let answer = execute(alloc, command, input, out)?;
     out.flush()?;
     Ok(answer)
 }
 
-/// Prints the lines that say how the program is called. Where that fails, so does the program.
-fn usage<R: Print>(rt: &R, status: ExitCode) -> ExitCode
-    ensures { (result ≡ status) ⊎ (exit_status result ≡ 1) }
+/// Prints the usage text. The answer is `status`, or the status of a failure where `out` fails.
+fn print_usage<O: Output>(out: &mut O, status: u8) -> u8
+    ensures { Prints usage_text status
+        (HandsOn (O.written out.old) (O.written out.new) (O.sent out.new))
+        (O.is_failed out.new) result }
 {
-    match rt.println(USAGE) {
+    match put_usage(out) {
         Ok(()) => status,
-        Err(_) => ExitCode::FAILURE,
+        Err(PutFailed) => FAILURE,
     }
 }
 
-/// Prints the line that says why the program failed. Where that fails, the status alone says so.
-fn failed<R: Print>(rt: &R, why: impl Display + Drop) -> ExitCode
-    ensures { exit_status result ≡ 1 }
+/// Puts the usage text, and flushes.
+fn put_usage<O: Output>(out: &mut O) -> Result<(), PutFailed>
+    ensures printed { OnOk result
+        (HandsOn (O.written out.old) (O.written out.new) (O.sent out.new) usage_text) }
+    ensures works { OnOk result (O.is_failed out.new ≡ false) }
+    ensures fails { OnErr result (O.is_failed out.new ≡ true) }
 {
-    let _ = println!(rt; "wctrim: {why}");
-    ExitCode::FAILURE
+    out.put(USAGE)?;
+    out.flush()
+}
+
+/// Prints why the program failed. The answer is the status of a failure, also where `out` fails.
+fn report<O: Output>(out: &mut O, fault: &RunFault<'_>) -> u8
+    ensures status { result ≡ failure }
+    ensures printed { O.is_failed out.new ≡ false → (text : List ℕ) × IsFaultText fault.now text
+        × HandsOn (O.written out.old) (O.written out.new) (O.sent out.new) (fault_line text) }
+    ensures refuses { O.is_failed out.new ≡ false → O.is_failed out.old ≡ false }
+{
+    let _ = put_fault(out, fault);
+    FAILURE
+}
+
+/// Puts the line that says why the program failed, and flushes.
+fn put_fault<O: Output>(out: &mut O, fault: &RunFault<'_>) -> Result<(), PutFailed>
+    ensures printed { OnOk result ((text : List ℕ) × IsFaultText fault.now text
+        × HandsOn (O.written out.old) (O.written out.new) (O.sent out.new) (fault_line text)) }
+    ensures refuses { OnOk result (O.is_failed out.old ≡ false) }
+    ensures works { OnOk result (O.is_failed out.new ≡ false) }
+    ensures fails { OnErr result (O.is_failed out.new ≡ true) }
+{
+    out.put(b"wctrim: ")?;
+    put_fault_text(out, fault)?;
+    out.put(LINE_FEED)?;
+    out.flush()
+}
+
+/// Puts the text of a fault; of a long one that is not about a file, the beginning. It does not allocate.
+fn put_fault_text<O: Output>(out: &mut O, fault: &RunFault<'_>) -> Result<(), PutFailed>
+    ensures written { OnOk result ((text : List ℕ) × IsFaultText fault.now text
+        × Appends (O.written out.old) (O.written out.new) text) }
+    ensures refuses { OnOk result (O.is_failed out.old ≡ false) }
+    ensures works { OnOk result (O.is_failed out.new ≡ false) }
+    ensures fails { OnErr result (O.is_failed out.new ≡ true) }
+{
+    match fault {
+        RunFault::CannotRead(path) => put_path(out, b"cannot read ", path),
+        RunFault::CannotWrite(path) => put_path(out, b"cannot write ", path),
+        RunFault::Tool(fault) => {
+            let text = InlineText::<TEXT_SIZE>::of(*fault);
+            out.put(text.as_str().as_bytes())
+        }
+    }
+}
+
+/// Puts a prefix, and then a path.
+fn put_path<O: Output>(out: &mut O, prefix: &[u8], path: &str) -> Result<(), PutFailed>
+    ensures written { OnOk result (Appends (O.written out.old) (O.written out.new)
+        (prefix.now ++ path.now)) }
+    ensures refuses { OnOk result (O.is_failed out.old ≡ false) }
+    ensures works { OnOk result (O.is_failed out.new ≡ false) }
+    ensures fails { OnErr result (O.is_failed out.new ≡ true) }
+{
+    out.put(prefix)?;
+    out.put(path.as_bytes())
 }

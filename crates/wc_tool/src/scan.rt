@@ -1,19 +1,21 @@
-//! The lines that tell the imports and the exports of a module.
+//! The lines that print the imports and the exports of a module.
 
 ghost use Rattle.std.specs.Prelude.{◌≡◌, true, false, map, flat_map, OnOk, OnErr};
 ghost use Rattle.std.specs.Io.KnownBytes.{Appends};
 ghost use Rattle.wc_read.specs.Imports.{import_value};
 ghost use Rattle.wc_read.specs.Exports.{export_value};
 ghost use Rattle.wc_read.specs.Modules.{module_value};
-ghost use Rattle.wc_tool.specs.Scan.{kind_of, kind_word, import_line, export_line, scan_lines};
+ghost use Rattle.wc_tool.specs.Scan.{kind_of, kind_name, import_line, export_line, scan_lines};
 
+use crate::lines::{LINE_FEED, SPACE};
 use itoa::Buffer;
 use wc_read::{Export, ExportKind, Import, ImportType, Module};
 use wc_write::{PutFailed, Sink};
 
 /// Puts a line for each import of a module, and then for each export, in order.
 pub(crate) fn put_scan<S: Sink>(out: &mut S, module: &Module<'_>) -> Result<(), PutFailed>
-    ensures told { OnOk result (Appends (S.told out.old) (S.told out.new) (scan_lines (module_value «module».now))) }
+    ensures written { OnOk result (Appends (S.written out.old) (S.written out.new)
+        (scan_lines (module_value «module».now))) }
     ensures works { OnOk result (S.is_failed out.new ≡ S.is_failed out.old) }
     ensures fails { OnErr result (S.is_failed out.new ≡ true) }
 {
@@ -23,7 +25,8 @@ pub(crate) fn put_scan<S: Sink>(out: &mut S, module: &Module<'_>) -> Result<(), 
 
 /// Puts a line for each import, in order.
 fn put_imports<S: Sink>(out: &mut S, imports: &[Import<'_>]) -> Result<(), PutFailed>
-    ensures told { OnOk result (Appends (S.told out.old) (S.told out.new) (flat_map import_line (map import_value imports.now))) }
+    ensures written { OnOk result (Appends (S.written out.old) (S.written out.new)
+        (flat_map import_line (map import_value imports.now))) }
     ensures works { OnOk result (S.is_failed out.new ≡ S.is_failed out.old) }
     ensures fails { OnErr result (S.is_failed out.new ≡ true) }
 {
@@ -35,7 +38,8 @@ fn put_imports<S: Sink>(out: &mut S, imports: &[Import<'_>]) -> Result<(), PutFa
 
 /// Puts a line for each export, in order.
 fn put_exports<S: Sink>(out: &mut S, exports: &[Export<'_>]) -> Result<(), PutFailed>
-    ensures told { OnOk result (Appends (S.told out.old) (S.told out.new) (flat_map export_line (map export_value exports.now))) }
+    ensures written { OnOk result (Appends (S.written out.old) (S.written out.new)
+        (flat_map export_line (map export_value exports.now))) }
     ensures works { OnOk result (S.is_failed out.new ≡ S.is_failed out.old) }
     ensures fails { OnErr result (S.is_failed out.new ≡ true) }
 {
@@ -47,23 +51,25 @@ fn put_exports<S: Sink>(out: &mut S, exports: &[Export<'_>]) -> Result<(), PutFa
 
 /// Puts the line `import MODULE NAME KIND` of an import.
 fn put_import<S: Sink>(out: &mut S, import: &Import<'_>) -> Result<(), PutFailed>
-    ensures told { OnOk result (Appends (S.told out.old) (S.told out.new) (import_line (import_value import.now))) }
+    ensures written { OnOk result (Appends (S.written out.old) (S.written out.new)
+        (import_line (import_value import.now))) }
     ensures refuses { OnOk result (S.is_failed out.old ≡ false) }
     ensures works { OnOk result (S.is_failed out.new ≡ false) }
     ensures fails { OnErr result (S.is_failed out.new ≡ true) }
 {
     out.put(b"import ")?;
     out.put(import.module.as_bytes())?;
-    out.put(b" ")?;
+    out.put(SPACE)?;
     out.put(import.name.as_bytes())?;
-    out.put(b" ")?;
-    out.put(kind_word(kind_of(&import.ty)))?;
-    out.put(b"\n")
+    out.put(SPACE)?;
+    out.put(kind_name(kind_of(&import.ty)))?;
+    out.put(LINE_FEED)
 }
 
 /// Puts the line `export NAME KIND INDEX` of an export.
 fn put_export<S: Sink>(out: &mut S, export: &Export<'_>) -> Result<(), PutFailed>
-    ensures told { OnOk result (Appends (S.told out.old) (S.told out.new) (export_line (export_value export.now))) }
+    ensures written { OnOk result (Appends (S.written out.old) (S.written out.new)
+        (export_line (export_value export.now))) }
     ensures refuses { OnOk result (S.is_failed out.old ≡ false) }
     ensures works { OnOk result (S.is_failed out.new ≡ false) }
     ensures fails { OnErr result (S.is_failed out.new ≡ true) }
@@ -71,14 +77,14 @@ fn put_export<S: Sink>(out: &mut S, export: &Export<'_>) -> Result<(), PutFailed
     let mut index = Buffer::new();
     out.put(b"export ")?;
     out.put(export.name.as_bytes())?;
-    out.put(b" ")?;
-    out.put(kind_word(export.kind))?;
-    out.put(b" ")?;
+    out.put(SPACE)?;
+    out.put(kind_name(export.kind))?;
+    out.put(SPACE)?;
     out.put(index.format(export.index).as_bytes())?;
-    out.put(b"\n")
+    out.put(LINE_FEED)
 }
 
-/// The kind of what is imported.
+/// The kind of an import.
 fn kind_of(ty: &ImportType) -> ExportKind
     ensures { result ≡ kind_of ty.now }
 {
@@ -90,9 +96,9 @@ fn kind_of(ty: &ImportType) -> ExportKind
     }
 }
 
-/// The word for a kind.
-fn kind_word(kind: ExportKind) -> &'static [u8]
-    ensures { result.now ≡ kind_word kind }
+/// The name of a kind.
+fn kind_name(kind: ExportKind) -> &'static [u8]
+    ensures { result.now ≡ kind_name kind }
 {
     match kind {
         ExportKind::Func => b"func",

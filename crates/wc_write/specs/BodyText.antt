@@ -10,6 +10,6 @@ use Rattle.wc_write.specs.OperatorText.{instr_text}
 abbrev pub locals_text : Locals → List ℕ
 locals_text l = number_text l.count ++ val_type_text l.ty
 
--- a body: its runs of locals as they stand, and its operators
+-- a body: its runs of locals unchanged, and its operators
 unfoldable pub body_text : BodyValue → List ℕ
 body_text b = vector_text locals_text b.locals ++ flat_map instr_text b.operators

@@ -1,6 +1,6 @@
--- The text of a module: its sections in their order, each with the shortest numbers, none that would be empty
+-- The text of a module: its sections in order, without those that have no items, each number as minimal LEB128
 -- (WebAssembly core specification, 5.5).
-use Rattle.std.specs.Prelude.{◌≡◌, ℕ, ◌^◌, ◌<◌, List, [], ◌∷◌, ◌++◌, length, map, Option, Some, None, IfSome, All, Result, Ok, Err}
+use Rattle.std.specs.Prelude.{◌≡◌, ℕ, List, [], ◌∷◌, ◌++◌, length, map, Option, Some, None, IfSome, All, Result, Ok, Err}
 use Rattle.std.specs.List.{flat_map}
 use Rattle.std.specs.Option.{option_map}
 use Rattle.wc_read.specs.Types.{FuncTypeValue, func_type_value}
@@ -12,15 +12,17 @@ use Rattle.wc_read.specs.Inits.{init_value}
 use Rattle.wc_read.specs.Items.{ItemValue, item_value, TableValue, table_value, MemoryValue, memory_value}
 use Rattle.wc_read.specs.Producers.{producers_text}
 use Rattle.wc_read.specs.Sections.{module_header}
+use Rattle.wc_read.specs.declared.bodies.Body.{Body}
 use Rattle.wc_read.specs.declared.types.GlobalType.{GlobalType}
 use Rattle.wc_read.specs.declared.types.ImportType.TheVariants.{Func, Table, Memory, Global}
-use Rattle.wc_write.specs.Text.{number_text, vector_text, name_text, val_type_text, table_text, memory_text, global_text, import_text, section_text}
+use Rattle.wc_write.specs.Text.{number_text, vector_text, name_text, val_type_text, table_text, memory_text, global_text, import_text, FitsSize, import_section_id, section_text}
 use Rattle.wc_write.specs.OperatorText.{instr_text}
 use Rattle.wc_write.specs.BodyText.{body_text}
-use Rattle.wc_write.specs.Spaces.{imports_of, OwnValue, own, own_types, own_contents}
+use Rattle.wc_write.specs.Spaces.{imports_of, DefinedValue, defined, defined_types, defined_contents}
 use Rattle.wc_write.specs.declared.fault.WriteFault.{WriteFault}
 use Rattle.wc_write.specs.declared.fault.WriteFault.TheVariants.{TooLarge}
 use Rattle.wc_write.specs.declared.modules.Built.{Built}
+use Rattle.wc_write.specs.declared.spaces.Defined.{Defined}
 
 -- a module to be written: bodies and initialisers as their operators
 pub record BuiltValue : Type 0 where
@@ -45,13 +47,15 @@ built_value b = record {
   producers = option_map (λ b. b.now) b.producers;
 }
 
--- its imports: memories, tables, globals and functions, each group in the order of its space
+-- its imports: memories, tables, globals and functions, each group in the order of its index space
 abbrev pub built_imports : BuiltValue → List ImportValue
-built_imports b = imports_of Memory b.memories ++ (imports_of Table b.tables ++ (imports_of Global b.globals ++ imports_of Func b.funcs))
+built_imports b =
+    imports_of Memory b.memories
+    ++ (imports_of Table b.tables ++ (imports_of Global b.globals ++ imports_of Func b.funcs))
 
 -- the texts of items
 
--- a function type (5.3.6): its byte, what is taken, what is given
+-- a function type (5.3.6): its byte, parameters, results
 abbrev pub func_type_text : FuncTypeValue → List ℕ
 func_type_text f = 0x60 ∷ (vector_text val_type_text f.params ++ vector_text val_type_text f.results)
 
@@ -59,69 +63,115 @@ func_type_text f = 0x60 ∷ (vector_text val_type_text f.params ++ vector_text v
 abbrev pub export_text : ExportValue → List ℕ
 export_text e = name_text e.name ++ (export_kind_code e.kind ∷ number_text e.index)
 
--- an initialiser (5.4.9): its operators, the end among them
+-- an initialiser (5.4.9): its operators, `end` included
 abbrev pub init_text : List InstrValue → List ℕ
 init_text operators = flat_map instr_text operators
 
--- a global of the module's own (5.5.9): its type, and its initialiser
-abbrev pub own_global_text : OwnValue GlobalType (List InstrValue) → List ℕ
-own_global_text g = global_text g.ty ++ init_text g.content
+-- a defined global (5.5.9): its type, and its initialiser
+abbrev pub defined_global_text : DefinedValue GlobalType (List InstrValue) → List ℕ
+defined_global_text g = global_text g.ty ++ init_text g.content
 
 -- a function's code (5.5.13): its body's size, its body
 abbrev pub code_text : BodyValue → List ℕ
 code_text b = number_text (length (body_text b)) ++ body_text b
 
--- the contents of sections, where they are not empty
+-- the code of a defined function
+abbrev pub code_text_of : Defined ℕ Body → List ℕ
+code_text_of f = code_text (body_value f.content.now)
 
--- a vector of some things
+-- the contents of sections, where there are any
+
+-- a vector of items, where there are any
 abbrev pub items_content : {A : Type 0} → (A → List ℕ) → List A → Option (List ℕ)
 items_content text [] = None
 items_content text (x ∷ xs) = Some (vector_text text (x ∷ xs))
 
--- a name, and bytes as they stand behind it (5.5.3)
+-- the name `producers`, and bytes unchanged after it (5.5.3)
 abbrev pub producers_content : List ℕ → List ℕ
 producers_content bytes = name_text producers_text ++ bytes
 
 -- a section by its id, and its content, where it has one
-pub record PlannedSection : Type 0 where
+pub record OptionalSection : Type 0 where
   pub id : ℕ
   pub content : Option (List ℕ)
 
+-- the sections of a module (5.5.4 to 5.5.13), by their ids
+
+abbrev pub type_section : List FuncTypeValue → OptionalSection
+type_section types = record { id = 1; content = items_content func_type_text types }
+
+abbrev pub import_section : List ImportValue → OptionalSection
+import_section imports = record { id = import_section_id; content = items_content import_text imports }
+
+-- of functions, tables, memories and globals the defined ones
+
+abbrev pub func_section : List (ItemValue ℕ BodyValue) → OptionalSection
+func_section funcs = record { id = 3; content = items_content number_text (defined_types funcs) }
+
+abbrev pub table_section : List TableValue → OptionalSection
+table_section tables = record { id = 4; content = items_content table_text (defined_types tables) }
+
+abbrev pub memory_section : List MemoryValue → OptionalSection
+memory_section memories = record { id = 5; content = items_content memory_text (defined_types memories) }
+
+abbrev pub global_section : List (ItemValue GlobalType (List InstrValue)) → OptionalSection
+global_section globals = record { id = 6; content = items_content defined_global_text (defined globals) }
+
+abbrev pub export_section : List ExportValue → OptionalSection
+export_section exports = record { id = 7; content = items_content export_text exports }
+
+abbrev pub start_section : Option ℕ → OptionalSection
+start_section start = record { id = 8; content = option_map number_text start }
+
+abbrev pub code_section : List (ItemValue ℕ BodyValue) → OptionalSection
+code_section funcs = record { id = 10; content = items_content code_text (defined_contents funcs) }
+
+abbrev pub producers_section : Option (List ℕ) → OptionalSection
+producers_section producers = record { id = 0; content = option_map producers_content producers }
+
 -- the sections of a module in their order, the custom section of producers last
-unfoldable pub planned : BuiltValue → List PlannedSection
-planned b =
-    record { id = 1; content = items_content func_type_text b.types }
-    ∷ record { id = 2; content = items_content import_text (built_imports b) }
-    ∷ record { id = 3; content = items_content number_text (own_types b.funcs) }
-    ∷ record { id = 4; content = items_content table_text (own_types b.tables) }
-    ∷ record { id = 5; content = items_content memory_text (own_types b.memories) }
-    ∷ record { id = 6; content = items_content own_global_text (own b.globals) }
-    ∷ record { id = 7; content = items_content export_text b.exports }
-    ∷ record { id = 8; content = option_map number_text b.start }
-    ∷ record { id = 10; content = items_content code_text (own_contents b.funcs) }
-    ∷ record { id = 0; content = option_map producers_content b.producers }
+unfoldable pub optional_sections : BuiltValue → List OptionalSection
+optional_sections b =
+    type_section b.types
+    ∷ import_section (built_imports b)
+    ∷ func_section b.funcs
+    ∷ table_section b.tables
+    ∷ memory_section b.memories
+    ∷ global_section b.globals
+    ∷ export_section b.exports
+    ∷ start_section b.start
+    ∷ code_section b.funcs
+    ∷ producers_section b.producers
     ∷ []
 
--- a section's text, nothing where it has no content
+-- a section's text, no bytes where it has no content
 abbrev pub content_text : ℕ → Option (List ℕ) → List ℕ
 content_text id None = []
 content_text id (Some content) = section_text id content
 
-abbrev pub planned_text : PlannedSection → List ℕ
-planned_text p = content_text p.id p.content
+abbrev pub optional_section_text : OptionalSection → List ℕ
+optional_section_text p = content_text p.id p.content
+
+-- the text of all sections
+abbrev pub sections_text : BuiltValue → List ℕ
+sections_text b = flat_map optional_section_text (optional_sections b)
 
 -- the header, and the sections
-unfoldable pub module_text : BuiltValue → List ℕ
-module_text b = module_header ++ flat_map planned_text (planned b)
+unfoldable pub built_text : BuiltValue → List ℕ
+built_text b = module_header ++ sections_text b
 
--- contents whose sizes have 32 bits. Counts, names and bodies are no longer than the contents that they stand in
-abbrev pub IsSized : Option (List ℕ) → Type 0
-IsSized content = IfSome content (λ c. length c < 2 ^ 32)
+-- contents whose sizes are numbers of 32 bits; counts, names and bodies are no longer than the contents that they are
+-- in
+abbrev pub SizeFits : Option (List ℕ) → Type 0
+SizeFits content = IfSome content FitsSize
 
-abbrev pub AreSized : BuiltValue → Type 0
-AreSized b = All (λ p. IsSized p.content) (planned b)
+abbrev pub SizesFit : BuiltValue → Type 0
+SizesFit b = All (λ p. SizeFits p.content) (optional_sections b)
 
--- what private writers do: a content's section is appended, or it has no size
+-- what private writers do: a section is appended, where it has a content, or its content is too large for a size
+abbrev pub AppendsSection : {A : Type 0} → Result A WriteFault → List ℕ → List ℕ → OptionalSection → Type 0
+AppendsSection (Ok x) old new section = (new ≡ old ++ optional_section_text section) × SizeFits section.content
+AppendsSection (Err e) old new section = e ≡ TooLarge → ¬ (SizeFits section.content)
+
 abbrev pub AppendsContent : {A : Type 0} → Result A WriteFault → List ℕ → List ℕ → ℕ → Option (List ℕ) → Type 0
-AppendsContent (Ok x) old new id content = (new ≡ old ++ content_text id content) × IsSized content
-AppendsContent (Err e) old new id content = e ≡ TooLarge → ¬ (IsSized content)
+AppendsContent result old new id content = AppendsSection result old new (record { id = id; content = content })

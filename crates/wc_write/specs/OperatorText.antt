@@ -1,4 +1,4 @@
--- The text of an operator: of its spellings the one with the shortest numbers (WebAssembly core specification,
+-- The text of an operator: its encoding in which each number is minimal LEB128 (WebAssembly core specification,
 -- 5.4 "Instructions").
 use Rattle.std.specs.Prelude.{ℕ, ◌+◌, ◌==◌, List, [], ◌∷◌, ◌++◌, if◌then◌else◌, pos}
 use Rattle.wc_read.specs.Operators.{ImmediatesValue, WithNone, WithBlock, WithIndex, WithIndices, WithLabels, WithValTypes, WithRefType, WithMemArg, WithMemArgLane, WithI32, WithI64, WithBytes, WithLane, InstrValue}
@@ -9,7 +9,7 @@ use Rattle.wc_read.specs.declared.operators.BlockType.TheVariants.{Empty, Value,
 use Rattle.wc_read.specs.declared.operators.MemArg.{MemArg}
 use Rattle.wc_write.specs.Text.{number_text, signed_text, vector_text, val_type_text}
 
--- an operator's code: a byte, or a number behind a prefix
+-- an operator's code: a byte, or a number after a prefix
 abbrev pub opcode_text : Opcode → List ℕ
 opcode_text (Byte b) = b ∷ []
 opcode_text (Misc n) = 0xfc ∷ number_text n
@@ -29,8 +29,8 @@ block_type_text Empty = 0x40 ∷ []
 block_type_text (Value t) = val_type_text t
 block_type_text (FuncType index) = signed_text (pos index)
 
--- a memory argument (5.4.6): the alignment's exponent, with 64 added exactly where the memory is not 0; the memory, where
--- it is not 0; the offset
+-- a memory argument (5.4.6): the alignment's exponent, with 64 added exactly where the memory is not 0; the memory,
+-- where it is not 0; the offset
 abbrev pub mem_arg_text : MemArg → List ℕ
 mem_arg_text m =
     if m.memory == 0 then number_text m.align ++ number_text m.offset
@@ -52,6 +52,6 @@ immediates_text (WithI64 n) = signed_text n
 immediates_text (WithBytes bytes) = bytes
 immediates_text (WithLane lane) = lane ∷ []
 
--- an operator: its code, and what stands behind it
+-- an operator: its code, the byte of a fence, its immediates
 unfoldable pub instr_text : InstrValue → List ℕ
 instr_text i = opcode_text i.opcode ++ (fence_text i.opcode ++ immediates_text i.immediates)

@@ -2,7 +2,7 @@
 use Rattle.std.specs.Prelude.{Bool}
 use Rattle.wc_write.specs.declared.sink.WriterSink.{WriterSink}
 
--- the writer that is told
+-- the writer that bytes go to
 abbrev pub writer_of : {W : Type 0} → WriterSink W → W
 writer_of s = s.writer
 

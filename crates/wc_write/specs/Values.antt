@@ -16,37 +16,42 @@ use Rattle.wc_read.specs.declared.operators.Form.TheVariants.{None as form_none,
 use Rattle.wc_read.specs.declared.types.TableType.{TableType}
 use Rattle.wc_read.specs.declared.types.ImportType.{ImportType}
 use Rattle.wc_read.specs.declared.types.ImportType.TheVariants.{Func, Table, Memory, Global}
+use Rattle.wc_write.specs.Text.{FitsSize}
+
+-- a number of 32 bits
+abbrev pub IsU32 : ℕ → Type 0
+IsU32 n = n < 2 ^ 32
 
 -- a name: text in UTF-8 whose length has 32 bits
 pub record IsName (name : List ℕ) : Type 0 where
   pub is_text : IsUtf8 name
-  pub short : length name < 2 ^ 32
+  pub short : FitsSize name
 
--- a minimum and a maximum of 32 bits, or of 64 where bounds are wide
-pub record AreBounds (wide : Bool) (initial : ℕ) (maximum : Option ℕ) : Type 0 where
-  pub initial_fits : initial < 2 ^ bound_bits wide
-  pub maximum_fits : IfSome maximum (λ most. most < 2 ^ bound_bits wide)
+-- a minimum and a maximum of 32 bits, or of 64 where the limits are 64-bit
+pub record AreBounds (is_64 : Bool) (initial : ℕ) (maximum : Option ℕ) : Type 0 where
+  pub initial_fits : initial < 2 ^ bound_bits is_64
+  pub maximum_fits : IfSome maximum (λ limit. limit < 2 ^ bound_bits is_64)
 
--- a table type: of references, its maximum not below its minimum
+-- a table type: its elements are references, and its maximum is not below its minimum
 pub record IsTable (t : TableType) : Type 0 where
-  pub holds_references : IsReference t.element_type
+  pub element_is_reference : IsReference t.element_type
   pub bounds : AreBounds t.table64 t.initial t.maximum
   pub ordered : AreOrdered t.initial t.maximum
 
--- what is imported: an index of 32 bits, or a type
+-- the type of an import: an index of 32 bits, or a type that is well-formed
 abbrev pub IsImportType : ImportType → Type 0
-IsImportType (Func index) = index < 2 ^ 32
+IsImportType (Func index) = IsU32 index
 IsImportType (Table t) = IsTable t
 IsImportType (Memory m) = IsMemory m × AreBounds m.memory64 m.initial m.maximum
 IsImportType (Global g) = Unit {0}
 
--- an import: two names, and what is imported
+-- an import: its module, its name, and its type
 pub record IsImport (i : ImportValue) : Type 0 where
   pub has_module : IsName i.module_name
   pub has_name : IsName i.name
   pub has_type : IsImportType i.ty
 
--- bytes, and no other numbers
+-- numbers that are bytes
 abbrev pub AreBytes : List ℕ → Type 0
 AreBytes bytes = All (λ b. b < 256) bytes
 
@@ -54,21 +59,23 @@ AreBytes bytes = All (λ b. b < 256) bytes
 abbrev pub IsBlockType : BlockType → Type 0
 IsBlockType Empty = Unit {0}
 IsBlockType (Value t) = Unit {0}
-IsBlockType (FuncType index) = index < 2 ^ 32
+IsBlockType (FuncType index) = IsU32 index
 
 -- a memory argument: the alignment's exponent has six bits
 pub record IsMemArg (m : MemArg) : Type 0 where
   pub aligned : m.align < 64
-  pub memory_fits : m.memory < 2 ^ 32
+  pub memory_fits : IsU32 m.memory
   pub offset_fits : m.offset < 2 ^ 64
 
--- immediates of a shape: indices have 32 bits, constants their own, and bytes are bytes
+-- immediates of a shape: indices have 32 bits, constants the bits of their types, and bytes are bytes
 abbrev pub HasForm : Form → ImmediatesValue → Type 0
 HasForm form_none v = v ≡ WithNone
 HasForm form_block v = (t : BlockType) × (v ≡ WithBlock t) × IsBlockType t
-HasForm (form_index kind) v = (n : ℕ) × (v ≡ WithIndex (index_of kind n)) × (n < 2 ^ 32)
-HasForm (form_indices first second) v = (n m : ℕ) × (v ≡ WithIndices (index_of first n) (index_of second m)) × (n < 2 ^ 32) × (m < 2 ^ 32)
-HasForm form_labels v = (labels : List ℕ) × (default : ℕ) × (v ≡ WithLabels labels default) × All (λ n. n < 2 ^ 32) labels × (default < 2 ^ 32)
+HasForm (form_index kind) v = (n : ℕ) × (v ≡ WithIndex (index_of kind n)) × IsU32 n
+HasForm (form_indices first second) v =
+    (n m : ℕ) × (v ≡ WithIndices (index_of first n) (index_of second m)) × IsU32 n × IsU32 m
+HasForm form_labels v =
+    (labels : List ℕ) × (default : ℕ) × (v ≡ WithLabels labels default) × All IsU32 labels × IsU32 default
 HasForm form_val_types v = (ts : List ValType) × (v ≡ WithValTypes ts)
 HasForm form_ref_type v = (t : ValType) × (v ≡ WithRefType t) × IsReference t
 HasForm form_mem_arg v = (m : MemArg) × (v ≡ WithMemArg m) × IsMemArg m
@@ -79,14 +86,14 @@ HasForm (form_bytes count) v = (bytes : List ℕ) × (v ≡ WithBytes bytes) × 
 HasForm form_lane v = (lane : ℕ) × (v ≡ WithLane lane) × (lane < 256)
 HasForm form_zero v = v ≡ WithNone
 
--- an operator: its code stands in the table, and its immediates have the shape that stands there
+-- an operator: its code is in the operator table, and its immediates have the shape that the table has for it
 pub record IsInstr (i : InstrValue) : Type 0 where
   pub form : Form
   pub in_table : form_of i.opcode ≡ Some form
   pub has_form : HasForm form i.immediates
 
--- a body: less than 2 ^ 32 locals, and operators in which blocks nest
+-- a body: fewer than 2^32 locals, and operators in which blocks nest
 pub record IsBody (b : BodyValue) : Type 0 where
-  pub few_locals : local_count b.locals < 2 ^ 32
+  pub few_locals : IsU32 (local_count b.locals)
   pub has_operators : All IsInstr b.operators
   pub nests : IsExpression (tokens b.operators)

@@ -1,7 +1,8 @@
 //! Bodies of functions (WebAssembly core specification, 5.5.13).
 
-ghost use Rattle.std.specs.Prelude.{◌≡◌, ◌++◌, ◌^◌, ◌<◌, ◌≤◌, length, IfOk, OnOk, IsOk, IsErrOf};
+ghost use Rattle.std.specs.Prelude.{◌≡◌, ◌++◌, IfOk, OnOk, IsOk, IsErrOf};
 ghost use Rattle.wc_read.specs.Bodies.{body_value};
+ghost use Rattle.wc_write.specs.Text.{FitsSize, ExceedsSize};
 ghost use Rattle.wc_write.specs.BodyText.{locals_text, body_text};
 
 use crate::fault::WriteFault;
@@ -20,6 +21,7 @@ impl Written for Locals {
     }
 }
 
+/// Appends a body without its size.
 pub(crate) fn put_body(out: &mut Vec<u8>, body: &Body<'_>) -> Result<(), AllocError>
     ensures { OnOk result (out.new.items ≡ out.old.items ++ body_text (body_value body.now)) }
 {
@@ -28,15 +30,20 @@ pub(crate) fn put_body(out: &mut Vec<u8>, body: &Body<'_>) -> Result<(), AllocEr
     Ok(())
 }
 
-/// A function's body without its size: its runs of locals as they stand, and its operators, each number in its
-/// shortest form. A memory argument names its memory exactly where that is not 0 (WebAssembly core
-/// specification, 5.4 and 5.5.13).
+/// A function's body without its size (WebAssembly core specification, 5.4 and 5.5.13): its runs of locals unchanged,
+/// and its operators, each number as minimal LEB128. A memory argument names its memory exactly where that is not 0.
 ///
-/// `TooLarge` comes only where the body has 2^32 bytes or more, `Memory` where a growth was refused.
+/// Nothing but the size is checked. `laws::body_text_read` says of which bodies the bytes are an encoding.
+///
+/// # Errors
+///
+/// - `TooLarge`: the body has 2^32 bytes or more.
+/// - `Memory`: an allocation failed.
 pub fn write_body(alloc: Global, body: &Body<'_>) -> Result<Vec<u8>, WriteFault>
     ensures written { IfOk result (λ v. v.items ≡ body_text (body_value body.now)) }
-    ensures fits { IsOk result → length (body_text (body_value body.now)) < 2 ^ 32 }
-    ensures too_large { IsErrOf result WriteFault.TooLarge → 2 ^ 32 ≤ length (body_text (body_value body.now)) }
+    ensures fits { IsOk result → FitsSize (body_text (body_value body.now)) }
+    ensures too_large { IsErrOf result WriteFault.TooLarge →
+        ExceedsSize (body_text (body_value body.now)) }
 {
     let mut text = Vec::new(alloc);
     put_body(&mut text, body)?;

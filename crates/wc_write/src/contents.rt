@@ -1,41 +1,34 @@
-//! The items of a module's sections (WebAssembly core specification, 5.3.6 and 5.5.5 to 5.5.10).
+//! The items of a module's sections (WebAssembly core specification, 5.3.6 and 5.5.7 to 5.5.10).
 
 ghost use Rattle.std.specs.Prelude.{◌≡◌, ◌++◌, OnOk};
 ghost use Rattle.wc_read.specs.Types.{func_type_value};
-ghost use Rattle.wc_read.specs.Imports.{import_value};
 ghost use Rattle.wc_read.specs.Exports.{export_value, export_kind_code};
 ghost use Rattle.wc_read.specs.Inits.{init_value};
-ghost use Rattle.wc_write.specs.Text.{import_text, table_text, memory_text};
-ghost use Rattle.wc_write.specs.ModuleText.{func_type_text, export_text, own_global_text};
-ghost use Rattle.wc_write.specs.Spaces.{own_value};
+ghost use Rattle.wc_write.specs.Text.{table_text, memory_text};
+ghost use Rattle.wc_write.specs.ModuleText.{func_type_text, export_text, defined_global_text};
+ghost use Rattle.wc_write.specs.Spaces.{defined_value};
 
-use crate::imports::put_import;
 use crate::numbers::{put_name, put_number};
-use crate::spaces::Own;
+use crate::spaces::Defined;
 use crate::types::{put_global, put_memory, put_table};
 use crate::vectors::{Written, put_all, put_vector};
 use std::alloc::AllocError;
-use wc_read::{Export, ExportKind, FuncType, GlobalType, Import, Init, MemoryType, TableType};
+use wc_read::{Export, ExportKind, FuncType, GlobalType, Init, MemoryType, TableType};
+
+/// The byte that a function type begins with.
+const FUNC_TYPE: u8 = 0x60;
 
 impl Written for FuncType {
     ghost text = { λ f. func_type_text (func_type_value f) };
 
     fn put(&self, out: &mut Vec<u8>) -> Result<(), AllocError> {
-        out.push(0x60)?;
+        out.push(FUNC_TYPE)?;
         put_vector(out, self.params())?;
         put_vector(out, self.results())
     }
 }
 
-impl<'a> Written for Import<'a> {
-    ghost text = { λ i. import_text (import_value i) };
-
-    fn put(&self, out: &mut Vec<u8>) -> Result<(), AllocError> {
-        put_import(out, self)
-    }
-}
-
-impl<'b> Written for Own<'b, TableType, ()> {
+impl<'b> Written for Defined<'b, TableType, ()> {
     ghost text = { λ t. table_text t.ty };
 
     fn put(&self, out: &mut Vec<u8>) -> Result<(), AllocError> {
@@ -43,7 +36,7 @@ impl<'b> Written for Own<'b, TableType, ()> {
     }
 }
 
-impl<'b> Written for Own<'b, MemoryType, ()> {
+impl<'b> Written for Defined<'b, MemoryType, ()> {
     ghost text = { λ m. memory_text m.ty };
 
     fn put(&self, out: &mut Vec<u8>) -> Result<(), AllocError> {
@@ -51,8 +44,8 @@ impl<'b> Written for Own<'b, MemoryType, ()> {
     }
 }
 
-impl<'a, 'b> Written for Own<'b, GlobalType, Init<'a>> {
-    ghost text = { λ g. own_global_text (own_value init_value g) };
+impl<'a, 'b> Written for Defined<'b, GlobalType, Init<'a>> {
+    ghost text = { λ g. defined_global_text (defined_value init_value g) };
 
     fn put(&self, out: &mut Vec<u8>) -> Result<(), AllocError> {
         put_global(out, &self.ty)?;
@@ -61,6 +54,7 @@ impl<'a, 'b> Written for Own<'b, GlobalType, Init<'a>> {
     }
 }
 
+/// The byte of a kind of export (5.5.10).
 fn export_kind_byte(kind: ExportKind) -> u8
     ensures { result ≡ export_kind_code kind }
 {

@@ -6,13 +6,13 @@ ghost use Rattle.wc_write.specs.declared.fault.WriteFault.TheVariants.{Memory};
 use std::alloc::{AllocError, AllocFailed};
 use thiserror::Error;
 
-/// Why a section or a body was not written.
+/// Why a section, a body or a module was not written.
 #[derive(Clone, Copy, Debug, PartialEq, Eq, Error)]
 pub enum WriteFault {
-    /// A growth was refused.
+    /// An allocation failed.
     #[error("out of memory")]
     Memory,
-    /// A section's content or a body has 2^32 bytes or more, and no size spells that.
+    /// The content of a section, or a body, has 2^32 bytes or more: its size is no number of 32 bits.
     #[error("TooLarge")]
     TooLarge,
 }

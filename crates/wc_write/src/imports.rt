@@ -1,65 +1,64 @@
 //! Import sections (WebAssembly core specification, 5.5.5).
 
-ghost use Rattle.std.specs.Prelude.{◌≡◌, ◌++◌, ◌^◌, ◌<◌, ◌≤◌, length, IfOk, OnOk, OnErr, IsOk, IsErrOf};
+ghost use Rattle.std.specs.Prelude.{◌≡◌, ◌++◌, IfOk, OnOk, OnErr, IsOk, IsErrOf};
 ghost use Rattle.wc_read.specs.Imports.{import_value, import_values};
-ghost use Rattle.wc_write.specs.Text.{import_text, imports_text, section_text};
+ghost use Rattle.wc_write.specs.Text.{import_text, imports_text, FitsSize, ExceedsSize, import_section_id, section_text};
 
 use crate::fault::WriteFault;
-use crate::numbers::{put_name, put_number};
-use crate::sections::append_raw_section;
+use crate::numbers::put_name;
+use crate::sections::{IMPORT_SECTION, append_raw_section};
 use crate::types::put_import_type;
+use crate::vectors::{Written, put_vector};
 use std::alloc::{AllocError, Global};
 use wc_read::Import;
 
-/// The id of an import section.
-const IMPORT_SECTION: u8 = 2;
+impl<'a> Written for Import<'a> {
+    ghost text = { λ i. import_text (import_value i) };
 
-#[tactic(auto, unfolding(crate::specs::Text::import_text))]
-pub(crate) fn put_import(out: &mut Vec<u8>, import: &Import<'_>) -> Result<(), AllocError>
-    ensures { OnOk result (out.new.items ≡ out.old.items ++ import_text (import_value import.now)) }
-{
-    put_name(out, import.module)?;
-    put_name(out, import.name)?;
-    put_import_type(out, &import.ty)
-}
-
-/// The content of an import section: how many imports, and the imports.
-#[tactic(auto, unfolding(crate::specs::Text::imports_text))]
-fn imports_content(alloc: Global, imports: &[Import<'_>]) -> Result<Vec<u8>, AllocError>
-    ensures { IfOk result (λ v. v.items ≡ imports_text (import_values imports.now)) }
-{
-    let mut content = Vec::new(alloc);
-    put_number(&mut content, imports.len() as u64)?;
-    for import in imports {
-        put_import(&mut content, import)?;
+    #[tactic(auto, unfolding(crate::specs::Text::import_text))]
+    fn put(&self, out: &mut Vec<u8>) -> Result<(), AllocError> {
+        put_name(out, self.module)?;
+        put_name(out, self.name)?;
+        put_import_type(out, &self.ty)
     }
-    Ok(content)
 }
 
-/// Appends an import section to what `out` holds: id 2, the content's size, how many imports, the
-/// imports, each number in its shortest form (WebAssembly core specification, 5.5.5).
+/// Appends an import section to `out` (WebAssembly core specification, 5.5.5): id 2, the content's size, the number
+/// of imports, and the imports in order, each number as minimal LEB128. Nothing but the size is checked.
 ///
-/// `TooLarge` comes only where the content has 2^32 bytes or more, `Memory` where a growth was
-/// refused. After a fault `out` holds what it held.
+/// # Errors
+///
+/// - `TooLarge`: the content has 2^32 bytes or more.
+/// - `Memory`: an allocation failed.
+///
+/// After an error `out` has the bytes that it had before.
+#[tactic(auto, using(crate::proofs::ImportLemmas::imports_written))]
 pub fn append_import_section(out: &mut Vec<u8>, imports: &[Import<'_>]) -> Result<(), WriteFault>
-    ensures written { OnOk result (out.new.items ≡ out.old.items ++ section_text 2 (imports_text (import_values imports.now))) }
+    ensures written { OnOk result (out.new.items ≡ out.old.items
+        ++ section_text import_section_id (imports_text (import_values imports.now))) }
     ensures unchanged { OnErr result (out.new.items ≡ out.old.items) }
-    ensures fits { IsOk result → length (imports_text (import_values imports.now)) < 2 ^ 32 }
-    ensures too_large { IsErrOf result WriteFault.TooLarge → 2 ^ 32 ≤ length (imports_text (import_values imports.now)) }
+    ensures fits { IsOk result → FitsSize (imports_text (import_values imports.now)) }
+    ensures too_large { IsErrOf result WriteFault.TooLarge →
+        ExceedsSize (imports_text (import_values imports.now)) }
 {
-    let content = imports_content(*out.allocator(), imports)?;
+    let mut content = Vec::new(*out.allocator());
+    put_vector(&mut content, imports)?;
     append_raw_section(out, IMPORT_SECTION, &content)
 }
 
-/// An import section: id 2, the content's size, how many imports, the imports, each number in its
-/// shortest form (WebAssembly core specification, 5.5.5).
+/// An import section (WebAssembly core specification, 5.5.5): id 2, the content's size, the number of imports, and
+/// the imports in order, each number as minimal LEB128. Nothing but the size is checked.
 ///
-/// `TooLarge` comes only where the content has 2^32 bytes or more, `Memory` where a growth was
-/// refused.
+/// # Errors
+///
+/// - `TooLarge`: the content has 2^32 bytes or more.
+/// - `Memory`: an allocation failed.
 pub fn write_import_section(alloc: Global, imports: &[Import<'_>]) -> Result<Vec<u8>, WriteFault>
-    ensures written { IfOk result (λ v. v.items ≡ section_text 2 (imports_text (import_values imports.now))) }
-    ensures fits { IsOk result → length (imports_text (import_values imports.now)) < 2 ^ 32 }
-    ensures too_large { IsErrOf result WriteFault.TooLarge → 2 ^ 32 ≤ length (imports_text (import_values imports.now)) }
+    ensures written { IfOk result (λ v. v.items ≡
+        section_text import_section_id (imports_text (import_values imports.now))) }
+    ensures fits { IsOk result → FitsSize (imports_text (import_values imports.now)) }
+    ensures too_large { IsErrOf result WriteFault.TooLarge →
+        ExceedsSize (imports_text (import_values imports.now)) }
 {
     let mut section = Vec::new(alloc);
     append_import_section(&mut section, imports)?;

@@ -1,21 +1,21 @@
-//! Laws of the texts that are written.
+//! Laws of the texts that are written. Bytes spell a value where they are one of its encodings; the text of a value
+//! is the encoding that this crate writes. Section numbers are those of the WebAssembly core specification.
 
 ghost use Rattle.wc_write.specs.Values.{AreBytes};
-ghost use Rattle.wc_write.specs.Laws.{NumberIsSpelled, NumberIsShortest, ImportIsSpelled, ImportsAreSpelled, SpelledAreImports, ImportsAreShortest, SectionIsSpelled, SectionIsShortest, BodyTextIsRead, SpelledAreBodies, BodyIsShortest, TextIsRead, SpelledAreModules};
+ghost use Rattle.wc_write.specs.Laws.{NumberIsSpelled, NumberIsShortest, ImportIsSpelled, ImportsAreSpelled, SpelledAreImports, ImportsAreShortest, SectionIsSpelled, SectionIsShortest, BodyTextIsRead, SpelledAreBodies, BodyIsShortest, InitTextIsRead, SpelledAreInits, InitIsShortest, TextIsRead, ModuleIsShortest, SpelledAreModules};
 
-/// The text of a number below 2 to some power of at most 64 spells it, as a number of so many bits
-/// (WebAssembly core specification, 5.2.2).
+/// The text of an unsigned number of n bits, n at most 64, spells it as a number of n bits (5.2.2).
 pub fn number_is_spelled()
     ensures { NumberIsSpelled }
 {}
 
-/// No bytes that spell a number are fewer than those of its text.
+/// No bytes that spell an unsigned number are fewer than those of its text.
 pub fn number_is_shortest()
     ensures { NumberIsShortest }
 {}
 
-/// The text of an import spells it, where it can be spelled: names are UTF-8 of a length below 2^32,
-/// numbers fit their bits, and tables and memories are as the format has them (5.5.5).
+/// The text of an import spells it, where it can be spelled: its names are UTF-8 of fewer than 2^32 bytes, numbers
+/// fit their bits, and tables and memories are as the format has them (5.5.5).
 pub fn import_is_spelled()
     ensures { ImportIsSpelled }
 {}
@@ -25,7 +25,7 @@ pub fn imports_are_spelled()
     ensures { ImportsAreSpelled }
 {}
 
-/// Imports that some bytes spell can be spelled: fewer than 2^32, and each as `import_is_spelled` has it.
+/// Imports that some bytes spell can be spelled: they are fewer than 2^32, and each is as `import_is_spelled` asks.
 /// So their text spells them too.
 pub fn spelled_are_imports()
     ensures { SpelledAreImports }
@@ -36,7 +36,7 @@ pub fn imports_are_shortest()
     ensures { ImportsAreShortest }
 {}
 
-/// The text of a section spells its id and its content, where that has fewer than 2^32 bytes (5.5.2).
+/// The text of a section spells its id and its content, where the content has fewer than 2^32 bytes (5.5.2).
 pub fn section_is_spelled()
     ensures { SectionIsSpelled }
 {}
@@ -46,14 +46,14 @@ pub fn section_is_shortest()
     ensures { SectionIsShortest }
 {}
 
-/// The text of a function's body spells it and no other body, where the body can be spelled and the text has fewer
-/// than 2^32 bytes: each operator's immediates have the shape that the operator table gives its code, numbers fit
-/// their bits, there are less than 2^32 locals, and blocks nest (5.4 and 5.5.13).
+/// The text of a function's body spells it and no other body, where the text has fewer than 2^32 bytes and the body
+/// can be spelled: each operator's immediates have the shape that the operator table has for its code, numbers fit
+/// their bits, there are fewer than 2^32 locals, and blocks nest (5.4 and 5.5.13).
 pub fn body_text_read()
     ensures { BodyTextIsRead }
 {}
 
-/// A body that some bytes spell can be spelled, as `body_text_read` has it.
+/// A body that some bytes spell can be spelled, as `body_text_read` asks.
 pub fn spelled_are_bodies()
     ensures { SpelledAreBodies }
 {}
@@ -63,22 +63,49 @@ pub fn body_is_shortest()
     ensures { BodyIsShortest }
 {}
 
-/// The text of a module spells it and no other module: its imports in their groups, each space as it stands, bodies and
-/// initialisers as their texts, and no names and no segments. So it is where the module can be spelled, where in each
-/// space imported items stand in front of the module's own, and where no content of a section has 2^32 bytes or more.
-/// And the text of each body and of each initialiser spells it and no other (5.5).
+/// The text of an initialiser spells it and no other initialiser, where the text has fewer than 2^32 bytes and the
+/// initialiser can be spelled: it is constant operators and an `end` after them, their immediates have the shapes
+/// that the operator table has for their codes, and numbers fit their bits (5.4.9).
+pub fn initialiser_text_read()
+    ensures { InitTextIsRead }
+{}
+
+/// An initialiser that some bytes spell can be spelled, as `initialiser_text_read` asks.
+pub fn spelled_are_initialisers()
+    ensures { SpelledAreInits }
+{}
+
+/// No bytes that spell an initialiser are fewer than those of its text.
+pub fn initialiser_is_shortest()
+    ensures { InitIsShortest }
+{}
+
+/// The text of a module spells it and no other module: its imports are grouped by kind, each index space is
+/// unchanged, bodies and initialisers are their texts, and there are no names of globals and no segments. The text
+/// of each body and of each initialiser spells it and no other (5.5).
+///
+/// That is so where no content of a section has 2^32 bytes or more, each part of the module can be spelled, imported
+/// items come before defined ones in each index space, and the module that is read is valid (3.4).
 pub fn text_read()
     ensures { TextIsRead }
 {}
 
+/// No bytes that spell a module with the same types, index spaces, exports, start function and producers are fewer
+/// than those of the module's text. Bodies are the same where they have the same runs of locals and the same
+/// operators, initialisers where they have the same operators. The bytes may have whatever else: imports in another
+/// order, names, segments and other custom sections, and empty sections.
+pub fn module_is_shortest()
+    ensures { ModuleIsShortest }
+{}
+
 /// A module that some bytes spell meets what `text_read` asks of the parts of a module: names, types, indices,
-/// initialisers and producers can be spelled, and in each space imported items come first. Of bodies
-/// `spelled_are_bodies` says it.
+/// initialisers and producers can be spelled, and imported items come first in each index space. `spelled_are_bodies`
+/// says it of bodies. Nothing is said of the sizes of contents, nor of the module with its imports grouped.
 pub fn spelled_are_modules()
     ensures { SpelledAreModules }
 {}
 
-/// What a slice of bytes holds are bytes, as other laws ask it of theirs.
+/// The items of a slice of `u8` are bytes, that is numbers below 256, as other laws ask of theirs.
 pub fn slices_are_bytes(slice: &[u8])
     ensures { AreBytes slice.now }
 {}

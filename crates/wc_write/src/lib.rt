@@ -1,27 +1,52 @@
-//! Writes core WebAssembly modules: whole, or a part of them: import sections, functions' bodies, and sections whose
-//! content is written already. Each number is written in its shortest form.
+//! Writes core WebAssembly modules: all of a module (`write_module`), or a part of it: an import
+//! section (`write_import_section`), a section whose content is there already (`raw_section`), the
+//! body of a function (`write_body`). Each number is written in its shortest encoding.
 //!
-//! Lines of output go to a `Sink`, which a failed write makes failed for good.
+//! A `Sink` takes bytes of output until a write fails, and none from then on.
+//!
+//! ```rust
+//! use std::alloc::Global;
+//! use thiserror::Error;
+//! use wc_read::{ReadFault, read_module};
+//! use wc_write::{WriteFault, write_import_section};
+//!
+//! /// Why the imports of a module could not be written again.
+//! #[derive(Clone, Copy, Debug, Error)]
+//! pub enum RewriteFault {
+//!     /// The bytes could not be read.
+//!     #[error("Read: {0}")]
+//!     Read(#[from] ReadFault),
+//!     /// The section could not be written.
+//!     #[error("Write: {0}")]
+//!     Write(#[from] WriteFault),
+//! }
+//!
+//! /// One import section with all imports of the module that the bytes spell.
+//! pub fn import_section(alloc: Global, bytes: &[u8]) -> Result<Vec<u8>, RewriteFault>
+//!     ensures written { IfOk result (λ section. (m : ModuleValue) × SpellsModule bytes.now m
+//!         × (section.items ≡ section_text 2 (imports_text m.imports))) }
+//! {
+//!     let module = read_module(alloc, bytes)?;
+//!     let section = write_import_section(alloc, &module.imports)?;
+//!     Ok(section)
+//! }
+//! ```
+//!
+//! This function is proved in `wc_bench`, as `examples::write::import_section`.
 #![tactic(auto)]
 
 mod bodies;
-#[cfg(test)]
-mod body_tests;
 mod contents;
 mod fault;
 mod imports;
 pub mod laws;
-#[cfg(test)]
-mod module_tests;
+mod module_sections;
 mod modules;
 mod numbers;
 mod operators;
-mod parts;
 mod sections;
 mod sink;
 mod spaces;
-#[cfg(test)]
-mod tests;
 mod types;
 mod vectors;
 
@@ -30,4 +55,4 @@ pub use fault::WriteFault;
 pub use imports::{append_import_section, write_import_section};
 pub use modules::{Built, write_module};
 pub use sections::{append_raw_section, raw_section};
-pub use sink::{PutFailed, Sink, WriterSink};
+pub use sink::{Destination, PutFailed, Sink, WriterSink};

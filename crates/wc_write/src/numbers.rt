@@ -5,21 +5,31 @@ ghost use Rattle.wc_write.specs.Text.{number_text, name_text, signed_digit, sign
 
 use std::alloc::AllocError;
 
-/// Appends an unsigned number in its shortest form, the low seven bits first.
+/// How many numbers have seven bits.
+const SEVEN_BITS: u64 = 128;
+
+/// How many numbers have six bits: the last byte of a signed number has six bits beside its sign.
+const SIX_BITS: u64 = 64;
+
+/// The bit that is set in each byte of a number but the last.
+const MORE_BYTES: u8 = 128;
+
+/// Appends an unsigned number as minimal LEB128, the low seven bits first. After an error `out` still begins with the
+/// bytes that it had before.
 pub(crate) fn put_number(out: &mut Vec<u8>, number: u64) -> Result<(), AllocError>
     ensures written { OnOk result (out.new.items ≡ out.old.items ++ number_text number) }
     ensures kept { OnErr result (take (length out.old.items) out.new.items ≡ out.old.items) }
 {
     let mut rest = number;
-    while rest >= 128 {
-        out.push((128 + rest % 128) as u8)?;
-        rest /= 128;
+    while rest >= SEVEN_BITS {
+        out.push(MORE_BYTES + (rest % SEVEN_BITS) as u8)?;
+        rest /= SEVEN_BITS;
     }
     out.push(rest as u8)?;
     Ok(())
 }
 
-/// Appends a signed number in its shortest form, the low seven bits first.
+/// Appends a signed number as minimal LEB128, the low seven bits first.
 pub(crate) fn put_signed(out: &mut Vec<u8>, number: i64) -> Result<(), AllocError>
     ensures { OnOk result (out.new.items ≡ out.old.items ++ signed_text number) }
 {
@@ -36,23 +46,23 @@ fn put_signed_digits(out: &mut Vec<u8>, negative: bool, magnitude: u64) -> Resul
     ensures { OnOk result (out.new.items ≡ out.old.items ++ signed_digits negative 9 magnitude) }
 {
     let mut rest = magnitude;
-    while rest >= 64 {
-        out.push(128 + signed_digit(negative, (rest % 128) as u8))?;
-        rest /= 128;
+    while rest >= SIX_BITS {
+        out.push(MORE_BYTES + signed_digit(negative, (rest % SEVEN_BITS) as u8))?;
+        rest /= SEVEN_BITS;
     }
     out.push(signed_digit(negative, rest as u8))?;
     Ok(())
 }
 
-/// Seven bits of a number, by those of its magnitude.
+/// Seven bits of a number: of `-1 - n` they are the complement of those of n.
 fn signed_digit(negative: bool, low: u8) -> u8
-    requires { low < 128 }
+    requires { low < SEVEN_BITS }
     ensures { result ≡ signed_digit negative low }
 {
     if negative { 127 - low } else { low }
 }
 
-/// Appends a name: its length in bytes, and its text.
+/// Appends a name: its length in bytes, and its bytes.
 pub(crate) fn put_name(out: &mut Vec<u8>, name: &str) -> Result<(), AllocError>
     ensures { OnOk result (out.new.items ≡ out.old.items ++ name_text name.now) }
 {

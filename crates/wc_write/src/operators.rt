@@ -11,6 +11,18 @@ use crate::vectors::{Written, put_vector};
 use std::alloc::AllocError;
 use wc_read::{BlockType, Immediates, Instr, MemArg, Opcode, ValType};
 
+/// The byte before the number of a miscellaneous operator.
+const MISC_PREFIX: u8 = 0xfc;
+
+/// The byte before the number of a vector operator.
+const VECTOR_PREFIX: u8 = 0xfd;
+
+/// The byte before the number of an atomic operator.
+const ATOMIC_PREFIX: u8 = 0xfe;
+
+/// The byte of the empty block type.
+const EMPTY_BLOCK: u8 = 0x40;
+
 /// The flag of a memory argument that names its memory.
 const NAMES_MEMORY: u64 = 64;
 
@@ -41,6 +53,7 @@ impl<'a> Written for Instr<'a> {
     }
 }
 
+/// Appends an operator's code: a byte, or a prefix and a number.
 fn put_opcode(out: &mut Vec<u8>, opcode: Opcode) -> Result<(), AllocError>
     ensures { OnOk result (out.new.items ≡ out.old.items ++ opcode_text opcode) }
 {
@@ -49,15 +62,15 @@ fn put_opcode(out: &mut Vec<u8>, opcode: Opcode) -> Result<(), AllocError>
             out.push(code)?;
             return Ok(());
         }
-        Opcode::Misc(number) => (0xfc, number),
-        Opcode::Vector(number) => (0xfd, number),
-        Opcode::Atomic(number) => (0xfe, number),
+        Opcode::Misc(number) => (MISC_PREFIX, number),
+        Opcode::Vector(number) => (VECTOR_PREFIX, number),
+        Opcode::Atomic(number) => (ATOMIC_PREFIX, number),
     };
     out.push(prefix)?;
     put_number(out, u64::from(number))
 }
 
-/// Appends the byte that a fence has behind its code.
+/// Appends the byte that a fence has after its code.
 fn put_fence(out: &mut Vec<u8>, opcode: Opcode) -> Result<(), AllocError>
     ensures { OnOk result (out.new.items ≡ out.old.items ++ fence_text opcode) }
 {
@@ -67,9 +80,11 @@ fn put_fence(out: &mut Vec<u8>, opcode: Opcode) -> Result<(), AllocError>
     Ok(())
 }
 
+/// Appends the immediates of an operator.
 #[tactic(auto, unfolding(crate::specs::OperatorText::immediates_text))]
 fn put_immediates(out: &mut Vec<u8>, immediates: &Immediates<'_>) -> Result<(), AllocError>
-    ensures { OnOk result (out.new.items ≡ out.old.items ++ immediates_text (immediates_value immediates.now)) }
+    ensures { OnOk result (out.new.items ≡
+        out.old.items ++ immediates_text (immediates_value immediates.now)) }
 {
     match immediates {
         Immediates::None => {}
@@ -98,12 +113,13 @@ fn put_immediates(out: &mut Vec<u8>, immediates: &Immediates<'_>) -> Result<(), 
     Ok(())
 }
 
+/// Appends a block's type (5.4.1).
 fn put_block_type(out: &mut Vec<u8>, ty: BlockType) -> Result<(), AllocError>
     ensures { OnOk result (out.new.items ≡ out.old.items ++ block_type_text ty) }
 {
     match ty {
         BlockType::Empty => {
-            out.push(0x40)?;
+            out.push(EMPTY_BLOCK)?;
             Ok(())
         }
         BlockType::Value(ty) => put_val_type(out, ty),
@@ -111,6 +127,7 @@ fn put_block_type(out: &mut Vec<u8>, ty: BlockType) -> Result<(), AllocError>
     }
 }
 
+/// Appends a memory argument (5.4.6), which names its memory where that is not 0.
 fn put_mem_arg(out: &mut Vec<u8>, address: MemArg) -> Result<(), AllocError>
     ensures { OnOk result (out.new.items ≡ out.old.items ++ mem_arg_text address) }
 {

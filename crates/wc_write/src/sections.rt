@@ -1,13 +1,34 @@
 //! Sections (WebAssembly core specification, 5.5.2).
 
-ghost use Rattle.std.specs.Prelude.{◌≡◌, ◌++◌, ◌^◌, ◌<◌, ◌≤◌, length, take, IfOk, OnOk, OnErr, IsOk, IsErrOf};
-ghost use Rattle.wc_write.specs.Text.{section_text};
+ghost use Rattle.std.specs.Prelude.{◌≡◌, ◌++◌, length, take, IfOk, OnOk, OnErr, IsOk, IsErrOf};
+ghost use Rattle.wc_write.specs.Text.{FitsSize, ExceedsSize, section_text};
 
 use crate::fault::WriteFault;
 use crate::numbers::put_number;
 use std::alloc::{AllocError, Global};
 
-/// Appends a section: its id, its content's size, its content.
+pub(crate) const CUSTOM_SECTION: u8 = 0;
+
+pub(crate) const TYPE_SECTION: u8 = 1;
+
+pub(crate) const IMPORT_SECTION: u8 = 2;
+
+pub(crate) const FUNC_SECTION: u8 = 3;
+
+pub(crate) const TABLE_SECTION: u8 = 4;
+
+pub(crate) const MEMORY_SECTION: u8 = 5;
+
+pub(crate) const GLOBAL_SECTION: u8 = 6;
+
+pub(crate) const EXPORT_SECTION: u8 = 7;
+
+pub(crate) const START_SECTION: u8 = 8;
+
+pub(crate) const CODE_SECTION: u8 = 10;
+
+/// Appends a section: its id, its content's size, its content. After an error `out` still begins with the bytes
+/// that it had before.
 #[tactic(auto, unfolding(crate::specs::Text::section_text))]
 fn put_section(out: &mut Vec<u8>, id: u8, content: &[u8]) -> Result<(), AllocError>
     ensures written { OnOk result (out.new.items ≡ out.old.items ++ section_text id content.now) }
@@ -19,17 +40,21 @@ fn put_section(out: &mut Vec<u8>, id: u8, content: &[u8]) -> Result<(), AllocErr
     Ok(())
 }
 
-/// Appends a section to what `out` holds: its id, its content's size in the shortest form, and its
-/// content as it stands (WebAssembly core specification, 5.5.2).
+/// Appends a section to `out` (WebAssembly core specification, 5.5.2): its id, its content's size as minimal
+/// LEB128, and its content unchanged. Any id and any content are written.
 ///
-/// `TooLarge` comes exactly where the content has 2^32 bytes or more, `Memory` where a growth was
-/// refused. After a fault `out` holds what it held.
+/// # Errors
+///
+/// - `TooLarge`: exactly where the content has 2^32 bytes or more.
+/// - `Memory`: an allocation failed.
+///
+/// After an error `out` has the bytes that it had before.
 pub fn append_raw_section(out: &mut Vec<u8>, id: u8, content: &[u8]) -> Result<(), WriteFault>
     ensures written { OnOk result (out.new.items ≡ out.old.items ++ section_text id content.now) }
     ensures unchanged { OnErr result (out.new.items ≡ out.old.items) }
-    ensures fits { IsOk result → length content.now < 2 ^ 32 }
-    ensures too_large { IsErrOf result WriteFault.TooLarge → 2 ^ 32 ≤ length content.now }
-    ensures large { 2 ^ 32 ≤ length content.now → IsErrOf result WriteFault.TooLarge }
+    ensures fits { IsOk result → FitsSize content.now }
+    ensures too_large { IsErrOf result WriteFault.TooLarge → ExceedsSize content.now }
+    ensures large { ExceedsSize content.now → IsErrOf result WriteFault.TooLarge }
 {
     if content.len() > u32::MAX as usize {
         return Err(WriteFault::TooLarge);
@@ -42,16 +67,18 @@ pub fn append_raw_section(out: &mut Vec<u8>, id: u8, content: &[u8]) -> Result<(
     Ok(())
 }
 
-/// A section: its id, its content's size in the shortest form, and its content as it stands
-/// (WebAssembly core specification, 5.5.2).
+/// A section (WebAssembly core specification, 5.5.2): its id, its content's size as minimal LEB128, and its content
+/// unchanged. Any id and any content are written.
 ///
-/// `TooLarge` comes exactly where the content has 2^32 bytes or more, `Memory` where a growth was
-/// refused.
+/// # Errors
+///
+/// - `TooLarge`: exactly where the content has 2^32 bytes or more.
+/// - `Memory`: an allocation failed.
 pub fn raw_section(alloc: Global, id: u8, content: &[u8]) -> Result<Vec<u8>, WriteFault>
     ensures written { IfOk result (λ v. v.items ≡ section_text id content.now) }
-    ensures fits { IsOk result → length content.now < 2 ^ 32 }
-    ensures too_large { IsErrOf result WriteFault.TooLarge → 2 ^ 32 ≤ length content.now }
-    ensures large { 2 ^ 32 ≤ length content.now → IsErrOf result WriteFault.TooLarge }
+    ensures fits { IsOk result → FitsSize content.now }
+    ensures too_large { IsErrOf result WriteFault.TooLarge → ExceedsSize content.now }
+    ensures large { ExceedsSize content.now → IsErrOf result WriteFault.TooLarge }
 {
     let mut section = Vec::new(alloc);
     append_raw_section(&mut section, id, content)?;

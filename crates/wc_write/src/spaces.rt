@@ -1,45 +1,45 @@
-//! Index spaces: imported items, and the module's own (WebAssembly core specification, 2.5).
+//! Index spaces: imported items, and defined ones (WebAssembly core specification, 2.5).
 
-ghost use Rattle.std.specs.Prelude.{◌≡◌, ◌++◌, map, IfOk, OnOk};
+ghost use Rattle.std.specs.Prelude.{◌≡◌, ◌++◌, IfOk, OnOk};
 ghost use Rattle.wc_read.specs.declared.types.ImportType.{ImportType as import_type};
 ghost use Rattle.wc_read.specs.declared.types.ImportType.TheVariants.{Func as func_import, Table as table_import, Memory as memory_import, Global as global_import};
-ghost use Rattle.wc_read.specs.Imports.{import_value};
-ghost use Rattle.wc_read.specs.Items.{item_value};
-ghost use Rattle.wc_write.specs.Spaces.{imports_of, own, own_value};
+ghost use Rattle.wc_read.specs.Imports.{import_values};
+ghost use Rattle.wc_write.specs.Spaces.{imports_of, defined, item_values, defined_values};
 
 use std::alloc::{AllocError, Global};
 use wc_read::{Def, GlobalType, Import, ImportType, Item, MemoryType, TableType};
 
-/// An item of the module's own: its type, and what it holds.
+/// A defined item: its type and its content.
 #[derive(Drop)]
-pub(crate) struct Own<'b, T, C> {
+pub(crate) struct Defined<'b, T, C> {
     pub ty: T,
     pub content: &'b C,
 }
 
-/// The items that are the module's own, in their order.
-pub(crate) fn own_items<'b, T: Copy + Drop, C: Drop>(
+/// The defined items, in order.
+pub(crate) fn defined_items<'b, T: Copy + Drop, C: Drop>(
     alloc: Global,
     items: &'b [Item<'_, T, C>],
-) -> Result<Vec<Own<'b, T, C>>, AllocError>
-    ensures { IfOk result (λ v. map (own_value (λ x. x)) v.items ≡ own (map (item_value (λ x. x)) items.now)) }
+) -> Result<Vec<Defined<'b, T, C>>, AllocError>
+    ensures { IfOk result (λ v. defined_values v.items ≡ defined (item_values items.now)) }
 {
-    let mut own_items = Vec::new(alloc);
+    let mut defined_items = Vec::new(alloc);
     for item in items {
         if let Def::Local(content) = &item.def {
-            own_items.push(Own {
+            defined_items.push(Defined {
                 ty: item.ty,
                 content,
             })?;
         }
     }
-    Ok(own_items)
+    Ok(defined_items)
 }
 
-/// The type of one kind of items, as what is imported.
+/// The type of one kind of items, which an import of that kind has too.
 pub(crate) trait Importable: Copy {
     ghost kind: { Self → import_type };
 
+    /// The type of the import.
     fn import_type(self) -> ImportType
         ensures { result ≡ kind self };
 }
@@ -76,12 +76,13 @@ impl Importable for GlobalType {
     }
 }
 
-/// Appends the imports among items.
+/// Appends the imports of the imported items, in order.
 pub(crate) fn push_imports<'a, T: Importable, C>(
     imports: &mut Vec<Import<'a>>,
     items: &[Item<'a, T, C>],
 ) -> Result<(), AllocError>
-    ensures { OnOk result (map import_value imports.new.items ≡ map import_value imports.old.items ++ imports_of T.kind (map (item_value (λ x. x)) items.now)) }
+    ensures { OnOk result (import_values imports.new.items ≡
+        import_values imports.old.items ++ imports_of T.kind (item_values items.now)) }
 {
     for item in items {
         if let Def::Import(module, name) = item.def {

@@ -9,13 +9,17 @@ use crate::numbers::put_number;
 use std::alloc::AllocError;
 use wc_read::{GlobalType, ImportType, MemoryType, TableType, ValType};
 
-const LIMITED: u8 = 1;
+/// The flag of limits that have a maximum (5.3.7).
+const HAS_MAXIMUM: u8 = 1;
 
+/// The flag of a shared memory.
 const SHARED: u8 = 2;
 
-const WIDE: u8 = 4;
+/// The flag of 64-bit limits.
+const IS_64: u8 = 4;
 
-const SIZED: u8 = 8;
+/// The flag of a memory that has the exponent of its page size.
+const HAS_PAGE_SIZE: u8 = 8;
 
 /// The byte of a value type.
 fn val_type_byte(ty: ValType) -> u8
@@ -32,6 +36,7 @@ fn val_type_byte(ty: ValType) -> u8
     }
 }
 
+/// Appends a value type (5.3.1 to 5.3.4).
 pub(crate) fn put_val_type(out: &mut Vec<u8>, ty: ValType) -> Result<(), AllocError>
     ensures { OnOk result (out.new.items ≡ out.old.items ++ val_type_text ty) }
 {
@@ -50,20 +55,20 @@ fn flag(is_set: bool, value: u8) -> u8
 fn table_flags_byte(table: &TableType) -> u8
     ensures { result ≡ flags_code (table_flags table.now) }
 {
-    flag(table.maximum.is_some(), LIMITED) + flag(table.table64, WIDE)
+    flag(table.maximum.is_some(), HAS_MAXIMUM) + flag(table.table64, IS_64)
 }
 
 /// The flags before a memory's bounds.
 fn memory_flags_byte(memory: &MemoryType) -> u8
     ensures { result ≡ flags_code (memory_flags memory.now) }
 {
-    flag(memory.maximum.is_some(), LIMITED)
+    flag(memory.maximum.is_some(), HAS_MAXIMUM)
         + flag(memory.shared, SHARED)
-        + flag(memory.memory64, WIDE)
-        + flag(memory.page_size_log2.is_some(), SIZED)
+        + flag(memory.memory64, IS_64)
+        + flag(memory.page_size_log2.is_some(), HAS_PAGE_SIZE)
 }
 
-/// Appends a number where there is one.
+/// Appends a number, where there is one.
 fn put_optional(out: &mut Vec<u8>, number: Option<u64>) -> Result<(), AllocError>
     ensures { OnOk result (out.new.items ≡ out.old.items ++ optional_text number) }
 {
@@ -81,6 +86,7 @@ fn put_bounds(out: &mut Vec<u8>, initial: u64, maximum: Option<u64>) -> Result<(
     put_optional(out, maximum)
 }
 
+/// Appends a table type (5.3.9).
 pub(crate) fn put_table(out: &mut Vec<u8>, table: &TableType) -> Result<(), AllocError>
     ensures { OnOk result (out.new.items ≡ out.old.items ++ table_text table.now) }
 {
@@ -89,6 +95,7 @@ pub(crate) fn put_table(out: &mut Vec<u8>, table: &TableType) -> Result<(), Allo
     put_bounds(out, table.initial, table.maximum)
 }
 
+/// Appends a memory type (5.3.8).
 pub(crate) fn put_memory(out: &mut Vec<u8>, memory: &MemoryType) -> Result<(), AllocError>
     ensures { OnOk result (out.new.items ≡ out.old.items ++ memory_text memory.now) }
 {
@@ -97,6 +104,7 @@ pub(crate) fn put_memory(out: &mut Vec<u8>, memory: &MemoryType) -> Result<(), A
     put_optional(out, memory.page_size_log2.map(u64::from))
 }
 
+/// Appends a global type (5.3.10).
 pub(crate) fn put_global(out: &mut Vec<u8>, global: &GlobalType) -> Result<(), AllocError>
     ensures { OnOk result (out.new.items ≡ out.old.items ++ global_text global.now) }
 {
@@ -105,7 +113,7 @@ pub(crate) fn put_global(out: &mut Vec<u8>, global: &GlobalType) -> Result<(), A
     Ok(())
 }
 
-/// Appends what is imported: its kind, and the index of a function's type or another item's type.
+/// Appends the type of an import: the byte of its kind, and the index of a function's type or another item's type.
 pub(crate) fn put_import_type(out: &mut Vec<u8>, ty: &ImportType) -> Result<(), AllocError>
     ensures { OnOk result (out.new.items ≡ out.old.items ++ import_type_text ty.now) }
 {

@@ -7,15 +7,17 @@ ghost use Rattle.wc_write.specs.Text.{vector_text};
 use crate::numbers::put_number;
 use std::alloc::AllocError;
 
-/// An item of which a vector can be written.
+/// An item that can be written.
 pub(crate) trait Written: Sized {
+    // The bytes that are written.
     ghost text: { Self → List ℕ };
 
+    /// Appends the item.
     fn put(&self, out: &mut Vec<u8>) -> Result<(), AllocError>
         ensures { OnOk result (out.new.items ≡ out.old.items ++ text self.now) };
 }
 
-/// Appends items, one behind another.
+/// Appends items, one after another.
 pub(crate) fn put_all<T: Written>(out: &mut Vec<u8>, items: &[T]) -> Result<(), AllocError>
     ensures { OnOk result (out.new.items ≡ out.old.items ++ flat_map T.text items.now) }
 {
@@ -25,7 +27,7 @@ pub(crate) fn put_all<T: Written>(out: &mut Vec<u8>, items: &[T]) -> Result<(), 
     Ok(())
 }
 
-/// Appends how many items there are, and the items.
+/// Appends the number of items, and the items.
 pub(crate) fn put_vector<T: Written>(out: &mut Vec<u8>, items: &[T]) -> Result<(), AllocError>
     ensures { OnOk result (out.new.items ≡ out.old.items ++ vector_text T.text items.now) }
 {

@@ -1,5 +1,5 @@
 use Rattle.std.proofs.Common.{[]}
-use Rattle.wc_dedupe.proofs.Distinct.{names_are_determined}
+use Rattle.wc_dedupe.proofs.DistinctLemmas.{names_are_determined}
 use Rattle.wc_dedupe.proofs.laws.names_determined.Goals as goal
 
 pub returns : goal.returns

@@ -1,10 +1,10 @@
 use Rattle.std.proofs.Common.{[], subst, arith}
-use Rattle.wc_dedupe.specs.Laws.{IsApart}
-use Rattle.wc_dedupe.proofs.Distinct.{names_are_apart, names_are_kept}
+use Rattle.wc_dedupe.specs.Laws.{AreDistinct}
+use Rattle.wc_dedupe.proofs.DistinctLemmas.{names_are_distinct, names_are_kept}
 use Rattle.wc_dedupe.proofs.laws.names_kept.Goals as goal
 
 pub returns : goal.returns
-returns c = λ sources names renamed. (
-  λ same. subst IsApart same (names_are_apart [] sources names renamed),
-  λ apart. names_are_kept [] sources names renamed apart (λ x there before. absurd (omega (arith, before.1))),
+returns c = λ originals names renamed. (
+  λ same. subst AreDistinct same (names_are_distinct [] originals names renamed),
+  λ distinct. names_are_kept [] originals names renamed distinct (λ x there before. absurd (omega (arith, before.1))),
 )

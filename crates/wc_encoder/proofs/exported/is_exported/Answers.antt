@@ -1,6 +1,6 @@
 use Rattle.wc_resolve.specs.Views.{key_view}
-use Rattle.wc_encoder.proofs.Lookups.{exported}
-use Rattle.wc_encoder.proofs.Keys.{keys_law}
+use Rattle.wc_encoder.proofs.LookupLemmas.{exported}
+use Rattle.wc_encoder.proofs.KeyLemmas.{keys_law}
 use Rattle.wc_encoder.proofs.exported.is_exported.Goals as goal
 
 pub returns : goal.returns

@@ -1,4 +1,4 @@
-use Rattle.wc_read.proofs.LocalCount.{counted_end}
+use Rattle.wc_read.proofs.LocalCountLemmas.{counted_end}
 use Rattle.wc_read.proofs.bodies.are_few.Goals as goal
 
 pub returns : goal.returns

@@ -1,4 +1,4 @@
-use Rattle.wc_read.proofs.LocalCount.{IsCounted}
+use Rattle.wc_read.proofs.LocalCountLemmas.{IsCounted}
 use Rattle.wc_read.proofs.bodies.are_few.Given as goal
 
 abbrev pub invariant-loop-run : goal.invariant-loop-run

@@ -1,6 +1,6 @@
 use Rattle.std.proofs.Common.{length, map}
 use Rattle.wc_read.specs.Operators.{instr_value, SpellsInstr}
-use Rattle.wc_read.proofs.ToEnd.{IsReadTo}
+use Rattle.wc_read.proofs.ToEndLemmas.{IsReadTo}
 use Rattle.wc_read.proofs.bodies.operators.Given as goal
 
 abbrev pub invariant-loop-reader : goal.invariant-loop-reader

@@ -1,6 +1,6 @@
 use Rattle.std.proofs.lemmas.List.{map-id}
 use Rattle.std.proofs.lemmas.Result.{err_from_is_err_and}
-use Rattle.wc_read.proofs.BodiesMeet.{no_locals, too_many, no_operators, no_nesting, body_is}
+use Rattle.wc_read.proofs.BodiesLemmas.{no_locals, too_many, no_operators, no_nesting, body_is}
 use Rattle.wc_read.proofs.bodies.read_body.Goals as goal
 
 pub returns-in_err-locals-clause-refused : goal.returns-in_err-locals-clause-refused

@@ -1,4 +1,4 @@
-use Rattle.wc_read.proofs.DistinctNames.{names_differ}
+use Rattle.wc_read.proofs.DistinctNamesLemmas.{names_differ}
 use Rattle.wc_read.proofs.distinct.have_distinct_names.Goals as goal
 
 pub returns-clause-distinct : goal.returns-clause-distinct

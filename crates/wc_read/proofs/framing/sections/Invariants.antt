@@ -1,6 +1,6 @@
 use Rattle.std.proofs.Common.{length, map}
 use Rattle.wc_read.specs.Sections.{section_value, SpellsSection}
-use Rattle.wc_read.proofs.ToEnd.{IsReadTo}
+use Rattle.wc_read.proofs.ToEndLemmas.{IsReadTo}
 use Rattle.wc_read.proofs.framing.sections.Given as goal
 
 abbrev pub invariant-loop-reader : goal.invariant-loop-reader

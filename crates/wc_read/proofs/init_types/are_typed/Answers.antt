@@ -1,6 +1,6 @@
 use Rattle.std.proofs.Common.{sym, ◌∙◌}
 use Rattle.std.proofs.lemmas.Bool.{false≢true}
-use Rattle.wc_read.proofs.GlobalTypes.{items_more, items_not}
+use Rattle.wc_read.proofs.GlobalTypesLemmas.{items_more, items_not}
 use Rattle.wc_read.proofs.init_types.are_typed.Goals as goal
 
 pub returns-then-not-branch-clause-found : goal.returns-then-not-branch-clause-found

@@ -1,5 +1,5 @@
 use Rattle.std.proofs.lemmas.Result.{err_from_is_err_and}
-use Rattle.wc_read.proofs.InitCounts.{count_more, count_fails, count_stops, count_out, answer_no, answer_end, answer_else}
+use Rattle.wc_read.proofs.InitCountsLemmas.{count_more, count_fails, count_stops, count_out, answer_no, answer_end, answer_else}
 use Rattle.wc_read.proofs.init_types.leaves_one.Goals as goal
 
 pub returns-in_err-next_step-clause-refused : goal.returns-in_err-next_step-clause-refused

@@ -1,5 +1,5 @@
 use Rattle.wc_read.specs.InitTypes.{scope_value}
-use Rattle.wc_read.proofs.InitCounts.{IsCounted}
+use Rattle.wc_read.proofs.InitCountsLemmas.{IsCounted}
 use Rattle.wc_read.proofs.init_types.leaves_one.Given as goal
 
 abbrev pub invariant-loop : goal.invariant-loop

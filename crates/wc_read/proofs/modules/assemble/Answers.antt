@@ -1,5 +1,5 @@
 use Rattle.std.proofs.Common.{refl}
-use Rattle.wc_read.proofs.ModulesHold.{same_ids}
+use Rattle.wc_read.proofs.ModulesLemmas.{same_ids}
 use Rattle.wc_read.proofs.modules.assemble.Goals as goal
 
 pub returns-clause-found : goal.returns-clause-found

@@ -1,5 +1,5 @@
 use Rattle.std.proofs.lemmas.List.{map-append}
-use Rattle.wc_read.proofs.NamesRead.{sections_more, sections_other}
+use Rattle.wc_read.proofs.NamesReadLemmas.{sections_more, sections_other}
 use Rattle.wc_read.proofs.names.all_pairs.Goals as goal
 use Rattle.wc_read.proofs.names.all_pairs.Goals.{in-Some+in_ok-pairs+in_ok-extend_from_slice, in_default}
 

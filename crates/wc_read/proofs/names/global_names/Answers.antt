@@ -1,6 +1,6 @@
 use Rattle.std.proofs.Common.{map}
-use Rattle.wc_read.specs.Names.{named}
-use Rattle.wc_read.proofs.NamesRead.{entries_start, entries_more, entries_end}
+use Rattle.wc_read.specs.Names.{global_name_value}
+use Rattle.wc_read.proofs.NamesReadLemmas.{entries_start, entries_more, entries_end}
 use Rattle.wc_read.proofs.names.global_names.Goals as goal
 
 pub loop-pair-init : goal.loop-pair-init
@@ -11,4 +11,4 @@ loop-pair-preserved c = entries_more _ _ _ _ _ c.loop-pair.invariant c.loop-pair
 
 pub returns-clause-found : goal.returns-clause-found
 returns-clause-found c =
-    (map named c.in_ok-pairs.pairs.items, c.in_ok-pairs.ensures.found, rw c.deref-pair-items.ensures.value at (entries_end _ _ _ c.loop-pair.invariant c.loop-pair-test.false))
+    (map global_name_value c.in_ok-pairs.pairs.items, c.in_ok-pairs.ensures.found, rw c.deref-pair-items.ensures.value at (entries_end _ _ _ c.loop-pair.invariant c.loop-pair-test.false))

@@ -1,4 +1,4 @@
-use Rattle.wc_read.proofs.NamesRead.{AreEntries}
+use Rattle.wc_read.proofs.NamesReadLemmas.{AreEntries}
 use Rattle.wc_read.proofs.names.global_names.Given as goal
 
 abbrev pub invariant-loop-pair : goal.invariant-loop-pair

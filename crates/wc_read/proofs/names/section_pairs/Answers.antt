@@ -1,9 +1,9 @@
 use Rattle.std.proofs.lemmas.List.{map-append}
 use Rattle.wc_read.specs.Reading.{section_at}
 use Rattle.wc_read.specs.Sections.{SpellsSection}
-use Rattle.wc_read.proofs.SectionsMeet.{section_meets, section_some}
-use Rattle.wc_read.proofs.ToEnd.{to_shorter}
-use Rattle.wc_read.proofs.NamesRead.{names_other, names_more, names_faulty, names_end}
+use Rattle.wc_read.proofs.SectionsLemmas.{section_meets, section_some}
+use Rattle.wc_read.proofs.ToEndLemmas.{to_shorter}
+use Rattle.wc_read.proofs.NamesReadLemmas.{names_other, names_more, names_faulty, names_end}
 use Rattle.wc_read.proofs.names.section_pairs.Goals as goal
 
 pub returns-in_default-clause-found : goal.returns-in_default-clause-found

@@ -1,6 +1,6 @@
 use Rattle.std.proofs.Common.{◌≡◌, ℕ, length, ap, ◌∙◌, rules}
 use Rattle.std.specs.Prelude.{◌==◌}
-use Rattle.wc_read.proofs.NestingLoop.{stepped_more, stepped_fails, stepped_end, reverse_closed}
+use Rattle.wc_read.proofs.NestingLoopLemmas.{stepped_more, stepped_fails, stepped_end, reverse_closed}
 use Rattle.wc_read.proofs.nesting.nests.Goals as goal
 
 pub returns-then-not-branch : goal.returns-then-not-branch

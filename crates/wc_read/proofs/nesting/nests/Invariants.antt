@@ -1,5 +1,5 @@
 use Rattle.std.proofs.Common.{reverse}
-use Rattle.wc_read.proofs.NestingLoop.{IsStepped}
+use Rattle.wc_read.proofs.NestingLoopLemmas.{IsStepped}
 use Rattle.wc_read.proofs.nesting.nests.Given as goal
 
 abbrev pub invariant-loop-operator : goal.invariant-loop-operator

@@ -1,7 +1,7 @@
 use Rattle.std.proofs.Common.{◌≡◌, map, drop}
 use Rattle.wc_read.specs.Sections.{section_value}
-use Rattle.wc_read.specs.OrderReading.{last_place}
+use Rattle.wc_read.specs.OrderReading.{last_position}
 use Rattle.wc_read.proofs.order.check_order.Given as goal
 
 abbrev pub invariant-loop-section : goal.invariant-loop-section
-invariant-loop-section l = last_place 0 (map section_value l.fn.sections) ≡ last_place l.place (map section_value (drop l.section-index l.sections))
+invariant-loop-section l = last_position 0 (map section_value l.fn.sections) ≡ last_position l.position (map section_value (drop l.section-index l.sections))

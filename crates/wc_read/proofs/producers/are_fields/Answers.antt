@@ -1,6 +1,6 @@
 use Rattle.std.proofs.Common.{map}
 use Rattle.wc_read.specs.Producers.{field_value}
-use Rattle.wc_read.proofs.ProducersRead.{no_fields, are_fields}
+use Rattle.wc_read.proofs.ProducersReadLemmas.{no_fields, are_fields}
 use Rattle.wc_read.proofs.producers.are_fields.Goals as goal
 
 pub returns-in-Ok-clause-found : goal.returns-in-Ok-clause-found

@@ -1,5 +1,5 @@
 use Rattle.std.proofs.Common.{◌∙◌, sym}
-use Rattle.wc_read.proofs.ProducersRead.{last_found, last_kept}
+use Rattle.wc_read.proofs.ProducersReadLemmas.{last_found, last_kept}
 use Rattle.wc_read.proofs.producers.producers.Goals as goal
 use Rattle.wc_read.proofs.producers.producers.Goals.{then-is_some, else-is_some}
 

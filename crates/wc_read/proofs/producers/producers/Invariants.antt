@@ -1,5 +1,5 @@
 use Rattle.std.specs.Option.{option_map}
-use Rattle.wc_read.proofs.ProducersRead.{IsLastTo}
+use Rattle.wc_read.proofs.ProducersReadLemmas.{IsLastTo}
 use Rattle.wc_read.proofs.producers.producers.Given as goal
 
 abbrev pub invariant-loop-section : goal.invariant-loop-section

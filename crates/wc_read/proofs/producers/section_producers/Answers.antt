@@ -1,5 +1,5 @@
 use Rattle.wc_read.specs.Sections.{section_value}
-use Rattle.wc_read.proofs.ProducersRead.{not_named, not_fields}
+use Rattle.wc_read.proofs.ProducersReadLemmas.{not_named, not_fields}
 use Rattle.wc_read.proofs.producers.section_producers.Goals as goal
 
 pub returns-in_default-clause-found : goal.returns-in_default-clause-found

@@ -1,8 +1,8 @@
 use Rattle.std.proofs.Common.{◌≡◌, ◌<◌, ◌≤◌, ◌^◌, ◌+◌, ◌-◌, ◌*◌, ◌%◌, arith, refl}
 use Rattle.std.proofs.Math.Pow.{pow_mono}
 use Rattle.std.proofs.lemmas.Bool.{lt-ltb}
-use Rattle.wc_read.proofs.Numbers.{shl_whole, sum_below, fits_if_shifted_out}
-use Rattle.wc_read.proofs.SignedLoop.{sign_fits}
+use Rattle.wc_read.proofs.NumbersLemmas.{shl_without_overflow, sum_below, fits_if_shifted_out}
+use Rattle.wc_read.proofs.SignedLoopLemmas.{sign_fits}
 use Rattle.wc_read.proofs.signed.magnitude.Goals as goal
 use Rattle.wc_read.proofs.signed.magnitude.Goals.{After-from, else-left-lt7-via-then-left-lt7+else-digits-left-ne0, else-left-lt7-via-else-left-lt7}
 
@@ -14,7 +14,7 @@ fits c = elim c.else-left-lt7.branch [
 ]
 
 digits : (c : After-from) → c.from.result * 2 ^ c.args.shift % 18446744073709551616 ≡ c.args.digits * 2 ^ c.args.shift
-digits c = rw c.from.ensures (shl_whole _ c.args.shift (c.args.left - 1) (fits c) (omega arith))
+digits c = rw c.from.ensures (shl_without_overflow _ c.args.shift (c.args.left - 1) (fits c) (omega arith))
 
 below : (c : After-from) → c.args.low + c.args.digits * 2 ^ c.args.shift < 2 ^ (c.args.shift + c.args.left - 1)
 below c =
@@ -23,7 +23,7 @@ below c =
 
 pub overflow_add-result : goal.overflow_add-result
 overflow_add-result c =
-    let most : 2 ^ (c.args.shift + c.args.left - 1) ≤ 2 ^ 64 = pow_mono {j = 64} (omega arith) in
+    let limit : 2 ^ (c.args.shift + c.args.left - 1) ≤ 2 ^ 64 = pow_mono {j = 64} (omega arith) in
     rw (digits c) (omega (arith, below c))
 
 pub returns-clause-value : goal.returns-clause-value

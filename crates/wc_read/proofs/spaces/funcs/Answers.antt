@@ -1,5 +1,5 @@
 use Rattle.std.proofs.Common.{◌⊎◌, inl, inr}
-use Rattle.wc_read.proofs.SpacesHold.{all_funcs}
+use Rattle.wc_read.proofs.SpacesLemmas.{all_funcs}
 use Rattle.wc_read.proofs.spaces.funcs.Goals as goal
 
 pub returns : goal.returns

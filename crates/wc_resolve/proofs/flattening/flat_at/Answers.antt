@@ -5,5 +5,5 @@ use Rattle.wc_resolve.proofs.flattening.flat_at.Goals as goal
 
 pub returns : goal.returns
 returns c =
-    let item = get_or c.args.types.now c.args.place c.index-types-place.result in
-    rw (kind_found c.args.types.now c.args.place item c.requires (get_or_default c.args.types.now c.args.place c.index-types-place.result item c.requires)) c.flat_kind.ensures
+    let item = get_or c.args.types.now c.args.index c.index-types-index.result in
+    rw (kind_found c.args.types.now c.args.index item c.requires (get_or_default c.args.types.now c.args.index c.index-types-index.result item c.requires)) c.flat_kind.ensures

@@ -1,17 +1,17 @@
 use Rattle.std.proofs.Common.{map, take, ap, ◌∙◌}
-use Rattle.wc_resolve.specs.Flat.{flat_type, flat_types, kept_flat, lists}
+use Rattle.wc_resolve.specs.Flat.{flatten_type, flatten_types, flat_entry, lists}
 use Rattle.wc_resolve.proofs.FlatSteps.{types_more, part_read, part_small, all_parts, cut_small}
 use Rattle.wc_resolve.proofs.flattening.flat_fields.Goals as goal
 
 pub put_flat-requires : goal.put_flat-requires
-put_flat-requires c = cut_small 17 c.loop-field.flat.items (flat_types (kept_flat (lists c.args.flats.now)) (take c.loop-field.field-index (map (λ f. f.1) c.args.fields.now))) c.loop-field.invariant
+put_flat-requires c = cut_small 17 c.loop-field.flat.items (flatten_types (flat_entry (lists c.args.flats.now)) (take c.loop-field.field-index (map (λ f. f.1) c.args.fields.now))) c.loop-field.invariant
 
 pub loop-field-preserved : goal.loop-field-preserved
 loop-field-preserved c =
-    types_more (kept_flat (lists c.args.flats.now)) (map (λ f. f.1) c.args.fields.now) c.loop-field.field-index c.field-item.result.1 c.loop-field.flat.items c.put_flat.new.flat.items
-    c.flat_type.result.now (part_small (λ f. f.1) c.args.fields.now c.loop-field.field-index c.loop-field-test.true) c.loop-field.invariant
-    (c.flat_type.ensures ∙ ap (flat_type (kept_flat (lists c.args.flats.now))) (part_read (λ f. f.1) c.args.fields.now c.loop-field.field-index c.field-item.result c.field-item.result.1 c.loop-field-test.true c.field-item.is))
+    types_more (flat_entry (lists c.args.flats.now)) (map (λ f. f.1) c.args.fields.now) c.loop-field.field-index c.field-item.result.1 c.loop-field.flat.items c.put_flat.new.flat.items
+    c.flatten_type.result.now (part_small (λ f. f.1) c.args.fields.now c.loop-field.field-index c.loop-field-test.true) c.loop-field.invariant
+    (c.flatten_type.ensures ∙ ap (flatten_type (flat_entry (lists c.args.flats.now))) (part_read (λ f. f.1) c.args.fields.now c.loop-field.field-index c.field-item.result c.field-item.result.1 c.loop-field-test.true c.field-item.is))
     c.in_ok-put_flat.ensures
 
 pub returns : goal.returns
-returns c = c.loop-field.invariant ∙ ap (λ z. take 17 (flat_types (kept_flat (lists c.args.flats.now)) z)) (all_parts (λ f. f.1) c.args.fields.now c.loop-field.field-index c.loop-field-test.false)
+returns c = c.loop-field.invariant ∙ ap (λ z. take 17 (flatten_types (flat_entry (lists c.args.flats.now)) z)) (all_parts (λ f. f.1) c.args.fields.now c.loop-field.field-index c.loop-field-test.false)

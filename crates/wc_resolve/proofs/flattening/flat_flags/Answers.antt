@@ -6,5 +6,5 @@ use Rattle.wc_resolve.proofs.flattening.flat_flags.Goals as goal
 
 pub returns : goal.returns
 returns c =
-    c.in_ok-flat.ensures.items_if_clones_equal (λ y h. h) ∙ ap (λ n. replicate n I32) (c.min-words.ensures ∙ ap (λ n. min n 17) c.div_ceil.ensures)
+    c.in_ok-flat.ensures.items_if_clones_equal (λ y h. h) ∙ ap (λ n. replicate n I32) (c.min-count.ensures ∙ ap (λ n. min n 17) c.div_ceil.ensures)
     ∙ copies_cut 17 (div_ceil c.args.labels 32) I32

@@ -3,5 +3,5 @@ use Rattle.wc_resolve.specs.Views.{type_view}
 use Rattle.wc_resolve.proofs.Carriers.{CarriersOf}
 use Rattle.wc_resolve.proofs.futures.carriers.Given as goal
 
-abbrev pub invariant-loop-place : goal.invariant-loop-place
-invariant-loop-place l = CarriersOf (map type_view l.types) l.marks.items (take l.place-index l.order)
+abbrev pub invariant-loop-index : goal.invariant-loop-index
+invariant-loop-index l = CarriersOf (map type_view l.types) l.carrier_flags.items (take l.index-index l.order)

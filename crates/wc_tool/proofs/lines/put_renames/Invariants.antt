@@ -6,6 +6,6 @@ use Rattle.wc_tool.proofs.lines.put_renames.Given as goal
 
 abbrev pub invariant-loop-rename : goal.invariant-loop-rename
 invariant-loop-rename g l = record {
-  told : Appends (g.S.Sink.told l.fn.out) (g.S.Sink.told l.out) (lines_of (map rename_value (take l.rename-index l.renames)));
+  written : Appends (g.S.Sink.written l.fn.out) (g.S.Sink.written l.out) (lines_of (map rename_value (take l.rename-index l.renames)));
   works : g.S.Sink.is_failed l.out ≡ g.S.Sink.is_failed l.fn.out;
 }

@@ -7,6 +7,6 @@ use Rattle.wc_tool.proofs.scan.put_exports.Given as goal
 
 abbrev pub invariant-loop-export : goal.invariant-loop-export
 invariant-loop-export g l = record {
-  told : Appends (g.S.Sink.told l.fn.out) (g.S.Sink.told l.out) (flat_map export_line (map export_value (take l.export-index l.exports)));
+  written : Appends (g.S.Sink.written l.fn.out) (g.S.Sink.written l.out) (flat_map export_line (map export_value (take l.export-index l.exports)));
   works : g.S.Sink.is_failed l.out ≡ g.S.Sink.is_failed l.fn.out;
 }

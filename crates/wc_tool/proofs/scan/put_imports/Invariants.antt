@@ -7,6 +7,6 @@ use Rattle.wc_tool.proofs.scan.put_imports.Given as goal
 
 abbrev pub invariant-loop-import : goal.invariant-loop-import
 invariant-loop-import g l = record {
-  told : Appends (g.S.Sink.told l.fn.out) (g.S.Sink.told l.out) (flat_map import_line (map import_value (take l.import-index l.imports)));
+  written : Appends (g.S.Sink.written l.fn.out) (g.S.Sink.written l.out) (flat_map import_line (map import_value (take l.import-index l.imports)));
   works : g.S.Sink.is_failed l.out ≡ g.S.Sink.is_failed l.fn.out;
 }

@@ -1,5 +1,5 @@
 use Rattle.std.proofs.Common.{}
-use Rattle.wc_write.proofs.BodiesText.{body_written}
+use Rattle.wc_write.proofs.BodyLemmas.{body_written}
 use Rattle.wc_write.proofs.bodies.put_body.Goals as goal
 
 pub returns : goal.returns

@@ -1,4 +1,4 @@
-use Rattle.wc_write.proofs.NumbersSpelled.{number_shortest}
+use Rattle.wc_write.proofs.NumberTextLemmas.{number_shortest}
 use Rattle.wc_write.proofs.laws.number_is_shortest.Goals as goal
 
 pub returns : goal.returns

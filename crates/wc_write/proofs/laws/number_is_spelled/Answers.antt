@@ -1,4 +1,4 @@
-use Rattle.wc_write.proofs.NumbersSpelled.{number_spelled}
+use Rattle.wc_write.proofs.NumberTextLemmas.{number_spelled}
 use Rattle.std.proofs.Common.{arith}
 use Rattle.wc_write.proofs.laws.number_is_spelled.Goals as goal
 

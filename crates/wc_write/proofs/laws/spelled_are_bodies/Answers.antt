@@ -1,4 +1,4 @@
-use Rattle.wc_write.proofs.SpelledBodies.{body_is}
+use Rattle.wc_write.proofs.ShortestBodyLemmas.{body_is}
 use Rattle.wc_write.proofs.laws.spelled_are_bodies.Goals as goal
 
 pub returns : goal.returns

@@ -1,4 +1,4 @@
-use Rattle.wc_write.proofs.SpelledModules.{spelled_writable}
+use Rattle.wc_write.proofs.WritableModuleLemmas.{spelled_writable}
 use Rattle.wc_write.proofs.laws.spelled_are_modules.Goals as goal
 
 pub returns : goal.returns

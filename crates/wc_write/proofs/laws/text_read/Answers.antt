@@ -1,4 +1,4 @@
-use Rattle.wc_write.proofs.ModulesRead.{module_read}
+use Rattle.wc_write.proofs.ModuleTextLemmas.{module_read}
 use Rattle.wc_write.proofs.laws.text_read.Goals as goal
 
 pub returns : goal.returns

@@ -1,5 +1,5 @@
 use Rattle.std.proofs.Common.{arith}
-use Rattle.wc_write.proofs.Digits.{number_start, number_step, number_end}
+use Rattle.wc_write.proofs.DigitLemmas.{number_start, number_step, number_end}
 use Rattle.wc_write.proofs.numbers.put_number.Goals as goal
 
 pub loop-rest-init : goal.loop-rest-init

@@ -1,4 +1,4 @@
-use Rattle.wc_write.proofs.Digits.{IsSoFar}
+use Rattle.wc_write.proofs.DigitLemmas.{IsSoFar}
 use Rattle.wc_write.proofs.numbers.put_number.Given as goal
 
 abbrev pub invariant-loop-rest : goal.invariant-loop-rest

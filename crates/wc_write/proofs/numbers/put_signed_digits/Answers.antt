@@ -1,5 +1,5 @@
 use Rattle.std.proofs.Common.{arith}
-use Rattle.wc_write.proofs.SignedDigits.{signed_start, signed_step, signed_end}
+use Rattle.wc_write.proofs.SignedDigitLemmas.{signed_start, signed_step, signed_end}
 use Rattle.wc_write.proofs.numbers.put_signed_digits.Goals as goal
 
 pub loop-rest-init : goal.loop-rest-init

@@ -1,4 +1,4 @@
-use Rattle.wc_write.proofs.SignedDigits.{IsSignedSoFar}
+use Rattle.wc_write.proofs.SignedDigitLemmas.{IsSignedSoFar}
 use Rattle.wc_write.proofs.numbers.put_signed_digits.Given as goal
 
 abbrev pub invariant-loop-rest : goal.invariant-loop-rest

@@ -1,5 +1,5 @@
 use Rattle.std.proofs.Common.{arith}
-use Rattle.wc_write.proofs.VectorsText.{items_end}
+use Rattle.wc_write.proofs.VectorLemmas.{items_end}
 use Rattle.wc_write.proofs.vectors.put_all.Goals as goal
 
 pub returns : goal.returns

@@ -2,7 +2,7 @@ use Rattle.std.proofs.Common.{◌≡◌, ◌<◌, ◌≤◌, ◌^◌, ℕ, ◌+�
 use Rattle.std.proofs.Math.Pow.{pow_mono}
 use Rattle.std.proofs.lemmas.Result.{err_from_is_err_and}
 use Rattle.wc_read.specs.Reading.{byte_at}
-use Rattle.wc_read.proofs.Numbers.{IsSoFar, byte_cut, byte_none, number_fails, number_empty, number_end, number_high, number_long, number_step, shl_whole, last_digits, last_below, fits_left, fits_if_shifted_out, high_if_not}
+use Rattle.wc_read.proofs.NumbersLemmas.{IsSoFar, byte_cut, byte_none, number_fails, number_empty, number_end, number_high, number_too_long, number_step, shl_without_overflow, last_digits, last_below, fits_left, fits_if_shifted_out, high_if_not}
 use Rattle.wc_read.proofs.reader.Reader.digits.Goals as goal
 use Rattle.wc_read.proofs.reader.Reader.digits.Goals.{After-from, After-from-in-loop-byte, else-left-lt7-via-then-left-lt7+else-byte-left-ne0, else-left-lt7-via-else-left-lt7}
 
@@ -13,17 +13,13 @@ at_byte bits bytes value shift rest b others s e = let cut = byte_cut rest b oth
 pub returns-in_err-byte-clause-read : goal.returns-in_err-byte-clause-read
 returns-in_err-byte-clause-read c =
     let p = err_from_is_err_and c.from_residual.result c.from_residual.ensures.1 in
-    rw (p.1, p.2) (
-      (λ real.
-          let none = byte_none _ (c.in_err-byte.ensures.0 real) in
-          number_fails _ _ _ _ _ c.loop-byte.invariant (rw none (number_empty _))),
-      c.in_err-byte.ensures.1,
-    )
+    let none = byte_none _ c.in_err-byte.ensures.0 in
+    rw (p.1, p.2) (number_fails _ _ _ _ _ c.loop-byte.invariant (rw none (number_empty _)), c.in_err-byte.ensures.1, c.in_err-byte.ensures.2)
 
 pub returns-then-byte-left-ne0-clause-read : goal.returns-then-byte-left-ne0-clause-read
 returns-then-byte-left-ne0-clause-read c =
     let s = at_byte _ _ _ _ _ _ _ c.loop-byte.invariant c.in_ok-byte.ensures in
-    ((λ _. number_fails _ _ _ _ _ s (number_high _ _ _ c.if-byte-lt128.true (high_if_not _ _ c.if-byte-left-ne0.true))), λ same. cc same)
+    (number_fails _ _ _ _ _ s (number_high _ _ _ c.if-byte-lt128.true (high_if_not _ _ c.if-byte-left-ne0.true)), (λ same. cc same), λ same. cc same)
 
 -- the last byte fits the bits that are left
 fits : (c : After-from) → c.in_ok-byte.byte < 2 ^ (c.args.bits - c.loop-byte.shift)
@@ -33,14 +29,14 @@ fits c = elim c.else-left-lt7.branch [
 ]
 
 digits : (c : After-from) → c.from.result * 2 ^ c.loop-byte.shift % 18446744073709551616 ≡ 2 ^ c.loop-byte.shift * c.in_ok-byte.byte
-digits c = rw c.from.ensures (last_digits c.args.bits _ _ c.loop-byte.invariant.within c.requires.most (fits c))
+digits c = rw c.from.ensures (last_digits c.args.bits _ _ c.loop-byte.invariant.within c.requires.limit (fits c))
 
 below : (c : After-from) → c.loop-byte.value + 2 ^ c.loop-byte.shift * c.in_ok-byte.byte < 2 ^ c.args.bits
 below c = last_below _ _ _ _ c.loop-byte.invariant.within c.loop-byte.invariant.low (fits c)
 
 pub overflow_add-result : goal.overflow_add-result
 overflow_add-result c =
-    let most : 2 ^ c.args.bits ≤ 2 ^ 64 = pow_mono {j = 64} c.requires.most in
+    let limit : 2 ^ c.args.bits ≤ 2 ^ 64 = pow_mono {j = 64} c.requires.limit in
     rw (digits c) (omega (arith, below c))
 
 pub returns-then-byte-lt128-clause-read : goal.returns-then-byte-lt128-clause-read
@@ -54,10 +50,10 @@ returns-then-byte-lt128-clause-bound c = rw (digits c) (below c)
 pub returns-then-left-le7-clause-read : goal.returns-then-left-le7-clause-read
 returns-then-left-le7-clause-read c =
     let s = at_byte _ _ _ _ _ _ _ c.loop-byte.invariant c.in_ok-byte.ensures in
-    ((λ _. number_fails _ _ _ _ _ s (number_long _ _ _ c.if-byte-lt128.false c.if-left-le7.true)), λ same. cc same)
+    (number_fails _ _ _ _ _ s (number_too_long _ _ _ c.if-byte-lt128.false c.if-left-le7.true), (λ same. cc same), λ same. cc same)
 
 more_digits : (c : After-from-in-loop-byte) → c.from-in-loop-byte.result * 2 ^ c.loop-byte.shift % 18446744073709551616 ≡ (c.in_ok-byte.byte - 128) * 2 ^ c.loop-byte.shift
-more_digits c = rw c.from-in-loop-byte.ensures (shl_whole _ _ 7 (omega arith) (omega arith))
+more_digits c = rw c.from-in-loop-byte.ensures (shl_without_overflow _ _ 7 (omega arith) (omega arith))
 
 more : (c : After-from-in-loop-byte) → IsSoFar c.args.bits c.args.self.now.rest.now (c.loop-byte.value + (c.in_ok-byte.byte - 128) * 2 ^ c.loop-byte.shift) (c.loop-byte.shift + 7) c.byte.new.self.rest.now
 more c =
@@ -66,7 +62,7 @@ more c =
 
 pub overflow_add-value : goal.overflow_add-value
 overflow_add-value c =
-    let most : 2 ^ (c.loop-byte.shift + 7) ≤ 2 ^ 64 = pow_mono {j = 64} (omega arith) in
+    let limit : 2 ^ (c.loop-byte.shift + 7) ≤ 2 ^ 64 = pow_mono {j = 64} (omega arith) in
     rw (more_digits c) (omega (arith, (more c).low))
 
 pub loop-byte-preserved : goal.loop-byte-preserved

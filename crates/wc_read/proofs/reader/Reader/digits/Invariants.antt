@@ -1,5 +1,5 @@
 use Rattle.std.proofs.Common.{length}
-use Rattle.wc_read.proofs.Numbers.{IsSoFar}
+use Rattle.wc_read.proofs.NumbersLemmas.{IsSoFar}
 use Rattle.wc_read.proofs.reader.Reader.digits.Given as goal
 
 abbrev pub invariant-loop-byte : goal.invariant-loop-byte

@@ -1,6 +1,6 @@
 use Rattle.std.proofs.Common.{arith}
 use Rattle.std.proofs.lemmas.Result.{err_from_is_err_and}
-use Rattle.wc_read.proofs.InitsMeet.{passed_start, passed_shorter, passed_more, passed_end, passed_fails}
+use Rattle.wc_read.proofs.InitsLemmas.{passed_start, passed_shorter, passed_more, passed_end, passed_fails}
 use Rattle.wc_read.proofs.reader.Reader.init.Goals as goal
 
 pub loop-init-init : goal.loop-init-init
@@ -11,8 +11,8 @@ returns-in_err-init_end c =
     let p = err_from_is_err_and c.from_residual.result c.from_residual.ensures.1 in
     rw (p.1, p.2) ((λ real. passed_fails _ _ c.loop-init.invariant (c.in_err-init_end.ensures.0 real)), c.in_err-init_end.ensures.1)
 
-pub overflow_sub-whole : goal.overflow_sub-whole
-overflow_sub-whole c = omega (arith, c.loop-init.invariant.left, passed_shorter _ _ _ c.in_ok-init_end.ensures)
+pub overflow_sub-input : goal.overflow_sub-input
+overflow_sub-input c = omega (arith, c.loop-init.invariant.left, passed_shorter _ _ _ c.in_ok-init_end.ensures)
 
 pub returns-then-branch : goal.returns-then-branch
 returns-then-branch c =

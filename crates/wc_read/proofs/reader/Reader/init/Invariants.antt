@@ -1,5 +1,5 @@
 use Rattle.std.proofs.Common.{length}
-use Rattle.wc_read.proofs.InitsMeet.{IsPassed}
+use Rattle.wc_read.proofs.InitsLemmas.{IsPassed}
 use Rattle.wc_read.proofs.reader.Reader.init.Given as goal
 
 abbrev pub invariant-loop-init : goal.invariant-loop-init

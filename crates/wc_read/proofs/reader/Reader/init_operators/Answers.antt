@@ -2,9 +2,9 @@ use Rattle.std.proofs.Common.{sym}
 use Rattle.std.proofs.lemmas.List.{map-append}
 use Rattle.std.proofs.lemmas.Result.{err_from_is_err_and}
 use Rattle.wc_read.specs.Inits.{ends, init_instr_at}
-use Rattle.wc_read.proofs.ToEnd.{to_shorter}
-use Rattle.wc_read.proofs.Until.{until_end, until_more, until_fails}
-use Rattle.wc_read.proofs.InitsMeet.{SpellsInitInstr, init_instr_meets, init_instr_some, init_start}
+use Rattle.wc_read.proofs.ToEndLemmas.{to_shorter}
+use Rattle.wc_read.proofs.UntilLemmas.{until_end, until_more, until_fails}
+use Rattle.wc_read.proofs.InitsLemmas.{SpellsInitInstr, init_instr_meets, init_instr_some, init_start}
 use Rattle.wc_read.proofs.reader.Reader.init_operators.Goals as goal
 
 pub loop-operators-init : goal.loop-operators-init

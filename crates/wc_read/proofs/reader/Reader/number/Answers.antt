@@ -1,4 +1,4 @@
-use Rattle.wc_read.proofs.Numbers.{number_last, seven_bits}
+use Rattle.wc_read.proofs.NumbersLemmas.{number_last, seven_bits}
 use Rattle.wc_read.proofs.reader.Reader.number.Goals as goal
 
 pub returns-clause-read : goal.returns-clause-read

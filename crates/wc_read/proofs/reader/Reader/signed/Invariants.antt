@@ -1,5 +1,5 @@
 use Rattle.std.proofs.Common.{length}
-use Rattle.wc_read.proofs.SignedLoop.{IsSignedSoFar}
+use Rattle.wc_read.proofs.SignedLoopLemmas.{IsSignedSoFar}
 use Rattle.wc_read.proofs.reader.Reader.signed.Given as goal
 
 abbrev pub invariant-loop-byte : goal.invariant-loop-byte

@@ -1,7 +1,7 @@
 use Rattle.std.proofs.Common.{◌≡◌, ◌-◌, ◌+◌, suc, arith}
 use Rattle.std.proofs.lemmas.List.{map-append}
 use Rattle.std.proofs.lemmas.Result.{err_from_is_err_and}
-use Rattle.wc_read.proofs.Counted.{part_end, part_fails, part_more}
+use Rattle.wc_read.proofs.CountedLemmas.{part_end, part_fails, part_more}
 use Rattle.wc_read.proofs.reader.Reader.vector.Goals as goal
 
 pub returns-in_err-item : goal.returns-in_err-item

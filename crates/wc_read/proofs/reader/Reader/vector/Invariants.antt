@@ -1,6 +1,6 @@
 use Rattle.std.proofs.Common.{◌-◌, map}
 use Rattle.wc_read.specs.Reading.{vector_at}
-use Rattle.wc_read.proofs.Counted.{IsPartRead}
+use Rattle.wc_read.proofs.CountedLemmas.{IsPartRead}
 use Rattle.wc_read.proofs.reader.Reader.vector.Given as goal
 
 abbrev pub invariant-loop : goal.invariant-loop

@@ -1,0 +1,171 @@
+//! Examples of calling each library, and the rows' call of them: `example NAME ARGUMENT..`.
+
+mod dedupe;
+mod encoder;
+mod read;
+mod resolve;
+mod tool;
+mod write;
+
+use crate::imports::imports_of;
+use crate::input::{Stop, answered, bad_row, bytes_of};
+use crate::rows::Row;
+use crate::values::{put_bytes_lines, put_fault};
+use indexmap::IndexMap;
+use std::alloc::{AllocError, Global};
+use std::str;
+use wc_resolve::{Parts, Resolve, ResolveFault, World, WorldId};
+
+/// Appends the answer of an example, and says whether the row's call is one.
+pub(crate) fn answer(alloc: Global, row: &Row<'_>, out: &mut String) -> Result<bool, AllocError> {
+    answered(answer_call(alloc, row, out))
+}
+
+fn answer_call(alloc: Global, row: &Row<'_>, out: &mut String) -> Result<bool, Stop> {
+    if row.call != "example" {
+        return Ok(false);
+    }
+    match argument(row, 0).as_bytes() {
+        b"exports_memory" => answer_exports_memory(alloc, row, out)?,
+        b"import_section" => answer_import_section(alloc, row, out)?,
+        b"original_name" => answer_original_name(alloc, row, out)?,
+        b"interface_id" => answer_interface_id(alloc, row, out)?,
+        b"encoder_for" => answer_encoder_for(alloc, row, out)?,
+        b"printed_lines" => answer_printed_lines(alloc, row, out)?,
+        _ => return Err(bad_row(out, "no example", argument(row, 0))),
+    }
+    Ok(true)
+}
+
+/// An argument of a row that has so many or less; it is empty where there are fewer.
+fn argument<'a>(row: &Row<'a>, index: usize) -> &'a str {
+    match row.arguments.get(index) {
+        Some(argument) => *argument,
+        None => "",
+    }
+}
+
+/// An argument that is a number.
+fn number(row: &Row<'_>, index: usize, out: &mut String) -> Result<u32, Stop> {
+    match argument(row, index).parse::<u32>() {
+        Ok(number) => Ok(number),
+        Err(_) => Err(bad_row(out, "no number", argument(row, index))),
+    }
+}
+
+/// A name in quotes, or `none`.
+fn put_name(out: &mut String, name: &Option<String>) -> Result<(), AllocError> {
+    match name {
+        Some(name) => writeln!(out, "{name:?}"),
+        None => out.push_str("none\n"),
+    }
+}
+
+fn answer_exports_memory(alloc: Global, row: &Row<'_>, out: &mut String) -> Result<(), Stop> {
+    let bytes = bytes_of(alloc, &row.input, out)?;
+    match read::exports_memory(alloc, &bytes) {
+        Ok(answer) => writeln!(out, "{answer}")?,
+        Err(fault) => put_fault(out, fault)?,
+    }
+    Ok(())
+}
+
+fn answer_import_section(alloc: Global, row: &Row<'_>, out: &mut String) -> Result<(), Stop> {
+    let bytes = bytes_of(alloc, &row.input, out)?;
+    match write::import_section(alloc, &bytes) {
+        Ok(section) => put_bytes_lines(out, "bytes", &section)?,
+        Err(fault) => put_fault(out, fault)?,
+    }
+    Ok(())
+}
+
+/// The last line of input describes the import; those before it are the module.
+fn answer_original_name(alloc: Global, row: &Row<'_>, out: &mut String) -> Result<(), Stop> {
+    let Some((last, lines)) = row.input.as_slice().split_last() else {
+        return Err(bad_row(out, "no import", ""));
+    };
+    let bytes = bytes_of(alloc, lines, out)?;
+    let imports = imports_of(alloc, &[*last], out)?;
+    let Some(import) = imports.first() else {
+        return Err(bad_row(out, "no import", last));
+    };
+    match dedupe::original_name(alloc, &bytes, import) {
+        Ok(name) => put_name(out, &name)?,
+        Err(fault) => put_fault(out, fault)?,
+    }
+    Ok(())
+}
+
+/// `example interface_id NAMESPACE NAME INTERFACE`.
+fn answer_interface_id(alloc: Global, row: &Row<'_>, out: &mut String) -> Result<(), Stop> {
+    let (namespace, name) = (argument(row, 1), argument(row, 2));
+    match resolve::interface_id(alloc, namespace, name, argument(row, 3)) {
+        Ok(id) => put_name(out, &id)?,
+        Err(fault) => put_fault(out, fault)?,
+    }
+    Ok(())
+}
+
+/// A `Resolve` of one world, which imports and exports nothing.
+fn empty_world(alloc: Global) -> Result<Resolve, ResolveFault> {
+    let world = World {
+        name: String::from_str(alloc, "empty")?,
+        imports: IndexMap::new(alloc),
+        exports: IndexMap::new(alloc),
+    };
+    let parts = Parts {
+        worlds: vec![in alloc; world]?,
+        interfaces: Vec::new(alloc),
+        types: Vec::new(alloc),
+        packages: Vec::new(alloc),
+    };
+    Resolve::build(alloc, parts)
+}
+
+/// `example encoder_for WORLD`: the encoder's module, and its world.
+fn answer_encoder_for(alloc: Global, row: &Row<'_>, out: &mut String) -> Result<(), Stop> {
+    let world = WorldId(number(row, 1, out)?);
+    let module = bytes_of(alloc, &row.input, out)?;
+    let resolve = match empty_world(alloc) {
+        Ok(resolve) => resolve,
+        Err(fault) => {
+            put_fault(out, fault)?;
+            return Ok(());
+        }
+    };
+    match encoder::encoder_for(alloc, module, resolve, world) {
+        Ok(encoder) => {
+            put_bytes_lines(out, "module", encoder.module())?;
+            let id = encoder.metadata().world.0;
+            writeln!(out, "world {id}")?;
+        }
+        Err(fault) => put_fault(out, fault)?,
+    }
+    Ok(())
+}
+
+/// `example printed_lines ARGUMENT..`.
+fn answer_printed_lines(alloc: Global, row: &Row<'_>, out: &mut String) -> Result<(), Stop> {
+    let mut arguments = Vec::new(alloc);
+    for argument in row.arguments.iter().skip(1) {
+        arguments.push(String::from_str(alloc, argument)?)?;
+    }
+    let input = bytes_of(alloc, &row.input, out)?;
+    match tool::printed_lines(alloc, &arguments, &input) {
+        Ok(Some(lines)) => put_lines(out, &lines)?,
+        Ok(None) => out.push_str("usage\n")?,
+        Err(fault) => put_fault(out, fault)?,
+    }
+    Ok(())
+}
+
+/// A line for each line that was printed.
+fn put_lines(out: &mut String, bytes: &[u8]) -> Result<(), AllocError> {
+    let Ok(text) = str::from_utf8(bytes) else {
+        return put_bytes_lines(out, "printed", bytes);
+    };
+    for line in text.lines() {
+        writeln!(out, "line {line:?}")?;
+    }
+    Ok(())
+}

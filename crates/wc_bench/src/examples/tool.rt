@@ -1,0 +1,32 @@
+//! An example of `wc_tool`.
+
+ghost use Rattle.std.specs.Prelude.{◌≡◌, ◌≢◌, ℕ, IfNone, IfOk, IfSome, List, Option};
+ghost use Rattle.std.specs.Prelude.{map, string_bytes};
+ghost use Rattle.wc_tool.specs.Command.{CommandValue, arguments_of};
+ghost use Rattle.wc_tool.specs.Execution.{Runs};
+
+use std::alloc::Global;
+use wc_tool::{ToolFault, execute, parse};
+use wc_write::WriterSink;
+
+/// The lines that a command prints for the bytes of a module. `None` where the arguments are
+/// those of no command.
+pub(crate) fn printed_lines(
+    alloc: Global,
+    arguments: &[String],
+    input: &[u8],
+) -> Result<Option<Vec<u8>>, ToolFault>
+    ensures lines { IfOk result (λ answer. IfSome answer (λ lines.
+        (c : CommandValue) × (written : Option (List ℕ))
+        × (map string_bytes arguments.now ≡ arguments_of c)
+        × Runs c input.now lines.items written)) }
+    ensures usage { IfOk result (λ answer. IfNone answer
+        ((c : CommandValue) → map string_bytes arguments.now ≢ arguments_of c)) }
+{
+    let Ok(command) = parse(arguments) else {
+        return Ok(None);
+    };
+    let mut sink = WriterSink::new(Vec::new(alloc));
+    execute(alloc, &command, input, &mut sink)?;
+    Ok(Some(sink.into_inner()))
+}

@@ -1,0 +1,26 @@
+//! Runs tests that are rows of data: each names a call of a library, its input and the answer that is wanted.
+#![tactic(auto)]
+
+mod answers;
+mod built;
+mod dedupe_calls;
+mod examples;
+mod imports;
+mod input;
+mod law_calls;
+mod modules;
+mod operators;
+mod program;
+mod read_calls;
+mod rows;
+mod sink_calls;
+mod tool_calls;
+mod values;
+mod worlds;
+mod write_calls;
+
+use std::process::ExitCode;
+
+fn main(rt: HostRuntime) -> ExitCode {
+    program::run(&rt)
+}

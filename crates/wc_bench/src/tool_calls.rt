@@ -1,0 +1,117 @@
+//! Calls of `wc_tool`.
+
+use crate::input::{Stop, answered, bad_row, bytes_of};
+use crate::rows::Row;
+use crate::values::{put_bytes_lines, put_fault};
+use std::alloc::{AllocError, Global};
+use std::str;
+use wc_dedupe::DedupeFault;
+use wc_read::ReadFault;
+use wc_tool::{Command, ToolFault, execute, parse};
+use wc_write::WriterSink;
+
+/// Appends the answer of a call of `wc_tool`, and says whether the row's is one.
+pub(crate) fn answer(alloc: Global, row: &Row<'_>, out: &mut String) -> Result<bool, AllocError> {
+    answered(answer_call(alloc, row, out))
+}
+
+fn answer_call(alloc: Global, row: &Row<'_>, out: &mut String) -> Result<bool, Stop> {
+    match row.call.as_bytes() {
+        b"parse" => answer_parse(alloc, row, out)?,
+        b"execute" => answer_execute(alloc, row, out)?,
+        b"tool_faults" => put_faults(out)?,
+        _ => return Ok(false),
+    }
+    Ok(true)
+}
+
+fn arguments_of(alloc: Global, lines: &[&str]) -> Result<Vec<String>, AllocError> {
+    let mut words = Vec::new(alloc);
+    for line in lines {
+        words.push(String::from_str(alloc, line)?)?;
+    }
+    Ok(words)
+}
+
+fn command_word(command: &Command<'_>) -> &'static str {
+    match command {
+        Command::Dedupe { .. } => "dedupe",
+        Command::Scan { .. } => "scan",
+    }
+}
+
+/// A command, the file that it reads and the one that it writes.
+fn put_command(out: &mut String, command: &Command<'_>) -> Result<(), AllocError> {
+    let word = command_word(command);
+    let source = command.source();
+    write!(out, "{word}\nreads {source:?}\nwrites ")?;
+    match command.target() {
+        Some(target) => writeln!(out, "{target:?}"),
+        None => out.push_str("nothing\n"),
+    }
+}
+
+fn answer_parse(alloc: Global, row: &Row<'_>, out: &mut String) -> Result<(), Stop> {
+    let words = arguments_of(alloc, &row.input)?;
+    match parse(words.as_slice()) {
+        Ok(command) => put_command(out, &command)?,
+        Err(_) => out.push_str("usage\n")?,
+    }
+    Ok(())
+}
+
+/// The command that the first argument names.
+pub(crate) fn named_command(row: &Row<'_>, out: &mut String) -> Result<Command<'static>, Stop> {
+    let word = match row.arguments.first() {
+        Some(word) => *word,
+        None => "",
+    };
+    match word.as_bytes() {
+        b"dedupe" => Ok(Command::Dedupe {
+            source: "in.wasm",
+            target: "out.wasm",
+        }),
+        b"scan" => Ok(Command::Scan { source: "in.wasm" }),
+        _ => Err(bad_row(out, "no command", word)),
+    }
+}
+
+fn answer_execute(alloc: Global, row: &Row<'_>, out: &mut String) -> Result<(), Stop> {
+    let command = named_command(row, out)?;
+    let input = bytes_of(alloc, &row.input, out)?;
+    let mut sink = WriterSink::new(Vec::new(alloc));
+    let answer = execute(alloc, &command, &input, &mut sink);
+    put_lines(out, &sink.into_inner())?;
+    put_answer(out, &answer)?;
+    Ok(())
+}
+
+/// The lines that were printed, or their bytes where they are no text.
+fn put_lines(out: &mut String, bytes: &[u8]) -> Result<(), AllocError> {
+    let Ok(text) = str::from_utf8(bytes) else {
+        return put_bytes_lines(out, "printed", bytes);
+    };
+    for line in text.lines() {
+        writeln!(out, "line {line:?}")?;
+    }
+    Ok(())
+}
+
+pub(crate) fn put_answer(
+    out: &mut String,
+    answer: &Result<Option<Vec<u8>>, ToolFault>,
+) -> Result<(), AllocError> {
+    match answer {
+        Ok(Some(bytes)) => put_bytes_lines(out, "bytes", bytes),
+        Ok(None) => out.push_str("no bytes\n"),
+        Err(fault) => put_fault(out, *fault),
+    }
+}
+
+/// The texts of faults.
+fn put_faults(out: &mut String) -> Result<(), AllocError> {
+    put_fault(out, ToolFault::Memory)?;
+    put_fault(out, ToolFault::Dedupe(DedupeFault::TooLarge))?;
+    put_fault(out, ToolFault::Read(ReadFault::Truncated))?;
+    put_fault(out, ToolFault::Output)
+}

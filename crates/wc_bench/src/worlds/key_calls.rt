@@ -1,0 +1,86 @@
+//! The calls on keys and versions, which need no `Resolve`.
+
+use crate::worlds::functions::complete_function;
+use crate::worlds::members::{version_of, world_key};
+use crate::worlds::resolve_calls::put_answer;
+use crate::worlds::shown_names::{put_key, put_name};
+use crate::worlds::stop::Stop;
+use crate::worlds::words::Words;
+use std::alloc::AllocError;
+use std::hash::{DefaultHasher, Hash, Hasher};
+use wc_resolve::laws::keys_hash_alike;
+use wc_resolve::{PackageName, WorldKey};
+
+fn hash_of(key: &WorldKey) -> u64 {
+    let mut state = DefaultHasher::new();
+    key.hash(&mut state);
+    state.finish()
+}
+
+/// Whether two keys are equal, and whether they are hashed alike, a line each.
+fn put_alike(out: &mut String, left: &WorldKey, right: &WorldKey) -> Result<(), AllocError> {
+    keys_hash_alike(left, right);
+    put_answer(out, *left == *right)?;
+    put_answer(out, hash_of(left) == hash_of(right))
+}
+
+/// The copy of a key, whether it is equal to the key, and whether both are hashed alike.
+fn key_clone<'a>(words: &mut Words, out: &mut String) -> Result<(), Stop<'a>> {
+    let key = world_key(words)?;
+    let copy = key.clone(words.alloc)?;
+    put_key(out, &copy)?;
+    out.push('\n')?;
+    put_alike(out, &copy, &key)?;
+    Ok(())
+}
+
+/// Whether two keys are equal.
+fn keys_equal<'a>(words: &mut Words, out: &mut String) -> Result<(), Stop<'a>> {
+    let left = world_key(words)?;
+    let right = world_key(words)?;
+    put_answer(out, left == right)?;
+    Ok(())
+}
+
+fn version_compat_track<'a>(words: &mut Words, out: &mut String) -> Result<(), Stop<'a>> {
+    let text = words.name()?;
+    let version = version_of(words.alloc, &text)?;
+    let track = PackageName::version_compat_track(words.alloc, &version)?;
+    put_name(out, &track)?;
+    out.push('\n')?;
+    Ok(())
+}
+
+/// `legacy_core_export_name FUNC [of INTERFACE]`, the interface by its name.
+fn legacy_core_export_name<'a>(words: &mut Words, out: &mut String) -> Result<(), Stop<'a>> {
+    let function = complete_function(words)?;
+    let name = if words.take("of") {
+        let interface = words.name()?;
+        function.legacy_core_export_name(words.alloc, Some(interface.as_str()))?
+    } else {
+        function.legacy_core_export_name(words.alloc, None)?
+    };
+    put_name(out, &name)?;
+    out.push('\n')?;
+    Ok(())
+}
+
+/// False where the call is none of these.
+pub(crate) fn key_call<'a>(
+    call: &str,
+    words: &mut Words,
+    out: &mut String,
+) -> Result<bool, Stop<'a>> {
+    if call == "key_clone" {
+        key_clone(words, out)?;
+    } else if call == "keys_equal" {
+        keys_equal(words, out)?;
+    } else if call == "version_compat_track" {
+        version_compat_track(words, out)?;
+    } else if call == "legacy_core_export_name" {
+        legacy_core_export_name(words, out)?;
+    } else {
+        return Ok(false);
+    }
+    Ok(true)
+}

@@ -1,0 +1,171 @@
+//! The calls on names, keys and items of a `Resolve`.
+
+use crate::worlds::functions::complete_function;
+use crate::worlds::members::{interface_id, world_entry, world_key};
+use crate::worlds::resolve_calls::put_found;
+use crate::worlds::shown_names::{put_id, put_optional_name};
+use crate::worlds::stop::Stop;
+use crate::worlds::words::Words;
+use std::alloc::AllocError;
+use wc_resolve::{InterfaceId, Resolve, TypeId, WorldItem, WorldKey};
+
+/// A text, or `none`, on a line.
+fn put_text(out: &mut String, text: &Option<String>) -> Result<(), AllocError> {
+    put_optional_name(out, text)?;
+    out.push('\n')
+}
+
+fn id_of<'a>(resolve: &Resolve, words: &mut Words, out: &mut String) -> Result<(), Stop<'a>> {
+    let id = interface_id(words)?;
+    if !resolve.has_interface(id) {
+        return Err(Stop::Missing("no such interface"));
+    }
+    put_text(out, &resolve.id_of(words.alloc, id)?)?;
+    Ok(())
+}
+
+fn canonicalized_id_of<'a>(
+    resolve: &Resolve,
+    words: &mut Words,
+    out: &mut String,
+) -> Result<(), Stop<'a>> {
+    let id = interface_id(words)?;
+    if !resolve.has_interface(id) {
+        return Err(Stop::Missing("no such interface"));
+    }
+    put_text(out, &resolve.canonicalized_id_of(words.alloc, id)?)?;
+    Ok(())
+}
+
+/// The text of an interface's key, where it has an id.
+fn name_of_interface(
+    resolve: &Resolve,
+    words: &Words,
+    id: InterfaceId,
+) -> Result<Option<String>, AllocError> {
+    if !resolve.has_interface(id) {
+        return Ok(None);
+    }
+    match resolve.id_of(words.alloc, id)? {
+        Some(_) => {
+            let name = resolve.name_world_key(words.alloc, &WorldKey::Interface(id))?;
+            Ok(Some(name))
+        }
+        None => Ok(None),
+    }
+}
+
+fn name_world_key<'a>(
+    resolve: &Resolve,
+    words: &mut Words,
+    out: &mut String,
+) -> Result<(), Stop<'a>> {
+    let name = match world_key(words)? {
+        WorldKey::Interface(id) => name_of_interface(resolve, words, id)?,
+        WorldKey::Name(name) => {
+            Some(resolve.name_world_key(words.alloc, &WorldKey::Name(name))?)
+        }
+    };
+    if name.is_none() {
+        return Err(Stop::Missing("an interface without an id"));
+    }
+    put_text(out, &name)?;
+    Ok(())
+}
+
+fn implements_interface<'a>(
+    resolve: &Resolve,
+    words: &mut Words,
+    out: &mut String,
+) -> Result<(), Stop<'a>> {
+    let (key, item) = world_entry(words)?;
+    let is_there = match &item {
+        WorldItem::Interface { id, .. } => resolve.has_interface(*id),
+        WorldItem::Function(function) => resolve.has_function(function),
+        WorldItem::TypeItem { id } => resolve.has_type(*id),
+    };
+    if !is_there {
+        return Err(Stop::Missing("an item of what is not there"));
+    }
+    let found = resolve.implements_interface(&key, &item);
+    put_found(out, 'i', found.map(|id| id.0))?;
+    Ok(())
+}
+
+fn external_id_value<'a>(
+    resolve: &Resolve,
+    words: &mut Words,
+    out: &mut String,
+) -> Result<(), Stop<'a>> {
+    let (key, item) = world_entry(words)?;
+    put_text(out, &resolve.external_id_value(words.alloc, &key, &item)?)?;
+    Ok(())
+}
+
+fn interface_direct_deps<'a>(
+    resolve: &Resolve,
+    words: &mut Words,
+    out: &mut String,
+) -> Result<(), Stop<'a>> {
+    let id = interface_id(words)?;
+    if !resolve.has_interface(id) {
+        return Err(Stop::Missing("no such interface"));
+    }
+    out.push_str("ids")?;
+    for found in &resolve.interface_direct_deps(words.alloc, id)? {
+        out.push(' ')?;
+        put_id(out, 'i', found.0)?;
+    }
+    out.push('\n')?;
+    Ok(())
+}
+
+fn put_type_ids(out: &mut String, ids: &[TypeId]) -> Result<(), AllocError> {
+    out.push_str("ids")?;
+    for id in ids {
+        out.push(' ')?;
+        put_id(out, 't', id.0)?;
+    }
+    out.push('\n')
+}
+
+fn find_futures_and_streams<'a>(
+    resolve: &Resolve,
+    words: &mut Words,
+    out: &mut String,
+) -> Result<(), Stop<'a>> {
+    let function = complete_function(words)?;
+    if !resolve.has_function(&function) {
+        return Err(Stop::Missing("a function that is not usable"));
+    }
+    let found = function.find_futures_and_streams(words.alloc, resolve)?;
+    put_type_ids(out, &found)?;
+    Ok(())
+}
+
+/// False where the call is none of these.
+pub(crate) fn name_call<'a>(
+    call: &str,
+    resolve: &Resolve,
+    words: &mut Words,
+    out: &mut String,
+) -> Result<bool, Stop<'a>> {
+    if call == "id_of" {
+        id_of(resolve, words, out)?;
+    } else if call == "canonicalized_id_of" {
+        canonicalized_id_of(resolve, words, out)?;
+    } else if call == "name_world_key" {
+        name_world_key(resolve, words, out)?;
+    } else if call == "implements_interface" {
+        implements_interface(resolve, words, out)?;
+    } else if call == "external_id_value" {
+        external_id_value(resolve, words, out)?;
+    } else if call == "interface_direct_deps" {
+        interface_direct_deps(resolve, words, out)?;
+    } else if call == "find_futures_and_streams" {
+        find_futures_and_streams(resolve, words, out)?;
+    } else {
+        return Ok(false);
+    }
+    Ok(true)
+}

@@ -1,0 +1,264 @@
+//! The calls on a `Resolve`: building one, and what is at an index.
+
+use crate::rows::Row;
+use crate::worlds::fixture::fixture_of;
+use crate::worlds::functions::complete_function;
+use crate::worlds::key_calls::key_call;
+use crate::worlds::live_calls::live_call;
+use crate::worlds::members::{handle, package_name};
+use crate::worlds::name_calls::name_call;
+use crate::worlds::shown_kinds::put_complete_function;
+use crate::worlds::shown_names::put_id;
+use crate::worlds::shown_worlds::{put_interface, put_package, put_type_def, put_world};
+use crate::worlds::signature_calls::signature_call;
+use crate::worlds::stop::Stop;
+use crate::worlds::types::type_id;
+use crate::worlds::words::Words;
+use std::alloc::{AllocError, Global};
+use wc_resolve::{InterfaceId, PackageId, Resolve, ResolveFault, WorldId};
+
+/// The words after a call, as a line.
+pub(crate) fn argument_words<'a>(alloc: Global, row: &Row<'_>) -> Result<Words, Stop<'a>> {
+    let mut line = String::new(alloc);
+    for word in &row.arguments {
+        line.push_str(word)?;
+        line.push(' ')?;
+    }
+    Ok(Words::of(alloc, &line, 0)?)
+}
+
+/// The `Resolve` that the input describes.
+pub(crate) fn resolve_of<'a>(alloc: Global, input: &[&'a str]) -> Result<Resolve, Stop<'a>> {
+    let (parts, _draft) = fixture_of(alloc, input)?.into_parts();
+    Ok(Resolve::build(alloc, parts)?)
+}
+
+pub(crate) fn put_answer(out: &mut String, holds: bool) -> Result<(), AllocError> {
+    out.push_str(if holds { "true\n" } else { "false\n" })
+}
+
+/// An id, or `none`, on a line.
+pub(crate) fn put_found(
+    out: &mut String,
+    letter: char,
+    index: Option<u32>,
+) -> Result<(), AllocError> {
+    match index {
+        Some(index) => put_id(out, letter, index)?,
+        None => out.push_str("none")?,
+    }
+    out.push('\n')
+}
+
+fn build(resolve: &Resolve, out: &mut String) -> Result<(), AllocError> {
+    resolve.formed();
+    resolve.listed();
+    resolve.carried();
+    resolve.flattened();
+    out.push_str("ok\n")
+}
+
+fn type_def<'a>(resolve: &Resolve, words: &mut Words, out: &mut String) -> Result<(), Stop<'a>> {
+    let id = type_id(words)?;
+    if !resolve.has_type(id) {
+        return Err(Stop::Missing("no such type"));
+    }
+    put_type_def(out, id.0, resolve.type_def(id))?;
+    Ok(())
+}
+
+fn interface<'a>(resolve: &Resolve, words: &mut Words, out: &mut String) -> Result<(), Stop<'a>> {
+    let id = InterfaceId(words.id('i', "the id of an interface is missing")?);
+    if !resolve.has_interface(id) {
+        return Err(Stop::Missing("no such interface"));
+    }
+    put_interface(out, id.0, resolve.interface(id))?;
+    Ok(())
+}
+
+fn package<'a>(resolve: &Resolve, words: &mut Words, out: &mut String) -> Result<(), Stop<'a>> {
+    let id = PackageId(words.id('p', "the id of a package is missing")?);
+    if !resolve.has_package(id) {
+        return Err(Stop::Missing("no such package"));
+    }
+    put_package(out, id.0, resolve.package(id))?;
+    Ok(())
+}
+
+fn world<'a>(resolve: &Resolve, words: &mut Words, out: &mut String) -> Result<(), Stop<'a>> {
+    let id = WorldId(words.id('w', "the id of a world is missing")?);
+    if !resolve.has_world(id) {
+        return Err(Stop::Missing("no such world"));
+    }
+    put_world(out, id.0, resolve.world(id))?;
+    Ok(())
+}
+
+/// Whether there is something at an index, or a function is usable.
+fn has<'a>(resolve: &Resolve, words: &mut Words, out: &mut String) -> Result<(), Stop<'a>> {
+    let holds = if words.is_at("func") {
+        resolve.has_function(&complete_function(words)?)
+    } else if let Some(index) = words.take_id('i') {
+        resolve.has_interface(InterfaceId(index))
+    } else if let Some(index) = words.take_id('p') {
+        resolve.has_package(PackageId(index))
+    } else if let Some(index) = words.take_id('w') {
+        resolve.has_world(WorldId(index))
+    } else {
+        resolve.has_type(type_id(words)?)
+    };
+    put_answer(out, holds)?;
+    Ok(())
+}
+
+fn package_named<'a>(
+    resolve: &Resolve,
+    words: &mut Words,
+    out: &mut String,
+) -> Result<(), Stop<'a>> {
+    let name = package_name(words)?;
+    let found = resolve.package_named(&name);
+    put_found(out, 'p', found.map(|id| id.0))?;
+    Ok(())
+}
+
+/// The calls on a `Resolve` alone.
+fn resolve_call<'a>(
+    call: &str,
+    resolve: &Resolve,
+    words: &mut Words,
+    out: &mut String,
+) -> Result<bool, Stop<'a>> {
+    if call == "resolve_build" {
+        build(resolve, out)?;
+    } else if call == "has" {
+        has(resolve, words, out)?;
+    } else if call == "type_def" {
+        type_def(resolve, words, out)?;
+    } else if call == "interface" {
+        interface(resolve, words, out)?;
+    } else if call == "package" {
+        package(resolve, words, out)?;
+    } else if call == "world" {
+        world(resolve, words, out)?;
+    } else if call == "package_named" {
+        package_named(resolve, words, out)?;
+    } else {
+        return Ok(false);
+    }
+    Ok(true)
+}
+
+/// The text of each fault, in the order of `ResolveFault`.
+fn put_faults(out: &mut String) -> Result<(), AllocError> {
+    let faults = [
+        ResolveFault::Memory,
+        ResolveFault::IdRange,
+        ResolveFault::Cycle,
+        ResolveFault::Unnamed,
+        ResolveFault::KeyMismatch,
+        ResolveFault::NameClash,
+        ResolveFault::BadCharacter,
+        ResolveFault::ByValueResource,
+        ResolveFault::Empty,
+    ];
+    for fault in faults {
+        writeln!(out, "{fault}")?;
+    }
+    Ok(())
+}
+
+/// The calls that need no `Resolve`.
+fn lone_call<'a>(call: &str, words: &mut Words, out: &mut String) -> Result<bool, Stop<'a>> {
+    if call == "resolve_faults" {
+        put_faults(out)?;
+    } else if call == "handle_resource" {
+        put_found(out, 't', Some(handle(words)?.resource().0))?;
+    } else if call == "function_clone" {
+        put_complete_function(out, &complete_function(words)?.clone(words.alloc)?)?;
+        out.push('\n')?;
+    } else {
+        return Ok(false);
+    }
+    Ok(true)
+}
+
+/// The calls on a whole.
+const ON_WHOLE: [&str; 16] = [
+    "resolve_build",
+    "has",
+    "type_def",
+    "interface",
+    "package",
+    "world",
+    "package_named",
+    "id_of",
+    "canonicalized_id_of",
+    "name_world_key",
+    "implements_interface",
+    "external_id_value",
+    "interface_direct_deps",
+    "find_futures_and_streams",
+    "wasm_signature",
+    "live_types",
+];
+
+fn is_on_resolve(call: &str) -> bool {
+    ON_WHOLE.iter().any(|name| *name == call)
+}
+
+/// The calls that need no whole.
+const ALONE: [&str; 7] = [
+    "resolve_faults",
+    "handle_resource",
+    "function_clone",
+    "key_clone",
+    "keys_equal",
+    "version_compat_track",
+    "legacy_core_export_name",
+];
+
+fn is_alone(call: &str) -> bool {
+    ALONE.iter().any(|name| *name == call)
+}
+
+/// The answer of a call on the `Resolve` that the input describes.
+fn answer_on_resolve<'a>(
+    alloc: Global,
+    row: &'a Row<'a>,
+    words: &mut Words,
+    out: &mut String,
+) -> Result<(), Stop<'a>> {
+    let resolve = resolve_of(alloc, &row.input)?;
+    if resolve_call(row.call, &resolve, words, out)? || name_call(row.call, &resolve, words, out)? {
+        return Ok(());
+    }
+    if signature_call(row.call, &resolve, words, out)? {
+        return Ok(());
+    }
+    live_call(alloc, &resolve, &row.input, out)
+}
+
+fn answered<'a>(alloc: Global, row: &'a Row<'a>, out: &mut String) -> Result<(), Stop<'a>> {
+    let mut words = argument_words(alloc, row)?;
+    if is_on_resolve(row.call) {
+        answer_on_resolve(alloc, row, &mut words, out)?;
+    } else if !lone_call(row.call, &mut words, out)? && !key_call(row.call, &mut words, out)? {
+        return Err(Stop::Missing("no call"));
+    }
+    words.end()?;
+    Ok(())
+}
+
+/// The answer of a call on worlds. False where the call is none.
+pub(crate) fn answer(alloc: Global, row: &Row<'_>, out: &mut String) -> Result<bool, AllocError> {
+    if !is_on_resolve(row.call) && !is_alone(row.call) {
+        return Ok(false);
+    }
+    let mut lines = String::new(alloc);
+    match answered(alloc, row, &mut lines) {
+        Ok(()) => out.push_str(&lines)?,
+        Err(stop) => stop.put(out)?,
+    }
+    Ok(true)
+}

@@ -1,0 +1,157 @@
+//! Calls of `wc_write`, and of it with `wc_read`: what is read is written.
+
+use crate::built::built_of;
+use crate::imports::imports_of;
+use crate::input::{Stop, answered, bad_row, bytes_of};
+use crate::rows::Row;
+use crate::values::{put_bytes_lines, put_fault};
+use std::alloc::{AllocError, Global};
+use wc_read::{Def, Func, read_body, read_imports, read_module};
+use wc_write::{
+    PutFailed, WriteFault, append_import_section, append_raw_section, raw_section, write_body,
+    write_import_section, write_module,
+};
+
+/// Appends the answer of a call of `wc_write`, and says whether the row's is one.
+pub(crate) fn answer(alloc: Global, row: &Row<'_>, out: &mut String) -> Result<bool, AllocError> {
+    answered(answer_call(alloc, row, out))
+}
+
+fn answer_call(alloc: Global, row: &Row<'_>, out: &mut String) -> Result<bool, Stop> {
+    match row.call.as_bytes() {
+        b"write_import_section" => answer_import_section(alloc, row, out)?,
+        b"append_import_section" => answer_appended_imports(alloc, row, out)?,
+        b"rewrite_import_section" => answer_rewritten_imports(alloc, row, out)?,
+        b"raw_section" => answer_raw_section(alloc, row, out)?,
+        b"append_raw_section" => answer_appended_section(alloc, row, out)?,
+        b"write_body" => answer_body(alloc, row, out)?,
+        b"write_bodies" => answer_bodies(alloc, row, out)?,
+        b"write_module" => answer_module(alloc, row, out)?,
+        b"write_faults" => put_faults(out)?,
+        _ => return Ok(false),
+    }
+    Ok(true)
+}
+
+/// The bytes that were written, or why there are none.
+fn put_written(out: &mut String, written: &Result<Vec<u8>, WriteFault>) -> Result<(), AllocError> {
+    match written {
+        Ok(bytes) => put_bytes_lines(out, "bytes", bytes),
+        Err(fault) => put_fault(out, *fault),
+    }
+}
+
+/// What an appending call answered, and the bytes after it.
+fn put_appended(
+    out: &mut String,
+    answer: Result<(), WriteFault>,
+    bytes: &[u8],
+) -> Result<(), AllocError> {
+    if let Err(fault) = answer {
+        put_fault(out, fault)?;
+    }
+    put_bytes_lines(out, "bytes", bytes)
+}
+
+fn answer_import_section(alloc: Global, row: &Row<'_>, out: &mut String) -> Result<(), Stop> {
+    let imports = imports_of(alloc, &row.input, out)?;
+    put_written(out, &write_import_section(alloc, &imports))?;
+    Ok(())
+}
+
+/// Appends to the bytes that the arguments are.
+fn answer_appended_imports(alloc: Global, row: &Row<'_>, out: &mut String) -> Result<(), Stop> {
+    let imports = imports_of(alloc, &row.input, out)?;
+    let mut bytes = bytes_of(alloc, &row.arguments, out)?;
+    let answer = append_import_section(&mut bytes, &imports);
+    put_appended(out, answer, &bytes)?;
+    Ok(())
+}
+
+/// The section of imports that are read out of a section's content.
+fn answer_rewritten_imports(alloc: Global, row: &Row<'_>, out: &mut String) -> Result<(), Stop> {
+    let content = bytes_of(alloc, &row.input, out)?;
+    match read_imports(alloc, &content) {
+        Ok(imports) => put_written(out, &write_import_section(alloc, &imports))?,
+        Err(fault) => put_fault(out, fault)?,
+    }
+    Ok(())
+}
+
+/// The id that the first argument is, and the other arguments.
+fn section_id<'a, 'b>(row: &'b Row<'a>, out: &mut String) -> Result<(u8, &'b [&'a str]), Stop> {
+    let Some((first, rest)) = row.arguments.as_slice().split_first() else {
+        return Err(bad_row(out, "no id", ""));
+    };
+    match first.parse::<u8>() {
+        Ok(id) => Ok((id, rest)),
+        Err(_) => Err(bad_row(out, "no id", first)),
+    }
+}
+
+fn answer_raw_section(alloc: Global, row: &Row<'_>, out: &mut String) -> Result<(), Stop> {
+    let (id, _) = section_id(row, out)?;
+    let content = bytes_of(alloc, &row.input, out)?;
+    put_written(out, &raw_section(alloc, id, &content))?;
+    Ok(())
+}
+
+/// Appends to the bytes that the arguments after the id are.
+fn answer_appended_section(alloc: Global, row: &Row<'_>, out: &mut String) -> Result<(), Stop> {
+    let (id, rest) = section_id(row, out)?;
+    let content = bytes_of(alloc, &row.input, out)?;
+    let mut bytes = bytes_of(alloc, rest, out)?;
+    let answer = append_raw_section(&mut bytes, id, &content);
+    put_appended(out, answer, &bytes)?;
+    Ok(())
+}
+
+/// The text of the body that the bytes are.
+fn put_body_text(alloc: Global, bytes: &[u8], out: &mut String) -> Result<(), AllocError> {
+    match read_body(alloc, bytes) {
+        Ok(body) => put_written(out, &write_body(alloc, &body)),
+        Err(fault) => put_fault(out, fault),
+    }
+}
+
+fn answer_body(alloc: Global, row: &Row<'_>, out: &mut String) -> Result<(), Stop> {
+    let bytes = bytes_of(alloc, &row.input, out)?;
+    put_body_text(alloc, &bytes, out)?;
+    Ok(())
+}
+
+fn put_body_texts(alloc: Global, funcs: &[Func<'_>], out: &mut String) -> Result<(), AllocError> {
+    for func in funcs {
+        if let Def::Local(body) = func.def {
+            put_body_text(alloc, body, out)?;
+        }
+    }
+    Ok(())
+}
+
+/// The text of each body of a module.
+fn answer_bodies(alloc: Global, row: &Row<'_>, out: &mut String) -> Result<(), Stop> {
+    let bytes = bytes_of(alloc, &row.input, out)?;
+    match read_module(alloc, &bytes) {
+        Ok(module) => put_body_texts(alloc, &module.funcs, out)?,
+        Err(fault) => put_fault(out, fault)?,
+    }
+    Ok(())
+}
+
+/// The text of the module that the bytes are.
+fn answer_module(alloc: Global, row: &Row<'_>, out: &mut String) -> Result<(), Stop> {
+    let bytes = bytes_of(alloc, &row.input, out)?;
+    match built_of(alloc, &bytes) {
+        Ok(built) => put_written(out, &write_module(alloc, &built))?,
+        Err(fault) => put_fault(out, fault)?,
+    }
+    Ok(())
+}
+
+/// The texts of all faults.
+fn put_faults(out: &mut String) -> Result<(), AllocError> {
+    put_fault(out, WriteFault::Memory)?;
+    put_fault(out, WriteFault::TooLarge)?;
+    put_fault(out, PutFailed)
+}

@@ -1,8 +1,0 @@
-use Rattle.std.proofs.lemmas.Result.{err_from_is_err_and}
-use Rattle.wc_dedupe.proofs.Spelling.{no_part}
-use Rattle.wc_dedupe.proofs.parts.read_part.Goals as goal
-
-pub returns-in_err-imports-clause-refused : goal.returns-in_err-imports-clause-refused
-returns-in_err-imports-clause-refused c =
-    let p = err_from_is_err_and c.from_residual.result c.from_residual.ensures.1 in
-    rw (p.1, p.2) (λ real. no_part _ c.if-section-ne-IMPORT_SECTION.false (c.in_err-imports.ensures.refused real))

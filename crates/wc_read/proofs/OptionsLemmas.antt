@@ -1,0 +1,21 @@
+-- Options, and one step after another.
+use Rattle.std.proofs.Common.{◌≡◌, Option, Some, None, refl, ap}
+use Rattle.wc_read.specs.Reading.{◌>>=◌}
+
+pub some_same : {A : Type 0} (x y : A) → ◌≡◌ {A = Option A} (Some x) (Some y) → x ≡ y
+some_same x y e = cc
+
+pub some_none : {A : Type 0} {P : Type 0} (x : A) → ◌≡◌ {A = Option A} (Some x) None → P
+some_none x e = absurd cc
+
+pub some_pair : {A B : Type 0} (a c : A) (b d : B) → ◌≡◌ {A = Option (A × B)} (Some (a, b)) (Some (c, d)) → (a ≡ c) × (b ≡ d)
+some_pair a c b d e = let p = some_same (a, b) (c, d) e in (ap (λ q. q.0) p, ap (λ q. q.1) p)
+
+-- a step whose front gives nothing, or something
+pub bind_none : {A B : Type 0} (o : Option A) (f : A → Option B) → o ≡ None → (o >>= f) ≡ None
+bind_none None f e = refl
+bind_none (Some x) f e = some_none x e
+
+pub bind_some : {A B : Type 0} (o : Option A) (f : A → Option B) (x : A) → o ≡ Some x → (o >>= f) ≡ f x
+bind_some None f x e = absurd cc
+bind_some (Some y) f x e = ap f (some_same y x e)

@@ -1,8 +1,0 @@
-use Rattle.wc_read.specs.Imports.{SpellsImport}
-use Rattle.wc_read.specs.Reading.{import_at}
-use Rattle.wc_read.proofs.Meets.{one_spelling}
-use Rattle.wc_read.proofs.ImportsMeet.{import_meets}
-use Rattle.wc_read.proofs.laws.import_begins_no_other.Goals as goal
-
-pub returns : goal.returns
-returns c = λ a b rest others x y. one_spelling SpellsImport import_at import_meets a b x y rest others

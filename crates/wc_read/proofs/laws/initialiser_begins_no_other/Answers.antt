@@ -1,7 +1,0 @@
-use Rattle.wc_read.specs.Inits.{SpellsInit, init_at}
-use Rattle.wc_read.proofs.Meets.{one_spelling}
-use Rattle.wc_read.proofs.InitsMeet.{init_meets}
-use Rattle.wc_read.proofs.laws.initialiser_begins_no_other.Goals as goal
-
-pub returns : goal.returns
-returns c = λ a b rest others x y. one_spelling SpellsInit init_at init_meets a b x y rest others

@@ -1,0 +1,7 @@
+use Rattle.wc_read.specs.Inits.{SpellsInit, init_at}
+use Rattle.wc_read.proofs.MeetsLemmas.{one_value}
+use Rattle.wc_read.proofs.InitsLemmas.{init_meets}
+use Rattle.wc_read.proofs.laws.initialisers_unique.Goals as goal
+
+pub returns : goal.returns
+returns c = one_value SpellsInit init_at init_meets

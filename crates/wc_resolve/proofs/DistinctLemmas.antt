@@ -1,0 +1,107 @@
+-- Names that were seen, and whether one of them comes again.
+use Rattle.std.proofs.Common.{◌≡◌, ◌≢◌, ◌↔◌, ℕ, zero, suc, ◌<◌, ◌+◌, ◌⊎◌, Bool, true, false, not, ◌||◌, cond, List, [], ◌∷◌, ◌++◌, map, length, take, get_or, refl, sym, ap, ◌∙◌, subst, inl, inr, arith, length-append}
+use Rattle.std.specs.List.{AllPairs, Contains, list_any}
+use Rattle.std.proofs.Math.Seq.{get_or-append_seam}
+use Rattle.std.proofs.lemmas.List.{get_or_append_left, get_or_default, map-append, take_more}
+use Rattle.std.proofs.lemmas.List.Quantifiers.{all_pairs_push}
+use Rattle.wc_resolve.specs.declared.packages.Package.{Package}
+use Rattle.wc_resolve.specs.Views.{PackageNameView, PackageView, package_name_view, package_view}
+use Rattle.wc_resolve.proofs.Search.{contains_cons, contains_head, contains_none, contains_tail}
+
+-- no two of the names are equal
+abbrev pub AreDistinct : List PackageNameView → Type 0
+AreDistinct names = AllPairs (λ m n. m ≢ n) names
+
+distinct_push : (xs : List PackageNameView) (y : PackageNameView) → AreDistinct xs → (Contains xs y → ⊥) → AreDistinct (xs ++ y ∷ [])
+distinct_push xs y a new = all_pairs_push (λ m n. m ≢ n) xs y a (λ k d small same. new (k, small, get_or_default xs k y d small ∙ same))
+
+again : (xs rest : List PackageNameView) (y : PackageNameView) → Contains xs y → AreDistinct (xs ++ y ∷ rest) → ⊥
+again xs rest y h a =
+    let longer : length (xs ++ y ∷ rest) ≡ length xs + suc (length rest) = length-append xs (y ∷ rest) in
+    let within : length xs < length (xs ++ y ∷ rest) = omega (arith, longer) in
+    a h.0 (length xs) y h.1 within (get_or_append_left xs (y ∷ rest) y h.0 h.1 ∙ h.2 ∙ sym (get_or-append_seam xs y rest y))
+
+unseen : (b : Bool) → not b ≡ true → b ≡ false
+unseen true h = absurd (let bad : ⊥ = cc h in bad)
+unseen false h = refl
+
+unfresh : (b : Bool) → not b ≡ false → b ≡ true
+unfresh true h = refl
+unfresh false h = absurd (let bad : ⊥ = cc h in bad)
+
+-- the keys, seen as names, are the names so far, and no two of these are equal
+pub record AreSeen {K : Type 0} (v : K → PackageNameView) (keys : List K) (names : List PackageNameView) : Type 0 where
+  pub same : map v keys ≡ names
+  pub distinct : AreDistinct names
+
+either : (b c : Bool) → (b || c) ≡ true → (b ≡ true) ⊎ (c ≡ true)
+either true c h = inl refl
+either false c h = inr h
+
+or_left : (b c : Bool) → b ≡ true → (b || c) ≡ true
+or_left true c h = refl
+or_left false c h = absurd (let bad : ⊥ = cc h in bad)
+
+or_right : (b c : Bool) → c ≡ true → (b || c) ≡ true
+or_right true c h = refl
+or_right false c h = h
+
+any_contains : {K : Type 0} (v : K → PackageNameView) (test : K → Bool) (n : PackageNameView) → ((y : K) → (test y ≡ true) ↔ (n ≡ v y)) → (keys : List K)
+    → list_any test keys ≡ true → Contains (map v keys) n
+any_contains v test n law [] h = absurd (let e : false ≡ true = h in let bad : ⊥ = cc e in bad)
+any_contains v test n law (x ∷ keys) h =
+    elim (either (test x) (list_any test keys) h) [
+      | inl e ↦ subst (λ (z : PackageNameView). Contains (v x ∷ map v keys) z) (sym ((law x).0 e)) (contains_head (map v keys) (v x))
+      | inr rest ↦ contains_tail (v x) (map v keys) n (any_contains v test n law keys rest)
+    ]
+
+contains_any : {K : Type 0} (v : K → PackageNameView) (test : K → Bool) (n : PackageNameView) → ((y : K) → (test y ≡ true) ↔ (n ≡ v y)) → (keys : List K)
+    → Contains (map v keys) n → list_any test keys ≡ true
+contains_any v test n law [] h = absurd (contains_none n h)
+contains_any v test n law (x ∷ keys) h =
+    elim (contains_cons (v x) (map v keys) n h) [
+      | inl same ↦ or_left (test x) (list_any test keys) ((law x).1 (sym same))
+      | inr rest ↦ or_right (test x) (list_any test keys) (contains_any v test n law keys rest)
+    ]
+
+pub seen_none : {K : Type 0} (v : K → PackageNameView) → AreSeen v [] []
+seen_none v = record { same = refl; distinct = λ i j d less small. absurd (omega (arith, less, small)) }
+
+-- one more name, which was not seen
+pub seen_more : {K : Type 0} (v : K → PackageNameView) (test : K → Bool) (keys after : List K) (k : K) (n : PackageNameView) (names : List PackageNameView) (new : Bool)
+    → ((y : K) → (test y ≡ true) ↔ (n ≡ v y)) → v k ≡ n → AreSeen v keys names → new ≡ not (list_any test keys) → new ≡ true
+    → after ≡ cond (list_any test keys) keys (keys ++ k ∷ []) → AreSeen v after (names ++ n ∷ [])
+seen_more v test keys after k n names new law is s e t made =
+    let fresh : list_any test keys ≡ false = unseen (list_any test keys) (sym e ∙ t) in
+    let grown : after ≡ keys ++ k ∷ [] = made ∙ ap (λ b. cond b keys (keys ++ k ∷ [])) fresh in
+    record {
+      same = ap (λ ks. map v ks) grown ∙ map-append v keys (k ∷ []) ∙ ap (λ ns. ns ++ v k ∷ []) s.same ∙ ap (λ z. names ++ z ∷ []) is;
+      distinct = distinct_push names n s.distinct (λ h.
+          let there : Contains (map v keys) n = subst (λ (z : List PackageNameView). Contains z n) (sym s.same) h in
+          let found : list_any test keys ≡ true = contains_any v test n law keys there in
+          let bad : true ≡ false = sym found ∙ fresh in let none : ⊥ = cc bad in none);
+    }
+
+-- a name that was seen comes again
+pub seen_again : {K : Type 0} (v : K → PackageNameView) (test : K → Bool) (keys : List K) (n : PackageNameView) (names rest : List PackageNameView) (new : Bool)
+    → ((y : K) → (test y ≡ true) ↔ (n ≡ v y)) → AreSeen v keys names → new ≡ not (list_any test keys) → new ≡ false → AreDistinct (names ++ n ∷ rest) → ⊥
+seen_again v test keys n names rest new law s e f distinct =
+    let found : list_any test keys ≡ true = unfresh (list_any test keys) (sym e ∙ f) in
+    again names rest n (subst (λ (z : List PackageNameView). Contains z n) s.same (any_contains v test n law keys found)) distinct
+
+abbrev pub names_of : List Package → List PackageNameView
+names_of ps = map (λ (p : PackageView). p.name) (map package_view ps)
+
+pub names_more : (ps : List Package) (i : ℕ) (p : Package) → i < length ps → p ≡ get_or ps i p → names_of (take (i + 1) ps) ≡ names_of (take i ps) ++ package_name_view p.name ∷ []
+names_more ps i p small read =
+    ap (λ z. names_of z) (take_more ps i p small ∙ ap (λ z. take i ps ++ z ∷ []) (sym read))
+    ∙ ap (λ z. map (λ (q : PackageView). q.name) z) (map-append package_view (take i ps) (p ∷ []))
+    ∙ map-append (λ (q : PackageView). q.name) (map package_view (take i ps)) (package_view p ∷ [])
+
+pub names_split : (ps : List Package) (i : ℕ) (p : Package) → i < length ps → p ≡ get_or ps i p
+    → (rest : List PackageNameView) × (names_of ps ≡ names_of (take i ps) ++ package_name_view p.name ∷ rest)
+names_split [] i p small read = absurd (omega (arith, small))
+names_split (q ∷ ps) zero p small read = (names_of ps, ap (λ z. package_name_view z.name ∷ names_of ps) (sym read))
+names_split (q ∷ ps) (suc i) p small read =
+    let later = names_split ps i p (omega (arith, small)) read in
+    (later.0, ap (λ z. package_name_view q.name ∷ z) later.1)

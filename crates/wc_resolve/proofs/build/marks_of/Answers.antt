@@ -1,8 +1,0 @@
-use Rattle.std.proofs.Common.{ℕ, ◌<◌, length, sym, ap, ◌∙◌, subst}
-use Rattle.std.proofs.lemmas.List.{length-map}
-use Rattle.wc_resolve.specs.Views.{type_view}
-use Rattle.wc_resolve.proofs.build.marks_of.Goals as goal
-
-pub resources-requires-clause-within : goal.resources-requires-clause-within
-resources-requires-clause-within c =
-    λ x h. subst (λ (n : ℕ). x < n) (length-map c.args.parts.now.types.items type_view ∙ ap (λ z. length z) (sym c.deref.ensures.value)) (c.requires.within x h)

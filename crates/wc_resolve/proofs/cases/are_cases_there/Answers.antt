@@ -1,8 +1,0 @@
-use Rattle.std.proofs.Common.{rules}
-use Rattle.wc_resolve.specs.Views.{type_view}
-use Rattle.wc_resolve.specs.WellFormed.{HasCases}
-use Rattle.wc_resolve.proofs.Viewed.{viewed}
-use Rattle.wc_resolve.proofs.cases.are_cases_there.Goals as goal
-
-pub returns : goal.returns
-returns c = viewed type_view (λ t. HasCases t.kind) c.args.parts.now.types.items c.all.result (search rules)

@@ -1,9 +1,0 @@
-use Rattle.std.proofs.Common.{◌≡◌, Some, rules}
-use Rattle.wc_resolve.specs.Views.{interface_entry}
-use Rattle.wc_resolve.specs.WellFormed.{interface_name}
-use Rattle.wc_resolve.specs.Parts.{parts_view}
-use Rattle.wc_resolve.proofs.Viewed.{viewed}
-use Rattle.wc_resolve.proofs.naming.are_interfaces_called.Goals as goal
-
-pub returns : goal.returns
-returns c = viewed interface_entry (λ e. interface_name (parts_view c.args.parts.now) e.1 ≡ Some e.0) c.args.interfaces.now.entries c.all.result (search rules)

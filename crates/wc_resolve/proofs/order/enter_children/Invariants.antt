@@ -1,6 +1,0 @@
-use Rattle.std.proofs.Common.{◌≡◌, ◌++◌, map, take}
-use Rattle.wc_resolve.specs.declared.order.Step.TheVariants.{Enter}
-use Rattle.wc_resolve.proofs.order.enter_children.Given as goal
-
-abbrev pub invariant-loop-child : goal.invariant-loop-child
-invariant-loop-child l = l.steps.items ≡ l.initial.steps.items ++ map Enter (take l.child-index l.child-items)

@@ -1,7 +1,0 @@
-use Rattle.std.proofs.Common.{rules}
-use Rattle.wc_resolve.specs.Views.{named_view}
-use Rattle.wc_resolve.proofs.Viewed.{viewed}
-use Rattle.wc_resolve.proofs.type_test.all_params.Goals as goal
-
-pub returns : goal.returns
-returns g c = viewed named_view (λ p. g.T.TypeTest.Passes c.args.test.now p.1) c.args.params.now c.all.result (search rules)

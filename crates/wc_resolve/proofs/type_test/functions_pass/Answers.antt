@@ -1,8 +1,0 @@
-use Rattle.std.proofs.Common.{rules}
-use Rattle.wc_resolve.specs.Views.{function_entry}
-use Rattle.wc_resolve.specs.World.{TakesOnly}
-use Rattle.wc_resolve.proofs.Viewed.{viewed}
-use Rattle.wc_resolve.proofs.type_test.functions_pass.Goals as goal
-
-pub returns : goal.returns
-returns g c = viewed function_entry (λ e. TakesOnly (g.T.TypeTest.Passes c.args.test.now) e.1) c.args.functions.now.entries c.all.result (search rules)

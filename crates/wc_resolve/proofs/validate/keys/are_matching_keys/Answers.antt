@@ -1,0 +1,9 @@
+use Rattle.std.proofs.Common.{rules}
+use Rattle.wc_resolve.specs.Views.{world_entry}
+use Rattle.wc_resolve.specs.WellFormed.{IsMatchingKey}
+use Rattle.wc_resolve.specs.ResolveParts.{parts_view}
+use Rattle.wc_resolve.proofs.Viewed.{viewed}
+use Rattle.wc_resolve.proofs.validate.keys.are_matching_keys.Goals as goal
+
+pub returns : goal.returns
+returns c = viewed world_entry (λ e. IsMatchingKey (parts_view c.args.parts.now) e.0 e.1) c.args.entries.now.entries c.all.result (search rules)

@@ -1,0 +1,7 @@
+use Rattle.std.proofs.Common.{◌<◌, rules}
+use Rattle.wc_resolve.specs.Views.{type_entry}
+use Rattle.wc_resolve.proofs.Viewed.{viewed}
+use Rattle.wc_resolve.proofs.validate.ranges.are_type_names_in.Goals as goal
+
+pub returns : goal.returns
+returns c = viewed type_entry (λ e. e.1 < c.args.count) c.args.types.now.entries c.all.result (search rules)

@@ -1,0 +1,18 @@
+-- Laws of listings, of futures and streams, and of flat types: no other lists follow their rules.
+use Rattle.std.specs.Prelude.{List}
+use Rattle.wc_resolve.specs.Flat.{flat_of, flat_rule}
+use Rattle.wc_resolve.specs.TypeRules.{IsOnlyFollowing}
+use Rattle.wc_resolve.specs.Futures.{futures_of, futures_rule}
+use Rattle.wc_resolve.specs.Live.{listing_of, listing_rule}
+use Rattle.wc_resolve.specs.Views.{TypeView}
+
+-- of listings of live types
+abbrev pub ListingsUnique : List TypeView → Type 0
+ListingsUnique types = IsOnlyFollowing listing_rule types (listing_of types)
+
+-- of futures and streams
+abbrev pub FuturesUnique : List TypeView → Type 0
+FuturesUnique types = IsOnlyFollowing futures_rule types (futures_of types)
+
+abbrev pub FlatTypesUnique : List TypeView → Type 0
+FlatTypesUnique types = IsOnlyFollowing flat_rule types (flat_of types)

@@ -1,0 +1,127 @@
+//! Whether parts are well-formed: one file for each rule, in the order of the faults.
+
+ghost use Rattle.std.specs.Prelude.{IfErr, IfOk};
+ghost use Rattle.wc_resolve.specs.ResolveParts.{parts_view};
+ghost use Rattle.wc_resolve.specs.Faults.{IsCause, IsOrderCause};
+ghost use Rattle.wc_resolve.specs.Flat.{AreFlattened, lists};
+ghost use Rattle.wc_resolve.specs.Futures.{AreCarrierFlags};
+ghost use Rattle.wc_resolve.specs.TypeTables.{AreTypeTables, IsOrder};
+ghost use Rattle.wc_resolve.specs.Ranges.{AreIdsInRange};
+ghost use Rattle.wc_resolve.specs.Resources.{AreResourceFlags};
+
+mod cases;
+mod keys;
+mod naming;
+mod order;
+mod package_names;
+mod ranges;
+pub(crate) mod resources;
+mod spelling;
+mod type_test;
+
+use crate::flattening::flatten_all;
+use crate::futures::carriers;
+use crate::{Parts, ResolveFault, WasmType};
+use cases::has_no_empty_type;
+use keys::keys_match;
+use naming::are_named;
+use order::children_first;
+use package_names::are_packages_distinct;
+use ranges::are_ids_in_range;
+use resources::{find_resources, has_no_resource_by_value};
+use spelling::are_names_spelled;
+use std::alloc::{AllocError, Global};
+
+/// Tables of the types of well-formed parts.
+#[derive(Drop)]
+pub(crate) struct TypeTables {
+    /// The indices of all types, each after those that it refers to.
+    pub(crate) order: Vec<usize>,
+    /// For each type whether it is a resource, or an alias of one.
+    pub(crate) resources: Vec<bool>,
+    /// For each type its flat types, as many as are kept (`KEPT_FLAT_TYPES`).
+    pub(crate) flats: Vec<Vec<WasmType>>,
+    /// For each type whether it is or contains a future or a stream.
+    pub(crate) carriers: Vec<bool>,
+}
+
+/// The indices of all types, each after those that it refers to.
+fn order_of(alloc: Global, parts: &Parts) -> Result<Vec<usize>, ResolveFault>
+    requires { AreIdsInRange (parts_view parts.now) }
+    ensures order { IfOk result (λ order. IsOrder (parts_view parts.now).types order.items) }
+    ensures fault { IfErr result (IsOrderCause (parts_view parts.now).types) }
+{
+    children_first(alloc, &parts.types)
+}
+
+/// For each type whether it is a resource, or an alias of one.
+fn resource_flags_of(alloc: Global, parts: &Parts, order: &[usize]) -> Result<Vec<bool>, AllocError>
+    requires { IsOrder (parts_view parts.now).types order.now }
+    ensures { IfOk result (λ resource_flags. AreResourceFlags (parts_view parts.now).types
+        resource_flags.items) }
+{
+    find_resources(alloc, &parts.types, order)
+}
+
+/// The flat types of all types.
+fn flatten_parts(
+    alloc: Global,
+    parts: &Parts,
+    order: &[usize],
+) -> Result<Vec<Vec<WasmType>>, AllocError>
+    requires { IsOrder (parts_view parts.now).types order.now }
+    ensures { IfOk result (λ flats. AreFlattened (parts_view parts.now).types (lists flats.items)) }
+{
+    flatten_all(alloc, &parts.types, order)
+}
+
+/// For each type whether it is or contains a future or a stream.
+fn carriers_of(alloc: Global, parts: &Parts, order: &[usize]) -> Result<Vec<bool>, AllocError>
+    requires { IsOrder (parts_view parts.now).types order.now }
+    ensures { IfOk result (λ carrier_flags. AreCarrierFlags (parts_view parts.now).types
+        carrier_flags.items) }
+{
+    carriers(alloc, &parts.types, order)
+}
+
+/// Checks that the parts are well-formed, and makes the tables of their types.
+///
+/// # Errors
+///
+/// The faults of `Resolve::build`.
+pub(crate) fn check(alloc: Global, parts: &Parts) -> Result<TypeTables, ResolveFault>
+    ensures kept { IfOk result (AreTypeTables (parts_view parts.now)) }
+    ensures fault { IfErr result (IsCause (parts_view parts.now)) }
+{
+    if !are_ids_in_range(alloc, parts)? {
+        return Err(ResolveFault::IdRange);
+    }
+    let order = order_of(alloc, parts)?;
+    if !are_named(parts) {
+        return Err(ResolveFault::Unnamed);
+    }
+    if !keys_match(parts) {
+        return Err(ResolveFault::KeyMismatch);
+    }
+    if !are_packages_distinct(alloc, parts)? {
+        return Err(ResolveFault::NameClash);
+    }
+    if !are_names_spelled(parts) {
+        return Err(ResolveFault::BadCharacter);
+    }
+    let resources = resource_flags_of(alloc, parts, &order)?;
+    if !has_no_resource_by_value(alloc, parts, &resources)? {
+        return Err(ResolveFault::ByValueResource);
+    }
+    if !has_no_empty_type(parts) {
+        return Err(ResolveFault::Empty);
+    }
+    let flats = flatten_parts(alloc, parts, &order)?;
+    let carriers = carriers_of(alloc, parts, &order)?;
+    Ok(TypeTables {
+        order,
+        resources,
+        flats,
+        carriers,
+    })
+}

@@ -1,0 +1,100 @@
+//! An order of all types in which each is after those that it refers to, unless there is a cycle.
+
+ghost use Rattle.std.specs.Prelude.{◌≡◌, ◌<◌, ℕ, ◌++◌, IfOk, IfErr, OnOk, Contains, length, map};
+ghost use Rattle.std.specs.List.{range_with_len};
+ghost use Rattle.wc_resolve.specs.Faults.{IsOrderCause};
+ghost use Rattle.wc_resolve.specs.Views.{type_view};
+ghost use Rattle.wc_resolve.specs.World.{IsChildrenFirst, LeadWithin, children};
+
+use crate::kinds::referenced_indices;
+use crate::{ResolveFault, TypeDef};
+use std::alloc::{AllocError, Global};
+
+/// How far the walk is with a type.
+#[derive(Clone, Copy)]
+enum Progress {
+    /// It was not entered.
+    New,
+    /// The types that it refers to are being visited.
+    Open,
+    /// It is in the order.
+    Done,
+}
+
+/// A step that is left to do at the type at an index.
+#[derive(Clone, Copy)]
+enum IndexStep {
+    Enter(usize),
+    Leave(usize),
+}
+
+/// Steps that enter each type once, in the order of the indices.
+fn first_steps(alloc: Global, count: usize) -> Result<Vec<IndexStep>, AllocError>
+    ensures { IfOk result (λ v. v.items ≡ map IndexStep.Enter (range_with_len 0 count)) }
+{
+    (0..count)
+        .map(|index| IndexStep::Enter(index))
+        .collect(alloc)
+}
+
+/// The indices of the types that the type at an index refers to.
+pub(crate) fn children(
+    alloc: Global,
+    types: &[TypeDef],
+    index: usize,
+) -> Result<Vec<usize>, AllocError>
+    requires { index < length types.now }
+    ensures { IfOk result (λ v. v.items ≡ children (map type_view types.now) index) }
+{
+    referenced_indices(alloc, &types[index].kind)
+}
+
+/// Appends steps that enter the types that the type at an index refers to.
+fn enter_children(
+    alloc: Global,
+    types: &[TypeDef],
+    index: usize,
+    steps: &mut Vec<IndexStep>,
+) -> Result<(), AllocError>
+    requires { index < length types.now }
+    ensures { OnOk result (steps.new.items ≡
+        steps.old.items ++ map IndexStep.Enter (children (map type_view types.now) index)) }
+{
+    let indices = children(alloc, types, index)?;
+    for child in &indices {
+        steps.push(IndexStep::Enter(*child))?;
+    }
+    Ok(())
+}
+
+/// The indices of all types, each after those that it refers to; the fault `Cycle` where there is no such order.
+pub(crate) fn children_first(alloc: Global, types: &[TypeDef]) -> Result<Vec<usize>, ResolveFault>
+    requires { LeadWithin (map type_view types.now) (length types.now) }
+    ensures order { IfOk result (λ o.
+        IsChildrenFirst (children (map type_view types.now)) o.items) }
+    ensures within { IfOk result (λ o. (x : ℕ) → Contains o.items x → x < length types.now) }
+    ensures all { IfOk result (λ o. (x : ℕ) → x < length types.now → Contains o.items x) }
+    ensures fault { IfErr result (IsOrderCause (map type_view types.now)) }
+{
+    let mut progress = vec![in alloc; Progress::New; types.len()]?;
+    let mut steps = first_steps(alloc, types.len())?;
+    let mut order = Vec::new(alloc);
+    'steps: while let Some(step) = steps.pop() {
+        match step {
+            IndexStep::Leave(index) => {
+                progress[index] = Progress::Done;
+                order.push(index)?;
+            }
+            IndexStep::Enter(index) => match progress[index] {
+                Progress::Done => {}
+                Progress::Open => return Err(ResolveFault::Cycle),
+                Progress::New => {
+                    progress[index] = Progress::Open;
+                    steps.push(IndexStep::Leave(index))?;
+                    enter_children(alloc, types, index, &mut steps)?;
+                }
+            },
+        }
+    }
+    Ok(order)
+}

@@ -1,0 +1,103 @@
+//! Which types are resources, and whether none occurs by value.
+
+ghost use Rattle.std.specs.Prelude.{◌≡◌, ◌↔◌, ◌<◌, ℕ, Contains, IfOk, IsTrue, length, map};
+ghost use Rattle.wc_resolve.specs.Views.{function_view, type_view};
+ghost use Rattle.wc_resolve.specs.ResolveParts.{parts_view};
+ghost use Rattle.wc_resolve.specs.Ranges.{IsFunctionIn};
+ghost use Rattle.wc_resolve.specs.Resources.{AreResourceFlags, is_resource_kind};
+ghost use Rattle.wc_resolve.specs.World.{IsChildrenFirst, children, kind_at};
+ghost use Rattle.wc_resolve.specs.WellFormed.{HasNoResourceByValue, IsFunctionFree};
+
+use crate::validate::ranges::is_function_in;
+use crate::validate::type_test::{TypeTest, all_types_pass, function_passes};
+use crate::{Function, Parts, TypeDef, TypeDefKind, WitType};
+use std::alloc::{AllocError, Global};
+
+/// Whether the type at an index is a resource, or an alias of a type that is flagged as one.
+fn is_resource(types: &[TypeDef], index: usize, resource_flags: &[bool]) -> bool
+    requires { index < length types.now }
+    ensures { result ≡ is_resource_kind resource_flags.now
+        (kind_at (map type_view types.now) index) }
+{
+    match types[index].kind {
+        TypeDefKind::Resource => true,
+        TypeDefKind::Alias(WitType::Id(id)) => match resource_flags.get(id.0 as usize) {
+            Some(flag) => *flag,
+            None => false,
+        },
+        _ => false,
+    }
+}
+
+/// For each type whether it is a resource, or an alias of one. In `order` each type is after those that it refers to.
+pub(crate) fn find_resources(
+    alloc: Global,
+    types: &[TypeDef],
+    order: &[usize],
+) -> Result<Vec<bool>, AllocError>
+    requires first { IsChildrenFirst (children (map type_view types.now)) order.now }
+    requires within { (x : ℕ) → Contains order.now x → x < length types.now }
+    requires all { (x : ℕ) → x < length types.now → Contains order.now x }
+    ensures { IfOk result (λ resource_flags. AreResourceFlags (map type_view types.now)
+        resource_flags.items) }
+{
+    let mut resource_flags = vec![in alloc; false; types.len()]?;
+    for index in order {
+        resource_flags[*index] = is_resource(types, *index, &resource_flags);
+    }
+    Ok(resource_flags)
+}
+
+/// The test that a type is not flagged as a resource.
+#[derive(Drop)]
+struct NotResource<'a> {
+    resource_flags: &'a [bool],
+}
+
+impl TypeTest for NotResource<'_> {
+    ghost use Rattle.wc_resolve.specs.Ranges.{IsFunctionIn};
+    ghost use Rattle.wc_resolve.specs.Resources.{IsNotResource};
+
+    ghost Passes = { λ test. IsNotResource test.resource_flags.now };
+
+    fn passes(&self, ty: WitType) -> bool {
+        match ty {
+            WitType::Id(id) => match self.resource_flags.get(id.0 as usize) {
+                Some(flag) => !*flag,
+                None => true,
+            },
+            _ => true,
+        }
+    }
+}
+
+/// Whether no parameter or result of a function is a resource, by the flags of all types.
+fn is_function_free(types: &[TypeDef], resource_flags: &[bool], function: &Function) -> bool
+    requires { AreResourceFlags (map type_view types.now) resource_flags.now }
+    ensures { IsTrue result ↔
+        IsFunctionFree (map type_view types.now) (function_view function.now) }
+{
+    let _ = types;
+    function_passes(&NotResource { resource_flags }, function)
+}
+
+/// Whether the ids of a function are in range, and no parameter or result is a resource, by the flags of all types.
+pub(crate) fn is_usable(types: &[TypeDef], resource_flags: &[bool], function: &Function) -> bool
+    requires { AreResourceFlags (map type_view types.now) resource_flags.now }
+    ensures { IsTrue result ↔ (IsFunctionIn (length types.now) (function_view function.now)
+        × IsFunctionFree (map type_view types.now) (function_view function.now)) }
+{
+    is_function_in(types.len(), function) && is_function_free(types, resource_flags, function)
+}
+
+/// Whether no parameter, result, field, item, element or payload is a resource, by the flags of all types.
+pub(crate) fn has_no_resource_by_value(
+    alloc: Global,
+    parts: &Parts,
+    resource_flags: &[bool],
+) -> Result<bool, AllocError>
+    requires { AreResourceFlags (parts_view parts.now).types resource_flags.now }
+    ensures { IfOk result (λ b. IsTrue b ↔ HasNoResourceByValue (parts_view parts.now)) }
+{
+    all_types_pass(alloc, &NotResource { resource_flags }, parts)
+}

@@ -1,0 +1,29 @@
+-- What a command makes of its input, and the causes of its faults.
+use Rattle.std.specs.Prelude.{◌≡◌, ◌≢◌, ◌↔◌, ℕ, List, Option, Some, None}
+use Rattle.wc_read.specs.Sections.{IsComponent}
+use Rattle.wc_read.specs.Modules.{ModuleValue, SpellsModule}
+use Rattle.wc_read.specs.declared.fault.ReadFault.TheVariants.{Memory as read_memory, Component}
+use Rattle.wc_dedupe.specs.Renaming.{RenameValue}
+use Rattle.wc_dedupe.specs.Dedupe.{IsDeduped, IsCause as IsDedupeCause}
+use Rattle.wc_dedupe.specs.declared.fault.DedupeFault.TheVariants.{Memory as dedupe_memory}
+use Rattle.wc_tool.specs.Command.{CommandValue, dedupe, scan}
+use Rattle.wc_tool.specs.Lines.{lines_of}
+use Rattle.wc_tool.specs.Scan.{scan_lines}
+use Rattle.wc_tool.specs.declared.fault.ToolFault.{ToolFault}
+use Rattle.wc_tool.specs.declared.fault.ToolFault.TheVariants.{Memory, Dedupe, Read, Output}
+
+-- the command makes these lines of the input, and these bytes, where it makes any
+abbrev pub Runs : CommandValue → List ℕ → List ℕ → Option (List ℕ) → Type 0
+Runs (dedupe source target) input lines answer =
+    (bytes : List ℕ) × (renames : List RenameValue) × IsDeduped input bytes renames × (lines ≡ lines_of renames) × (answer ≡ Some bytes)
+Runs (scan source) input lines answer =
+    (m : ModuleValue) × SpellsModule input m × (lines ≡ scan_lines m) × (answer ≡ None)
+
+-- the cause of a fault. Memory and Output may come with any input: that a put failed is said of the sink
+abbrev pub IsCause : CommandValue → List ℕ → ToolFault → Type 0
+IsCause c input Memory = Unit {0}
+IsCause (dedupe source target) input (Dedupe f) = (f ≢ dedupe_memory) × IsDedupeCause input f
+IsCause (dedupe source target) input (Read f) = ⊥
+IsCause (scan source) input (Dedupe f) = ⊥
+IsCause (scan source) input (Read f) = (f ≢ read_memory) × ((f ≡ Component) ↔ IsComponent input) × ((m : ModuleValue) → ¬ (SpellsModule input m))
+IsCause c input Output = Unit {0}

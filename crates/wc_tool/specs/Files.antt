@@ -1,0 +1,23 @@
+-- The bytes of files by their paths, where they are known.
+use Rattle.std.specs.Prelude.{◌≡◌, ℕ, false, cond, List, IfSome, Option, Some, None}
+use Rattle.std.specs.Str.{bytes_eq}
+
+-- the bytes of the file of each path, None where there is no file
+abbrev pub Held : Type 0
+Held = List ℕ → Option (List ℕ)
+
+-- the file has these bytes
+abbrev pub Holds : Option Held → List ℕ → List ℕ → Type 0
+Holds known path bytes = IfSome known (λ f. f path ≡ Some bytes)
+
+-- the file has these bytes now, and each other file the bytes that it had
+abbrev pub Writes : Option Held → Option Held → List ℕ → List ℕ → Type 0
+Writes None after path bytes = Unit {0}
+Writes (Some f) None path bytes = ⊥
+Writes (Some f) (Some g) path bytes = (q : List ℕ) → g q ≡ cond (bytes_eq path q) (Some bytes) (f q)
+
+-- each other file has the bytes that it had
+abbrev pub KeepsOthers : Option Held → Option Held → List ℕ → Type 0
+KeepsOthers None after path = Unit {0}
+KeepsOthers (Some f) None path = ⊥
+KeepsOthers (Some f) (Some g) path = (q : List ℕ) → bytes_eq path q ≡ false → g q ≡ f q

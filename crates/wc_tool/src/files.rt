@@ -1,0 +1,30 @@
+//! The files that a program reads and writes.
+
+ghost use Rattle.std.specs.Prelude.{ℕ, List, Option, IfOk, OnOk, OnErr};
+ghost use Rattle.wc_tool.specs.Files.{Holds, Writes, KeepsOthers};
+
+use std::io;
+
+/// Files by their paths.
+pub trait FileStore {
+    // The bytes of the file of each path, where they are known: `None` where there is no file.
+    ghost held: { Self → Option (List ℕ → Option (List ℕ)) };
+
+    /// All bytes of the file of this path.
+    ///
+    /// # Errors
+    ///
+    /// The file could not be read.
+    fn read(&self, path: &str) -> io::Result<Vec<u8>>
+        ensures { IfOk result (λ v. Holds (held self.now) path.now v.items) };
+
+    /// Replaces the bytes of the file of this path by these, or creates that file with them. Every other file stays
+    /// the same.
+    ///
+    /// # Errors
+    ///
+    /// The file could not be written. What bytes it has then is left open; every other file stays the same.
+    fn write(&mut self, path: &str, bytes: &[u8]) -> io::Result<()>
+        ensures written { OnOk result (Writes (held self.old) (held self.new) path.now bytes.now) }
+        ensures others { OnErr result (KeepsOthers (held self.old) (held self.new) path.now) };
+}

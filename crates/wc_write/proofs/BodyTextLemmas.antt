@@ -1,0 +1,46 @@
+-- The text of a body spells it, and no other.
+use Rattle.std.proofs.Common.{◌≡◌, ◌^◌, ◌<◌, List, [], ◌∷◌, length, refl, arith}
+use Rattle.std.specs.Prelude.{All}
+use Rattle.std.specs.List.{flat_map}
+use Rattle.std.proofs.lemmas.List.{length-append}
+use Rattle.std.proofs.lemmas.List.Elements.{All-nil, All-cons}
+use Rattle.wc_read.specs.Operators.{SpellsInstr}
+use Rattle.wc_read.specs.Bodies.{BodyValue, SpellsLocals, local_count, SpellsBody}
+use Rattle.wc_read.specs.declared.bodies.Locals.{Locals}
+use Rattle.wc_read.proofs.BodiesLemmas.{body_one}
+use Rattle.wc_write.specs.Text.{number_text, val_type_text, vector_text}
+use Rattle.wc_write.specs.OperatorText.{instr_text}
+use Rattle.wc_write.specs.BodyText.{locals_text, body_text}
+use Rattle.wc_write.specs.Values.{IsInstr, IsBody}
+use Rattle.wc_write.proofs.TextLemmas.{number_32}
+use Rattle.wc_write.proofs.VectorTextLemmas.{front_shorter, back_shorter, items_spelled, vector_spelled}
+use Rattle.wc_write.proofs.OperatorTextLemmas.{instr_spelled}
+
+-- few locals are in runs of few
+abbrev IsFew : Locals → Type 0
+IsFew l = l.count < 2 ^ 32
+
+runs_few : (ls : List Locals) → local_count ls < 2 ^ 32 → All IsFew ls
+runs_few [] few = All-nil IsFew
+runs_few (l ∷ ls) few = All-cons IsFew l ls (omega arith) (runs_few ls (omega arith))
+
+locals_spelled : (l : Locals) → IsFew l → SpellsLocals (locals_text l) l
+locals_spelled l few = (number_text l.count, val_type_text l.ty, refl, number_32 l.count few, refl)
+
+locals_some : (l : Locals) → 0 < length (locals_text l)
+locals_some l = omega (arith, length-append (number_text l.count) (val_type_text l.ty))
+
+body_spelled : (b : BodyValue) → IsBody b → length (body_text b) < 2 ^ 32 → SpellsBody (body_text b) b
+unfolding body_text
+body_spelled b h short = record {
+  runs = vector_text locals_text b.locals;
+  code = flat_map instr_text b.operators;
+  cut = refl;
+  has_locals = vector_spelled SpellsLocals locals_text IsFew (λ l few _. locals_spelled l few) locals_some b.locals (runs_few b.locals h.few_locals) (front_shorter (vector_text locals_text b.locals) (flat_map instr_text b.operators) _ short);
+  few_locals = h.few_locals;
+  has_operators = items_spelled SpellsInstr instr_text IsInstr instr_spelled b.operators h.has_operators (back_shorter (vector_text locals_text b.locals) (flat_map instr_text b.operators) _ short);
+  nests = h.nests;
+}
+
+pub body_read : (b : BodyValue) → IsBody b → length (body_text b) < 2 ^ 32 → SpellsBody (body_text b) b × ((v : BodyValue) → SpellsBody (body_text b) v → v ≡ b)
+body_read b h short = let s = body_spelled b h short in (s, λ v t. body_one (body_text b) v b t s)

@@ -1,6 +1,0 @@
-use Rattle.std.proofs.Common.{}
-use Rattle.wc_write.proofs.OwnItems.{imports_grouped}
-use Rattle.wc_write.proofs.parts.imports.Goals as goal
-
-pub returns : goal.returns
-returns c = imports_grouped c.args.built.now _ _ _ _ (rw (c.new-imports.ensures.items, c.deref.ensures.value) at c.in_ok-push_imports.ensures) (rw c.deref-2.ensures.value at c.in_ok-push_imports-2.ensures) (rw c.deref-3.ensures.value at c.in_ok-push_imports-3.ensures) (rw c.deref-4.ensures.value at c.in_ok-push_imports-4.ensures)

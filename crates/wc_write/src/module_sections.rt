@@ -1,0 +1,246 @@
+//! The sections of a module, each left out where it would be empty (WebAssembly core specification, 5.5.4 to 5.5.13).
+//! A section's content is written into a buffer first, since its size comes before it.
+
+ghost use Rattle.std.specs.Prelude.{◌≡◌, ◌++◌, map, Some, IfOk, OnOk};
+ghost use Rattle.std.specs.List.{flat_map};
+ghost use Rattle.std.specs.Option.{option_map};
+ghost use Rattle.wc_read.specs.Types.{func_type_value};
+ghost use Rattle.wc_read.specs.Imports.{import_values};
+ghost use Rattle.wc_read.specs.Exports.{export_value};
+ghost use Rattle.wc_read.specs.Bodies.{body_value};
+ghost use Rattle.wc_read.specs.Inits.{init_value};
+ghost use Rattle.wc_read.specs.Items.{item_value, table_value, memory_value};
+ghost use Rattle.wc_write.specs.ModuleText.{built_value, built_imports, code_text_of, items_content, type_section, import_section, func_section, table_section, memory_section, global_section, export_section, start_section, code_section, producers_section, AppendsSection, AppendsContent};
+
+use crate::bodies::put_body;
+use crate::fault::WriteFault;
+use crate::modules::Built;
+use crate::numbers::{put_name, put_number};
+use crate::sections::{
+    CODE_SECTION, CUSTOM_SECTION, EXPORT_SECTION, FUNC_SECTION, GLOBAL_SECTION, IMPORT_SECTION,
+    MEMORY_SECTION, START_SECTION, TABLE_SECTION, TYPE_SECTION, append_raw_section,
+};
+use crate::spaces::{Defined, defined_items, push_imports};
+use crate::vectors::{Written, put_vector};
+use std::alloc::{AllocError, Global};
+use wc_read::{Body, Export, FuncType, GlobalType, Import, Init, Item, Memory, Table};
+
+/// The name of the custom section of producers.
+const PRODUCERS: &str = "producers";
+
+/// Appends a section of this content.
+fn append_content(out: &mut Vec<u8>, id: u8, content: &[u8]) -> Result<(), WriteFault>
+    ensures { AppendsContent result out.old.items out.new.items id (Some content.now) }
+{
+    append_raw_section(out, id, content)
+}
+
+/// Appends a section of items, where there are any.
+fn append_items<T: Written>(
+    out: &mut Vec<u8>,
+    content: &mut Vec<u8>,
+    id: u8,
+    items: &[T],
+) -> Result<(), WriteFault>
+    ensures { AppendsContent result out.old.items out.new.items id
+        (items_content T.text items.now) }
+{
+    if items.is_empty() {
+        return Ok(());
+    }
+    content.clear();
+    put_vector(content, items)?;
+    append_content(out, id, content)
+}
+
+/// Appends the section of types, where there are any.
+pub(crate) fn append_types(
+    out: &mut Vec<u8>,
+    content: &mut Vec<u8>,
+    types: &[FuncType],
+) -> Result<(), WriteFault>
+    ensures { AppendsSection result out.old.items out.new.items
+        (type_section (map func_type_value types.now)) }
+{
+    append_items(out, content, TYPE_SECTION, types)
+}
+
+/// Appends the section of imports, where there are any.
+pub(crate) fn append_imports(
+    out: &mut Vec<u8>,
+    content: &mut Vec<u8>,
+    built: &Built<'_>,
+) -> Result<(), WriteFault>
+    ensures { AppendsSection result out.old.items out.new.items
+        (import_section (built_imports (built_value built.now))) }
+{
+    let imports = imports(*out.allocator(), built)?;
+    append_items(out, content, IMPORT_SECTION, &imports)
+}
+
+/// The imports of a module: memories, tables, globals and functions, each in the order of its index space.
+fn imports<'a>(alloc: Global, built: &Built<'a>) -> Result<Vec<Import<'a>>, AllocError>
+    ensures { IfOk result (λ v. import_values v.items ≡ built_imports (built_value built.now)) }
+{
+    let mut imports = Vec::new(alloc);
+    push_imports(&mut imports, &built.memories)?;
+    push_imports(&mut imports, &built.tables)?;
+    push_imports(&mut imports, &built.globals)?;
+    push_imports(&mut imports, &built.funcs)?;
+    Ok(imports)
+}
+
+/// Appends the section of functions, the indices of the types of the defined ones, where there are any.
+pub(crate) fn append_func_types(
+    out: &mut Vec<u8>,
+    content: &mut Vec<u8>,
+    funcs: &[Item<'_, u32, Body<'_>>],
+) -> Result<(), WriteFault>
+    ensures { AppendsSection result out.old.items out.new.items
+        (func_section (map (item_value body_value) funcs.now)) }
+{
+    let alloc = *out.allocator();
+    let funcs = defined_items(alloc, funcs)?;
+    let types = types_of(alloc, &funcs)?;
+    append_items(out, content, FUNC_SECTION, &types)
+}
+
+/// The indices of the types of functions.
+fn types_of(alloc: Global, funcs: &[Defined<'_, u32, Body<'_>>]) -> Result<Vec<u32>, AllocError>
+    ensures { IfOk result (λ v. v.items ≡ map (λ f. f.ty) funcs.now) }
+{
+    let mut types = Vec::with_capacity(alloc, funcs.len())?;
+    for func in funcs {
+        types.push(func.ty)?;
+    }
+    Ok(types)
+}
+
+/// Appends the section of defined tables, where there are any.
+pub(crate) fn append_tables(
+    out: &mut Vec<u8>,
+    content: &mut Vec<u8>,
+    tables: &[Table<'_>],
+) -> Result<(), WriteFault>
+    ensures { AppendsSection result out.old.items out.new.items
+        (table_section (map table_value tables.now)) }
+{
+    let tables = defined_items(*out.allocator(), tables)?;
+    append_items(out, content, TABLE_SECTION, &tables)
+}
+
+/// Appends the section of defined memories, where there are any.
+pub(crate) fn append_memories(
+    out: &mut Vec<u8>,
+    content: &mut Vec<u8>,
+    memories: &[Memory<'_>],
+) -> Result<(), WriteFault>
+    ensures { AppendsSection result out.old.items out.new.items
+        (memory_section (map memory_value memories.now)) }
+{
+    let memories = defined_items(*out.allocator(), memories)?;
+    append_items(out, content, MEMORY_SECTION, &memories)
+}
+
+/// Appends the section of defined globals, where there are any.
+pub(crate) fn append_globals(
+    out: &mut Vec<u8>,
+    content: &mut Vec<u8>,
+    globals: &[Item<'_, GlobalType, Init<'_>>],
+) -> Result<(), WriteFault>
+    ensures { AppendsSection result out.old.items out.new.items
+        (global_section (map (item_value init_value) globals.now)) }
+{
+    let globals = defined_items(*out.allocator(), globals)?;
+    append_items(out, content, GLOBAL_SECTION, &globals)
+}
+
+/// Appends the section of exports, where there are any.
+pub(crate) fn append_exports(
+    out: &mut Vec<u8>,
+    content: &mut Vec<u8>,
+    exports: &[Export<'_>],
+) -> Result<(), WriteFault>
+    ensures { AppendsSection result out.old.items out.new.items
+        (export_section (map export_value exports.now)) }
+{
+    append_items(out, content, EXPORT_SECTION, exports)
+}
+
+/// Appends the start section, where there is a start function.
+pub(crate) fn append_start(
+    out: &mut Vec<u8>,
+    content: &mut Vec<u8>,
+    start: Option<u32>,
+) -> Result<(), WriteFault>
+    ensures { AppendsSection result out.old.items out.new.items (start_section start) }
+{
+    let Some(index) = start else {
+        return Ok(());
+    };
+    content.clear();
+    put_number(content, u64::from(index))?;
+    append_content(out, START_SECTION, content)
+}
+
+/// Appends the section of code, the bodies of defined functions after their sizes, where there are any.
+pub(crate) fn append_code(
+    out: &mut Vec<u8>,
+    content: &mut Vec<u8>,
+    funcs: &[Item<'_, u32, Body<'_>>],
+) -> Result<(), WriteFault>
+    ensures { AppendsSection result out.old.items out.new.items
+        (code_section (map (item_value body_value) funcs.now)) }
+{
+    let funcs = defined_items(*out.allocator(), funcs)?;
+    append_bodies(out, content, &funcs)
+}
+
+fn append_bodies(
+    out: &mut Vec<u8>,
+    content: &mut Vec<u8>,
+    funcs: &[Defined<'_, u32, Body<'_>>],
+) -> Result<(), WriteFault>
+    ensures { AppendsContent result out.old.items out.new.items CODE_SECTION
+        (items_content code_text_of funcs.now) }
+{
+    if funcs.is_empty() {
+        return Ok(());
+    }
+    content.clear();
+    put_number(content, funcs.len() as u64)?;
+    put_code(content, funcs)?;
+    append_content(out, CODE_SECTION, content)
+}
+
+/// Appends bodies after their sizes. One buffer serves them all.
+fn put_code(out: &mut Vec<u8>, funcs: &[Defined<'_, u32, Body<'_>>]) -> Result<(), AllocError>
+    ensures { OnOk result (out.new.items ≡ out.old.items ++ flat_map code_text_of funcs.now) }
+{
+    let mut text = Vec::new(*out.allocator());
+    for func in funcs {
+        text.clear();
+        put_body(&mut text, func.content)?;
+        put_number(out, text.len() as u64)?;
+        out.extend_from_slice(&text)?;
+    }
+    Ok(())
+}
+
+/// Appends the custom section of producers, where there are producers.
+pub(crate) fn append_producers(
+    out: &mut Vec<u8>,
+    content: &mut Vec<u8>,
+    producers: Option<&[u8]>,
+) -> Result<(), WriteFault>
+    ensures { AppendsSection result out.old.items out.new.items
+        (producers_section (option_map (λ b. b.now) producers.entry)) }
+{
+    let Some(bytes) = producers else {
+        return Ok(());
+    };
+    content.clear();
+    put_name(content, PRODUCERS)?;
+    content.extend_from_slice(bytes)?;
+    append_content(out, CUSTOM_SECTION, content)
+}
