@@ -24,8 +24,7 @@
 //! pub fn exports_memory(alloc: Global, bytes: &[u8]) -> Result<bool, ReadFault>
 //!     ensures found { IfOk result (λ answer. (m : ModuleValue) × SpellsModule bytes.now m
 //!         × (IsTrue answer ↔ Any (λ e. e.kind ≡ ExportKind.Memory) m.exports)) }
-//!     ensures refused { IfErr result (λ fault. fault ≢ ReadFault.Memory
-//!         → (m : ModuleValue) → ¬ (SpellsModule bytes.now m)) }
+//!     ensures refused { IfRefused result (SpellsNothing SpellsModule bytes.now) }
 //! {
 //!     let module = read_module(alloc, bytes)?;
 //!     Ok(has_memory(&module))

@@ -1,6 +1,7 @@
 //! An example of `wc_read`.
 
-ghost use Rattle.std.specs.Prelude.{◌≡◌, ◌≢◌, ◌↔◌, Any, IfErr, IfOk, IsTrue};
+ghost use Rattle.std.specs.Prelude.{◌≡◌, ◌↔◌, Any, IfOk, IsTrue};
+ghost use Rattle.wc_read.specs.Faults.{IfRefused, SpellsNothing};
 ghost use Rattle.wc_read.specs.Modules.{ModuleValue, SpellsModule, module_value};
 
 use std::alloc::Global;
@@ -21,8 +22,7 @@ fn has_memory(parsed: &Module<'_>) -> bool
 pub(crate) fn exports_memory(alloc: Global, bytes: &[u8]) -> Result<bool, ReadFault>
     ensures found { IfOk result (λ answer. (m : ModuleValue) × SpellsModule bytes.now m
         × (IsTrue answer ↔ Any (λ e. e.kind ≡ ExportKind.Memory) m.exports)) }
-    ensures refused { IfErr result (λ fault. fault ≢ ReadFault.Memory
-        → (m : ModuleValue) → ¬ (SpellsModule bytes.now m)) }
+    ensures refused { IfRefused result (SpellsNothing SpellsModule bytes.now) }
 {
     let module = read_module(alloc, bytes)?;
     Ok(has_memory(&module))
