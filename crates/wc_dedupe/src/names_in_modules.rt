@@ -70,7 +70,8 @@ impl NameTable {
         ensures least { IfOk result (λ r. AreTaken self.now original.now r.0) }
         ensures from_two { IfOk result (λ r. 2 ≤ r.0) }
         ensures room { IfOk result (λ r. r.0 < 2 ^ 63 + 3) }
-        ensures spelled { IfOk result (λ r. string_bytes r.1 ≡ name_with_number original.now r.0) }
+        ensures spelled { IfOk result
+            (λ r. string_bytes r.1 ≡ name_with_number original.now r.0) }
         ensures free { IfOk result (λ r. name_record_of self.now (string_bytes r.1) ≡ None) }
     {
         let limit = self.names.len() as u64 + 3;
@@ -174,7 +175,8 @@ impl NamesInModules {
     /// Adds an empty table for `module`, where it has none.
     fn add(&mut self, alloc: Global, module: &str) -> Result<(), AllocError>
         ensures there { OnOk result (IsSome (get_by_text self.new.modules «module».now)) }
-        ensures same { (m n : List ℕ) → name_record_in self.new m n ≡ name_record_in self.old m n }
+        ensures same { (m n : List ℕ)
+            → name_record_in self.new m n ≡ name_record_in self.old m n }
     {
         if !self.modules.contains_key(module) {
             let key = String::from_str(alloc, module)?;

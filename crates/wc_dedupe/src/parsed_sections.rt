@@ -8,14 +8,9 @@ ghost use Rattle.wc_dedupe.specs.ParsedSections.{ParsedSectionValue, parsed_sect
 
 use crate::renaming::{Rename, renamed_imports};
 use std::alloc::{AllocError, Global};
-use wc_read::{Import, ReadFault, Section, frames, laws, read_imports};
+use wc_read::codes::IMPORT_ID;
+use wc_read::{Import, MODULE_HEADER, ReadFault, Section, frames, laws, read_imports};
 use wc_write::{WriteFault, append_import_section, append_raw_section};
-
-/// The id of an import section.
-const IMPORT_SECTION: u8 = 2;
-
-/// The header of a module (WebAssembly core specification, 5.5.16): `\0asm`, version 1.
-const HEADER: &[u8] = b"\0asm\x01\0\0\0";
 
 /// A section: an import section as its imports, any other one unchanged.
 #[derive(Debug, Drop)]
@@ -65,7 +60,7 @@ fn parse_section<'a>(alloc: Global, section: &Section<'a>) -> Result<ParsedSecti
         → (p : ParsedSectionValue) → ¬ (SpellsParsedSection (section_value section.now) p)) }
     ensures no_component { IfErr result (λ f. f ≢ ReadFault.Component) }
 {
-    if section.id != IMPORT_SECTION {
+    if section.id != IMPORT_ID {
         return Ok(ParsedSection::Other(*section));
     }
     let imports = read_imports(alloc, section.content)?;
@@ -104,7 +99,7 @@ pub fn write_sections(
         (renamed_sections (rename_values renames.now) (parsed_values parts.now) indices.now) }
 {
     let mut out = Vec::with_capacity(alloc, size)?;
-    out.extend_from_slice(HEADER)?;
+    out.extend_from_slice(MODULE_HEADER)?;
     let mut left = indices;
     for part in parts {
         let (mine, others) = left.split_at(imports_in(part).len());

@@ -4,11 +4,15 @@ use Rattle.std.specs.Prelude.{nat_lt}
 use Rattle.std.proofs.lemmas.Bool.{false≢true, lt-ltb}
 use Rattle.wc_read.specs.Formats.{Format, SpellsNumber, SpellsItems, SpellsVector, Joined}
 use Rattle.wc_read.specs.Types.{SpellsValType}
-use Rattle.wc_read.specs.Reading.{number_at, val_type_at, vector_at, ◌>>=◌}
+use Rattle.wc_read.specs.Reading.Bytes.{number_at, vector_at}
+use Rattle.wc_read.specs.Reading.Types.{val_type_at}
+use Rattle.wc_read.specs.Options.{◌>>=◌}
 use Rattle.wc_read.specs.Operators.{InstrValue, SpellsInstr}
-use Rattle.wc_read.specs.Instructions.{instr_at}
-use Rattle.wc_read.specs.Nesting.{tokens, is_nested}
-use Rattle.wc_read.specs.Bodies.{BodyValue, SpellsLocals, local_count, SpellsBody, locals_of, locals_at}
+use Rattle.wc_read.specs.Reading.Operators.{instr_at}
+use Rattle.wc_read.specs.Nesting.{tokens}
+use Rattle.wc_read.specs.Reading.Nesting.{is_nested}
+use Rattle.wc_read.specs.Bodies.{BodyValue, SpellsLocals, local_count, SpellsBody}
+use Rattle.wc_read.specs.Reading.Bodies.{locals_of, locals_at}
 use Rattle.wc_read.specs.declared.bodies.Locals.{Locals}
 use Rattle.wc_read.proofs.MeetsLemmas.{Meets, same_meets, bind_meets, made_meets, made_at, number_meets, vector_meets, one_spelling, no_spelling, Made}
 use Rattle.wc_read.proofs.ToEndLemmas.{items_unique}

@@ -5,8 +5,11 @@ use Rattle.wc_read.specs.Formats.{Format, SpellsNumber, SpellsVector, Joined}
 use Rattle.wc_read.specs.Types.{FuncTypeValue, SpellsValType}
 use Rattle.wc_read.specs.Limits.{SpellsTable, SpellsMemory}
 use Rattle.wc_read.specs.Contents.{SpellsFuncType, SpellsSizePrefixed, SpellsFuncTypes, SpellsIndices, SpellsTables, SpellsMemories, SpellsBodies}
-use Rattle.wc_read.specs.Reading.{Read, byte_at, bytes_at, where_at, number_at, vector_at, val_type_at, table_at, memory_at, ◌>>=◌}
-use Rattle.wc_read.specs.ContentsReading.{Answers, read_all, func_type_at, size_prefixed_at}
+use Rattle.wc_read.specs.Reading.Bytes.{Read, byte_at, bytes_at, where_at, number_at, vector_at, Answers, read_all}
+use Rattle.wc_read.specs.Reading.Types.{val_type_at}
+use Rattle.wc_read.specs.Reading.Limits.{table_at, memory_at}
+use Rattle.wc_read.specs.Options.{◌>>=◌}
+use Rattle.wc_read.specs.Reading.Contents.{func_type_at, size_prefixed_at}
 use Rattle.wc_read.specs.declared.types.ValType.{ValType}
 use Rattle.wc_read.specs.Faults.{IfRefused, SpellsNothing}
 use Rattle.wc_read.specs.declared.fault.ReadFault.{ReadFault}

@@ -4,9 +4,10 @@ use Rattle.std.proofs.lemmas.Bool.{false≢true}
 use Rattle.std.proofs.lemmas.Slice.Eq.{bytes_eq-Decides}
 use Rattle.std.specs.Str.{bytes_eq}
 use Rattle.wc_read.specs.Formats.{SpellsName}
-use Rattle.wc_read.specs.Reading.{name_at}
+use Rattle.wc_read.specs.Reading.Bytes.{name_at}
 use Rattle.wc_read.specs.Sections.{SectionValue}
-use Rattle.wc_read.specs.Custom.{IsCustomSection, ContentAfterName}
+use Rattle.wc_read.specs.Custom.{IsCustomSection}
+use Rattle.wc_read.specs.Reading.Custom.{ContentAfterName}
 use Rattle.wc_read.proofs.MeetsLemmas.{no_spelling, one_spelling}
 use Rattle.wc_read.proofs.OptionsLemmas.{some_pair}
 use Rattle.wc_read.proofs.TypesLemmas.{name_meets}

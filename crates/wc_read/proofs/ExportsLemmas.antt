@@ -2,8 +2,9 @@
 use Rattle.std.proofs.Common.{◌≡◌, ℕ, List, [], ◌∷◌, ◌++◌, Some, None, refl, sym, ◌∙◌, ap}
 use Rattle.wc_read.specs.Formats.{Format, SpellsNumber, SpellsName, Joined}
 use Rattle.wc_read.specs.Exports.{ExportValue, export_kind_code, SpellsExport, SpellsExports}
-use Rattle.wc_read.specs.Reading.{number_at, name_at, vector_at, ◌>>=◌}
-use Rattle.wc_read.specs.ContentsReading.{export_kind_of, export_kind_at, export_at}
+use Rattle.wc_read.specs.Reading.Bytes.{number_at, name_at, vector_at}
+use Rattle.wc_read.specs.Options.{◌>>=◌}
+use Rattle.wc_read.specs.Reading.Exports.{export_kind_of, export_kind_at, export_at}
 use Rattle.wc_read.specs.declared.exports.ExportKind.{ExportKind}
 use Rattle.wc_read.specs.declared.exports.ExportKind.TheVariants.{Func, Table, Memory, Global}
 use Rattle.wc_read.proofs.OptionsLemmas.{some_none}

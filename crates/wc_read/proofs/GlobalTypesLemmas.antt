@@ -7,7 +7,7 @@ use Rattle.std.proofs.lemmas.Bool.{cases_lt}
 use Rattle.std.proofs.lemmas.Option.{slice_get-map, slice_get_read, slice_get-get_or}
 use Rattle.std.proofs.lemmas.List.{take-map}
 use Rattle.std.proofs.Math.Seq.{take-append_seam}
-use Rattle.wc_read.specs.Reading.{◌>>=◌}
+use Rattle.wc_read.specs.Options.{◌>>=◌}
 use Rattle.wc_read.specs.InitTypes.{types_of, global_value_type, scope_of, IsTypedDef, AreTyped}
 use Rattle.wc_read.specs.Items.{GlobalValue, global_value}
 use Rattle.wc_read.specs.declared.types.ValType.{ValType}

@@ -2,9 +2,11 @@
 use Rattle.std.proofs.Common.{ℕ, List, ◌++◌, refl, ◌∙◌, ap}
 use Rattle.wc_read.specs.Formats.{Format, Joined}
 use Rattle.wc_read.specs.Types.{SpellsGlobal}
-use Rattle.wc_read.specs.Inits.{init_bytes_at}
-use Rattle.wc_read.specs.Globals.{LocalGlobalValue, SpellsLocalGlobal, local_global_at}
-use Rattle.wc_read.specs.Reading.{global_at, ◌>>=◌}
+use Rattle.wc_read.specs.Reading.Inits.{init_bytes_at}
+use Rattle.wc_read.specs.Globals.{LocalGlobalValue, SpellsLocalGlobal}
+use Rattle.wc_read.specs.Reading.Globals.{local_global_at}
+use Rattle.wc_read.specs.Reading.Types.{global_at}
+use Rattle.wc_read.specs.Options.{◌>>=◌}
 use Rattle.wc_read.specs.declared.types.GlobalType.{GlobalType}
 use Rattle.wc_read.proofs.MeetsLemmas.{Meets, same_meets, bind_meets, made_meets, made_at, Made}
 use Rattle.wc_read.proofs.TypesLemmas.{global_meets}

@@ -5,7 +5,11 @@ use Rattle.wc_read.specs.Formats.{Format, SpellsNumber, SpellsName, Joined}
 use Rattle.wc_read.specs.Types.{SpellsGlobal}
 use Rattle.wc_read.specs.Limits.{SpellsTable, SpellsMemory}
 use Rattle.wc_read.specs.Imports.{ImportValue, SpellsImportType, SpellsImport, SpellsImports}
-use Rattle.wc_read.specs.Reading.{Read, byte_at, number_at, name_at, table_at, memory_at, global_at, import_type_at, import_at, vector_at, ◌>>=◌}
+use Rattle.wc_read.specs.Reading.Bytes.{Read, byte_at, number_at, name_at, vector_at}
+use Rattle.wc_read.specs.Reading.Limits.{table_at, memory_at}
+use Rattle.wc_read.specs.Reading.Types.{global_at}
+use Rattle.wc_read.specs.Reading.Imports.{import_type_at, import_at}
+use Rattle.wc_read.specs.Options.{◌>>=◌}
 use Rattle.wc_read.specs.declared.types.ImportType.{ImportType}
 use Rattle.wc_read.specs.declared.types.ImportType.TheVariants.{Func, Table, Memory, Global}
 use Rattle.wc_read.proofs.MeetsLemmas.{Meets, same_meets, bind_meets, made_meets, made_at, number_meets, byte_meets, choice_meets, none_meets, vector_meets, IsByte, Made}

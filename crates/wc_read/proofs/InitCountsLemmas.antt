@@ -3,11 +3,13 @@ use Rattle.std.proofs.Common.{◌≡◌, ℕ, ◌+◌, ◌≤◌, List, [], ◌�
 use Rattle.std.specs.Prelude.{◌==◌}
 use Rattle.std.proofs.lemmas.Bool.{false≢true}
 use Rattle.wc_read.specs.Formats.{SpellsItems}
-use Rattle.wc_read.specs.Reading.{◌>>=◌}
+use Rattle.wc_read.specs.Options.{◌>>=◌}
 use Rattle.wc_read.specs.Operators.{InstrValue, SpellsInstr}
-use Rattle.wc_read.specs.Instructions.{instr_at}
-use Rattle.wc_read.specs.Inits.{is_end, end_value}
-use Rattle.wc_read.specs.InitTypes.{InitScope, IsTyped, next_depth, depth_after, leaves_so, step_of, step_at}
+use Rattle.wc_read.specs.Reading.Operators.{instr_at}
+use Rattle.wc_read.specs.Reading.Inits.{is_end}
+use Rattle.wc_read.specs.Inits.{end_value}
+use Rattle.wc_read.specs.InitTypes.{InitScope, IsTyped}
+use Rattle.wc_read.specs.Reading.InitTypes.{next_depth, leaves_so, step_of, step_at}
 use Rattle.wc_read.specs.declared.types.ValType.{ValType}
 use Rattle.wc_read.specs.declared.init_types.InitStep.{InitStep}
 use Rattle.wc_read.specs.declared.init_types.InitStep.TheVariants.{End, Leaves, Fails}
@@ -17,7 +19,7 @@ use Rattle.wc_read.proofs.OperatorsLemmas.{instr_meets, instr_some}
 use Rattle.wc_read.proofs.ToEndLemmas.{to_shorter}
 use Rattle.wc_read.proofs.UntilLemmas.{chosen}
 use Rattle.wc_read.proofs.InitsLemmas.{end_is, constant_goes_on}
-use Rattle.wc_read.proofs.InitDepthsLemmas.{leaves_constant, depth_more, depth_fails, depth_constant, depth_bound, depth_none, depth_same, one_from_depth, depth_from_one}
+use Rattle.wc_read.proofs.InitDepthsLemmas.{depth_after, leaves_constant, depth_more, depth_fails, depth_constant, depth_bound, depth_none, depth_same, one_from_depth, depth_from_one}
 
 -- what an operator does
 

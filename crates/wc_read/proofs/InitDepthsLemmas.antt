@@ -2,17 +2,24 @@
 use Rattle.std.proofs.Common.{◌≡◌, ℕ, zero, suc, ◌+◌, ◌-◌, ◌≤◌, List, [], ◌∷◌, ◌++◌, Bool, true, false, Option, Some, None, refl, sym, ◌∙◌, ap, subst, append_assoc, append-nil, arith, eqb-true, eq-eqb}
 use Rattle.std.specs.Prelude.{◌&&◌, nat_le, is_some, if◌then◌else◌}
 use Rattle.std.proofs.lemmas.Bool.{leb-true, le-leb}
-use Rattle.wc_read.specs.Reading.{◌>>=◌, val_type_of}
+use Rattle.wc_read.specs.Options.{◌>>=◌}
+use Rattle.wc_read.specs.Reading.Types.{val_type_of}
 use Rattle.wc_read.specs.Types.{val_type_code}
 use Rattle.wc_read.specs.Operators.{ImmediatesValue, InstrValue}
 use Rattle.wc_read.specs.Inits.{constant_of, is_constant, AreConstant}
-use Rattle.wc_read.specs.InitTypes.{InitScope, given_by, constant_type, integer_type, integers_type, LeavesOne, alone, joined, is_same, one_more, depth_after_constant, next_depth, depth_after}
+use Rattle.wc_read.specs.InitTypes.{InitScope, given_by, constant_type, integer_type, integers_type, LeavesOne, alone, joined}
+use Rattle.wc_read.specs.Reading.InitTypes.{is_same, one_more, depth_after_constant, next_depth}
 use Rattle.wc_read.specs.declared.types.ValType.{ValType}
 use Rattle.wc_read.specs.declared.inits.Constant.{Constant}
 use Rattle.wc_read.specs.declared.inits.Constant.TheVariants.{Value, Null, Func, Global, Integer}
 use Rattle.wc_read.proofs.OptionsLemmas.{some_same, some_none, bind_some, bind_none}
 use Rattle.wc_read.proofs.MeetsLemmas.{bind_is, if_is}
 use Rattle.wc_read.proofs.TypesLemmas.{val_type_there}
+
+-- how many values of a type there are after several operators
+unfoldable pub depth_after : InitScope → ValType → ℕ → List InstrValue → Option ℕ
+depth_after scope t depth [] = Some depth
+depth_after scope t depth (i ∷ is) = next_depth scope t depth i >>= λ next. depth_after scope t next is
 
 same_type : (a b : ValType) → is_same a b ≡ true → a ≡ b
 same_type a b e = some_same a b (sym (val_type_there a) ∙ ap val_type_of (eqb-true (val_type_code a) (val_type_code b) e) ∙ val_type_there b)

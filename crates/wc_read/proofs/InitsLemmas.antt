@@ -5,10 +5,11 @@ use Rattle.std.proofs.lemmas.Bool.{false≢true}
 use Rattle.std.proofs.Math.ListN.{length-append}
 use Rattle.std.proofs.Math.Seq.{take-append_seam}
 use Rattle.wc_read.specs.Formats.{Format, SpellsItems}
-use Rattle.wc_read.specs.Reading.{◌>>=◌}
+use Rattle.wc_read.specs.Options.{◌>>=◌}
 use Rattle.wc_read.specs.Operators.{InstrValue, SpellsInstr, SpellsImmediates, byte_form, form_of}
-use Rattle.wc_read.specs.Instructions.{instr_at, instr_of}
-use Rattle.wc_read.specs.Inits.{constant_byte, is_constant, is_end, end_value, AreConstant, SpellsInit, is_init_operator, ends, init_instr_at, init_end_at, init_at, bytes_before, init_bytes_at}
+use Rattle.wc_read.specs.Reading.Operators.{instr_at, instr_of}
+use Rattle.wc_read.specs.Inits.{constant_byte, is_constant, end_value, AreConstant, SpellsInit}
+use Rattle.wc_read.specs.Reading.Inits.{is_end, is_init_operator, ends, init_instr_at, init_end_at, init_at, bytes_before, init_bytes_at}
 use Rattle.wc_read.specs.declared.operators.Opcode.{Opcode}
 use Rattle.wc_read.specs.declared.operators.Opcode.TheVariants.{Byte, Misc, Vector, Atomic}
 use Rattle.wc_read.specs.declared.operators.Form.{Form}

@@ -12,14 +12,16 @@ use Rattle.std.specs.Option.{option_map}
 use Rattle.std.specs.Borrow.{Bor}
 use Rattle.std.proofs.lemmas.Option.{slice_get-map, slice_get_within, get_or_from_slice_get}
 use Rattle.std.proofs.lemmas.List.Elements.{All-get_or}
-use Rattle.wc_read.specs.Types.{FuncTypeValue, func_type_value, is_nullary}
+use Rattle.wc_read.specs.Types.{FuncTypeValue, func_type_value}
+use Rattle.wc_read.specs.Reading.Types.{is_nullary}
 use Rattle.wc_read.specs.declared.types.ValType.{ValType}
 use Rattle.wc_read.specs.Items.{FuncValue, func_value, global_value}
 use Rattle.wc_read.specs.InitTypes.{AreTyped}
 use Rattle.wc_read.specs.Exports.{export_value}
 use Rattle.wc_read.specs.declared.exports.Export.{Export}
 use Rattle.wc_read.specs.Sections.{SectionValue, section_value, SpellsFrames}
-use Rattle.wc_read.specs.SectionContents.{SectionContentsValue, section_contents_in}
+use Rattle.wc_read.specs.SectionContents.{SectionContentsValue}
+use Rattle.wc_read.specs.Reading.Contents.{section_contents_in}
 use Rattle.wc_read.specs.Names.{GlobalNameValue, global_names_of}
 use Rattle.wc_read.specs.Modules.{ModuleValue, module_value, CustomValue, HasCustom, module_of, HaveTypes, IsStart, IsModule, IsAssembled, AreModule, SpellsModule}
 use Rattle.wc_read.proofs.NamesUniqueLemmas.{names_unique}

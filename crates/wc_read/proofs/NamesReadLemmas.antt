@@ -7,10 +7,12 @@ use Rattle.std.proofs.Math.ListN.{length-append}
 use Rattle.indexmap.specs.IndexMap.{insert_entry}
 use Rattle.indexmap.proofs.MapLemmas.{insert_all_push}
 use Rattle.wc_read.specs.Formats.{Format, SpellsNumber, SpellsItems}
-use Rattle.wc_read.specs.Reading.{number_at, section_at}
+use Rattle.wc_read.specs.Reading.Bytes.{number_at}
+use Rattle.wc_read.specs.Reading.Sections.{section_at}
 use Rattle.wc_read.specs.Sections.{SectionValue, section_value, SpellsSection}
-use Rattle.wc_read.specs.Custom.{ContentAfterName}
-use Rattle.wc_read.specs.Names.{GlobalNameValue, global_name_value, SpellsGlobalName, global_name_at, name_text, global_names_id, PairsThenRest, no_count, bytes_after, pair_missing, PairsOf, Subsection, NamesIn, no_more, other_id, complete, faulty, NamesOfSection, name_section, other_section, NamesOf, global_names_of}
+use Rattle.wc_read.specs.Reading.Custom.{ContentAfterName}
+use Rattle.wc_read.specs.Names.{GlobalNameValue, SpellsGlobalName, name_text, global_names_id, PairsThenRest, no_count, bytes_after, pair_missing, Subsection, NamesIn, no_more, other_id, complete, faulty, NamesOfSection, name_section, other_section, NamesOf, global_names_of}
+use Rattle.wc_read.specs.Reading.Names.{global_name_value, global_name_at, PairsOf}
 use Rattle.wc_read.specs.declared.names.GlobalName.{GlobalName}
 use Rattle.wc_read.specs.declared.sections.Section.{Section}
 use Rattle.wc_read.proofs.MeetsLemmas.{number_meets, no_spelling}

@@ -1,9 +1,11 @@
 -- Sections give one list of names.
 use Rattle.std.proofs.Common.{◌≡◌, ◌≢◌, ℕ, ◌<◌, ◌≤◌, List, [], ◌∷◌, ◌++◌, length, refl, sym, ◌∙◌, ap, subst, append_assoc, append-nil, arith}
 use Rattle.wc_read.specs.Formats.{Format, SpellsNumber, SpellsItems, SpellsVector, HasNoPrefix}
-use Rattle.wc_read.specs.Reading.{Read, number_at, section_at, vector_at, items_at}
+use Rattle.wc_read.specs.Reading.Bytes.{Read, number_at, vector_at, items_at}
+use Rattle.wc_read.specs.Reading.Sections.{section_at}
 use Rattle.wc_read.specs.Sections.{SectionValue, SpellsSection}
-use Rattle.wc_read.specs.Names.{GlobalNameValue, SpellsGlobalName, global_name_at, name_text, global_names_id, PairsThenRest, PairsBeforeFault, no_count, bytes_after, pair_missing, Subsection, NamesIn, no_more, other_id, complete, faulty, NamesOfSection, name_section, other_section, NamesOf}
+use Rattle.wc_read.specs.Names.{GlobalNameValue, SpellsGlobalName, name_text, global_names_id, PairsThenRest, PairsBeforeFault, no_count, bytes_after, pair_missing, Subsection, NamesIn, no_more, other_id, complete, faulty, NamesOfSection, name_section, other_section, NamesOf}
+use Rattle.wc_read.specs.Reading.Names.{global_name_at}
 use Rattle.wc_read.proofs.MeetsLemmas.{Meets, AreItems, number_meets, items_meet, vector_meets, one_spelling, one_value}
 use Rattle.wc_read.proofs.NamesLemmas.{global_name_meets}
 use Rattle.wc_read.proofs.SectionsLemmas.{section_meets}

@@ -1,7 +1,8 @@
 -- The stack of open blocks comes out empty exactly where blocks nest.
 use Rattle.std.proofs.Common.{◌≡◌, List, [], ◌∷◌, ◌++◌, Bool, true, false, Option, Some, None, refl, sym, ◌∙◌, ap, append_assoc, inl, inr, ◌⊎◌}
 use Rattle.std.proofs.lemmas.Bool.{false≢true}
-use Rattle.wc_read.specs.Nesting.{IsRun, empty_run, plain_run, block_run, if_run, if_else_run, IsExpression, steps, is_closed, is_nested}
+use Rattle.wc_read.specs.Nesting.{IsRun, empty_run, plain_run, block_run, if_run, if_else_run, IsExpression}
+use Rattle.wc_read.specs.Reading.Nesting.{steps, is_closed, is_nested}
 use Rattle.wc_read.specs.declared.nesting.Token.{Token}
 use Rattle.wc_read.specs.declared.nesting.Token.TheVariants.{Plain, Block, If, Else, End}
 use Rattle.wc_read.proofs.OptionsLemmas.{some_same, some_none}

@@ -4,7 +4,8 @@ use Rattle.std.specs.Prelude.{◌==◌}
 use Rattle.std.proofs.lemmas.List.{at_drop_more, at_drop_all, length-reverse}
 use Rattle.std.proofs.lemmas.Bool.Decides.{nat_tests}
 use Rattle.wc_read.specs.Operators.{instr_value}
-use Rattle.wc_read.specs.Nesting.{token_of, tokens, step, steps, is_closed, is_nested}
+use Rattle.wc_read.specs.Nesting.{token_of, tokens}
+use Rattle.wc_read.specs.Reading.Nesting.{step, steps, is_closed, is_nested}
 use Rattle.wc_read.specs.declared.operators.Instr.{Instr}
 use Rattle.wc_read.proofs.OptionsLemmas.{bind_none, bind_some}
 

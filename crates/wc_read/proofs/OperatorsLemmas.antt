@@ -5,10 +5,13 @@ use Rattle.std.proofs.lemmas.Bool.{false≢true}
 use Rattle.std.proofs.lemmas.Bool.Decides.{nat_tests}
 use Rattle.wc_read.specs.Formats.{Format, SpellsNumber, SpellsVector, Joined}
 use Rattle.wc_read.specs.Types.{SpellsValType, val_type_code}
-use Rattle.wc_read.specs.Signed.{SpellsSigned, last_positive, last_negative, more_signed, signed_at}
-use Rattle.wc_read.specs.Reading.{Read, ◌>>=◌, byte_at, bytes_at, number_at, val_type_at, vector_at, where_at, optional_at, is_reference}
+use Rattle.wc_read.specs.Signed.{SpellsSigned, last_positive, last_negative, more_signed}
+use Rattle.wc_read.specs.Reading.Signed.{signed_at}
+use Rattle.wc_read.specs.Reading.Bytes.{Read, byte_at, bytes_at, number_at, vector_at, where_at, optional_at}
+use Rattle.wc_read.specs.Options.{◌>>=◌}
+use Rattle.wc_read.specs.Reading.Types.{val_type_at, is_reference}
 use Rattle.wc_read.specs.Operators.{form_of, index_of, is_prefix, SpellsOpcode, SpellsBlockType, SpellsMemArg, SpellsRefType, SpellsImmediates, SpellsInstr, ImmediatesValue, WithNone, WithBlock, WithIndex, WithIndices, WithLabels, WithValTypes, WithRefType, WithMemArg, WithMemArgLane, WithI32, WithI64, WithBytes, WithLane, InstrValue}
-use Rattle.wc_read.specs.Instructions.{opcode_after, opcode_at, natural, func_type_at, is_value, block_type_after, block_type_at, are_flags, mem_arg_at, ref_type_at, is_zero, immediates_at, instr_of, instr_at}
+use Rattle.wc_read.specs.Reading.Operators.{opcode_after, opcode_at, natural, func_type_at, is_value, block_type_after, block_type_at, are_flags, mem_arg_at, ref_type_at, is_zero, immediates_at, instr_of, instr_at}
 use Rattle.wc_read.specs.declared.types.ValType.{ValType}
 use Rattle.wc_read.specs.declared.types.ValType.TheVariants.{I32, I64, F32, F64, V128, FuncRef, ExternRef}
 use Rattle.wc_read.specs.declared.operators.Opcode.{Opcode}

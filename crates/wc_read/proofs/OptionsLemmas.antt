@@ -1,6 +1,6 @@
 -- Options, and one step after another.
 use Rattle.std.proofs.Common.{◌≡◌, Option, Some, None, refl, ap}
-use Rattle.wc_read.specs.Reading.{◌>>=◌}
+use Rattle.wc_read.specs.Options.{◌>>=◌}
 
 pub some_same : {A : Type 0} (x y : A) → ◌≡◌ {A = Option A} (Some x) (Some y) → x ≡ y
 some_same x y e = cc

@@ -11,8 +11,9 @@ use Rattle.std.proofs.lemmas.List.Kept.{AllPairs-cons}
 use Rattle.wc_read.specs.Sections.{SectionValue, section_value}
 use Rattle.wc_read.specs.declared.sections.Section.{Section}
 use Rattle.wc_read.specs.Order.{section_position, ComesBefore, IsSection, AreInOrder}
-use Rattle.wc_read.specs.Reading.{◌>>=◌, name_at}
-use Rattle.wc_read.specs.OrderReading.{next_position, last_position}
+use Rattle.wc_read.specs.Options.{◌>>=◌}
+use Rattle.wc_read.specs.Reading.Bytes.{name_at}
+use Rattle.wc_read.specs.Reading.Order.{next_position}
 use Rattle.wc_read.proofs.OptionsLemmas.{some_same, some_none, bind_some, bind_none}
 use Rattle.wc_read.proofs.MeetsLemmas.{bind_is, if_is}
 use Rattle.wc_read.proofs.TypesLemmas.{name_meets}
@@ -80,6 +81,11 @@ next_position_is position s next e = by (s.id == 0) refl
         }
 
 -- all sections
+
+-- the position after several sections
+unfoldable pub last_position : ℕ → List SectionValue → Option ℕ
+last_position position [] = Some position
+last_position position (s ∷ ss) = next_position position s >>= λ next. last_position next ss
 
 after_from : (position : ℕ) (ss : List SectionValue) (n : ℕ) → last_position position ss ≡ Some n → AreAfter position ss
 unfolding last_position

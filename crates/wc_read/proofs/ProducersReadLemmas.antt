@@ -5,10 +5,12 @@ use Rattle.std.specs.Option.{option_map}
 use denote.Ref.{Bor}
 use Rattle.std.proofs.lemmas.List.{take_more, take_all, map-append}
 use Rattle.wc_read.specs.Formats.{SpellsVector}
-use Rattle.wc_read.specs.Reading.{vector_at}
+use Rattle.wc_read.specs.Reading.Bytes.{vector_at}
 use Rattle.wc_read.specs.Sections.{SectionValue, section_value}
-use Rattle.wc_read.specs.Custom.{IsCustomSection, ContentAfterName}
-use Rattle.wc_read.specs.Producers.{FieldValue, SpellsField, field_at, producers_text, AreFields, ReadsProducers, NoneReads, LastProducers, ProducersOf}
+use Rattle.wc_read.specs.Custom.{IsCustomSection}
+use Rattle.wc_read.specs.Reading.Custom.{ContentAfterName}
+use Rattle.wc_read.specs.Producers.{FieldValue, SpellsField, producers_text, ReadsProducers, NoneReads, LastProducers}
+use Rattle.wc_read.specs.Reading.Producers.{field_at, AreFields, ProducersOf}
 use Rattle.wc_read.specs.declared.sections.Section.{Section}
 use Rattle.wc_read.proofs.MeetsLemmas.{Meets, vector_meets, no_value, none_left, left_over}
 use Rattle.wc_read.proofs.ProducersLemmas.{field_meets}

@@ -3,20 +3,25 @@ use Rattle.std.proofs.Common.{◌≡◌, ℕ, List, [], Option, Some, None, refl
 use Rattle.std.specs.Prelude.{MatchOption}
 use Rattle.std.specs.Option.{option_map_or}
 use Rattle.wc_read.specs.Formats.{Format, SpellsNumber, SpellsVector}
-use Rattle.wc_read.specs.Reading.{Read, ◌>>=◌, number_at, vector_at, import_at, table_at, memory_at}
+use Rattle.wc_read.specs.Reading.Bytes.{Read, number_at, vector_at, read_all}
+use Rattle.wc_read.specs.Options.{◌>>=◌}
+use Rattle.wc_read.specs.Reading.Imports.{import_at}
+use Rattle.wc_read.specs.Reading.Limits.{table_at, memory_at}
 use Rattle.wc_read.specs.Limits.{SpellsTable, SpellsMemory}
 use Rattle.wc_read.specs.Imports.{SpellsImport}
 use Rattle.wc_read.specs.Exports.{SpellsExport}
 use Rattle.wc_read.specs.Sections.{SectionValue}
 use Rattle.wc_read.specs.Contents.{SpellsFuncType, SpellsSizePrefixed}
-use Rattle.wc_read.specs.ContentsReading.{read_all, func_type_at, size_prefixed_at, export_at}
+use Rattle.wc_read.specs.Reading.Contents.{func_type_at, size_prefixed_at, items_in, content_in, section_contents_in}
+use Rattle.wc_read.specs.Reading.Exports.{export_at}
 use Rattle.wc_read.specs.Order.{content_of}
-use Rattle.wc_read.specs.SectionContents.{SectionContentsValue, HasItems, HasContent, HaveSectionContents, items_in, content_in, section_contents_in}
+use Rattle.wc_read.specs.SectionContents.{SectionContentsValue, HasItems, HasContent, HaveSectionContents}
 use Rattle.wc_read.proofs.OptionsLemmas.{some_same, bind_some}
 use Rattle.wc_read.proofs.MeetsLemmas.{Meets, bind_is, vector_meets, number_meets}
 use Rattle.wc_read.proofs.LimitsLemmas.{table_meets, memory_meets}
 use Rattle.wc_read.proofs.ImportsLemmas.{import_meets}
-use Rattle.wc_read.specs.Globals.{SpellsLocalGlobal, local_global_at}
+use Rattle.wc_read.specs.Globals.{SpellsLocalGlobal}
+use Rattle.wc_read.specs.Reading.Globals.{local_global_at}
 use Rattle.wc_read.proofs.GlobalsLemmas.{local_global_meets}
 use Rattle.wc_read.proofs.ExportsLemmas.{export_meets}
 use Rattle.wc_read.proofs.ContentsLemmas.{Finds, read_all_meets, func_type_meets, size_prefixed_meets}

@@ -2,7 +2,8 @@
 use Rattle.std.proofs.Common.{◌≡◌, ℕ, ◌-◌, ◌^◌, ◌<◌, ◌≤◌, List, [], ◌∷◌, ◌++◌, ℤ, pos, negsuc, Some, None, sym, ◌∙◌, ap, arith, inl, inr, subst}
 use Rattle.std.proofs.lemmas.Bool.{cases_lt}
 use Rattle.std.proofs.lemmas.Bool.Decides.{nat_tests}
-use Rattle.wc_read.specs.Signed.{above, SpellsSigned, last_positive, last_negative, more_signed, last_of, signed_at}
+use Rattle.wc_read.specs.Signed.{above, SpellsSigned, last_positive, last_negative, more_signed}
+use Rattle.wc_read.specs.Reading.Signed.{last_of, signed_at}
 use Rattle.wc_read.proofs.OptionsLemmas.{some_same, some_none, some_pair, bind_some}
 use Rattle.wc_read.proofs.MeetsLemmas.{Meets, bind_is}
 use Rattle.wc_read.proofs.SignedLoopLemmas.{ending, lifted, signed_last, signed_more, signed_too_long, signed_empty}

@@ -4,7 +4,8 @@ use Rattle.std.specs.Prelude.{◌==◌}
 use Rattle.std.proofs.lemmas.Bool.{false≢true}
 use Rattle.std.proofs.Math.ListN.{length-append}
 use Rattle.wc_read.specs.Formats.{Format, SpellsItems}
-use Rattle.wc_read.specs.Reading.{Read, appended_at, ◌>>=◌}
+use Rattle.wc_read.specs.Reading.Bytes.{Read, appended_at}
+use Rattle.wc_read.specs.Options.{◌>>=◌}
 use Rattle.wc_read.proofs.OptionsLemmas.{some_none, some_pair}
 use Rattle.wc_read.proofs.MeetsLemmas.{Meets, one_spelling, no_spelling}
 

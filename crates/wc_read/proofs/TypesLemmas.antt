@@ -5,7 +5,9 @@ use Rattle.std.specs.Str.{is_utf8}
 use Rattle.std.proofs.lemmas.Str.{is_utf8-from_IsUtf8, IsUtf8-from_is_utf8}
 use Rattle.wc_read.specs.Formats.{SpellsNumber, SpellsName, Joined}
 use Rattle.wc_read.specs.Types.{val_type_code, SpellsValType, mutable_code, SpellsGlobal}
-use Rattle.wc_read.specs.Reading.{number_at, bytes_at, where_at, name_at, val_type_of, val_type_at, mutable_of, mutable_at, global_at, ◌>>=◌}
+use Rattle.wc_read.specs.Reading.Bytes.{number_at, bytes_at, where_at, name_at}
+use Rattle.wc_read.specs.Reading.Types.{val_type_of, val_type_at, mutable_of, mutable_at, global_at}
+use Rattle.wc_read.specs.Options.{◌>>=◌}
 use Rattle.wc_read.specs.declared.types.ValType.{ValType}
 use Rattle.wc_read.specs.declared.types.ValType.TheVariants.{I32, I64, F32, F64, V128, FuncRef, ExternRef}
 use Rattle.wc_read.specs.declared.types.GlobalType.{GlobalType}

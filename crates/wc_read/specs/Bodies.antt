@@ -1,11 +1,9 @@
 -- Bodies of functions (WebAssembly core specification, 5.5.13 "Code Section").
-use Rattle.std.specs.Prelude.{◌≡◌, ℕ, ◌+◌, ◌^◌, ◌<◌, List, [], ◌∷◌, ◌++◌, map, Some}
+use Rattle.std.specs.Prelude.{◌≡◌, ℕ, ◌+◌, ◌^◌, ◌<◌, List, [], ◌∷◌, ◌++◌, map}
 use Rattle.wc_read.specs.Formats.{Format, SpellsNumber, SpellsItems, SpellsVector}
 use Rattle.wc_read.specs.Types.{SpellsValType}
-use Rattle.wc_read.specs.Reading.{Read, ◌>>=◌, number_at, val_type_at}
 use Rattle.wc_read.specs.Operators.{InstrValue, instr_value, SpellsInstr}
 use Rattle.wc_read.specs.Nesting.{tokens, IsExpression}
-use Rattle.wc_read.specs.declared.types.ValType.{ValType}
 use Rattle.wc_read.specs.declared.bodies.Locals.{Locals}
 use Rattle.wc_read.specs.declared.bodies.Body.{Body}
 
@@ -34,12 +32,3 @@ pub record SpellsBody (bytes : List ℕ) (b : BodyValue) : Type 0 where
   pub few_locals : local_count b.locals < 2 ^ 32
   pub has_operators : SpellsItems SpellsInstr code b.operators
   pub nests : IsExpression (tokens b.operators)
-
-abbrev pub locals_of : ℕ → ValType → Locals
-locals_of count ty = record { count = count; ty = ty }
-
-unfoldable pub locals_at : Read Locals
-locals_at bytes = do
-  count ← number_at 32 bytes
-  ty ← val_type_at count.1
-  Some (locals_of count.0 ty.0, ty.1)

@@ -1,5 +1,5 @@
 -- Exports (WebAssembly core specification, 2.5.10 and 5.5.10).
-use Rattle.std.specs.Prelude.{◌≡◌, ℕ, List, ◌∷◌, ◌++◌, map}
+use Rattle.std.specs.Prelude.{◌≡◌, ℕ, List, ◌∷◌, ◌++◌}
 use Rattle.wc_read.specs.Formats.{Format, SpellsNumber, SpellsName, SpellsVector}
 use Rattle.wc_read.specs.declared.exports.ExportKind.{ExportKind}
 use Rattle.wc_read.specs.declared.exports.ExportKind.TheVariants.{Func, Table, Memory, Global}
@@ -13,9 +13,6 @@ pub record ExportValue : Type 0 where
 
 abbrev pub export_value : Export → ExportValue
 export_value e = record { name = e.name.now; kind = e.kind; index = e.index }
-
-abbrev pub export_names : List Export → List (List ℕ)
-export_names es = map (λ e. e.name.now) es
 
 -- the byte of a kind
 abbrev pub export_kind_code : ExportKind → ℕ

@@ -1,22 +1,17 @@
 -- What initialisers leave (WebAssembly core specification, 3.3.10): one value, as a constant, or as two values and an
 -- operator on integers after them.
-use Rattle.std.specs.Prelude.{◌≡◌, ℕ, ◌+◌, ◌-◌, List, [], ◌∷◌, ◌++◌, map, Bool, ◌&&◌, ◌==◌, nat_lt, nat_le, if◌then◌else◌, Option, Some, None}
+use Rattle.std.specs.Prelude.{◌≡◌, ℕ, List, [], ◌∷◌, ◌++◌, map, nat_lt, if◌then◌else◌, Option, Some, None}
 use Rattle.std.specs.List.{slice_get}
-use Rattle.wc_read.specs.Reading.{Read, ◌>>=◌}
-use Rattle.wc_read.specs.Types.{val_type_code}
-use Rattle.wc_read.specs.Items.{DefValue, imported, local, GlobalValue, global_value}
+use Rattle.wc_read.specs.Options.{◌>>=◌}
+use Rattle.wc_read.specs.Items.{DefValue, imported, local, GlobalValue}
 use Rattle.wc_read.specs.Operators.{ImmediatesValue, WithIndex, WithRefType, InstrValue}
-use Rattle.wc_read.specs.Instructions.{instr_at}
-use Rattle.wc_read.specs.Inits.{constant_of, is_end, end_value, SpellsInit}
+use Rattle.wc_read.specs.Inits.{constant_of, end_value, SpellsInit}
 use Rattle.wc_read.specs.declared.types.ValType.{ValType}
 use Rattle.wc_read.specs.declared.types.ValType.TheVariants.{FuncRef}
 use Rattle.wc_read.specs.declared.types.GlobalType.{GlobalType}
 use Rattle.wc_read.specs.declared.operators.Opcode.{Opcode}
 use Rattle.wc_read.specs.declared.inits.Constant.{Constant}
 use Rattle.wc_read.specs.declared.inits.Constant.TheVariants.{Value, Null, Func, Global, Integer}
-use Rattle.wc_read.specs.declared.init_types.Scope.{Scope}
-use Rattle.wc_read.specs.declared.init_types.InitStep.{InitStep}
-use Rattle.wc_read.specs.declared.init_types.InitStep.TheVariants.{End, Leaves, Fails}
 
 abbrev pub types_of : List GlobalValue → List GlobalType
 types_of gs = map (λ g. g.ty) gs
@@ -25,9 +20,6 @@ types_of gs = map (λ g. g.ty) gs
 pub record InitScope : Type 0 where
   pub functions : ℕ
   pub globals : List GlobalType
-
-abbrev pub scope_value : Scope → InitScope
-scope_value s = record { functions = s.functions; globals = types_of (map global_value s.globals.now) }
 
 -- the type of what an operator gives by itself; a global that it reads is not written
 
@@ -89,37 +81,3 @@ scope_of functions front = record { functions = functions; globals = types_of fr
 -- each initialiser of a local global leaves one value of its global's type
 abbrev pub AreTyped : ℕ → List GlobalValue → Type 0
 AreTyped functions gs = (front back : List GlobalValue) (g : GlobalValue) → gs ≡ front ++ (g ∷ back) → IsTypedGlobal (scope_of functions front) g
-
--- how many values of a type there are after an operator, and after several
-
-abbrev pub is_same : ValType → ValType → Bool
-is_same a b = val_type_code a == val_type_code b
-
-abbrev pub one_more : ValType → ℕ → ValType → Option ℕ
-one_more t depth given = if is_same given t then Some (depth + 1) else None
-
-abbrev pub depth_after_constant : InitScope → ValType → ℕ → ImmediatesValue → Constant → Option ℕ
-depth_after_constant scope t depth v (Integer u) = if is_same u t && nat_le 2 depth then Some (depth - 1) else None
-depth_after_constant scope t depth v (Value u) = one_more t depth u
-depth_after_constant scope t depth v Null = given_by scope v Null >>= one_more t depth
-depth_after_constant scope t depth v Func = given_by scope v Func >>= one_more t depth
-depth_after_constant scope t depth v Global = given_by scope v Global >>= one_more t depth
-
-unfoldable pub next_depth : InitScope → ValType → ℕ → InstrValue → Option ℕ
-next_depth scope t depth i = constant_of i.opcode >>= depth_after_constant scope t depth i.immediates
-
-unfoldable pub depth_after : InitScope → ValType → ℕ → List InstrValue → Option ℕ
-depth_after scope t depth [] = Some depth
-depth_after scope t depth (i ∷ is) = next_depth scope t depth i >>= λ next. depth_after scope t next is
-
--- one operator, as what it does
-
-abbrev pub leaves_so : Option ℕ → InitStep
-leaves_so None = Fails
-leaves_so (Some depth) = Leaves depth
-
-abbrev pub step_of : InitScope → ValType → ℕ → InstrValue → InitStep
-step_of scope t depth i = if is_end i.opcode then End else leaves_so (next_depth scope t depth i)
-
-unfoldable pub step_at : InitScope → ValType → ℕ → Read InitStep
-step_at scope t depth bytes = instr_at bytes >>= λ i. Some (step_of scope t depth i.0, i.1)

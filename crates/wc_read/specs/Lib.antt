@@ -1,5 +1,5 @@
 pub mod Formats
-pub mod Reading
+pub mod Options
 pub mod Types
 pub mod Limits
 pub mod Imports
@@ -9,9 +9,7 @@ pub mod Faults
 pub mod Sections
 pub mod Exports
 pub mod Contents
-pub mod ContentsReading
 pub mod Order
-pub mod OrderReading
 pub mod Custom
 pub mod Names
 pub mod Producers
@@ -22,8 +20,8 @@ pub mod SectionContents
 pub mod Modules
 pub mod Signed
 pub mod Operators
-pub mod Instructions
 pub mod Refs
 pub mod Nesting
 pub mod Bodies
 pub mod Laws
+pub mod Reading

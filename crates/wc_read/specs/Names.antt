@@ -1,13 +1,11 @@
 -- Names of globals: the name section (WebAssembly core specification, 7.4.1), with the subsection of global names
 -- (extended name section proposal). A fault in it refuses nothing: it ends the names of that section.
-use Rattle.std.specs.Prelude.{◌≡◌, ◌≢◌, ℕ, ◌<◌, List, [], ◌∷◌, ◌++◌, length, map, Bool, true, false, Some, nat_eq}
+use Rattle.std.specs.Prelude.{◌≡◌, ◌≢◌, ℕ, ◌<◌, List, [], ◌∷◌, ◌++◌, length, map, nat_eq}
 use denote.Ref.{Bor}
 use Rattle.indexmap.specs.IndexMap.{IndexMap, insert_all}
 use Rattle.wc_read.specs.Formats.{Format, SpellsNumber, SpellsName, SpellsItems, SpellsVector, HasNoPrefix}
 use Rattle.wc_read.specs.Sections.{SectionValue, SpellsSection}
 use Rattle.wc_read.specs.Custom.{IsCustomSection}
-use Rattle.wc_read.specs.Reading.{Read, ◌>>=◌, number_at, name_at}
-use Rattle.wc_read.specs.declared.names.GlobalName.{GlobalName}
 
 -- `name`
 abbrev pub name_text : List ℕ
@@ -16,9 +14,6 @@ name_text = 0x6e ∷ 0x61 ∷ 0x6d ∷ 0x65 ∷ []
 -- a global's index and its name
 abbrev pub GlobalNameValue : Type 0
 GlobalNameValue = ℕ × List ℕ
-
-abbrev pub global_name_value : GlobalName → GlobalNameValue
-global_name_value n = (n.index, n.name.now)
 
 abbrev pub SpellsGlobalName : Format GlobalNameValue
 SpellsGlobalName bytes p = (index name : List ℕ) × (bytes ≡ index ++ name) × SpellsNumber 32 index p.0 × SpellsName name p.1
@@ -73,26 +68,3 @@ global_names_of pairs = insert_all nat_eq [] pairs
 
 abbrev pub name_entries : {S : Type 0} → IndexMap ℕ (Bor (List ℕ)) S → List GlobalNameValue
 name_entries m = map (λ e. (e.0, e.1.now)) m.entries
-
--- the names of globals that sections give
-abbrev pub AreGlobalNames : List SectionValue → List GlobalNameValue → Type 0
-AreGlobalNames sections names = (pairs : List GlobalNameValue) × NamesOf sections pairs × (names ≡ global_names_of pairs)
-
-abbrev pub named_pairs : List GlobalName → List GlobalNameValue
-named_pairs ns = map global_name_value ns
-
--- what private readers do
-
-abbrev pub global_name_of : ℕ → List ℕ → GlobalNameValue
-global_name_of index name = (index, name)
-
-unfoldable pub global_name_at : Read GlobalNameValue
-global_name_at bytes = do
-  index ← number_at 32 bytes
-  name ← name_at index.1
-  Some (global_name_of index.0 name.0, name.1)
-
--- pairs that were read of a subsection's content, and whether there was no fault
-abbrev pub PairsOf : List ℕ → Bool → List GlobalNameValue → Type 0
-PairsOf bytes true pairs = SpellsVector SpellsGlobalName bytes pairs
-PairsOf bytes false pairs = PairsBeforeFault bytes pairs

@@ -1,11 +1,8 @@
 -- The producers section of the tool conventions: what made a module.
-use Rattle.std.specs.Prelude.{◌≡◌, ℕ, List, [], ◌∷◌, ◌++◌, map, Bool, true, false, Option, Some, None}
+use Rattle.std.specs.Prelude.{◌≡◌, ℕ, List, [], ◌∷◌, ◌++◌, Option, Some, None}
 use Rattle.wc_read.specs.Formats.{Format, SpellsName, SpellsVector}
 use Rattle.wc_read.specs.Sections.{SectionValue}
 use Rattle.wc_read.specs.Custom.{IsCustomSection}
-use Rattle.wc_read.specs.Reading.{Read, ◌>>=◌, name_at, vector_at}
-use Rattle.wc_read.specs.declared.producers.Producer.{Producer}
-use Rattle.wc_read.specs.declared.producers.ProducersField.{ProducersField}
 
 -- `producers`
 abbrev pub producers_text : List ℕ
@@ -20,12 +17,6 @@ pub record ProducerValue : Type 0 where
 pub record FieldValue : Type 0 where
   pub name : List ℕ
   pub producers : List ProducerValue
-
-abbrev pub producer_value : Producer → ProducerValue
-producer_value p = record { name = p.name.now; version = p.version.now }
-
-abbrev pub field_value : ProducersField → FieldValue
-field_value f = record { name = f.name.now; producers = map producer_value f.producers.items }
 
 abbrev pub SpellsProducer : Format ProducerValue
 SpellsProducer bytes p = (name version : List ℕ) × (bytes ≡ name ++ version) × SpellsName name p.name × SpellsName version p.version
@@ -58,33 +49,3 @@ pub record ReadsLast (sections : List SectionValue) (bytes : List ℕ) : Type 0 
 abbrev pub LastProducers : List SectionValue → Option (List ℕ) → Type 0
 LastProducers sections None = NoneReads sections
 LastProducers sections (Some bytes) = ReadsLast sections bytes
-
--- what private readers do
-
--- the bytes of one section, where it reads
-abbrev pub ProducersOf : SectionValue → Option (List ℕ) → Type 0
-ProducersOf s (Some bytes) = ReadsProducers s bytes
-ProducersOf s None = (bytes : List ℕ) → ReadsProducers s bytes → ⊥
-
-abbrev pub producer_of : List ℕ → List ℕ → ProducerValue
-producer_of name version = record { name = name; version = version }
-
--- whether bytes are a vector of fields
-abbrev pub AreFields : Bool → List ℕ → Type 0
-AreFields true bytes = IsProducers bytes
-AreFields false bytes = IsProducers bytes → ⊥
-
-unfoldable pub producer_at : Read ProducerValue
-producer_at bytes = do
-  name ← name_at bytes
-  version ← name_at name.1
-  Some (producer_of name.0 version.0, version.1)
-
-abbrev pub field_of : List ℕ → List ProducerValue → FieldValue
-field_of name producers = record { name = name; producers = producers }
-
-unfoldable pub field_at : Read FieldValue
-field_at bytes = do
-  name ← name_at bytes
-  producers ← vector_at producer_at name.1
-  Some (field_of name.0 producers.0, producers.1)

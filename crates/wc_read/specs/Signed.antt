@@ -1,6 +1,5 @@
 -- Signed numbers (WebAssembly core specification, 5.2.2 "Integers").
-use Rattle.std.specs.Prelude.{ℕ, ◌+◌, ◌-◌, ◌*◌, ◌^◌, ◌<◌, ◌≤◌, List, [], ◌∷◌, ℤ, pos, negsuc, nat_lt, if◌then◌else◌, Option, Some, None}
-use Rattle.wc_read.specs.Reading.{Read, ◌>>=◌}
+use Rattle.std.specs.Prelude.{ℕ, ◌+◌, ◌-◌, ◌*◌, ◌^◌, ◌<◌, ◌≤◌, List, [], ◌∷◌, ℤ, pos, negsuc}
 
 -- p times a number, and d: of -1 - m that is -1 - (p - 1 - d + p * m)
 abbrev pub above : ℕ → ℕ → ℤ → ℤ
@@ -19,15 +18,3 @@ pub data SpellsSigned : ℕ → List ℕ → ℤ → Type 0 where
   last_positive : {bits b : ℕ} → b < 64 → b < 2 ^ (bits - 1) → SpellsSigned bits (b ∷ []) (pos b)
   last_negative : {bits b : ℕ} → 64 ≤ b → b < 128 → 127 - b < 2 ^ (bits - 1) → SpellsSigned bits (b ∷ []) (negsuc (127 - b))
   more_signed : {bits b : ℕ} {high : ℤ} {bytes : List ℕ} → 7 < bits → 128 ≤ b → SpellsSigned (bits - 7) bytes high → SpellsSigned bits (b ∷ bytes) (above 128 (b - 128) high)
-
--- what a byte below 128 ends
-abbrev pub last_of : ℕ → ℕ → Option ℤ
-last_of bits b =
-    if nat_lt b 64 then (if nat_lt b (2 ^ (bits - 1)) then Some (pos b) else None)
-    else (if nat_lt (127 - b) (2 ^ (bits - 1)) then Some (negsuc (127 - b)) else None)
-
-unfoldable pub signed_at : ℕ → Read ℤ
-signed_at bits [] = None
-signed_at bits (b ∷ bytes) =
-    if nat_lt b 128 then last_of bits b >>= (λ z. Some (z, bytes))
-    else (if nat_lt 7 bits then signed_at (bits - 7) bytes >>= (λ high. Some (above 128 (b - 128) high.0, high.1)) else None)

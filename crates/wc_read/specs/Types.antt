@@ -1,6 +1,6 @@
 -- The types of a module: the values that they stand for in contracts, and how bytes spell them
 -- (WebAssembly core specification, 2.3 and 5.3).
-use Rattle.std.specs.Prelude.{◌≡◌, ℕ, List, [], ◌∷◌, length, Bool, true, false, ◌&&◌, ◌==◌, ◌⊎◌}
+use Rattle.std.specs.Prelude.{◌≡◌, ℕ, List, [], ◌∷◌, Bool, true, false, ◌⊎◌}
 use Rattle.wc_read.specs.Formats.{Format}
 use Rattle.wc_read.specs.declared.types.ValType.{ValType}
 use Rattle.wc_read.specs.declared.types.ValType.TheVariants.{I32, I64, F32, F64, V128, FuncRef, ExternRef}
@@ -14,10 +14,6 @@ pub record FuncTypeValue : Type 0 where
 
 abbrev pub func_type_value : FuncType → FuncTypeValue
 func_type_value f = record { params = f.params.items; results = f.results.items }
-
--- whether nothing is taken and nothing given
-abbrev pub is_nullary : FuncTypeValue → Bool
-is_nullary f = length f.params == 0 && length f.results == 0
 
 -- the byte of a value type (5.3.1 to 5.3.4)
 abbrev pub val_type_code : ValType → ℕ

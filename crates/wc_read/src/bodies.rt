@@ -4,7 +4,8 @@ ghost use Rattle.std.specs.Prelude.{◌≡◌, ◌≢◌, ◌^◌, nat_lt, IfOk,
 ghost use Rattle.wc_read.specs.Formats.{SpellsItems};
 ghost use Rattle.wc_read.specs.Faults.{IfRefused, SpellsNothing};
 ghost use Rattle.wc_read.specs.Operators.{SpellsInstr, instr_values};
-ghost use Rattle.wc_read.specs.Bodies.{body_value, local_count, locals_at, SpellsBody};
+ghost use Rattle.wc_read.specs.Bodies.{body_value, local_count, SpellsBody};
+ghost use Rattle.wc_read.specs.Reading.Bodies.{locals_at};
 ghost use Rattle.wc_read.specs.declared.bodies.Locals.{Locals as locals_run};
 
 use crate::fault::ReadFault;
@@ -17,11 +18,13 @@ use std::alloc::Global;
 /// A run of locals of one type (WebAssembly core specification, 5.5.13).
 #[derive(Clone, Copy, Debug, PartialEq, Eq)]
 pub struct Locals {
+    /// How many locals the run has, 0 included.
     pub count: u32,
     pub ty: ValType,
 }
 
-/// A function's body (5.5.13): its locals in runs, and its operators, the end of the body among them.
+/// A function's body (5.5.13): its locals in runs, and its operators, the end of the body as the last of them. The runs
+/// of a body that was read have less than 2^32 locals together.
 #[derive(Debug, PartialEq, Eq, Drop)]
 pub struct Body<'a> {
     pub locals: Vec<Locals>,
@@ -35,7 +38,7 @@ impl<'a> Spelled<'a> for Locals {
 
     ghost read = { locals_at };
 
-    #[tactic(auto, unfolding(crate::specs::Bodies::locals_at))]
+    #[tactic(auto, unfolding(crate::specs::Reading::Bodies::locals_at))]
     fn read_from(_alloc: Global, reader: &mut Reader<'a>) -> Result<Locals, ReadFault> {
         let count = reader.u32()?;
         let ty = reader.val_type()?;

@@ -1,20 +1,18 @@
 //! The contents of sections.
 
 ghost use Rattle.std.specs.Prelude.{ℕ, List, map};
-ghost use Rattle.wc_read.specs.Reading.{Gives, GivesWithoutMemory, number_at, vector_at, val_type_at, table_at, memory_at};
+ghost use Rattle.wc_read.specs.Reading.Bytes.{Gives, GivesWithoutMemory, number_at, vector_at, Answers, AnswersWithoutMemory, read_all};
 ghost use Rattle.wc_read.specs.Types.{FuncTypeValue, func_type_value};
-ghost use Rattle.wc_read.specs.ContentsReading.{Answers, AnswersWithoutMemory, read_all, func_type_at, size_prefixed_at};
+ghost use Rattle.wc_read.specs.Reading.Contents.{func_type_at, size_prefixed_at};
 
+use crate::codes::FUNC_TYPE;
 use crate::fault::ReadFault;
 use crate::reader::{Reader, Spelled};
-use crate::types::{FuncType, MemoryType, TableType, ValType};
+use crate::types::FuncType;
 use std::alloc::Global;
 
-/// The byte that a function type begins with (5.3.6).
-const FUNC_TYPE: u8 = 0x60;
-
 impl<'a> Reader<'a> {
-    #[tactic(auto, unfolding(crate::specs::ContentsReading::size_prefixed_at))]
+    #[tactic(auto, unfolding(crate::specs::Reading::Contents::size_prefixed_at))]
     fn size_prefixed(&mut self) -> Result<&'a [u8], ReadFault>
         ensures { GivesWithoutMemory (λ x. x.now) result self.new.rest.now
             (size_prefixed_at self.old.rest.now) }
@@ -23,7 +21,7 @@ impl<'a> Reader<'a> {
         self.bytes(size as usize)
     }
 
-    #[tactic(auto, unfolding(crate::specs::ContentsReading::func_type_at))]
+    #[tactic(auto, unfolding(crate::specs::Reading::Contents::func_type_at))]
     fn func_type(&mut self, alloc: Global) -> Result<FuncType, ReadFault>
         ensures { Gives (λ f. func_type_value f) result self.new.rest.now
             (func_type_at self.old.rest.now) }
@@ -49,34 +47,6 @@ impl<'a> Spelled<'a> for FuncType {
     }
 }
 
-impl<'a> Spelled<'a> for TableType {
-    ghost use Rattle.wc_read.specs.declared.types.TableType.{TableType};
-
-    ghost Value = { TableType };
-
-    ghost view = { λ t. t };
-
-    ghost read = { table_at };
-
-    fn read_from(_alloc: Global, reader: &mut Reader<'a>) -> Result<TableType, ReadFault> {
-        reader.table()
-    }
-}
-
-impl<'a> Spelled<'a> for MemoryType {
-    ghost use Rattle.wc_read.specs.declared.types.MemoryType.{MemoryType};
-
-    ghost Value = { MemoryType };
-
-    ghost view = { λ m. m };
-
-    ghost read = { memory_at };
-
-    fn read_from(_alloc: Global, reader: &mut Reader<'a>) -> Result<MemoryType, ReadFault> {
-        reader.memory()
-    }
-}
-
 impl<'a> Spelled<'a> for &'a [u8] {
     ghost Value = { List ℕ };
 
@@ -90,7 +60,7 @@ impl<'a> Spelled<'a> for &'a [u8] {
 }
 
 /// The items of a section that holds a vector, up to the end of its content.
-#[tactic(auto, unfolding(crate::specs::ContentsReading::read_all))]
+#[tactic(auto, unfolding(crate::specs::Reading::Bytes::read_all))]
 pub fn items<'a, T: Spelled<'a> + Drop>(
     alloc: Global,
     content: &'a [u8],
@@ -106,7 +76,7 @@ pub fn items<'a, T: Spelled<'a> + Drop>(
 }
 
 /// The function that a start section names (5.5.11).
-#[tactic(auto, unfolding(crate::specs::ContentsReading::read_all))]
+#[tactic(auto, unfolding(crate::specs::Reading::Bytes::read_all))]
 pub fn start(content: &[u8]) -> Result<u32, ReadFault>
     ensures { AnswersWithoutMemory (λ n. n) result (read_all (number_at 32) content.now) }
 {

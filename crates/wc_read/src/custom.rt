@@ -1,12 +1,13 @@
 //! Custom sections by their names.
 
 ghost use Rattle.std.specs.Prelude.{◌≡◌, IfOk, IfErr};
-ghost use Rattle.wc_read.specs.Custom.{ContentAfterName, optional_bytes};
+ghost use Rattle.wc_read.specs.Reading.Custom.{ContentAfterName, optional_bytes};
 ghost use Rattle.wc_read.specs.Sections.{section_value};
 
+use crate::codes::CUSTOM_ID;
 use crate::fault::ReadFault;
 use crate::reader::Reader;
-use crate::sections::{CUSTOM_ID, Section};
+use crate::sections::Section;
 use std::alloc::Global;
 
 /// The bytes after the name of a custom section with a given name (WebAssembly core specification, 5.5.3);

@@ -2,7 +2,7 @@
 
 ghost use Rattle.std.specs.Prelude.{◌≡◌, ◌≢◌, ◌↔◌, map, IfOk, IfErr, IsTrue, AllPairs, nat_eq};
 ghost use Rattle.std.specs.HashSet as bag;
-ghost use Rattle.wc_read.specs.Exports.{export_names};
+ghost use Rattle.wc_read.specs.Reading.Exports.{export_names};
 ghost use Rattle.std.specs.Cmp.Lexicographic.{pointwise};
 
 use crate::exports::Export;

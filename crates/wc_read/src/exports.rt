@@ -1,14 +1,14 @@
 //! Exports.
 
-ghost use Rattle.wc_read.specs.Reading.{GivesWithoutMemory};
+ghost use Rattle.wc_read.specs.Reading.Bytes.{GivesWithoutMemory};
 ghost use Rattle.wc_read.specs.Exports.{ExportValue, export_value};
-ghost use Rattle.wc_read.specs.ContentsReading.{export_kind_at, export_at};
+ghost use Rattle.wc_read.specs.Reading.Exports.{export_kind_at, export_at};
 
 use crate::fault::ReadFault;
 use crate::reader::{Reader, Spelled};
 use std::alloc::Global;
 
-/// What is exported (WebAssembly core specification, 2.5.10).
+/// What is exported (WebAssembly core specification, 2.5.10): the index space that an export's index is in.
 #[derive(Clone, Copy, Debug, PartialEq, Eq)]
 pub enum ExportKind {
     Func,
@@ -17,7 +17,7 @@ pub enum ExportKind {
     Global,
 }
 
-/// An export (2.5.10): a slice of the bytes that it was read from, and an index into the space of its kind.
+/// An export (2.5.10): its name, a slice of the bytes that it was read from, and an index into the space of its kind.
 #[derive(Clone, Copy, Debug, PartialEq, Eq)]
 pub struct Export<'a> {
     pub name: &'a str,
@@ -26,7 +26,7 @@ pub struct Export<'a> {
 }
 
 impl<'a> Reader<'a> {
-    #[tactic(auto, unfolding(crate::specs::ContentsReading::export_kind_at))]
+    #[tactic(auto, unfolding(crate::specs::Reading::Exports::export_kind_at))]
     fn export_kind(&mut self) -> Result<ExportKind, ReadFault>
         ensures { GivesWithoutMemory (λ x. x) result self.new.rest.now
             (export_kind_at self.old.rest.now) }
@@ -40,7 +40,7 @@ impl<'a> Reader<'a> {
         }
     }
 
-    #[tactic(auto, unfolding(crate::specs::ContentsReading::export_at))]
+    #[tactic(auto, unfolding(crate::specs::Reading::Exports::export_at))]
     fn export(&mut self) -> Result<Export<'a>, ReadFault>
         ensures { GivesWithoutMemory (λ e. export_value e) result self.new.rest.now
             (export_at self.old.rest.now) }

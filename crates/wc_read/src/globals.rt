@@ -1,7 +1,8 @@
 //! Globals of a global section.
 
 ghost use Rattle.std.specs.Prelude.{◌≡◌};
-ghost use Rattle.wc_read.specs.Globals.{LocalGlobalValue, local_global_value, local_global_at};
+ghost use Rattle.wc_read.specs.Globals.{LocalGlobalValue};
+ghost use Rattle.wc_read.specs.Reading.Globals.{local_global_value, local_global_at};
 
 use crate::fault::ReadFault;
 use crate::reader::{Reader, Spelled};
@@ -23,7 +24,7 @@ impl<'a> Spelled<'a> for LocalGlobal<'a> {
 
     ghost read = { local_global_at };
 
-    #[tactic(auto, unfolding(crate::specs::Globals::local_global_at))]
+    #[tactic(auto, unfolding(crate::specs::Reading::Globals::local_global_at))]
     fn read_from(alloc: Global, reader: &mut Reader<'a>) -> Result<LocalGlobal<'a>, ReadFault> {
         let ty = reader.global()?;
         let init = reader.init(alloc)?;

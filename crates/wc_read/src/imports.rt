@@ -1,7 +1,8 @@
 //! Import sections.
 
 ghost use Rattle.std.specs.Prelude.{◌≢◌, IfOk, IfErr};
-ghost use Rattle.wc_read.specs.Reading.{GivesWithoutMemory, import_type_at, import_at};
+ghost use Rattle.wc_read.specs.Reading.Bytes.{GivesWithoutMemory};
+ghost use Rattle.wc_read.specs.Reading.Imports.{import_type_at, import_at};
 ghost use Rattle.wc_read.specs.Faults.{IfRefused, SpellsNothing};
 ghost use Rattle.wc_read.specs.Imports.{ImportValue, import_value, import_values, SpellsImports};
 
@@ -12,7 +13,7 @@ use crate::types::{Import, ImportType};
 use std::alloc::Global;
 
 impl<'a> Reader<'a> {
-    #[tactic(auto, unfolding(crate::specs::Reading::import_type_at))]
+    #[tactic(auto, unfolding(crate::specs::Reading::Imports::import_type_at))]
     fn import_type(&mut self) -> Result<ImportType, ReadFault>
         ensures { GivesWithoutMemory (λ x. x) result self.new.rest.now
             (import_type_at self.old.rest.now) }
@@ -26,7 +27,7 @@ impl<'a> Reader<'a> {
         }
     }
 
-    #[tactic(auto, unfolding(crate::specs::Reading::import_at))]
+    #[tactic(auto, unfolding(crate::specs::Reading::Imports::import_at))]
     fn import(&mut self) -> Result<Import<'a>, ReadFault>
         ensures { GivesWithoutMemory (λ i. import_value i) result self.new.rest.now
             (import_at self.old.rest.now) }

@@ -2,10 +2,11 @@
 
 ghost use Rattle.std.specs.Prelude.{◌≡◌, ◌↔◌, ◌<◌, ◌-◌, ◌^◌, IfOk, IfErr, IsTrue};
 ghost use Rattle.wc_read.specs.Faults.{IfRefused};
-ghost use Rattle.wc_read.specs.Reading.{Gives};
+ghost use Rattle.wc_read.specs.Reading.Bytes.{Gives};
 ghost use Rattle.wc_read.specs.Items.{global_value, global_values};
 ghost use Rattle.wc_read.specs.Operators.{immediates_value, instr_value};
-ghost use Rattle.wc_read.specs.InitTypes.{types_of, scope_value, type_named, number_named, global_value_type, given_by, IsTyped, IsTypedGlobal, AreTyped, is_same, next_depth, step_of, step_at};
+ghost use Rattle.wc_read.specs.InitTypes.{types_of, type_named, number_named, global_value_type, given_by, IsTyped, IsTypedGlobal, AreTyped};
+ghost use Rattle.wc_read.specs.Reading.InitTypes.{scope_value, is_same, next_depth, step_of, step_at};
 
 use crate::fault::ReadFault;
 use crate::inits::{Constant, constant_of, is_end};
@@ -43,7 +44,8 @@ pub fn are_typed(
     functions: usize,
     globals: &[items::Global<'_>],
 ) -> Result<bool, ReadFault>
-    ensures found { IfOk result (λ b. IsTrue b ↔ AreTyped functions (global_values globals.now)) }
+    ensures found { IfOk result
+        (λ b. IsTrue b ↔ AreTyped functions (global_values globals.now)) }
     ensures refused { IfErr result (λ f. f ≡ ReadFault.Memory) }
 {
     for index in 0..globals.len() {
@@ -93,7 +95,7 @@ fn leaves_one(alloc: Global, scope: &Scope<'_>, ty: ValType, init: &[u8]) -> Res
 }
 
 /// Goes past an operator.
-#[tactic(auto, unfolding(crate::specs::InitTypes::step_at))]
+#[tactic(auto, unfolding(crate::specs::Reading::InitTypes::step_at))]
 fn next_step(
     reader: &mut Reader<'_>,
     alloc: Global,
@@ -123,7 +125,7 @@ fn step_of(scope: &Scope<'_>, ty: ValType, depth: usize, operator: &Instr<'_>) -
 }
 
 /// How many values of a type there are after an operator.
-#[tactic(auto, unfolding(crate::specs::InitTypes::next_depth))]
+#[tactic(auto, unfolding(crate::specs::Reading::InitTypes::next_depth))]
 fn next_depth(scope: &Scope<'_>, ty: ValType, depth: usize, operator: &Instr<'_>) -> Option<usize>
     requires { depth < 2 ^ 64 - 1 }
     ensures { result ≡ next_depth (scope_value scope.now) ty depth (instr_value operator.now) }
@@ -145,7 +147,8 @@ fn next_depth(scope: &Scope<'_>, ty: ValType, depth: usize, operator: &Instr<'_>
 
 /// The type of what a constant operator gives by itself.
 fn given_by(scope: &Scope<'_>, immediates: &Immediates<'_>, constant: Constant) -> Option<ValType>
-    ensures { result ≡ given_by (scope_value scope.now) (immediates_value immediates.now) constant }
+    ensures { result
+        ≡ given_by (scope_value scope.now) (immediates_value immediates.now) constant }
 {
     match constant {
         Constant::Value(ty) => Some(ty),

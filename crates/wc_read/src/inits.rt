@@ -2,9 +2,10 @@
 
 ghost use Rattle.std.specs.Prelude.{◌≡◌, ◌≢◌, IfOk, IfErr};
 ghost use Rattle.wc_read.specs.Faults.{IfRefused, SpellsNothing};
-ghost use Rattle.wc_read.specs.Reading.{Gives};
+ghost use Rattle.wc_read.specs.Reading.Bytes.{Gives};
 ghost use Rattle.wc_read.specs.Operators.{instr_value, instr_values};
-ghost use Rattle.wc_read.specs.Inits.{constant_byte, constant_of, is_constant, is_end, init_value, SpellsInit, init_instr_at, init_end_at, init_at, init_bytes_at};
+ghost use Rattle.wc_read.specs.Inits.{constant_byte, constant_of, is_constant, init_value, SpellsInit};
+ghost use Rattle.wc_read.specs.Reading.Inits.{is_end, init_instr_at, init_end_at, init_at, init_bytes_at};
 
 use crate::fault::ReadFault;
 use crate::operators::{END, Instr, Opcode};
@@ -12,7 +13,7 @@ use crate::reader::Reader;
 use crate::types::ValType;
 use std::alloc::Global;
 
-/// An initialiser (3.3.10, 5.4.9): its operators, the end of it among them.
+/// An initialiser (WebAssembly core specification, 3.3.10 and 5.4.9): its operators, the end of it as the last of them.
 #[derive(Debug, PartialEq, Eq, Drop)]
 pub struct Init<'a> {
     pub operators: Vec<Instr<'a>>,
@@ -75,7 +76,7 @@ impl<'a> Reader<'a> {
     }
 
     /// Goes past an operator, and says whether it is the end.
-    #[tactic(auto, unfolding(crate::specs::Inits::init_end_at))]
+    #[tactic(auto, unfolding(crate::specs::Reading::Inits::init_end_at))]
     fn init_end(&mut self, alloc: Global) -> Result<bool, ReadFault>
         ensures { Gives (λ b. b) result self.new.rest.now (init_end_at self.old.rest.now) }
     {
@@ -99,7 +100,7 @@ impl<'a> Reader<'a> {
         }
     }
 
-    #[tactic(auto, unfolding(crate::specs::Inits::init_instr_at))]
+    #[tactic(auto, unfolding(crate::specs::Reading::Inits::init_instr_at))]
     fn init_operator(&mut self, alloc: Global) -> Result<Instr<'a>, ReadFault>
         ensures { Gives (λ i. instr_value i) result self.new.rest.now
             (init_instr_at self.old.rest.now) }

@@ -1,49 +1,25 @@
 //! The reading of operators.
 
-ghost use Rattle.std.specs.Prelude.{◌≡◌, ℕ, ℤ, [], ◌∷◌, ◌++◌, IfOk, IfErr};
-ghost use Rattle.wc_read.specs.Reading.{Gives, GivesWithoutMemory, appended_at, number_at, val_type_at, vector_at};
-ghost use Rattle.wc_read.specs.Signed.{signed_at};
+ghost use Rattle.std.specs.Prelude.{◌≡◌, [], ◌∷◌, ◌++◌, IfOk, IfErr};
+ghost use Rattle.wc_read.specs.Reading.Bytes.{Gives, GivesWithoutMemory, appended_at, number_at, vector_at};
 ghost use Rattle.wc_read.specs.Operators.{immediates_value, instr_value, instr_values};
-ghost use Rattle.wc_read.specs.Instructions.{block_type_at, immediates_at, instr_at, instr_after, instr_of, mem_arg_at, opcode_at, ref_type_at};
-ghost use Rattle.wc_read.specs.declared.types.ValType.{ValType as val_type};
+ghost use Rattle.wc_read.specs.Reading.Operators.{block_type_at, immediates_at, instr_at, instr_after, instr_of, mem_arg_at, opcode_at, ref_type_at};
 
+use crate::codes::{ATOMIC_PREFIX, EMPTY_BLOCK, MISC_PREFIX, MORE_BYTES, VECTOR_PREFIX};
 use crate::fault::ReadFault;
 use crate::operators::{BlockType, Form, Immediates, Index, Instr, MemArg, Opcode, form_of};
-use crate::reader::{Reader, Spelled};
+use crate::reader::Reader;
 use crate::types::ValType;
 use std::alloc::Global;
 
-/// The byte of a block's type without a result (5.4.1).
-const EMPTY_BLOCK: u8 = 0x40;
-
-impl<'a> Spelled<'a> for u32 {
-    ghost Value = { ℕ };
-
-    ghost view = { λ n. n };
-
-    ghost read = { number_at 32 };
-
-    fn read_from(_alloc: Global, reader: &mut Reader<'a>) -> Result<u32, ReadFault> {
-        reader.u32()
-    }
-}
-
-impl<'a> Spelled<'a> for ValType {
-    ghost Value = { val_type };
-
-    ghost view = { λ t. t };
-
-    ghost read = { val_type_at };
-
-    fn read_from(_alloc: Global, reader: &mut Reader<'a>) -> Result<ValType, ReadFault> {
-        reader.val_type()
-    }
-}
+/// The flag of a memory argument that names its memory (5.4.6, and the proposal of multiple memories). The flags below
+/// it are the exponent of the alignment.
+const NAMES_MEMORY: u32 = 64;
 
 impl<'a> Reader<'a> {
     /// An operator, after those that were read. The shapes that most operators have are put one by one: one that
     /// all of them join in is built part by part.
-    #[tactic(auto, unfolding(crate::specs::Instructions::instr_at, crate::specs::Instructions::immediates_at))]
+    #[tactic(auto, unfolding(crate::specs::Reading::Operators::instr_at, crate::specs::Reading::Operators::immediates_at))]
     pub fn push_operator(
         &mut self,
         alloc: Global,
@@ -86,9 +62,10 @@ impl<'a> Reader<'a> {
     }
 
     /// An operator, by the operator table.
-    #[tactic(auto, unfolding(crate::specs::Instructions::instr_at))]
+    #[tactic(auto, unfolding(crate::specs::Reading::Operators::instr_at))]
     pub fn operator(&mut self, alloc: Global) -> Result<Instr<'a>, ReadFault>
-        ensures { Gives (λ i. instr_value i) result self.new.rest.now (instr_at self.old.rest.now) }
+        ensures { Gives (λ i. instr_value i) result
+            self.new.rest.now (instr_at self.old.rest.now) }
     {
         let opcode = self.opcode()?;
         let Some(form) = form_of(opcode) else {
@@ -99,23 +76,23 @@ impl<'a> Reader<'a> {
     }
 
     #[inline(always)]
-    #[tactic(auto, unfolding(crate::specs::Instructions::opcode_at))]
+    #[tactic(auto, unfolding(crate::specs::Reading::Operators::opcode_at))]
     fn opcode(&mut self) -> Result<Opcode, ReadFault>
         ensures { GivesWithoutMemory (λ x. x) result self.new.rest.now
             (opcode_at self.old.rest.now) }
     {
         match self.byte()? {
             // memory.init and the like
-            0xfc => Ok(Opcode::Misc(self.u32()?)),
+            MISC_PREFIX => Ok(Opcode::Misc(self.u32()?)),
             // v128.load and the like
-            0xfd => Ok(Opcode::Vector(self.u32()?)),
+            VECTOR_PREFIX => Ok(Opcode::Vector(self.u32()?)),
             // memory.atomic.notify and the like
-            0xfe => Ok(Opcode::Atomic(self.u32()?)),
+            ATOMIC_PREFIX => Ok(Opcode::Atomic(self.u32()?)),
             code => Ok(Opcode::Byte(code)),
         }
     }
 
-    #[tactic(auto, unfolding(crate::specs::Instructions::immediates_at))]
+    #[tactic(auto, unfolding(crate::specs::Reading::Operators::immediates_at))]
     fn immediates(&mut self, alloc: Global, form: Form) -> Result<Immediates<'a>, ReadFault>
         ensures { Gives (λ x. immediates_value x) result self.new.rest.now
             (immediates_at form self.old.rest.now) }
@@ -168,22 +145,6 @@ impl<'a> Reader<'a> {
         self.vector::<u32>(alloc)
     }
 
-    pub fn val_types(&mut self, alloc: Global) -> Result<Vec<ValType>, ReadFault>
-        ensures { Gives (λ v. v.items) result self.new.rest.now
-            (vector_at val_type_at self.old.rest.now) }
-    {
-        self.vector::<ValType>(alloc)
-    }
-
-    #[inline(always)]
-    fn i32(&mut self) -> Result<i32, ReadFault>
-        ensures { GivesWithoutMemory (λ x. x) result self.new.rest.now
-            (signed_at 32 self.old.rest.now) }
-    {
-        let number = self.signed(32)?;
-        Ok(number as i32)
-    }
-
     fn ref_type(&mut self) -> Result<ValType, ReadFault>
         ensures { GivesWithoutMemory (λ x. x) result self.new.rest.now
             (ref_type_at self.old.rest.now) }
@@ -196,7 +157,7 @@ impl<'a> Reader<'a> {
         }
     }
 
-    #[tactic(auto, unfolding(crate::specs::Instructions::block_type_at))]
+    #[tactic(auto, unfolding(crate::specs::Reading::Operators::block_type_at))]
     fn block_type(&mut self) -> Result<BlockType, ReadFault>
         ensures { GivesWithoutMemory (λ x. x) result self.new.rest.now
             (block_type_at self.old.rest.now) }
@@ -206,7 +167,7 @@ impl<'a> Reader<'a> {
             self.byte()?;
             return Ok(BlockType::Empty);
         }
-        if EMPTY_BLOCK < first && first < 0x80 {
+        if EMPTY_BLOCK < first && first < MORE_BYTES {
             return Ok(BlockType::Value(self.val_type()?));
         }
         let index = self.signed(33)?;
@@ -217,19 +178,23 @@ impl<'a> Reader<'a> {
     }
 
     #[inline(always)]
-    #[tactic(auto, unfolding(crate::specs::Instructions::mem_arg_at))]
+    #[tactic(auto, unfolding(crate::specs::Reading::Operators::mem_arg_at))]
     fn mem_arg(&mut self) -> Result<MemArg, ReadFault>
         ensures { GivesWithoutMemory (λ x. x) result self.new.rest.now
             (mem_arg_at self.old.rest.now) }
     {
         let flags = self.u32()?;
-        if flags >= 128 {
+        if flags >= 2 * NAMES_MEMORY {
             return Err(ReadFault::BadNumber);
         }
-        let memory = if flags >= 64 { self.u32()? } else { 0 };
+        let memory = if flags >= NAMES_MEMORY {
+            self.u32()?
+        } else {
+            0
+        };
         let offset = self.number(64)?;
         Ok(MemArg {
-            align: flags % 64,
+            align: flags % NAMES_MEMORY,
             memory,
             offset,
         })

@@ -35,6 +35,7 @@
 #![tactic(auto)]
 
 mod bodies;
+pub mod codes;
 mod contents;
 mod core_module;
 mod custom;

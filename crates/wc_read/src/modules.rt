@@ -4,9 +4,10 @@ ghost use Rattle.std.specs.Prelude.{◌≡◌, ◌≢◌, map, IfOk, IfErr, IsEr
 ghost use Rattle.std.specs.List.{filter};
 ghost use Rattle.wc_read.specs.Sections.{section_values, IsComponent};
 ghost use Rattle.wc_read.specs.Faults.{IfRefused, SpellsNothing};
-ghost use Rattle.wc_read.specs.SectionContents.{section_contents_value};
+ghost use Rattle.wc_read.specs.Reading.Contents.{section_contents_value};
 ghost use Rattle.wc_read.specs.Modules.{ModuleValue, module_value, ArePaired, IsAssembled, is_segments, AreModule, SpellsModule};
 
+use crate::codes::{DATA_COUNT_ID, DATA_ID, ELEMENT_ID};
 use crate::core_module::Module;
 use crate::fault::ReadFault;
 use crate::framing::frames;
@@ -14,7 +15,7 @@ use crate::names::global_names;
 use crate::order::check_order;
 use crate::producers::producers;
 use crate::section_contents::{SectionContents, read_section_contents};
-use crate::sections::{DATA_COUNT_ID, DATA_ID, ELEMENT_ID, Section};
+use crate::sections::Section;
 use crate::spaces::{declared, funcs, globals};
 use crate::types::{MemoryType, TableType};
 use crate::validity::check_module;

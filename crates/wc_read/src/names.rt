@@ -1,7 +1,8 @@
 //! Names of globals, out of name sections.
 
 ghost use Rattle.std.specs.Prelude.{◌≡◌, IfOk, IfErr};
-ghost use Rattle.wc_read.specs.Names.{GlobalNameValue, global_name_value, global_name_at, PairsOf, NamesIn, NamesOf, AreGlobalNames, named_pairs, name_entries};
+ghost use Rattle.wc_read.specs.Names.{GlobalNameValue, NamesIn, NamesOf, name_entries};
+ghost use Rattle.wc_read.specs.Reading.Names.{global_name_value, global_name_at, PairsOf, AreGlobalNames, named_pairs};
 ghost use Rattle.wc_read.specs.Sections.{section_values};
 
 use crate::custom::content_after_name;
@@ -35,7 +36,7 @@ impl<'a> Spelled<'a> for GlobalName<'a> {
 
     ghost read = { global_name_at };
 
-    #[tactic(auto, unfolding(crate::specs::Names::global_name_at))]
+    #[tactic(auto, unfolding(crate::specs::Reading::Names::global_name_at))]
     fn read_from(_alloc: Global, reader: &mut Reader<'a>) -> Result<GlobalName<'a>, ReadFault> {
         let index = reader.u32()?;
         let name = reader.name()?;
@@ -66,7 +67,8 @@ pub fn global_names<'a>(
 
 /// The pairs of all sections, in order.
 fn all_pairs<'a>(alloc: Global, sections: &[Section<'a>]) -> Result<Vec<GlobalName<'a>>, ReadFault>
-    ensures found { IfOk result (λ v. NamesOf (section_values sections.now) (named_pairs v.items)) }
+    ensures found { IfOk result
+        (λ v. NamesOf (section_values sections.now) (named_pairs v.items)) }
     ensures memory { IfErr result (λ e. e ≡ ReadFault.Memory) }
 {
     let mut all = Vec::new(alloc);

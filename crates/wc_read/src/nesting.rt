@@ -2,7 +2,8 @@
 
 ghost use Rattle.std.specs.Prelude.{◌≡◌, IfOk, reverse};
 ghost use Rattle.wc_read.specs.Operators.{instr_values};
-ghost use Rattle.wc_read.specs.Nesting.{token_of, tokens, step, Steps, is_nested};
+ghost use Rattle.wc_read.specs.Nesting.{token_of, tokens};
+ghost use Rattle.wc_read.specs.Reading.Nesting.{step, Steps, is_nested};
 
 use crate::operators::{END, Instr, Opcode};
 use std::alloc::{AllocError, Global};

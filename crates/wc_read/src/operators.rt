@@ -6,15 +6,16 @@ ghost use Rattle.wc_read.specs.Operators.{byte_form, misc_form, vector_form, ato
 
 use crate::types::ValType;
 
-/// An operator's code: one byte, or a number after a prefix.
+/// An operator's code (5.4): one byte, or a number after a prefix.
 #[derive(Clone, Copy, Debug, PartialEq, Eq)]
 pub enum Opcode {
+    /// One byte, none of the prefixes.
     Byte(u8),
     /// After `fc`: tables and memories in bulk, saturating conversions (5.4.5 to 5.4.7).
     Misc(u32),
     /// After `fd`: vectors (5.4.8).
     Vector(u32),
-    /// After `fe`: atomic accesses.
+    /// After `fe`: atomic accesses (proposal threads).
     Atomic(u32),
 }
 
@@ -31,14 +32,19 @@ pub enum Space {
 /// What an index counts: items of a space, segments, or locals and labels of the body (2.5.1).
 #[derive(Clone, Copy, Debug, PartialEq, Eq)]
 pub enum IndexKind {
+    /// Items of a space of the module.
     In(Space),
+    /// Element segments.
     Elem,
+    /// Data segments.
     Data,
+    /// Locals, parameters first.
     Local,
+    /// Labels, the inmost block's first.
     Label,
 }
 
-/// An index that an operator names.
+/// An index that an operator names (2.5.1): what it counts, and the number, from 0.
 #[derive(Clone, Copy, Debug, PartialEq, Eq)]
 pub struct Index {
     pub kind: IndexKind,
@@ -62,7 +68,7 @@ pub struct MemArg {
     pub offset: u64,
 }
 
-/// What is after an operator's code (5.4).
+/// What is after an operator's code (5.4), in one of the shapes of `Form`.
 #[derive(Debug, PartialEq, Eq, Drop)]
 pub enum Immediates<'a> {
     None,
@@ -79,7 +85,9 @@ pub enum Immediates<'a> {
     MemArg(MemArg),
     /// An address, and a lane of a vector.
     MemArgLane(MemArg, u8),
+    /// The constant of an `i32.const` (5.4.7).
     I32(i32),
+    /// The constant of an `i64.const` (5.4.7).
     I64(i64),
     /// A constant of four, eight or sixteen bytes, or the sixteen lanes of a shuffle.
     Bytes(&'a [u8]),
@@ -93,32 +101,44 @@ pub struct Instr<'a> {
     pub immediates: Immediates<'a>,
 }
 
-/// The items of the module that an operator names, in the order in which it names them. Locals, labels and
-/// segments are no such items.
+/// The items of the module that an operator names (5.4), by their spaces and indices, in the order in which it names
+/// them. Locals, labels and segments are no such items. Where there is one item it is `first`.
 #[derive(Clone, Copy, Debug, PartialEq, Eq)]
 pub struct Refs {
     pub first: Option<(Space, u32)>,
     pub second: Option<(Space, u32)>,
 }
 
-/// The shape of an operator's immediates.
+/// The shape of an operator's immediates (5.4): which of `Immediates` they are, and what it has. A number has 32 bits,
+/// but the offset of a memory argument 64.
 #[derive(Clone, Copy, Debug, PartialEq, Eq)]
 pub enum Form {
     None,
+    /// A block's type.
     Block,
+    /// An index.
     Index(IndexKind),
+    /// Two indices.
     Indices(IndexKind, IndexKind),
+    /// A vector of labels, and one label after it.
     Labels,
+    /// A vector of value types.
     ValTypes,
+    /// A reference type.
     RefType,
+    /// A memory argument.
     MemArg,
+    /// A memory argument, and a byte for the lane.
     MemArgLane,
+    /// A signed number of 32 bits.
     I32,
+    /// A signed number of 64 bits.
     I64,
-    /// So many bytes.
+    /// So many bytes: 4, 8 or 16.
     Bytes(usize),
+    /// A byte for the lane.
     Lane,
-    /// One byte 0.
+    /// One byte 0, after which the immediates are `Immediates::None`.
     Zero,
 }
 
@@ -135,7 +155,8 @@ const MEMORY: IndexKind = IndexKind::In(Space::Memories);
 
 const GLOBAL: IndexKind = IndexKind::In(Space::Globals);
 
-/// The operator table: which immediates are after a code, none for a code that is no operator's.
+/// The operator table (5.4): the shape of the immediates that are after a code; `None` for a code that is no
+/// operator's, a prefix as a `Byte` among them.
 #[inline(always)]
 pub fn form_of(opcode: Opcode) -> Option<Form>
     ensures { result ≡ form_of opcode }

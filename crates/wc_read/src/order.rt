@@ -4,12 +4,13 @@ ghost use Rattle.std.specs.Prelude.{◌≡◌, ◌≢◌, IfOk, IfErr};
 ghost use Rattle.std.specs.Option.{option_map};
 ghost use Rattle.wc_read.specs.Sections.{section_value, section_values};
 ghost use Rattle.wc_read.specs.Order.{section_position, AreInOrder, content_of};
-ghost use Rattle.wc_read.specs.OrderReading.{next_position};
-ghost use Rattle.wc_read.specs.ContentsReading.{AnswersWithoutMemory};
+ghost use Rattle.wc_read.specs.Reading.Order.{next_position};
+ghost use Rattle.wc_read.specs.Reading.Bytes.{AnswersWithoutMemory};
 
+use crate::codes::{CODE_ID, CUSTOM_ID, DATA_COUNT_ID, DATA_ID};
 use crate::fault::ReadFault;
 use crate::reader::Reader;
-use crate::sections::{CODE_ID, CUSTOM_ID, DATA_COUNT_ID, DATA_ID, Section};
+use crate::sections::Section;
 
 /// Whether a module may have these sections (WebAssembly core specification, 5.5.16): ids of the format, all
 /// but custom sections in their order and once at most, custom sections with a name at the front (5.5.3).
@@ -27,7 +28,7 @@ pub fn check_order(sections: &[Section]) -> Result<(), ReadFault>
 }
 
 /// The position of a section after one that has `position`; a custom section takes none.
-#[tactic(auto, unfolding(crate::specs::OrderReading::next_position))]
+#[tactic(auto, unfolding(crate::specs::Reading::Order::next_position))]
 fn next_position(position: u8, section: &Section) -> Result<u8, ReadFault>
     ensures { AnswersWithoutMemory (λ n. n) result
         (next_position position (section_value section.now)) }

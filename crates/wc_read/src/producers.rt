@@ -1,10 +1,12 @@
 //! The producers section.
 
 ghost use Rattle.std.specs.Prelude.{◌≡◌, IfOk, IfErr};
-ghost use Rattle.wc_read.specs.Custom.{optional_bytes};
-ghost use Rattle.wc_read.specs.Producers.{ProducerValue, FieldValue, producer_value, field_value, producer_at, field_at, AreFields, LastProducers, ProducersOf};
+ghost use Rattle.wc_read.specs.Reading.Custom.{optional_bytes};
+ghost use Rattle.wc_read.specs.Producers.{ProducerValue, FieldValue, LastProducers};
+ghost use Rattle.wc_read.specs.Reading.Producers.{producer_value, field_value, producer_at, field_at, AreFields, ProducersOf};
 ghost use Rattle.wc_read.specs.Sections.{section_value, section_values};
 
+use crate::codes::PRODUCERS;
 use crate::custom::content_after_name;
 use crate::fault::ReadFault;
 use crate::reader::{Reader, Spelled};
@@ -32,7 +34,7 @@ impl<'a> Spelled<'a> for Producer<'a> {
 
     ghost read = { producer_at };
 
-    #[tactic(auto, unfolding(crate::specs::Producers::producer_at))]
+    #[tactic(auto, unfolding(crate::specs::Reading::Producers::producer_at))]
     fn read_from(_alloc: Global, reader: &mut Reader<'a>) -> Result<Producer<'a>, ReadFault> {
         let name = reader.name()?;
         let version = reader.name()?;
@@ -47,7 +49,7 @@ impl<'a> Spelled<'a> for ProducersField<'a> {
 
     ghost read = { field_at };
 
-    #[tactic(auto, unfolding(crate::specs::Producers::field_at))]
+    #[tactic(auto, unfolding(crate::specs::Reading::Producers::field_at))]
     fn read_from(alloc: Global, reader: &mut Reader<'a>) -> Result<ProducersField<'a>, ReadFault> {
         let name = reader.name()?;
         let producers = reader.vector::<Producer>(alloc)?;
@@ -80,7 +82,7 @@ fn section_producers<'a>(
     ensures found { IfOk result (λ p. ProducersOf (section_value section.now) (optional_bytes p)) }
     ensures memory { IfErr result (λ e. e ≡ ReadFault.Memory) }
 {
-    let Some(bytes) = content_after_name(alloc, section, "producers")? else {
+    let Some(bytes) = content_after_name(alloc, section, PRODUCERS)? else {
         return Ok(None);
     };
     if !are_fields(alloc, bytes)? {

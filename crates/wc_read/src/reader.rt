@@ -1,10 +1,10 @@
-//! A reader that moves along the bytes: numbers, names, value types, vectors.
+//! A reader that moves along the bytes: bytes, unsigned numbers, names, vectors.
 
 ghost use Rattle.std.specs.Prelude.{◌≡◌, ◌<◌, ◌≤◌, ◌^◌, ℕ, List, Option, map, IfOk};
-ghost use Rattle.wc_read.specs.Reading.{Gives, GivesWithoutMemory, Finds, byte_at, bytes_at, number_at, name_at, val_type_at, mutable_at, global_at, vector_at};
+ghost use Rattle.wc_read.specs.Reading.Bytes.{Gives, GivesWithoutMemory, Finds, byte_at, bytes_at, number_at, name_at, vector_at};
 
+use crate::codes::{GROUP_BITS, MORE_BYTES};
 use crate::fault::ReadFault;
-use crate::types::{GlobalType, ValType};
 use std::alloc::Global;
 use std::str;
 
@@ -34,7 +34,8 @@ impl<'a> Reader<'a> {
     }
 
     pub fn byte(&mut self) -> Result<u8, ReadFault>
-        ensures { GivesWithoutMemory (λ x. x) result self.new.rest.now (byte_at self.old.rest.now) }
+        ensures { GivesWithoutMemory (λ x. x) result
+            self.new.rest.now (byte_at self.old.rest.now) }
     {
         match self.rest.split_first() {
             Some((first, rest)) => {
@@ -67,8 +68,8 @@ impl<'a> Reader<'a> {
         ensures bound { IfOk result (λ x. x < 2 ^ bits) }
     {
         if let Some((first, rest)) = self.rest.split_first()
-            && *first < 128
-            && bits >= 7
+            && *first < MORE_BYTES
+            && bits >= GROUP_BITS
         {
             self.rest = rest;
             return Ok(u64::from(*first));
@@ -90,17 +91,17 @@ impl<'a> Reader<'a> {
         loop {
             let byte = self.byte()?;
             let left = bits - shift;
-            if byte < 128 {
-                if left < 7 && byte >> left != 0 {
+            if byte < MORE_BYTES {
+                if left < GROUP_BITS && byte >> left != 0 {
                     return Err(ReadFault::BadNumber);
                 }
                 return Ok(value + (u64::from(byte) << shift));
             }
-            if left <= 7 {
+            if left <= GROUP_BITS {
                 return Err(ReadFault::BadNumber);
             }
-            value += u64::from(byte - 128) << shift;
-            shift += 7;
+            value += u64::from(byte - MORE_BYTES) << shift;
+            shift += GROUP_BITS;
         }
     }
 
@@ -113,7 +114,7 @@ impl<'a> Reader<'a> {
         Ok(number as u32)
     }
 
-    #[tactic(auto, using(crate::proofs::TextLemmas::text), unfolding(crate::specs::Reading::name_at))]
+    #[tactic(auto, using(crate::proofs::TextLemmas::text), unfolding(crate::specs::Reading::Bytes::name_at))]
     pub fn name(&mut self) -> Result<&'a str, ReadFault>
         ensures { GivesWithoutMemory (λ x. x.now) result self.new.rest.now
             (name_at self.old.rest.now) }
@@ -126,50 +127,8 @@ impl<'a> Reader<'a> {
         }
     }
 
-    #[tactic(auto, unfolding(crate::specs::Reading::val_type_at))]
-    pub fn val_type(&mut self) -> Result<ValType, ReadFault>
-        ensures { GivesWithoutMemory (λ x. x) result self.new.rest.now
-            (val_type_at self.old.rest.now) }
-    {
-        match self.byte()? {
-            0x7f => Ok(ValType::I32),
-            0x7e => Ok(ValType::I64),
-            0x7d => Ok(ValType::F32),
-            0x7c => Ok(ValType::F64),
-            0x7b => Ok(ValType::V128),
-            0x70 => Ok(ValType::FuncRef),
-            0x6f => Ok(ValType::ExternRef),
-            _ => Err(ReadFault::BadType),
-        }
-    }
-
-    #[tactic(auto, unfolding(crate::specs::Reading::mutable_at))]
-    fn mutable(&mut self) -> Result<bool, ReadFault>
-        ensures { GivesWithoutMemory (λ x. x) result self.new.rest.now
-            (mutable_at self.old.rest.now) }
-    {
-        match self.byte()? {
-            0 => Ok(false),
-            1 => Ok(true),
-            _ => Err(ReadFault::BadType),
-        }
-    }
-
-    #[tactic(auto, unfolding(crate::specs::Reading::global_at))]
-    pub fn global(&mut self) -> Result<GlobalType, ReadFault>
-        ensures { GivesWithoutMemory (λ x. x) result self.new.rest.now
-            (global_at self.old.rest.now) }
-    {
-        let content_type = self.val_type()?;
-        let mutable = self.mutable()?;
-        Ok(GlobalType {
-            content_type,
-            mutable,
-        })
-    }
-
     /// A vector. Memory is taken item by item, and not for a count whose items were not read.
-    #[tactic(auto, unfolding(crate::specs::Reading::vector_at))]
+    #[tactic(auto, unfolding(crate::specs::Reading::Bytes::vector_at))]
     pub fn vector<T: Spelled<'a> + Drop>(&mut self, alloc: Global) -> Result<Vec<T>, ReadFault>
         ensures { Gives (λ v. map T.view v.items) result self.new.rest.now
             (vector_at T.read self.old.rest.now) }
@@ -206,5 +165,17 @@ impl<'a> Spelled<'a> for &'a str {
 
     fn read_from(_alloc: Global, reader: &mut Reader<'a>) -> Result<&'a str, ReadFault> {
         reader.name()
+    }
+}
+
+impl<'a> Spelled<'a> for u32 {
+    ghost Value = { ℕ };
+
+    ghost view = { λ n. n };
+
+    ghost read = { number_at 32 };
+
+    fn read_from(_alloc: Global, reader: &mut Reader<'a>) -> Result<u32, ReadFault> {
+        reader.u32()
     }
 }

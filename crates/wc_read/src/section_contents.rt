@@ -1,21 +1,20 @@
 //! The contents of a module's sections.
 
 ghost use Rattle.std.specs.Prelude.{map};
-ghost use Rattle.wc_read.specs.Reading.{number_at};
+ghost use Rattle.wc_read.specs.Reading.Bytes.{number_at, Answers, AnswersWithoutMemory};
 ghost use Rattle.wc_read.specs.Sections.{section_values, start_id};
-ghost use Rattle.wc_read.specs.ContentsReading.{Answers, AnswersWithoutMemory};
-ghost use Rattle.wc_read.specs.SectionContents.{section_contents_value, items_in, content_in, section_contents_in};
+ghost use Rattle.wc_read.specs.Reading.Contents.{section_contents_value, items_in, content_in, section_contents_in};
 
+use crate::codes::{
+    CODE_ID, EXPORT_ID, FUNCTION_ID, GLOBAL_ID, IMPORT_ID, MEMORY_ID, START_ID, TABLE_ID, TYPE_ID,
+};
 use crate::contents::{items, start};
 use crate::exports::Export;
 use crate::fault::ReadFault;
 use crate::globals::LocalGlobal;
 use crate::order::content;
 use crate::reader::Spelled;
-use crate::sections::{
-    CODE_ID, EXPORT_ID, FUNCTION_ID, GLOBAL_ID, IMPORT_ID, MEMORY_ID, START_ID, Section, TABLE_ID,
-    TYPE_ID,
-};
+use crate::sections::Section;
 use crate::types::{FuncType, Import, MemoryType, TableType};
 use std::alloc::Global;
 
@@ -35,7 +34,7 @@ pub struct SectionContents<'a> {
 }
 
 /// Reads the sections whose contents are read.
-#[tactic(auto, unfolding(crate::specs::SectionContents::section_contents_in))]
+#[tactic(auto, unfolding(crate::specs::Reading::Contents::section_contents_in))]
 pub fn read_section_contents<'a>(
     alloc: Global,
     sections: &[Section<'a>],
@@ -66,7 +65,7 @@ pub fn read_section_contents<'a>(
 }
 
 /// The items of the section with an id.
-#[tactic(auto, unfolding(crate::specs::SectionContents::items_in))]
+#[tactic(auto, unfolding(crate::specs::Reading::Contents::items_in))]
 fn section<'a, T: Spelled<'a> + Drop>(
     alloc: Global,
     sections: &[Section<'a>],
@@ -82,7 +81,7 @@ fn section<'a, T: Spelled<'a> + Drop>(
 }
 
 /// The function that the start section names.
-#[tactic(auto, unfolding(crate::specs::SectionContents::content_in))]
+#[tactic(auto, unfolding(crate::specs::Reading::Contents::content_in))]
 fn start_section(sections: &[Section]) -> Result<Option<u32>, ReadFault>
     ensures { AnswersWithoutMemory (λ n. n) result
         (content_in start_id (number_at 32) (section_values sections.now)) }

@@ -1,11 +1,16 @@
 //! Signed numbers.
 
 ghost use Rattle.std.specs.Prelude.{◌≡◌, ◌<◌, ◌≤◌, ◌^◌, ◌+◌, ◌-◌, ◌*◌, IfOk, IfSome, nat_lt, if◌then◌else◌, option_map};
-ghost use Rattle.wc_read.specs.Reading.{GivesWithoutMemory};
-ghost use Rattle.wc_read.specs.Signed.{above, FitsBits, last_of, signed_at};
+ghost use Rattle.wc_read.specs.Reading.Bytes.{GivesWithoutMemory};
+ghost use Rattle.wc_read.specs.Signed.{above, FitsBits};
+ghost use Rattle.wc_read.specs.Reading.Signed.{last_of, signed_at};
 
+use crate::codes::{GROUP_BITS, GROUP_MASK, MORE_BYTES};
 use crate::fault::ReadFault;
 use crate::reader::Reader;
+
+/// The bit that is the sign of a signed number, in its last byte (5.2.2).
+const SIGN: u8 = 64;
 
 impl<'a> Reader<'a> {
     /// A signed number of so many bits (WebAssembly core specification, 5.2.2).
@@ -21,15 +26,25 @@ impl<'a> Reader<'a> {
         loop {
             let byte = self.byte()?;
             let left = bits - shift;
-            if byte < 128 {
+            if byte < MORE_BYTES {
                 return completed(low, shift, left, byte).ok_or(ReadFault::BadNumber);
             }
-            if left <= 7 {
+            if left <= GROUP_BITS {
                 return Err(ReadFault::BadNumber);
             }
-            low += u64::from(byte - 128) << shift;
-            shift += 7;
+            low += u64::from(byte - MORE_BYTES) << shift;
+            shift += GROUP_BITS;
         }
+    }
+
+    /// A signed number of 32 bits.
+    #[inline(always)]
+    pub fn i32(&mut self) -> Result<i32, ReadFault>
+        ensures { GivesWithoutMemory (λ x. x) result self.new.rest.now
+            (signed_at 32 self.old.rest.now) }
+    {
+        let number = self.signed(32)?;
+        Ok(number as i32)
     }
 }
 
@@ -38,15 +53,15 @@ fn completed(low: u64, shift: u32, left: u32, byte: u8) -> Option<i64>
     requires some { 0 < left }
     requires limit { shift + left ≤ 64 }
     requires low { low < 2 ^ shift }
-    requires last { byte < 128 }
+    requires last { byte < MORE_BYTES }
     ensures value { result ≡ option_map (above (2 ^ shift) low) (last_of left byte) }
     ensures bound { IfSome result (λ x. FitsBits (shift + left) x) }
 {
-    if byte < 64 {
+    if byte < SIGN {
         let magnitude = magnitude(low, shift, left, byte)?;
         Some(magnitude as i64)
     } else {
-        let magnitude = magnitude((1 << shift) - 1 - low, shift, left, 127 - byte)?;
+        let magnitude = magnitude((1 << shift) - 1 - low, shift, left, GROUP_MASK - byte)?;
         Some(-1 - magnitude as i64)
     }
 }
@@ -56,12 +71,12 @@ fn magnitude(low: u64, shift: u32, left: u32, digits: u8) -> Option<u64>
     requires some { 0 < left }
     requires limit { shift + left ≤ 64 }
     requires low { low < 2 ^ shift }
-    requires last { digits < 64 }
+    requires last { digits < SIGN }
     ensures value { result ≡ (if nat_lt digits (2 ^ (left - 1)) then Some
         (low + 2 ^ shift * digits) else None) }
     ensures bound { IfSome result (λ x. x < 2 ^ (shift + left - 1)) }
 {
-    if left < 7 && digits >> (left - 1) != 0 {
+    if left < GROUP_BITS && digits >> (left - 1) != 0 {
         return None;
     }
     Some(low + (u64::from(digits) << shift))

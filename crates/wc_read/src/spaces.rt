@@ -3,7 +3,7 @@
 ghost use Rattle.std.specs.Prelude.{◌≡◌, ℕ, List, Option, ⊤, map, IfOk};
 ghost use Rattle.wc_read.specs.declared.types.ImportType.{ImportType as import_type};
 ghost use Rattle.wc_read.specs.Imports.{import_values};
-ghost use Rattle.wc_read.specs.Globals.{local_global_values};
+ghost use Rattle.wc_read.specs.Reading.Globals.{local_global_values};
 ghost use Rattle.wc_read.specs.Items.{item_value, func_values, global_values};
 ghost use Rattle.wc_read.specs.Spaces.{func_of, table_of, memory_of, global_of, imported_items, func_space, declared_space, global_space};
 

@@ -1,11 +1,17 @@
-//! The types of core modules (WebAssembly core specification, 2.3 "Types" and 2.5.11 "Imports").
+//! The types of core modules (WebAssembly core specification, 2.3 "Types" and 2.5.11 "Imports"), and the reading of
+//! value types and of types of globals.
 
 ghost use Rattle.std.specs.Prelude.{◌≡◌, ◌-◌, ◌^◌, ◌<◌, ◌≤◌};
 ghost use Rattle.wc_read.specs.Limits.{page_exponent};
+ghost use Rattle.wc_read.specs.Reading.Bytes.{Gives, GivesWithoutMemory, vector_at};
+ghost use Rattle.wc_read.specs.Reading.Types.{val_type_at, mutable_at, global_at};
+ghost use Rattle.wc_read.specs.declared.types.ValType.{ValType as val_type};
 
+use crate::fault::ReadFault;
+use crate::reader::{Reader, Spelled};
 use std::alloc::{AllocError, Global};
 
-/// A value type (2.3.1 to 2.3.4).
+/// A value type (2.3.1 to 2.3.4): a number of 32 or 64 bits, a vector of 128 bits, or a reference.
 #[derive(Clone, Copy, Debug, PartialEq, Eq)]
 pub enum ValType {
     I32,
@@ -17,30 +23,38 @@ pub enum ValType {
     ExternRef,
 }
 
-/// A memory type (2.3.8). `initial` and `maximum` count pages, of 2 to `page_size_log2` bytes each, or of
-/// 65536 where no exponent is given.
+/// A memory type (2.3.8, and the proposals memory64, threads and custom page sizes). `initial` and `maximum` count
+/// pages, of 2 to `page_size_log2` bytes each, or of 65536 where no exponent is given.
+///
+/// In a module that was read, no maximum is below the minimum, a shared memory has a maximum, and minimum and maximum
+/// of a memory that is not 64-bit have 2^32 bytes at most.
 #[derive(Clone, Copy, Debug, PartialEq, Eq)]
 pub struct MemoryType {
+    /// Whether addresses have 64 bits; else they have 32.
     pub memory64: bool,
+    /// Whether threads share it.
     pub shared: bool,
+    /// The minimum, in pages.
     pub initial: u64,
+    /// The maximum, in pages; `None` where there is none.
     pub maximum: Option<u64>,
+    /// The exponent of a page's bytes, 0 or 16 in a module that was read; `None` means 16.
     pub page_size_log2: Option<u32>,
 }
 
 /// The exponent of a page's bytes, where a memory type gives none.
-const DEFAULT_PAGE_EXPONENT: u32 = 16;
+pub const DEFAULT_PAGE_EXPONENT: u32 = 16;
 
 impl MemoryType {
-    /// The bytes in a page: 2 to the exponent, 65536 where none is given. An exponent past 63, which no
-    /// module spells, gives `u64::MAX`.
+    /// The bytes in a page (proposal custom page sizes): 2 to the exponent, 65536 where none is given. An exponent past
+    /// 63, which no module spells, gives `u64::MAX`.
     pub fn page_size(&self) -> u64
         ensures exponent { page_exponent self.now.page_size_log2 < 64
             → result ≡ 2 ^ page_exponent self.now.page_size_log2 }
         ensures past { 64 ≤ page_exponent self.now.page_size_log2 → result ≡ 2 ^ 64 - 1 }
     {
         let exponent = self.page_size_log2.unwrap_or(DEFAULT_PAGE_EXPONENT);
-        if exponent < 64 {
+        if exponent < u64::BITS {
             1 << exponent
         } else {
             u64::MAX
@@ -48,23 +62,30 @@ impl MemoryType {
     }
 }
 
-/// A table type (2.3.9). `initial` and `maximum` count elements.
+/// A table type (2.3.9, and the proposal memory64). `initial` and `maximum` count elements.
+///
+/// In a module that was read, no maximum is below the minimum, and both are below 2^32 where the table is not 64-bit.
 #[derive(Clone, Copy, Debug, PartialEq, Eq)]
 pub struct TableType {
+    /// What the elements are: `FuncRef` or `ExternRef` in a module that was read.
     pub element_type: ValType,
+    /// Whether indices of elements have 64 bits; else they have 32.
     pub table64: bool,
+    /// The minimum, in elements.
     pub initial: u64,
+    /// The maximum, in elements; `None` where there is none.
     pub maximum: Option<u64>,
 }
 
-/// A global type (2.3.10).
+/// A global type (2.3.10): the type of the global's value, and whether it can be written.
 #[derive(Clone, Copy, Debug, PartialEq, Eq)]
 pub struct GlobalType {
     pub content_type: ValType,
     pub mutable: bool,
 }
 
-/// What is imported: a function by the index of its type, or another item by its type (2.3.11).
+/// What is imported (2.3.11 and 2.5.11): a function by the index of its type among the module's types, or another item
+/// by its type.
 #[derive(Clone, Copy, Debug, PartialEq, Eq)]
 pub enum ImportType {
     Func(u32),
@@ -76,12 +97,14 @@ pub enum ImportType {
 /// An import (2.5.11). Both names are slices of the bytes that it was read from.
 #[derive(Clone, Copy, Debug, PartialEq, Eq)]
 pub struct Import<'a> {
+    /// The name of the module that it comes from.
     pub module: &'a str,
+    /// The name of the import in that module.
     pub name: &'a str,
     pub ty: ImportType,
 }
 
-/// A function type: a function's parameters and results (2.3.6).
+/// A function type (2.3.6): a function's parameters and results.
 #[derive(Debug, PartialEq, Eq, Drop)]
 pub struct FuncType {
     params: Vec<ValType>,
@@ -92,7 +115,7 @@ impl FuncType {
     ghost use Rattle.std.specs.Prelude.{IfOk};
     ghost use Rattle.wc_read.specs.Types.{func_type_value};
 
-    /// The type of functions that take `params` and give `results`.
+    /// The type of functions with these parameters and results (2.3.6).
     pub fn new(params: Vec<ValType>, results: Vec<ValType>) -> FuncType
         ensures params { (func_type_value result).params ≡ params.items }
         ensures results { (func_type_value result).results ≡ results.items }
@@ -100,26 +123,97 @@ impl FuncType {
         Self { params, results }
     }
 
-    /// The parameters, in order.
+    /// The types of the parameters, in order (2.3.6).
     pub fn params(&self) -> &[ValType]
         ensures { result.now ≡ (func_type_value self.now).params }
     {
         self.params.as_slice()
     }
 
-    /// The results, in order.
+    /// The types of the results, in order (2.3.6).
     pub fn results(&self) -> &[ValType]
         ensures { result.now ≡ (func_type_value self.now).results }
     {
         self.results.as_slice()
     }
 
-    /// A copy of this value.
+    /// The same function type in new memory.
+    ///
+    /// # Errors
+    ///
+    /// `AllocError`: an allocation failed.
     pub fn clone(&self, alloc: Global) -> Result<FuncType, AllocError>
         ensures { IfOk result (λ f. func_type_value f ≡ func_type_value self.now) }
     {
         let params = Vec::from_slice(alloc, &self.params)?;
         let results = Vec::from_slice(alloc, &self.results)?;
         Ok(FuncType { params, results })
+    }
+}
+
+impl<'a> Reader<'a> {
+    /// A value type.
+    #[tactic(auto, unfolding(crate::specs::Reading::Types::val_type_at))]
+    pub fn val_type(&mut self) -> Result<ValType, ReadFault>
+        ensures { GivesWithoutMemory (λ x. x) result self.new.rest.now
+            (val_type_at self.old.rest.now) }
+    {
+        match self.byte()? {
+            0x7f => Ok(ValType::I32),
+            0x7e => Ok(ValType::I64),
+            0x7d => Ok(ValType::F32),
+            0x7c => Ok(ValType::F64),
+            0x7b => Ok(ValType::V128),
+            0x70 => Ok(ValType::FuncRef),
+            0x6f => Ok(ValType::ExternRef),
+            _ => Err(ReadFault::BadType),
+        }
+    }
+
+    /// Whether a global is mutable.
+    #[tactic(auto, unfolding(crate::specs::Reading::Types::mutable_at))]
+    fn mutable(&mut self) -> Result<bool, ReadFault>
+        ensures { GivesWithoutMemory (λ x. x) result self.new.rest.now
+            (mutable_at self.old.rest.now) }
+    {
+        match self.byte()? {
+            0 => Ok(false),
+            1 => Ok(true),
+            _ => Err(ReadFault::BadType),
+        }
+    }
+
+    /// A global type.
+    #[tactic(auto, unfolding(crate::specs::Reading::Types::global_at))]
+    pub fn global(&mut self) -> Result<GlobalType, ReadFault>
+        ensures { GivesWithoutMemory (λ x. x) result self.new.rest.now
+            (global_at self.old.rest.now) }
+    {
+        let content_type = self.val_type()?;
+        let mutable = self.mutable()?;
+        Ok(GlobalType {
+            content_type,
+            mutable,
+        })
+    }
+
+    /// A vector of value types.
+    pub fn val_types(&mut self, alloc: Global) -> Result<Vec<ValType>, ReadFault>
+        ensures { Gives (λ v. v.items) result self.new.rest.now
+            (vector_at val_type_at self.old.rest.now) }
+    {
+        self.vector::<ValType>(alloc)
+    }
+}
+
+impl<'a> Spelled<'a> for ValType {
+    ghost Value = { val_type };
+
+    ghost view = { λ t. t };
+
+    ghost read = { val_type_at };
+
+    fn read_from(_alloc: Global, reader: &mut Reader<'a>) -> Result<ValType, ReadFault> {
+        reader.val_type()
     }
 }

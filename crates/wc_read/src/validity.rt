@@ -3,7 +3,8 @@
 ghost use Rattle.std.specs.Prelude.{◌≡◌, ◌≢◌, ◌<◌, ◌^◌, ◌↔◌, ℕ, List, length, map, All, IfOk, IfErr, IsTrue, Some, nat_lt};
 ghost use Rattle.std.specs.List.{list_all, slice_get};
 ghost use Rattle.wc_read.specs.Faults.{IfRefused};
-ghost use Rattle.wc_read.specs.Types.{func_type_value, is_nullary};
+ghost use Rattle.wc_read.specs.Types.{func_type_value};
+ghost use Rattle.wc_read.specs.Reading.Types.{is_nullary};
 ghost use Rattle.wc_read.specs.Modules.{module_value, count_of, HaveTypes, IsStart, IsModule, AreFew};
 
 use crate::core_module::Module;
@@ -15,8 +16,8 @@ use crate::items::Func;
 use crate::types::FuncType;
 use std::alloc::Global;
 
-/// Whether all indices name an item, names of exports are distinct, initialisers leave one value of their
-/// globals' types, the start function has no parameters and no results, and there are less than 2^32 items in each space.
+/// Whether all indices name an item, names of exports are distinct, initialisers leave one value of their globals'
+/// types, the start function has no parameters and no results, and there are less than 2^32 items in each space.
 pub fn check_module(alloc: Global, module: &Module) -> Result<(), ReadFault>
     ensures found { IfOk result (λ _. IsModule (module_value «module».now)) }
     ensures refused { IfRefused result (¬ (IsModule (module_value «module».now))) }

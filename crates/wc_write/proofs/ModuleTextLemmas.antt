@@ -13,7 +13,8 @@ use Rattle.wc_read.specs.Contents.{SpellsFuncType, SpellsSizePrefixed, SpellsSta
 use Rattle.wc_read.specs.Items.{DefValue, imported, local, ItemValue, FuncValue, TableValue, MemoryValue, GlobalValue}
 use Rattle.wc_read.specs.Operators.{InstrValue}
 use Rattle.wc_read.specs.Bodies.{BodyValue, SpellsBody}
-use Rattle.wc_read.specs.Inits.{SpellsInit, init_at}
+use Rattle.wc_read.specs.Inits.{SpellsInit}
+use Rattle.wc_read.specs.Reading.Inits.{init_at}
 use Rattle.wc_write.specs.Values.{IsBody}
 use Rattle.wc_read.specs.Order.{content_of}
 use Rattle.wc_read.specs.SectionContents.{SectionContentsValue, HasItems, HasContent, HaveSectionContents}

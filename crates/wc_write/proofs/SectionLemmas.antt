@@ -14,7 +14,7 @@ use Rattle.wc_read.specs.Producers.{producers_text, IsProducers, NoneReads, Last
 use Rattle.wc_read.specs.Modules.{is_segments}
 use Rattle.wc_read.proofs.MeetsLemmas.{one_spelling}
 use Rattle.wc_read.proofs.TypesLemmas.{name_meets}
-use Rattle.wc_read.specs.Reading.{name_at}
+use Rattle.wc_read.specs.Reading.Bytes.{name_at}
 use Rattle.std.proofs.lemmas.Str.{IsUtf8-from_ascii}
 use Rattle.wc_write.specs.Text.{number_text, name_text}
 use Rattle.wc_write.specs.ModuleText.{OptionalSection, content_text, SizeFits, producers_content}

@@ -19,15 +19,15 @@ use Rattle.wc_write.proofs.VectorTextLemmas.{items_shortest}
 
 -- a larger number has no fewer digits, and a longer content no shorter section
 
-digits_grow : (left n m : ℕ) → n ≤ m → length (digits left n) ≤ length (digits left m)
-digits_grow zero n m le = rw (digits_none n, digits_none m) (omega arith)
-digits_grow (suc left) n m le = elim (cases_lt n 128) [
+digit_count_mono : (left n m : ℕ) → n ≤ m → length (digits left n) ≤ length (digits left m)
+digit_count_mono zero n m le = rw (digits_none n, digits_none m) (omega arith)
+digit_count_mono (suc left) n m le = elim (cases_lt n 128) [
   | inl small ↦ rw (digits_last (suc left) n small) (let some = number_some (suc left) m in omega (arith, some))
-  | inr large ↦ let rest = digits_grow left (n / 128) (m / 128) (omega arith) in rw (digits_more left n large, digits_more left m (omega arith)) (omega (arith, rest))
+  | inr large ↦ let rest = digit_count_mono left (n / 128) (m / 128) (omega arith) in rw (digits_more left n large, digits_more left m (omega arith)) (omega (arith, rest))
 ]
 
 pub number_grows : (n m : ℕ) → n ≤ m → length (number_text n) ≤ length (number_text m)
-number_grows n m le = digits_grow 9 n m le
+number_grows n m le = digit_count_mono 9 n m le
 
 pub section_grows : (id : ℕ) (a b : List ℕ) → length a ≤ length b → length (section_text id a) ≤ length (section_text id b)
 unfolding section_text

@@ -11,11 +11,12 @@ use Rattle.wc_read.specs.Bodies.{BodyValue, body_value}
 use Rattle.wc_read.specs.Inits.{init_value}
 use Rattle.wc_read.specs.Items.{ItemValue, item_value, TableValue, table_value, MemoryValue, memory_value}
 use Rattle.wc_read.specs.Producers.{producers_text}
-use Rattle.wc_read.specs.Sections.{module_header}
+use Rattle.wc_read.specs.Contents.{func_type_code}
+use Rattle.wc_read.specs.Sections.{module_header, custom_id, type_id, import_id, function_id, table_id, memory_id, global_id, export_id, start_id, code_id}
 use Rattle.wc_read.specs.declared.bodies.Body.{Body}
 use Rattle.wc_read.specs.declared.types.GlobalType.{GlobalType}
 use Rattle.wc_read.specs.declared.types.ImportType.TheVariants.{Func, Table, Memory, Global}
-use Rattle.wc_write.specs.Text.{number_text, vector_text, name_text, val_type_text, table_text, memory_text, global_text, import_text, FitsSize, import_section_id, section_text}
+use Rattle.wc_write.specs.Text.{number_text, vector_text, name_text, val_type_text, table_text, memory_text, global_text, import_text, FitsSize, section_text}
 use Rattle.wc_write.specs.OperatorText.{instr_text}
 use Rattle.wc_write.specs.BodyText.{body_text}
 use Rattle.wc_write.specs.Spaces.{imports_of, DefinedValue, defined, defined_types, defined_contents}
@@ -57,7 +58,7 @@ built_imports b =
 
 -- a function type (5.3.6): its byte, parameters, results
 abbrev pub func_type_text : FuncTypeValue → List ℕ
-func_type_text f = 0x60 ∷ (vector_text val_type_text f.params ++ vector_text val_type_text f.results)
+func_type_text f = func_type_code ∷ (vector_text val_type_text f.params ++ vector_text val_type_text f.results)
 
 -- an export (5.5.10): its name, the byte of its kind, its index
 abbrev pub export_text : ExportValue → List ℕ
@@ -98,36 +99,36 @@ pub record OptionalSection : Type 0 where
 -- the sections of a module (5.5.4 to 5.5.13), by their ids
 
 abbrev pub type_section : List FuncTypeValue → OptionalSection
-type_section types = record { id = 1; content = items_content func_type_text types }
+type_section types = record { id = type_id; content = items_content func_type_text types }
 
 abbrev pub import_section : List ImportValue → OptionalSection
-import_section imports = record { id = import_section_id; content = items_content import_text imports }
+import_section imports = record { id = import_id; content = items_content import_text imports }
 
 -- of functions, tables, memories and globals the defined ones
 
 abbrev pub func_section : List (ItemValue ℕ BodyValue) → OptionalSection
-func_section funcs = record { id = 3; content = items_content number_text (defined_types funcs) }
+func_section funcs = record { id = function_id; content = items_content number_text (defined_types funcs) }
 
 abbrev pub table_section : List TableValue → OptionalSection
-table_section tables = record { id = 4; content = items_content table_text (defined_types tables) }
+table_section tables = record { id = table_id; content = items_content table_text (defined_types tables) }
 
 abbrev pub memory_section : List MemoryValue → OptionalSection
-memory_section memories = record { id = 5; content = items_content memory_text (defined_types memories) }
+memory_section memories = record { id = memory_id; content = items_content memory_text (defined_types memories) }
 
 abbrev pub global_section : List (ItemValue GlobalType (List InstrValue)) → OptionalSection
-global_section globals = record { id = 6; content = items_content defined_global_text (defined globals) }
+global_section globals = record { id = global_id; content = items_content defined_global_text (defined globals) }
 
 abbrev pub export_section : List ExportValue → OptionalSection
-export_section exports = record { id = 7; content = items_content export_text exports }
+export_section exports = record { id = export_id; content = items_content export_text exports }
 
 abbrev pub start_section : Option ℕ → OptionalSection
-start_section start = record { id = 8; content = option_map number_text start }
+start_section start = record { id = start_id; content = option_map number_text start }
 
 abbrev pub code_section : List (ItemValue ℕ BodyValue) → OptionalSection
-code_section funcs = record { id = 10; content = items_content code_text (defined_contents funcs) }
+code_section funcs = record { id = code_id; content = items_content code_text (defined_contents funcs) }
 
 abbrev pub producers_section : Option (List ℕ) → OptionalSection
-producers_section producers = record { id = 0; content = option_map producers_content producers }
+producers_section producers = record { id = custom_id; content = option_map producers_content producers }
 
 -- the sections of a module in their order, the custom section of producers last
 unfoldable pub optional_sections : BuiltValue → List OptionalSection

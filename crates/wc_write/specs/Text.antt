@@ -96,10 +96,6 @@ FitsSize bytes = length bytes < 2 ^ 32
 abbrev pub ExceedsSize : List ℕ → Type 0
 ExceedsSize bytes = 2 ^ 32 ≤ length bytes
 
--- the id of an import section (5.5.2)
-abbrev pub import_section_id : ℕ
-import_section_id = 2
-
 -- a section (5.5.2): its id, its content's size, its content
 unfoldable pub section_text : ℕ → List ℕ → List ℕ
 section_text id content = id ∷ (number_text (length content) ++ content)

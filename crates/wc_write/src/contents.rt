@@ -13,10 +13,8 @@ use crate::spaces::Defined;
 use crate::types::{put_global, put_memory, put_table};
 use crate::vectors::{Written, put_all, put_vector};
 use std::alloc::AllocError;
+use wc_read::codes::FUNC_TYPE;
 use wc_read::{Export, ExportKind, FuncType, GlobalType, Init, MemoryType, TableType};
-
-/// The byte that a function type begins with.
-const FUNC_TYPE: u8 = 0x60;
 
 impl Written for FuncType {
     ghost text = { λ f. func_type_text (func_type_value f) };

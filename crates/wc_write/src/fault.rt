@@ -12,7 +12,8 @@ pub enum WriteFault {
     /// An allocation failed.
     #[error("out of memory")]
     Memory,
-    /// The content of a section, or a body, has 2^32 bytes or more: its size is no number of 32 bits.
+    /// The content of a section, or a body, has 2^32 bytes or more: its size is no number of 32 bits (WebAssembly core
+    /// specification, 5.5.2 and 5.5.13).
     #[error("TooLarge")]
     TooLarge,
 }

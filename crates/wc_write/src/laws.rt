@@ -9,7 +9,7 @@ pub fn number_is_spelled()
     ensures { NumberIsSpelled }
 {}
 
-/// No bytes that spell an unsigned number are fewer than those of its text.
+/// No bytes that spell an unsigned number are fewer than those of its text (5.2.2).
 pub fn number_is_shortest()
     ensures { NumberIsShortest }
 {}
@@ -26,12 +26,12 @@ pub fn imports_are_spelled()
 {}
 
 /// Imports that some bytes spell can be spelled: they are fewer than 2^32, and each is as `import_is_spelled` asks.
-/// So their text spells them too.
+/// So their text spells them too (5.5.5).
 pub fn spelled_are_imports()
     ensures { SpelledAreImports }
 {}
 
-/// No bytes that spell imports are fewer than those of their text.
+/// No bytes that spell imports are fewer than those of their text (5.5.5).
 pub fn imports_are_shortest()
     ensures { ImportsAreShortest }
 {}
@@ -41,7 +41,7 @@ pub fn section_is_spelled()
     ensures { SectionIsSpelled }
 {}
 
-/// No bytes that spell a section are fewer than those of its text.
+/// No bytes that spell a section are fewer than those of its text (5.5.2).
 pub fn section_is_shortest()
     ensures { SectionIsShortest }
 {}
@@ -53,12 +53,12 @@ pub fn body_text_read()
     ensures { BodyTextIsRead }
 {}
 
-/// A body that some bytes spell can be spelled, as `body_text_read` asks.
+/// A body that some bytes spell can be spelled, as `body_text_read` asks (5.5.13).
 pub fn spelled_are_bodies()
     ensures { SpelledAreBodies }
 {}
 
-/// No bytes that spell a body are fewer than those of its text.
+/// No bytes that spell a body are fewer than those of its text (5.5.13).
 pub fn body_is_shortest()
     ensures { BodyIsShortest }
 {}
@@ -70,12 +70,12 @@ pub fn initialiser_text_read()
     ensures { InitTextIsRead }
 {}
 
-/// An initialiser that some bytes spell can be spelled, as `initialiser_text_read` asks.
+/// An initialiser that some bytes spell can be spelled, as `initialiser_text_read` asks (5.4.9).
 pub fn spelled_are_initialisers()
     ensures { SpelledAreInits }
 {}
 
-/// No bytes that spell an initialiser are fewer than those of its text.
+/// No bytes that spell an initialiser are fewer than those of its text (5.4.9).
 pub fn initialiser_is_shortest()
     ensures { InitIsShortest }
 {}
@@ -93,14 +93,14 @@ pub fn text_read()
 /// No bytes that spell a module with the same types, index spaces, exports, start function and producers are fewer
 /// than those of the module's text. Bodies are the same where they have the same runs of locals and the same
 /// operators, initialisers where they have the same operators. The bytes may have whatever else: imports in another
-/// order, names, segments and other custom sections, and empty sections.
+/// order, names, segments and other custom sections, and empty sections (5.5.16).
 pub fn module_is_shortest()
     ensures { ModuleIsShortest }
 {}
 
 /// A module that some bytes spell meets what `text_read` asks of the parts of a module: names, types, indices,
 /// initialisers and producers can be spelled, and imported items come first in each index space. `spelled_are_bodies`
-/// says it of bodies. Nothing is said of the sizes of contents, nor of the module with its imports grouped.
+/// says it of bodies. Nothing is said of the sizes of contents, nor of the module with its imports grouped (5.5.16).
 pub fn spelled_are_modules()
     ensures { SpelledAreModules }
 {}

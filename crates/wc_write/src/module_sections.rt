@@ -16,17 +16,15 @@ use crate::bodies::put_body;
 use crate::fault::WriteFault;
 use crate::modules::Built;
 use crate::numbers::{put_name, put_number};
-use crate::sections::{
-    CODE_SECTION, CUSTOM_SECTION, EXPORT_SECTION, FUNC_SECTION, GLOBAL_SECTION, IMPORT_SECTION,
-    MEMORY_SECTION, START_SECTION, TABLE_SECTION, TYPE_SECTION, append_raw_section,
-};
+use crate::sections::append_raw_section;
 use crate::spaces::{Defined, defined_items, push_imports};
 use crate::vectors::{Written, put_vector};
 use std::alloc::{AllocError, Global};
+use wc_read::codes::{
+    CODE_ID, CUSTOM_ID, EXPORT_ID, FUNCTION_ID, GLOBAL_ID, IMPORT_ID, MEMORY_ID, PRODUCERS,
+    START_ID, TABLE_ID, TYPE_ID,
+};
 use wc_read::{Body, Export, FuncType, GlobalType, Import, Init, Item, Memory, Table};
-
-/// The name of the custom section of producers.
-const PRODUCERS: &str = "producers";
 
 /// Appends a section of this content.
 fn append_content(out: &mut Vec<u8>, id: u8, content: &[u8]) -> Result<(), WriteFault>
@@ -62,7 +60,7 @@ pub(crate) fn append_types(
     ensures { AppendsSection result out.old.items out.new.items
         (type_section (map func_type_value types.now)) }
 {
-    append_items(out, content, TYPE_SECTION, types)
+    append_items(out, content, TYPE_ID, types)
 }
 
 /// Appends the section of imports, where there are any.
@@ -75,7 +73,7 @@ pub(crate) fn append_imports(
         (import_section (built_imports (built_value built.now))) }
 {
     let imports = imports(*out.allocator(), built)?;
-    append_items(out, content, IMPORT_SECTION, &imports)
+    append_items(out, content, IMPORT_ID, &imports)
 }
 
 /// The imports of a module: memories, tables, globals and functions, each in the order of its index space.
@@ -102,7 +100,7 @@ pub(crate) fn append_func_types(
     let alloc = *out.allocator();
     let funcs = defined_items(alloc, funcs)?;
     let types = types_of(alloc, &funcs)?;
-    append_items(out, content, FUNC_SECTION, &types)
+    append_items(out, content, FUNCTION_ID, &types)
 }
 
 /// The indices of the types of functions.
@@ -126,7 +124,7 @@ pub(crate) fn append_tables(
         (table_section (map table_value tables.now)) }
 {
     let tables = defined_items(*out.allocator(), tables)?;
-    append_items(out, content, TABLE_SECTION, &tables)
+    append_items(out, content, TABLE_ID, &tables)
 }
 
 /// Appends the section of defined memories, where there are any.
@@ -139,7 +137,7 @@ pub(crate) fn append_memories(
         (memory_section (map memory_value memories.now)) }
 {
     let memories = defined_items(*out.allocator(), memories)?;
-    append_items(out, content, MEMORY_SECTION, &memories)
+    append_items(out, content, MEMORY_ID, &memories)
 }
 
 /// Appends the section of defined globals, where there are any.
@@ -152,7 +150,7 @@ pub(crate) fn append_globals(
         (global_section (map (item_value init_value) globals.now)) }
 {
     let globals = defined_items(*out.allocator(), globals)?;
-    append_items(out, content, GLOBAL_SECTION, &globals)
+    append_items(out, content, GLOBAL_ID, &globals)
 }
 
 /// Appends the section of exports, where there are any.
@@ -164,7 +162,7 @@ pub(crate) fn append_exports(
     ensures { AppendsSection result out.old.items out.new.items
         (export_section (map export_value exports.now)) }
 {
-    append_items(out, content, EXPORT_SECTION, exports)
+    append_items(out, content, EXPORT_ID, exports)
 }
 
 /// Appends the start section, where there is a start function.
@@ -180,7 +178,7 @@ pub(crate) fn append_start(
     };
     content.clear();
     put_number(content, u64::from(index))?;
-    append_content(out, START_SECTION, content)
+    append_content(out, START_ID, content)
 }
 
 /// Appends the section of code, the bodies of defined functions after their sizes, where there are any.
@@ -201,7 +199,7 @@ fn append_bodies(
     content: &mut Vec<u8>,
     funcs: &[Defined<'_, u32, Body<'_>>],
 ) -> Result<(), WriteFault>
-    ensures { AppendsContent result out.old.items out.new.items CODE_SECTION
+    ensures { AppendsContent result out.old.items out.new.items CODE_ID
         (items_content code_text_of funcs.now) }
 {
     if funcs.is_empty() {
@@ -210,7 +208,7 @@ fn append_bodies(
     content.clear();
     put_number(content, funcs.len() as u64)?;
     put_code(content, funcs)?;
-    append_content(out, CODE_SECTION, content)
+    append_content(out, CODE_ID, content)
 }
 
 /// Appends bodies after their sizes. One buffer serves them all.
@@ -242,5 +240,5 @@ pub(crate) fn append_producers(
     content.clear();
     put_name(content, PRODUCERS)?;
     content.extend_from_slice(bytes)?;
-    append_content(out, CUSTOM_SECTION, content)
+    append_content(out, CUSTOM_ID, content)
 }

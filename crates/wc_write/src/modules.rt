@@ -9,26 +9,28 @@ use crate::module_sections::{
     append_memories, append_producers, append_start, append_tables, append_types,
 };
 use std::alloc::Global;
-use wc_read::{Body, Export, FuncType, GlobalType, Init, Item, Memory, Table};
-
-/// The header of a module (5.5.16): `\0asm`, version 1.
-const HEADER: &[u8] = b"\0asm\x01\0\0\0";
+use wc_read::{Body, Export, FuncType, GlobalType, Init, Item, MODULE_HEADER, Memory, Table};
 
 /// A module to be written (WebAssembly core specification, 2.5). Its imports are the imported items of its index
 /// spaces. In each index space imported items come before defined ones, which is not checked.
 #[derive(Debug, Drop)]
 pub struct Built<'a> {
-    /// The function types.
+    /// The function types, by their indices (2.5.2).
     pub types: Vec<FuncType>,
-    /// The functions, each with the index of its type.
+    /// The functions, each with the index of its type, and defined ones with their bodies (2.5.3).
     pub funcs: Vec<Item<'a, u32, Body<'a>>>,
+    /// The tables (2.5.4).
     pub tables: Vec<Table<'a>>,
+    /// The memories (2.5.5).
     pub memories: Vec<Memory<'a>>,
+    /// The globals, and defined ones with their initialisers (2.5.6).
     pub globals: Vec<Item<'a, GlobalType, Init<'a>>>,
+    /// The exports, in order (2.5.10).
     pub exports: Vec<Export<'a>>,
-    /// The index of the start function.
+    /// The index of the start function; `None` where there is none (2.5.9).
     pub start: Option<u32>,
-    /// The content of the custom section `producers`, without the section's name.
+    /// The content of the custom section `producers`, without the section's name (tool conventions); `None` where it is
+    /// left out.
     pub producers: Option<&'a [u8]>,
 }
 
@@ -51,7 +53,7 @@ pub fn write_module(alloc: Global, built: &Built<'_>) -> Result<Vec<u8>, WriteFa
     ensures fits { IsOk result → SizesFit (built_value built.now) }
     ensures too_large { IsErrOf result WriteFault.TooLarge → ¬ (SizesFit (built_value built.now)) }
 {
-    let mut out = Vec::from_slice(alloc, HEADER)?;
+    let mut out = Vec::from_slice(alloc, MODULE_HEADER)?;
     append_sections(&mut out, built)?;
     Ok(out)
 }

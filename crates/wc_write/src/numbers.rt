@@ -4,15 +4,13 @@ ghost use Rattle.std.specs.Prelude.{◌≡◌, ◌++◌, ◌^◌, ◌<◌, lengt
 ghost use Rattle.wc_write.specs.Text.{number_text, name_text, signed_digit, signed_digits, signed_text};
 
 use std::alloc::AllocError;
+use wc_read::codes::{GROUP_MASK, MORE_BYTES};
 
 /// How many numbers have seven bits.
 const SEVEN_BITS: u64 = 128;
 
 /// How many numbers have six bits: the last byte of a signed number has six bits beside its sign.
 const SIX_BITS: u64 = 64;
-
-/// The bit that is set in each byte of a number but the last.
-const MORE_BYTES: u8 = 128;
 
 /// Appends an unsigned number as minimal LEB128, the low seven bits first. After an error `out` still begins with the
 /// bytes that it had before.
@@ -59,7 +57,7 @@ fn signed_digit(negative: bool, low: u8) -> u8
     requires { low < SEVEN_BITS }
     ensures { result ≡ signed_digit negative low }
 {
-    if negative { 127 - low } else { low }
+    if negative { GROUP_MASK - low } else { low }
 }
 
 /// Appends a name: its length in bytes, and its bytes.

@@ -9,19 +9,8 @@ use crate::numbers::{put_number, put_signed};
 use crate::types::put_val_type;
 use crate::vectors::{Written, put_vector};
 use std::alloc::AllocError;
+use wc_read::codes::{ATOMIC_PREFIX, EMPTY_BLOCK, MISC_PREFIX, VECTOR_PREFIX};
 use wc_read::{BlockType, Immediates, Instr, MemArg, Opcode, ValType};
-
-/// The byte before the number of a miscellaneous operator.
-const MISC_PREFIX: u8 = 0xfc;
-
-/// The byte before the number of a vector operator.
-const VECTOR_PREFIX: u8 = 0xfd;
-
-/// The byte before the number of an atomic operator.
-const ATOMIC_PREFIX: u8 = 0xfe;
-
-/// The byte of the empty block type.
-const EMPTY_BLOCK: u8 = 0x40;
 
 /// The flag of a memory argument that names its memory.
 const NAMES_MEMORY: u64 = 64;

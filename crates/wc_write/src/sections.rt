@@ -7,26 +7,6 @@ use crate::fault::WriteFault;
 use crate::numbers::put_number;
 use std::alloc::{AllocError, Global};
 
-pub(crate) const CUSTOM_SECTION: u8 = 0;
-
-pub(crate) const TYPE_SECTION: u8 = 1;
-
-pub(crate) const IMPORT_SECTION: u8 = 2;
-
-pub(crate) const FUNC_SECTION: u8 = 3;
-
-pub(crate) const TABLE_SECTION: u8 = 4;
-
-pub(crate) const MEMORY_SECTION: u8 = 5;
-
-pub(crate) const GLOBAL_SECTION: u8 = 6;
-
-pub(crate) const EXPORT_SECTION: u8 = 7;
-
-pub(crate) const START_SECTION: u8 = 8;
-
-pub(crate) const CODE_SECTION: u8 = 10;
-
 /// Appends a section: its id, its content's size, its content. After an error `out` still begins with the bytes
 /// that it had before.
 #[tactic(auto, unfolding(crate::specs::Text::section_text))]

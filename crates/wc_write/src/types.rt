@@ -7,19 +7,8 @@ ghost use Rattle.wc_write.specs.Text.{optional_text, val_type_text, bounds_text,
 
 use crate::numbers::put_number;
 use std::alloc::AllocError;
+use wc_read::codes::{HAS_MAXIMUM, HAS_PAGE_SIZE, IS_64, SHARED};
 use wc_read::{GlobalType, ImportType, MemoryType, TableType, ValType};
-
-/// The flag of limits that have a maximum (5.3.7).
-const HAS_MAXIMUM: u8 = 1;
-
-/// The flag of a shared memory.
-const SHARED: u8 = 2;
-
-/// The flag of 64-bit limits.
-const IS_64: u8 = 4;
-
-/// The flag of a memory that has the exponent of its page size.
-const HAS_PAGE_SIZE: u8 = 8;
 
 /// The byte of a value type.
 fn val_type_byte(ty: ValType) -> u8

@@ -1,4 +1,4 @@
-use Rattle.wc_read.specs.InitTypes.{scope_value}
+use Rattle.wc_read.specs.Reading.InitTypes.{scope_value}
 use Rattle.wc_read.proofs.InitCountsLemmas.{IsCounted}
 use Rattle.wc_read.proofs.init_types.leaves_one.Given as goal
 

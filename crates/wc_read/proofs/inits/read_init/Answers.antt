@@ -1,5 +1,6 @@
 use Rattle.std.proofs.lemmas.Result.{err_from_is_err_and}
-use Rattle.wc_read.specs.Inits.{SpellsInit, init_at}
+use Rattle.wc_read.specs.Inits.{SpellsInit}
+use Rattle.wc_read.specs.Reading.Inits.{init_at}
 use Rattle.wc_read.proofs.MeetsLemmas.{no_value, left_over, none_left}
 use Rattle.wc_read.proofs.InitsLemmas.{init_meets}
 use Rattle.wc_read.proofs.inits.read_init.Goals as goal

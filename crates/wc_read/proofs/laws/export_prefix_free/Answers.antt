@@ -1,5 +1,5 @@
 use Rattle.wc_read.specs.Exports.{SpellsExport}
-use Rattle.wc_read.specs.ContentsReading.{export_at}
+use Rattle.wc_read.specs.Reading.Exports.{export_at}
 use Rattle.wc_read.proofs.FormatLemmas.{prefix_free}
 use Rattle.wc_read.proofs.ExportsLemmas.{export_meets}
 use Rattle.wc_read.proofs.laws.export_prefix_free.Goals as goal

@@ -1,5 +1,5 @@
 use Rattle.wc_read.specs.Contents.{SpellsFuncType}
-use Rattle.wc_read.specs.ContentsReading.{func_type_at}
+use Rattle.wc_read.specs.Reading.Contents.{func_type_at}
 use Rattle.wc_read.proofs.FormatLemmas.{prefix_free}
 use Rattle.wc_read.proofs.ContentsLemmas.{func_type_meets}
 use Rattle.wc_read.proofs.laws.function_type_prefix_free.Goals as goal

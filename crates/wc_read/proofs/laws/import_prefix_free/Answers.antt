@@ -1,5 +1,5 @@
 use Rattle.wc_read.specs.Imports.{SpellsImport}
-use Rattle.wc_read.specs.Reading.{import_at}
+use Rattle.wc_read.specs.Reading.Imports.{import_at}
 use Rattle.wc_read.proofs.MeetsLemmas.{one_spelling}
 use Rattle.wc_read.proofs.ImportsLemmas.{import_meets}
 use Rattle.wc_read.proofs.laws.import_prefix_free.Goals as goal

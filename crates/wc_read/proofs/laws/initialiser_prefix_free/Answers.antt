@@ -1,4 +1,5 @@
-use Rattle.wc_read.specs.Inits.{SpellsInit, init_at}
+use Rattle.wc_read.specs.Inits.{SpellsInit}
+use Rattle.wc_read.specs.Reading.Inits.{init_at}
 use Rattle.wc_read.proofs.MeetsLemmas.{one_spelling}
 use Rattle.wc_read.proofs.InitsLemmas.{init_meets}
 use Rattle.wc_read.proofs.laws.initialiser_prefix_free.Goals as goal

@@ -1,4 +1,5 @@
-use Rattle.wc_read.specs.Inits.{SpellsInit, init_at}
+use Rattle.wc_read.specs.Inits.{SpellsInit}
+use Rattle.wc_read.specs.Reading.Inits.{init_at}
 use Rattle.wc_read.proofs.MeetsLemmas.{one_value}
 use Rattle.wc_read.proofs.InitsLemmas.{init_meets}
 use Rattle.wc_read.proofs.laws.initialisers_unique.Goals as goal

@@ -1,5 +1,5 @@
 use Rattle.wc_read.specs.Limits.{SpellsMemory}
-use Rattle.wc_read.specs.Reading.{memory_at}
+use Rattle.wc_read.specs.Reading.Limits.{memory_at}
 use Rattle.wc_read.proofs.FormatLemmas.{prefix_free}
 use Rattle.wc_read.proofs.LimitsLemmas.{memory_meets}
 use Rattle.wc_read.proofs.laws.memory_type_prefix_free.Goals as goal

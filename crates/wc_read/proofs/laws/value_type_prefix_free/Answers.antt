@@ -1,5 +1,5 @@
 use Rattle.wc_read.specs.Types.{SpellsValType}
-use Rattle.wc_read.specs.Reading.{val_type_at}
+use Rattle.wc_read.specs.Reading.Types.{val_type_at}
 use Rattle.wc_read.proofs.FormatLemmas.{prefix_free}
 use Rattle.wc_read.proofs.TypesLemmas.{val_type_meets}
 use Rattle.wc_read.proofs.laws.value_type_prefix_free.Goals as goal

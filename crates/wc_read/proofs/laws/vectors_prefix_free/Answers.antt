@@ -1,24 +1,32 @@
 use Rattle.wc_read.specs.Types.{SpellsValType}
-use Rattle.wc_read.specs.Reading.{val_type_at, number_at, import_at, table_at, memory_at}
+use Rattle.wc_read.specs.Reading.Types.{val_type_at}
+use Rattle.wc_read.specs.Reading.Bytes.{number_at}
+use Rattle.wc_read.specs.Reading.Imports.{import_at}
+use Rattle.wc_read.specs.Reading.Limits.{table_at, memory_at}
 use Rattle.wc_read.proofs.TypesLemmas.{val_type_meets}
 use Rattle.wc_read.specs.Formats.{SpellsNumber}
 use Rattle.wc_read.proofs.MeetsLemmas.{number_meets}
 use Rattle.wc_read.specs.Contents.{SpellsFuncType, SpellsSizePrefixed}
-use Rattle.wc_read.specs.ContentsReading.{func_type_at, export_at, size_prefixed_at}
+use Rattle.wc_read.specs.Reading.Contents.{func_type_at, size_prefixed_at}
+use Rattle.wc_read.specs.Reading.Exports.{export_at}
 use Rattle.wc_read.proofs.ContentsLemmas.{func_type_meets, size_prefixed_meets}
 use Rattle.wc_read.specs.Imports.{SpellsImport}
 use Rattle.wc_read.proofs.ImportsLemmas.{import_meets}
 use Rattle.wc_read.specs.Limits.{SpellsTable, SpellsMemory}
 use Rattle.wc_read.proofs.LimitsLemmas.{table_meets, memory_meets}
-use Rattle.wc_read.specs.Globals.{SpellsLocalGlobal, local_global_at}
+use Rattle.wc_read.specs.Globals.{SpellsLocalGlobal}
+use Rattle.wc_read.specs.Reading.Globals.{local_global_at}
 use Rattle.wc_read.proofs.GlobalsLemmas.{local_global_meets}
 use Rattle.wc_read.specs.Exports.{SpellsExport}
 use Rattle.wc_read.proofs.ExportsLemmas.{export_meets}
-use Rattle.wc_read.specs.Bodies.{SpellsLocals, locals_at}
+use Rattle.wc_read.specs.Bodies.{SpellsLocals}
+use Rattle.wc_read.specs.Reading.Bodies.{locals_at}
 use Rattle.wc_read.proofs.BodiesLemmas.{locals_meet}
-use Rattle.wc_read.specs.Names.{SpellsGlobalName, global_name_at}
+use Rattle.wc_read.specs.Names.{SpellsGlobalName}
+use Rattle.wc_read.specs.Reading.Names.{global_name_at}
 use Rattle.wc_read.proofs.NamesLemmas.{global_name_meets}
-use Rattle.wc_read.specs.Producers.{SpellsField, field_at}
+use Rattle.wc_read.specs.Producers.{SpellsField}
+use Rattle.wc_read.specs.Reading.Producers.{field_at}
 use Rattle.wc_read.proofs.ProducersLemmas.{field_meets}
 use Rattle.wc_read.proofs.FormatLemmas.{vectors_prefix_free}
 use Rattle.wc_read.proofs.laws.vectors_prefix_free.Goals as goal

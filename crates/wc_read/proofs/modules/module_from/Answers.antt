@@ -1,7 +1,7 @@
 use Rattle.std.proofs.Common.{sym, ◌∙◌}
 use Rattle.std.proofs.lemmas.Bool.{false≢true}
 use Rattle.std.proofs.lemmas.Result.{err_from_is_err_and}
-use Rattle.wc_read.specs.SectionContents.{section_contents_value}
+use Rattle.wc_read.specs.Reading.Contents.{section_contents_value}
 use Rattle.wc_read.proofs.SectionContentsLemmas.{parts_found}
 use Rattle.wc_read.proofs.ModulesLemmas.{no_parts, other_counts, not_valid}
 use Rattle.wc_read.proofs.modules.module_from.Goals as goal

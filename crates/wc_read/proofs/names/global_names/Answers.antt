@@ -1,5 +1,5 @@
 use Rattle.std.proofs.Common.{map}
-use Rattle.wc_read.specs.Names.{global_name_value}
+use Rattle.wc_read.specs.Reading.Names.{global_name_value}
 use Rattle.wc_read.proofs.NamesReadLemmas.{entries_start, entries_more, entries_end}
 use Rattle.wc_read.proofs.names.global_names.Goals as goal
 

@@ -1,5 +1,5 @@
 use Rattle.std.proofs.Common.{length, map}
-use Rattle.wc_read.specs.Names.{global_name_value}
+use Rattle.wc_read.specs.Reading.Names.{global_name_value}
 use Rattle.wc_read.proofs.NamesReadLemmas.{AreNames}
 use Rattle.wc_read.proofs.names.section_pairs.Given as goal
 

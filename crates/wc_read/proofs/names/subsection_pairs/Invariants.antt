@@ -1,5 +1,5 @@
 use Rattle.std.proofs.Common.{map}
-use Rattle.wc_read.specs.Names.{global_name_value}
+use Rattle.wc_read.specs.Reading.Names.{global_name_value}
 use Rattle.wc_read.proofs.NamesReadLemmas.{ArePairs}
 use Rattle.wc_read.proofs.names.subsection_pairs.Given as goal
 

@@ -1,6 +1,6 @@
 use Rattle.std.proofs.Common.{◌≡◌, map, drop}
 use Rattle.wc_read.specs.Sections.{section_value}
-use Rattle.wc_read.specs.OrderReading.{last_position}
+use Rattle.wc_read.proofs.OrderLemmas.{last_position}
 use Rattle.wc_read.proofs.order.check_order.Given as goal
 
 abbrev pub invariant-loop-section : goal.invariant-loop-section

@@ -1,5 +1,5 @@
 use Rattle.std.proofs.Common.{map}
-use Rattle.wc_read.specs.Producers.{field_value}
+use Rattle.wc_read.specs.Reading.Producers.{field_value}
 use Rattle.wc_read.proofs.ProducersReadLemmas.{no_fields, are_fields}
 use Rattle.wc_read.proofs.producers.are_fields.Goals as goal
 

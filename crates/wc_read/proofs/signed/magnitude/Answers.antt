@@ -4,13 +4,13 @@ use Rattle.std.proofs.lemmas.Bool.{lt-ltb}
 use Rattle.wc_read.proofs.NumbersLemmas.{shl_without_overflow, sum_below, fits_if_shifted_out}
 use Rattle.wc_read.proofs.SignedLoopLemmas.{sign_fits}
 use Rattle.wc_read.proofs.signed.magnitude.Goals as goal
-use Rattle.wc_read.proofs.signed.magnitude.Goals.{After-from, else-left-lt7-via-then-left-lt7+else-digits-left-ne0, else-left-lt7-via-else-left-lt7}
+use Rattle.wc_read.proofs.signed.magnitude.Goals.{After-from, else-left-lt-GROUP_BITS-via-then-left-lt-GROUP_BITS+else-digits-left-ne0, else-left-lt-GROUP_BITS-via-else-left-lt-GROUP_BITS}
 
 -- the digits leave a bit for the sign
 fits : (c : After-from) → c.args.digits < 2 ^ (c.args.left - 1)
-fits c = elim c.else-left-lt7.branch [
-  | else-left-lt7-via-then-left-lt7+else-digits-left-ne0 w ↦ fits_if_shifted_out _ _ w.if-digits-left-ne0.false
-  | else-left-lt7-via-else-left-lt7 w ↦ sign_fits _ _ c.requires.last w.if-left-lt7.false
+fits c = elim c.else-left-lt-GROUP_BITS.branch [
+  | else-left-lt-GROUP_BITS-via-then-left-lt-GROUP_BITS+else-digits-left-ne0 w ↦ fits_if_shifted_out _ _ w.if-digits-left-ne0.false
+  | else-left-lt-GROUP_BITS-via-else-left-lt-GROUP_BITS w ↦ sign_fits _ _ c.requires.last w.if-left-lt-GROUP_BITS.false
 ]
 
 digits : (c : After-from) → c.from.result * 2 ^ c.args.shift % 18446744073709551616 ≡ c.args.digits * 2 ^ c.args.shift

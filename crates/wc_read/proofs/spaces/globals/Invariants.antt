@@ -1,6 +1,6 @@
 use Rattle.std.proofs.Common.{◌≡◌, ◌++◌, map, drop}
 use Rattle.wc_read.specs.Imports.{import_value}
-use Rattle.wc_read.specs.Globals.{local_global_value}
+use Rattle.wc_read.specs.Reading.Globals.{local_global_value}
 use Rattle.wc_read.specs.Items.{global_value}
 use Rattle.wc_read.specs.Spaces.{global_of, imported_items, defined_global}
 use Rattle.wc_read.proofs.spaces.globals.Given as goal

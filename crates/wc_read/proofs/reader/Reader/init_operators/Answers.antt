@@ -1,7 +1,7 @@
 use Rattle.std.proofs.Common.{sym}
 use Rattle.std.proofs.lemmas.List.{map-append}
 use Rattle.std.proofs.lemmas.Result.{err_from_is_err_and}
-use Rattle.wc_read.specs.Inits.{ends, init_instr_at}
+use Rattle.wc_read.specs.Reading.Inits.{ends, init_instr_at}
 use Rattle.wc_read.proofs.ToEndLemmas.{to_shorter}
 use Rattle.wc_read.proofs.UntilLemmas.{until_end, until_more, until_fails}
 use Rattle.wc_read.proofs.InitsLemmas.{SpellsInitInstr, init_instr_meets, init_instr_some, init_start}

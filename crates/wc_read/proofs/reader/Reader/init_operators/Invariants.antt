@@ -1,6 +1,6 @@
 use Rattle.std.proofs.Common.{length, map}
 use Rattle.wc_read.specs.Operators.{instr_value}
-use Rattle.wc_read.specs.Inits.{ends, init_instr_at, init_at}
+use Rattle.wc_read.specs.Reading.Inits.{ends, init_instr_at, init_at}
 use Rattle.wc_read.proofs.UntilLemmas.{IsUntilPart}
 use Rattle.wc_read.proofs.reader.Reader.init_operators.Given as goal
 

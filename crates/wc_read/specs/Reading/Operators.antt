@@ -1,20 +1,18 @@
--- Reading functions of operators, as those of `Reading`.
-use Rattle.std.specs.Prelude.{ℕ, ◌%◌, List, Bool, ◌&&◌, ◌==◌, nat_lt, nat_le, if◌then◌else◌, Option, Some, None, unwrap_or, ℤ, pos, negsuc}
-use Rattle.wc_read.specs.Reading.{Read, ◌>>=◌, byte_at, bytes_at, where_at, optional_at, number_at, vector_at, val_type_at, is_reference}
-use Rattle.wc_read.specs.Signed.{signed_at}
-use Rattle.wc_read.specs.Operators.{form_of, index_of, ImmediatesValue, WithNone, WithBlock, WithIndex, WithIndices, WithLabels, WithValTypes, WithRefType, WithMemArg, WithMemArgLane, WithI32, WithI64, WithBytes, WithLane, InstrValue}
-use Rattle.wc_read.specs.declared.types.ValType.{ValType}
+-- Operators, by the operator table (5.4).
+use Rattle.std.specs.Prelude.{ℕ, ◌==◌, if◌then◌else◌, Some, Option, None, ℤ, pos, negsuc, Bool, ◌&&◌, nat_lt, ◌%◌, nat_le, unwrap_or}
+use Rattle.wc_read.specs.Options.{◌>>=◌}
+use Rattle.wc_read.specs.Operators.{index_of, ImmediatesValue, WithNone, WithBlock, WithIndex, WithIndices, WithLabels, WithValTypes, WithRefType, WithMemArg, WithMemArgLane, WithI32, WithI64, WithBytes, WithLane, InstrValue, form_of}
+use Rattle.wc_read.specs.Reading.Bytes.{Read, number_at, as_made, byte_at, where_at, optional_at, bytes_at, vector_at}
+use Rattle.wc_read.specs.Reading.Signed.{signed_at}
+use Rattle.wc_read.specs.Reading.Types.{val_type_at, is_reference}
 use Rattle.wc_read.specs.declared.operators.Opcode.{Opcode}
 use Rattle.wc_read.specs.declared.operators.Opcode.TheVariants.{Byte, Misc, Vector, Atomic}
 use Rattle.wc_read.specs.declared.operators.BlockType.{BlockType}
-use Rattle.wc_read.specs.declared.operators.BlockType.TheVariants.{Empty, Value, FuncType}
+use Rattle.wc_read.specs.declared.operators.BlockType.TheVariants.{FuncType, Empty, Value}
 use Rattle.wc_read.specs.declared.operators.MemArg.{MemArg}
+use Rattle.wc_read.specs.declared.types.ValType.{ValType}
 use Rattle.wc_read.specs.declared.operators.Form.{Form}
 use Rattle.wc_read.specs.declared.operators.Form.TheVariants.{None as form_none, Block as form_block, Index as form_index, Indices as form_indices, Labels as form_labels, ValTypes as form_val_types, RefType as form_ref_type, MemArg as form_mem_arg, MemArgLane as form_mem_arg_lane, I32 as form_i32, I64 as form_i64, Bytes as form_bytes, Lane as form_lane, Zero as form_zero}
-
--- a value made of what was read
-abbrev pub as_made : {A B : Type 0} → (A → B) → A × List ℕ → Option (B × List ℕ)
-as_made made x = Some (made x.0, x.1)
 
 -- codes
 

@@ -1,15 +1,12 @@
--- Reading functions of the order of sections.
-use Rattle.std.specs.Prelude.{ℕ, List, [], ◌∷◌, ◌==◌, nat_lt, if◌then◌else◌, Option, Some, None}
-use Rattle.wc_read.specs.Reading.{◌>>=◌, name_at}
+-- The order of sections (5.5.16).
+use Rattle.std.specs.Prelude.{ℕ, ◌==◌, nat_lt, if◌then◌else◌, Option, Some, None}
+use Rattle.wc_read.specs.Options.{◌>>=◌}
 use Rattle.wc_read.specs.Sections.{SectionValue, custom_id, data_count_id}
 use Rattle.wc_read.specs.Order.{section_position}
+use Rattle.wc_read.specs.Reading.Bytes.{name_at}
 
 -- the position that a section takes after another position
 unfoldable pub next_position : ℕ → SectionValue → Option ℕ
 next_position position s =
     if s.id == custom_id then (name_at s.content >>= λ _. Some position)
     else (if nat_lt data_count_id s.id then None else (if nat_lt position (section_position s.id) then Some (section_position s.id) else None))
-
-unfoldable pub last_position : ℕ → List SectionValue → Option ℕ
-last_position position [] = Some position
-last_position position (s ∷ ss) = next_position position s >>= λ next. last_position next ss

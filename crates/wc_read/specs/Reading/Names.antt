@@ -1,0 +1,32 @@
+-- Names of globals: what the readers of name sections do (7.4.1).
+use Rattle.std.specs.Prelude.{ℕ, List, Some, Bool, true, false, map, ◌≡◌}
+use Rattle.wc_read.specs.Names.{GlobalNameValue, SpellsGlobalName, PairsBeforeFault, NamesOf, global_names_of}
+use Rattle.wc_read.specs.Options.{◌>>=◌}
+use Rattle.wc_read.specs.Formats.{SpellsVector}
+use Rattle.wc_read.specs.Sections.{SectionValue}
+use Rattle.wc_read.specs.Reading.Bytes.{Read, number_at, name_at}
+use Rattle.wc_read.specs.declared.names.GlobalName.{GlobalName}
+
+abbrev pub global_name_value : GlobalName → GlobalNameValue
+global_name_value n = (n.index, n.name.now)
+
+abbrev pub global_name_of : ℕ → List ℕ → GlobalNameValue
+global_name_of index name = (index, name)
+
+unfoldable pub global_name_at : Read GlobalNameValue
+global_name_at bytes = do
+  index ← number_at 32 bytes
+  name ← name_at index.1
+  Some (global_name_of index.0 name.0, name.1)
+
+-- pairs that were read of a subsection's content, and whether there was no fault
+abbrev pub PairsOf : List ℕ → Bool → List GlobalNameValue → Type 0
+PairsOf bytes true pairs = SpellsVector SpellsGlobalName bytes pairs
+PairsOf bytes false pairs = PairsBeforeFault bytes pairs
+
+abbrev pub named_pairs : List GlobalName → List GlobalNameValue
+named_pairs ns = map global_name_value ns
+
+-- the names of globals that sections give
+abbrev pub AreGlobalNames : List SectionValue → List GlobalNameValue → Type 0
+AreGlobalNames sections names = (pairs : List GlobalNameValue) × NamesOf sections pairs × (names ≡ global_names_of pairs)

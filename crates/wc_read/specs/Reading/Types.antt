@@ -1,0 +1,41 @@
+-- Value types, types of globals, and functions without parameters and results (5.3.1 to 5.3.4 and 5.3.10).
+use Rattle.std.specs.Prelude.{ℕ, ◌==◌, if◌then◌else◌, Option, Some, None, Bool, true, false, length, ◌&&◌}
+use Rattle.wc_read.specs.Options.{◌>>=◌}
+use Rattle.wc_read.specs.Types.{FuncTypeValue}
+use Rattle.wc_read.specs.Reading.Bytes.{Read, coded_at}
+use Rattle.wc_read.specs.declared.types.ValType.{ValType}
+use Rattle.wc_read.specs.declared.types.ValType.TheVariants.{I32, I64, F32, F64, V128, FuncRef, ExternRef}
+use Rattle.wc_read.specs.declared.types.GlobalType.{GlobalType}
+
+abbrev pub val_type_of : ℕ → Option ValType
+val_type_of b =
+    if b == 0x7f then Some I32 else (if b == 0x7e then Some I64 else (if b == 0x7d then Some F32 else (if b == 0x7c then Some F64
+    else (if b == 0x7b then Some V128 else (if b == 0x70 then Some FuncRef else (if b == 0x6f then Some ExternRef else None))))))
+
+unfoldable pub val_type_at : Read ValType
+val_type_at bytes = coded_at val_type_of bytes
+
+abbrev pub is_reference : ValType → Bool
+is_reference FuncRef = true
+is_reference ExternRef = true
+is_reference I32 = false
+is_reference I64 = false
+is_reference F32 = false
+is_reference F64 = false
+is_reference V128 = false
+
+abbrev pub mutable_of : ℕ → Option Bool
+mutable_of b = if b == 0 then Some false else (if b == 1 then Some true else None)
+
+unfoldable pub mutable_at : Read Bool
+mutable_at bytes = coded_at mutable_of bytes
+
+unfoldable pub global_at : Read GlobalType
+global_at bytes = do
+  content ← val_type_at bytes
+  mutable ← mutable_at content.1
+  Some (record { content_type = content.0; mutable = mutable.0 }, mutable.1)
+
+-- whether nothing is taken and nothing given
+abbrev pub is_nullary : FuncTypeValue → Bool
+is_nullary f = length f.params == 0 && length f.results == 0
