@@ -43,7 +43,8 @@ pub(crate) fn are_names_distinct(
 ) -> Result<bool, AllocError>
     requires there { AreKeysIn resolve.now (entries_of imports.now) }
     requires named { HaveNames resolve.now (entries_of imports.now) }
-    ensures { IfOk result (λ b. IsTrue b ↔ AreNamesDistinct resolve.now (entries_of imports.now)) }
+    ensures { IfOk result
+        (λ b. IsTrue b ↔ AreNamesDistinct resolve.now (entries_of imports.now)) }
 {
     let mut seen: IndexSet<String> = IndexSet::new(alloc);
     for (key, _item) in imports.iter() {

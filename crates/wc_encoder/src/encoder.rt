@@ -64,7 +64,7 @@ impl ComponentEncoder {
     }
 
     /// That the parts are well-formed, for proofs of callers. It does nothing when it runs.
-    pub fn formed(&self)
+    pub fn well_formedness(&self)
         ensures { IsWellFormed self.now }
     {
         let _ = &self.parts;

@@ -37,7 +37,7 @@ pub(crate) fn check(alloc: Global, parts: &EncoderParts) -> Result<(), EncoderFa
     ensures fault { IfErr result (IsCause (parts_view parts.now)) }
 {
     let resolve = &parts.metadata.resolve;
-    resolve.formed();
+    resolve.well_formedness();
     let Some(world) = world_of(parts) else {
         return Err(EncoderFault::UnknownWorld);
     };

@@ -6,7 +6,6 @@ use Rattle.std.proofs.lemmas.List.{get_or_default}
 use Rattle.std.proofs.lemmas.Option.{slice_get-map, slice_get-get_or}
 use Rattle.wc_resolve.specs.declared.types.TypeDef.{TypeDef}
 use Rattle.wc_resolve.specs.Views.{TypeView, kind_view, type_view}
-use Rattle.wc_resolve.specs.Futures.{carried_indices}
 use Rattle.wc_resolve.specs.World.{children, kind_at, referenced_indices}
 
 pub kind_found : (types : List TypeDef) (x : ℕ) (t : TypeDef) → x < length types → t ≡ get_or types x t → kind_at (map type_view types) x ≡ Some (kind_view t.kind)
@@ -20,6 +19,3 @@ children_found types x t h read = ap (λ o. option_map_or referenced_indices o [
 
 pub children_at : (types : List TypeDef) (x : ℕ) (d : TypeDef) → x < length types → children (map type_view types) x ≡ referenced_indices (kind_view (get_or types x d).kind)
 children_at types x d h = children_found types x (get_or types x d) h (get_or_default types x d (get_or types x d) h)
-
-pub carried_at : (types : List TypeDef) (x : ℕ) (d : TypeDef) → x < length types → option_map_or carried_indices (kind_at (map type_view types) x) [] ≡ carried_indices (kind_view (get_or types x d).kind)
-carried_at types x d h = ap (λ o. option_map_or carried_indices o []) (kind_found types x (get_or types x d) h (get_or_default types x d (get_or types x d) h))

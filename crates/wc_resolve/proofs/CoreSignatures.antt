@@ -15,7 +15,7 @@ use Rattle.wc_resolve.specs.declared.functions.Function.{Function}
 use Rattle.wc_resolve.specs.declared.functions.FunctionKind.{FunctionKind}
 use Rattle.wc_resolve.specs.declared.types.WitType.{WitType}
 use Rattle.wc_resolve.specs.declared.types.WitType.TheVariants.{Id}
-use Rattle.wc_resolve.specs.Flat.{AreFlattened, flat_of, flat_payload, flatten_types, flat_entry}
+use Rattle.wc_resolve.specs.Flat.{AreFlattened, flat_entry, flat_of, flat_payload, flat_types_kept, flatten_types}
 use Rattle.wc_resolve.specs.Ranges.{IsFunctionIn, IsTypeIn}
 use Rattle.wc_resolve.specs.Signatures.{SignatureView, flatten_functype, core_of, has_indirect_result, max_flat_params_of, passed_types, result_pointer, returned_types, is_exported_method, first_as_pointer}
 use Rattle.wc_resolve.specs.Views.{FunctionView, TypeView, function_view, named_view}
@@ -42,7 +42,7 @@ equal_from_alike m n xs ys h e short =
     let fits2 : length ys ≤ n = omega (arith, h, few2) in
     sym (take_all n xs fits) ∙ e ∙ take_all n ys fits2
 
-max_flat_params_small : (abi : AbiVariant) → max_flat_params_of abi < 17
+max_flat_params_small : (abi : AbiVariant) → max_flat_params_of abi < flat_types_kept
 max_flat_params_small GuestImport = lit< tt
 max_flat_params_small GuestExport = lit< tt
 max_flat_params_small GuestImportAsync = lit< tt
@@ -52,17 +52,17 @@ max_flat_params_small GuestExportAsyncStackful = lit< tt
 over_passed : (abi : AbiVariant) (kind : FunctionKind) (ps : List WasmType) → nat_lt (max_flat_params_of abi) (length ps) ≡ true → passed_types abi kind ps ≡ Pointer ∷ []
 over_passed abi kind ps over = ap (λ b. cond b (Pointer ∷ []) (cond (is_exported_method kind abi) (first_as_pointer ps) ps)) over
 
-passed_alike : (abi : AbiVariant) (kind : FunctionKind) (ps qs : List WasmType) → Alike 17 ps qs → passed_types abi kind ps ≡ passed_types abi kind qs
+passed_alike : (abi : AbiVariant) (kind : FunctionKind) (ps qs : List WasmType) → Alike flat_types_kept ps qs → passed_types abi kind ps ≡ passed_types abi kind qs
 passed_alike abi kind ps qs e =
-    let test : nat_lt (max_flat_params_of abi) (length ps) ≡ nat_lt (max_flat_params_of abi) (length qs) = over_alike (max_flat_params_of abi) 17 ps qs (max_flat_params_small abi) e in
+    let test : nat_lt (max_flat_params_of abi) (length ps) ≡ nat_lt (max_flat_params_of abi) (length qs) = over_alike (max_flat_params_of abi) flat_types_kept ps qs (max_flat_params_small abi) e in
     elim (cases_Bool (nat_lt (max_flat_params_of abi) (length ps))) [
       | inl over ↦ (let over2 : nat_lt (max_flat_params_of abi) (length qs) ≡ true = sym test ∙ over in over_passed abi kind ps over ∙ sym (over_passed abi kind qs over2))
-      | inr fits ↦ ap (λ z. passed_types abi kind z) (equal_from_alike (max_flat_params_of abi) 17 ps qs (max_flat_params_small abi) e fits)
+      | inr fits ↦ ap (λ z. passed_types abi kind z) (equal_from_alike (max_flat_params_of abi) flat_types_kept ps qs (max_flat_params_small abi) e fits)
     ]
 
-indirect_result_alike : (abi : AbiVariant) (rs ss : List WasmType) (has_result : Bool) → Alike 17 rs ss → has_indirect_result abi rs has_result ≡ has_indirect_result abi ss has_result
-indirect_result_alike GuestImport rs ss has_result e = over_alike 1 17 rs ss (lit< tt) e
-indirect_result_alike GuestExport rs ss has_result e = over_alike 1 17 rs ss (lit< tt) e
+indirect_result_alike : (abi : AbiVariant) (rs ss : List WasmType) (has_result : Bool) → Alike flat_types_kept rs ss → has_indirect_result abi rs has_result ≡ has_indirect_result abi ss has_result
+indirect_result_alike GuestImport rs ss has_result e = over_alike 1 flat_types_kept rs ss (lit< tt) e
+indirect_result_alike GuestExport rs ss has_result e = over_alike 1 flat_types_kept rs ss (lit< tt) e
 indirect_result_alike GuestImportAsync rs ss has_result e = refl
 indirect_result_alike GuestExportAsync rs ss has_result e = refl
 indirect_result_alike GuestExportAsyncStackful rs ss has_result e = refl
@@ -75,10 +75,10 @@ returned_export : (b : Bool) (rs ss : List WasmType) → (b ≡ false → rs ≡
 returned_export true rs ss h = refl
 returned_export false rs ss h = h refl
 
-returned_alike : (abi : AbiVariant) (rs ss : List WasmType) (has_result : Bool) → Alike 17 rs ss
+returned_alike : (abi : AbiVariant) (rs ss : List WasmType) (has_result : Bool) → Alike flat_types_kept rs ss
     → returned_types abi (has_indirect_result abi rs has_result) rs ≡ returned_types abi (has_indirect_result abi rs has_result) ss
-returned_alike GuestImport rs ss has_result e = returned_import (nat_lt 1 (length rs)) rs ss (λ short. equal_from_alike 1 17 rs ss (lit< tt) e short)
-returned_alike GuestExport rs ss has_result e = returned_export (nat_lt 1 (length rs)) rs ss (λ short. equal_from_alike 1 17 rs ss (lit< tt) e short)
+returned_alike GuestImport rs ss has_result e = returned_import (nat_lt 1 (length rs)) rs ss (λ short. equal_from_alike 1 flat_types_kept rs ss (lit< tt) e short)
+returned_alike GuestExport rs ss has_result e = returned_export (nat_lt 1 (length rs)) rs ss (λ short. equal_from_alike 1 flat_types_kept rs ss (lit< tt) e short)
 returned_alike GuestImportAsync rs ss has_result e = refl
 returned_alike GuestExportAsync rs ss has_result e = refl
 returned_alike GuestExportAsyncStackful rs ss has_result e = refl
@@ -87,12 +87,12 @@ returned_alike GuestExportAsyncStackful rs ss has_result e = refl
 parts_of_core : (abi : AbiVariant) → List WasmType → List WasmType → Bool → Bool → SignatureView
 parts_of_core abi params results over indirect_result = record { params = params ++ result_pointer abi indirect_result; results = results; indirect_params = over; retptr = indirect_result }
 
-pub core_alike : (abi : AbiVariant) (kind : FunctionKind) (ps qs rs ss : List WasmType) (has_result : Bool) → Alike 17 ps qs → Alike 17 rs ss
+pub core_alike : (abi : AbiVariant) (kind : FunctionKind) (ps qs rs ss : List WasmType) (has_result : Bool) → Alike flat_types_kept ps qs → Alike flat_types_kept rs ss
     → core_of abi kind ps rs has_result ≡ core_of abi kind qs ss has_result
 unfolding parts_of_core
 core_alike abi kind ps qs rs ss has_result e f =
     let indirect_result : has_indirect_result abi rs has_result ≡ has_indirect_result abi ss has_result = indirect_result_alike abi rs ss has_result f in
-    let over : nat_lt (max_flat_params_of abi) (length ps) ≡ nat_lt (max_flat_params_of abi) (length qs) = over_alike (max_flat_params_of abi) 17 ps qs (max_flat_params_small abi) e in
+    let over : nat_lt (max_flat_params_of abi) (length ps) ≡ nat_lt (max_flat_params_of abi) (length qs) = over_alike (max_flat_params_of abi) flat_types_kept ps qs (max_flat_params_small abi) e in
     let passed : passed_types abi kind ps ≡ passed_types abi kind qs = passed_alike abi kind ps qs e in
     let returned : returned_types abi (has_indirect_result abi rs has_result) rs ≡ returned_types abi (has_indirect_result abi ss has_result) ss =
     returned_alike abi rs ss has_result f ∙ ap (λ b. returned_types abi b ss) indirect_result in
@@ -104,8 +104,8 @@ core_alike abi kind ps qs rs ss has_result e f =
     ∙ ap (λ z. parts_of_core abi (passed_types abi kind qs) (returned_types abi (has_indirect_result abi ss has_result) ss) (nat_lt (max_flat_params_of abi) (length qs)) z) indirect_result
 
 -- what is kept determines the flat types of a type that is in range, as many as are kept
-table_alike : (types : List TypeView) (flats : List (List WasmType)) → AreFlattened types flats → (t : WitType) → IsTypeIn (length types) t → AlikeType 17 (flat_entry flats) (flat_of types) t
-table_alike types flats made (Id i) h = ap (λ z. take 17 z) (made.each i.0 h) ∙ alike_cut 17 (flat_of types i.0)
+table_alike : (types : List TypeView) (flats : List (List WasmType)) → AreFlattened types flats → (t : WitType) → IsTypeIn (length types) t → AlikeType flat_types_kept (flat_entry flats) (flat_of types) t
+table_alike types flats made (Id i) h = ap (λ z. take flat_types_kept z) (made.each i.0 h) ∙ alike_cut flat_types_kept (flat_of types i.0)
 table_alike types flats made t h = refl
 
 answer_in : (n : ℕ) (o : Option WitType) → IfSome o (IsTypeIn n) → (s : WitType) → o ≡ Some s → IsTypeIn n s
@@ -123,16 +123,16 @@ core_settled types flats abi v made there =
     let in_signature : SignatureHasOnly (IsTypeIn (length types)) v = function_in (length types) v there in
     let all : All (IsTypeIn (length types)) (map (λ p. p.1) v.params) = All-map (IsTypeIn (length types)) (λ p. p.1) v.params in_signature.0 in
     core_alike abi v.kind (flatten_types (flat_entry flats) (map (λ p. p.1) v.params)) (flatten_types (flat_of types) (map (λ p. p.1) v.params)) (flat_payload (flat_entry flats) v.outcome) (flat_payload (flat_of types) v.outcome) (is_some v.outcome)
-    (alike_types 17 (flat_entry flats) (flat_of types) (map (λ p. p.1) v.params) (λ t k. table_alike types flats made t (All-contains (IsTypeIn (length types)) (map (λ p. p.1) v.params) t all k)))
-    (alike_payload 17 (flat_entry flats) (flat_of types) v.outcome (λ s e. table_alike types flats made s (answer_in (length types) v.outcome in_signature.1 s e)))
+    (alike_types flat_types_kept (flat_entry flats) (flat_of types) (map (λ p. p.1) v.params) (λ t k. table_alike types flats made t (All-contains (IsTypeIn (length types)) (map (λ p. p.1) v.params) t all k)))
+    (alike_payload flat_types_kept (flat_entry flats) (flat_of types) v.outcome (λ s e. table_alike types flats made s (answer_in (length types) v.outcome in_signature.1 s e)))
 
 -- the signature of a function, from the flat types of its parameters and its result
 pub core_made : (flat : ℕ → List WasmType) (abi : AbiVariant) (f : Function) (params results : List WasmType) (has_result : Bool) (named : List (String Global × WitType)) → named ≡ f.params.items
-    → params ≡ take 17 (flatten_types flat (map (λ p. p.1) named)) → results ≡ flat_payload flat f.result → has_result ≡ is_some f.result
+    → params ≡ take flat_types_kept (flatten_types flat (map (λ p. p.1) named)) → results ≡ flat_payload flat f.result → has_result ≡ is_some f.result
     → core_of abi f.kind params results has_result ≡ flatten_functype flat abi (function_view f)
 core_made flat abi f params results has_result named same made given each =
     let full : List WasmType = flatten_types flat (map (λ p. p.1) (map named_view f.params.items)) in
     let read : flatten_types flat (map (λ p. p.1) named) ≡ full = ap (λ z. flatten_types flat (map (λ p. p.1) z)) same ∙ ap (flatten_types flat) (sym (named_values f.params.items)) in
-    let alike : Alike 17 params full = ap (λ z. take 17 z) (made ∙ ap (λ z. take 17 z) read) ∙ alike_cut 17 full in
-    core_alike abi f.kind params full results (flat_payload flat f.result) has_result alike (ap (λ z. take 17 z) given)
+    let alike : Alike flat_types_kept params full = ap (λ z. take flat_types_kept z) (made ∙ ap (λ z. take flat_types_kept z) read) ∙ alike_cut flat_types_kept full in
+    core_alike abi f.kind params full results (flat_payload flat f.result) has_result alike (ap (λ z. take flat_types_kept z) given)
     ∙ ap (λ z. core_of abi f.kind full (flat_payload flat f.result) z) each

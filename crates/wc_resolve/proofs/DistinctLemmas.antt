@@ -5,6 +5,9 @@ use Rattle.std.proofs.Math.Seq.{get_or-append_seam}
 use Rattle.std.proofs.lemmas.List.{get_or_append_left, get_or_default, map-append, take_more}
 use Rattle.std.proofs.lemmas.List.Quantifiers.{all_pairs_push}
 use Rattle.wc_resolve.specs.declared.packages.Package.{Package}
+use Rattle.wc_resolve.specs.declared.packages.PackageName.{PackageName}
+use Rattle.wc_resolve.specs.contracts.packages.PackageNamePartialEq.TheImpl.{eq-value}
+use Rattle.wc_resolve.proofs.PackageNames.{names_law}
 use Rattle.wc_resolve.specs.Views.{PackageNameView, PackageView, package_name_view, package_view}
 use Rattle.wc_resolve.proofs.Search.{contains_cons, contains_head, contains_none, contains_tail}
 
@@ -88,6 +91,10 @@ pub seen_again : {K : Type 0} (v : K → PackageNameView) (test : K → Bool) (k
 seen_again v test keys n names rest new law s e f distinct =
     let found : list_any test keys ≡ true = unfresh (list_any test keys) (sym e ∙ f) in
     again names rest n (subst (λ (z : List PackageNameView). Contains z n) s.same (any_contains v test n law keys found)) distinct
+
+-- a copy of a name is equal to the names that it is equal to
+pub copies_law : (copy original : PackageName) → package_name_view copy ≡ package_name_view original → (y : PackageName) → (eq-value.it copy y ≡ true) ↔ (package_name_view original ≡ package_name_view y)
+copies_law copy original same y = subst (λ (n : PackageNameView). (eq-value.it copy y ≡ true) ↔ (n ≡ package_name_view y)) same (names_law copy y)
 
 abbrev pub names_of : List Package → List PackageNameView
 names_of ps = map (λ (p : PackageView). p.name) (map package_view ps)

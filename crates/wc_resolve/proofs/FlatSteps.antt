@@ -8,7 +8,7 @@ use Rattle.std.proofs.Math.Nat.{min-zero, zero-min, suc-min-suc}
 use Rattle.std.proofs.Math.Seq.{take-append-add}
 use Rattle.wc_resolve.specs.declared.flat.WasmType.{WasmType}
 use Rattle.wc_resolve.specs.declared.types.WitType.{WitType}
-use Rattle.wc_resolve.specs.Flat.{join, join_flats, flatten_type, flatten_types, flat_payload}
+use Rattle.wc_resolve.specs.Flat.{flat_payload, flat_types_kept, flatten_type, flatten_types, join, join_flats}
 use Rattle.wc_resolve.proofs.Alike.{Alike, alike_append, alike_cut}
 
 -- what fits after others
@@ -18,14 +18,14 @@ put_room n room xs ys h e =
     ap (λ z. xs ++ z) (take_min room ys) ∙ sym (take-append-add xs ys room) ∙ ap (λ z. take z (xs ++ ys)) full
 
 pub types_more : (flat : ℕ → List WasmType) (types : List WitType) (i : ℕ) (d : WitType) (old new more : List WasmType) → i < length types
-    → old ≡ take 17 (flatten_types flat (take i types)) → more ≡ flatten_type flat (get_or types i d) → new ≡ take 17 (old ++ more) → new ≡ take 17 (flatten_types flat (take (i + 1) types))
+    → old ≡ take flat_types_kept (flatten_types flat (take i types)) → more ≡ flatten_type flat (get_or types i d) → new ≡ take flat_types_kept (old ++ more) → new ≡ take flat_types_kept (flatten_types flat (take (i + 1) types))
 types_more flat types i d old new more small was read made =
     let front : List WasmType = flatten_types flat (take i types) in
     let next : flatten_types flat (take (i + 1) types) ≡ front ++ (flatten_type flat (get_or types i d) ++ []) =
     ap (flatten_types flat) (take_more types i d small) ∙ flat_map-append (flatten_type flat) (take i types) (get_or types i d ∷ []) in
     let plain : flatten_types flat (take (i + 1) types) ≡ front ++ more = next ∙ ap (λ z. front ++ z) (append-nil (flatten_type flat (get_or types i d)) ∙ sym read) in
-    let alike : Alike 17 (old ++ more) (front ++ more) = alike_append 17 old front more more (ap (λ z. take 17 z) was ∙ alike_cut 17 front) refl in
-    made ∙ alike ∙ ap (λ z. take 17 z) (sym plain)
+    let alike : Alike flat_types_kept (old ++ more) (front ++ more) = alike_append flat_types_kept old front more more (ap (λ z. take flat_types_kept z) was ∙ alike_cut flat_types_kept front) refl in
+    made ∙ alike ∙ ap (λ z. take flat_types_kept z) (sym plain)
 
 pub shared_more : (flat : ℕ → List WasmType) (payloads : List (Option WitType)) (i : ℕ) (d : Option WitType) (old new more : List WasmType) → i < length payloads
     → old ≡ fold (λ shared t. join_flats shared (flat_payload flat t)) [] (take i payloads) → more ≡ flat_payload flat (get_or payloads i d) → new ≡ join_flats old more

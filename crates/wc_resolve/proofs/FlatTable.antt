@@ -5,9 +5,9 @@ use Rattle.std.specs.declared.alloc.Global.{Global}
 use Rattle.std.proofs.lemmas.Grind.{replicate_next}
 use Rattle.std.proofs.lemmas.List.{length-replicate, map-append, map-set}
 use Rattle.wc_resolve.specs.declared.flat.WasmType.{WasmType}
-use Rattle.wc_resolve.specs.Flat.{AreFlattened, flat_of, flat_rule, flat_entry, lists}
+use Rattle.wc_resolve.specs.Flat.{AreFlattened, flat_entry, flat_of, flat_rule, flat_types_kept, lists}
 use Rattle.wc_resolve.specs.TypeRules.{Follows}
-use Rattle.wc_resolve.specs.TypeTables.{IsOrder}
+use Rattle.wc_resolve.specs.Tables.{IsOrder}
 use Rattle.wc_resolve.specs.Views.{TypeView}
 use Rattle.wc_resolve.specs.World.{children, kind_at}
 use Rattle.wc_resolve.proofs.Alike.{Alike, alike_cut}
@@ -20,7 +20,7 @@ flats_follow types order o = value_by_rule_follows flat_rule [] types order o (f
 
 -- the flat types of the type at an index, as many as are kept
 abbrev pub IsFlattening : List TypeView → ℕ → List WasmType → Type 0
-IsFlattening types x flat = flat ≡ take 17 (flat_of types x)
+IsFlattening types x flat = flat ≡ take flat_types_kept (flat_of types x)
 
 -- the flat types of all types that are in the list
 pub record FlatsOf (types : List TypeView) (flats : List (List WasmType)) (listed : List ℕ) : Type 0 where
@@ -34,17 +34,17 @@ flats_start types n flats made e = record {
 }
 
 flattening_right : (types : List TypeView) (order : List ℕ) (flats : List (List WasmType)) (x : ℕ) (flat : List WasmType) → IsOrder types order → x < length types
-    → flat ≡ take 17 (flat_rule (flat_entry flats) x (kind_at types x)) → ((c : ℕ) → Contains (children types x) c → flat_entry flats c ≡ take 17 (flat_of types c)) → IsFlattening types x flat
+    → flat ≡ take flat_types_kept (flat_rule (flat_entry flats) x (kind_at types x)) → ((c : ℕ) → Contains (children types x) c → flat_entry flats c ≡ take flat_types_kept (flat_of types c)) → IsFlattening types x flat
 flattening_right types order flats x flat o small made below =
-    let alike : Alike 17 (flat_rule (flat_entry flats) x (kind_at types x)) (flat_rule (flat_of types) x (kind_at types x)) =
-    alike_rule 17 (flat_entry flats) (flat_of types) types x (λ c h. ap (λ z. take 17 z) (below c h) ∙ alike_cut 17 (flat_of types c)) in
-    made ∙ alike ∙ ap (λ z. take 17 z) (sym (flats_follow types order o x small))
+    let alike : Alike flat_types_kept (flat_rule (flat_entry flats) x (kind_at types x)) (flat_rule (flat_of types) x (kind_at types x)) =
+    alike_rule flat_types_kept (flat_entry flats) (flat_of types) types x (λ c h. ap (λ z. take flat_types_kept z) (below c h) ∙ alike_cut flat_types_kept (flat_of types c)) in
+    made ∙ alike ∙ ap (λ z. take flat_types_kept z) (sym (flats_follow types order o x small))
 
 pub flats_turn : (types : List TypeView) (order : List ℕ) (flats : List (List WasmType)) (i x : ℕ) (flat : List WasmType) → IsOrder types order → i < length order
-    → x ≡ get_or order i 0 → x < length types → flat ≡ take 17 (flat_rule (flat_entry flats) x (kind_at types x)) → FlatsOf types flats (take i order)
+    → x ≡ get_or order i 0 → x < length types → flat ≡ take flat_types_kept (flat_rule (flat_entry flats) x (kind_at types x)) → FlatsOf types flats (take i order)
     → FlatsOf types (set flats x flat) (take (i + 1) order)
 flats_turn types order flats i x flat o small x_at bound made m =
-    let below : (c : ℕ) → Contains (children types x) c → flat_entry flats c ≡ take 17 (flat_of types c) =
+    let below : (c : ℕ) → Contains (children types x) c → flat_entry flats c ≡ take flat_types_kept (flat_of types c) =
     λ c h. m.each.each c (o.first i c small (subst (λ (z : ℕ). Contains (children types z) c) x_at h)) in
     let within : x < length flats = rw m.same_length bound in
     record {

@@ -1,24 +1,20 @@
 -- The loop that lists futures and streams: its state, and its turns.
-use Rattle.std.proofs.Common.{◌≡◌, ℕ, ◌+◌, ◌*◌, ◌<◌, ◌≤◌, Bool, true, false, List, [], ◌∷◌, ◌++◌, map, reverse, length, Option, Some, refl, sym, ap, ◌∙◌, subst, inl, inr, arith, append_assoc, append-nil}
+use Rattle.std.proofs.Common.{◌≡◌, ℕ, ◌+◌, ◌*◌, ◌<◌, ◌≤◌, Bool, true, false, List, [], ◌∷◌, ◌++◌, map, reverse, length, refl, sym, ap, ◌∙◌, subst, inl, inr, arith, append_assoc, append-nil}
 use Rattle.std.specs.Prelude.{if◌then◌else◌}
-use Rattle.std.specs.List.{flat_map, slice_get, Contains}
-use Rattle.std.specs.Option.{option_map, option_map_or}
+use Rattle.std.specs.List.{flat_map, Contains}
 use Rattle.std.proofs.lemmas.List.{reverse-append, reverse-reverse}
 use Rattle.std.proofs.lemmas.List.Elements.{Contains-append_left, Contains-append_cases, Contains-push, Contains-push_cases}
 use Rattle.indexmap.proofs.ReorderLemmas.{map-reverse}
 use Rattle.wc_resolve.specs.declared.ids.TypeId.{TypeId}
 use Rattle.wc_resolve.specs.declared.walk.TypeStep.{TypeStep}
 use Rattle.wc_resolve.specs.declared.walk.TypeStep.TheVariants.{Enter, Leave}
-use Rattle.wc_resolve.specs.Views.{KindView, record_kind, resource_kind, handle_kind, flags_kind, tuple_kind, variant_kind, enum_kind, option_kind, result_kind, list_kind, future_kind, stream_kind, alias_kind, TypeView}
-use Rattle.wc_resolve.specs.World.{children, kind_at, referenced_indices}
-use Rattle.wc_resolve.specs.TypeRules.{Follows}
+use Rattle.wc_resolve.specs.Views.{TypeView}
 use Rattle.wc_resolve.specs.Roots.{id_index}
-use Rattle.wc_resolve.specs.Live.{listing_rule, listing_of}
-use Rattle.wc_resolve.specs.Futures.{carried_indices, is_carrier, futures_of, futures_rule}
+use Rattle.wc_resolve.specs.Live.{listing_of}
+use Rattle.wc_resolve.specs.Futures.{EntryView, IsFuturesEntry, futures_of, itself}
 use Rattle.wc_resolve.proofs.Search.{contains_none}
-use Rattle.wc_resolve.proofs.Carriers.{carried_referenced}
 use Rattle.wc_resolve.proofs.Listings.{step_index, turns, turns_append, turns_reverse}
-use Rattle.wc_resolve.proofs.Walks.{contains_reverse, ids_within, one_listed}
+use Rattle.wc_resolve.proofs.Walks.{contains_reverse, ids_within}
 
 -- what steps are going to list, the next one first
 abbrev pub remaining : (ℕ → List ℕ) → List TypeStep → List ℕ
@@ -70,13 +66,6 @@ facing : (types : List TypeView) (goal found : List ℕ) (steps rest : List Type
     → goal ≡ found ++ remaining (futures_of types) (s ∷ reverse rest)
 facing types goal found steps rest s w e = w.each ∙ ap (λ z. found ++ remaining (futures_of types) z) (ap reverse e ∙ reverse-append rest (s ∷ []))
 
-pub future_skip : (types : List TypeView) (goal found : List ℕ) (steps rest : List TypeStep) (id : TypeId) → IsFutureWalk types goal found steps → steps ≡ rest ++ Enter id ∷ []
-    → futures_of types id.0 ≡ [] → IsFutureWalk types goal found rest
-future_skip types goal found steps rest id w e none = record {
-  within = rest_within types goal found steps rest (Enter id) w e;
-  each = facing types goal found steps rest (Enter id) w e ∙ ap (λ z. found ++ (z ++ remaining (futures_of types) (reverse rest))) none;
-}
-
 pub future_leave : (types : List TypeView) (goal found new : List ℕ) (steps rest : List TypeStep) (id : TypeId) → IsFutureWalk types goal found steps → steps ≡ rest ++ Leave id ∷ []
     → new ≡ found ++ id.0 ∷ [] → IsFutureWalk types goal new rest
 future_leave types goal found new steps rest id w e more = record {
@@ -95,33 +84,28 @@ self_within : (types : List TypeView) (carrier : Bool) (id : TypeId) → id.0 < 
 self_within types true id small s h = elim (Contains-push_cases [] (Leave id) s h) [ inl none ↦ absurd (contains_none s none) | inr same ↦ subst (λ (z : TypeStep). step_index z < length types) same small ]
 self_within types false id small s h = absurd (contains_none s h)
 
-pub future_enter : (types : List TypeView) (goal found : List ℕ) (steps rest : List TypeStep) (id : TypeId) (ids : List TypeId) (k : KindView) → Follows futures_rule types (futures_of types)
-    → ((x c : ℕ) → Contains (children types x) c → c < length types) → kind_at types id.0 ≡ Some k → map id_index ids ≡ carried_indices k
-    → IsFutureWalk types goal found steps → steps ≡ rest ++ Enter id ∷ [] → IsFutureWalk types goal found ((rest ++ self_steps (is_carrier k) id) ++ map Enter (reverse ids))
-future_enter types goal found steps rest id ids k follows inside at same w e =
+pub future_enter : (types : List TypeView) (goal found : List ℕ) (steps rest : List TypeStep) (id : TypeId) (entry : EntryView) → IsFuturesEntry types id.0 entry
+    → IsFutureWalk types goal found steps → steps ≡ rest ++ Enter id ∷ [] → IsFutureWalk types goal found ((rest ++ self_steps entry.is_carrier id) ++ map Enter (reverse entry.parts))
+future_enter types goal found steps rest id entry kept w e =
     let small : id.0 < length types = future_within types goal found steps rest (Enter id) w e in
-    let below : (c : ℕ) → Contains (map id_index (reverse ids)) c → c < length types =
-    λ c h.
-    let carried : Contains (carried_indices k) c = subst (λ (z : List ℕ). Contains z c) same (contains_reverse (map id_index ids) c (subst (λ (z : List ℕ). Contains z c) (map-reverse id_index ids) h)) in
-    inside id.0 c (carried_referenced (kind_at types id.0) c (subst (λ (o : Option KindView). Contains (option_map_or carried_indices o []) c) (sym at) carried)) in
-    let rule : futures_of types id.0 ≡ flat_map (futures_of types) (carried_indices k) ++ (if is_carrier k then id.0 ∷ [] else []) =
-    follows id.0 small ∙ ap (λ o. flat_map (futures_of types) (option_map_or carried_indices o []) ++ (if option_map_or is_carrier o false then id.0 ∷ [] else [])) at in
-    let itself : List ℕ = if is_carrier k then id.0 ∷ [] else [] in
+    let below : (c : ℕ) → Contains (map id_index (reverse entry.parts)) c → c < length types =
+    λ c h. kept.within c (contains_reverse (map id_index entry.parts) c (subst (λ (z : List ℕ). Contains z c) (map-reverse id_index entry.parts) h)) in
+    let parts : List ℕ = map id_index entry.parts in
+    let own : List ℕ = itself entry.is_carrier id.0 in
     let after : List ℕ = remaining (futures_of types) (reverse rest) in
-    let shown : remaining (futures_of types) (reverse ((rest ++ self_steps (is_carrier k) id) ++ map Enter (reverse ids))) ≡ flat_map (futures_of types) (carried_indices k) ++ (itself ++ after) =
-    ap (remaining (futures_of types)) (entered_first rest (is_carrier k) id ids) ∙ remaining_enters (futures_of types) ids (self_steps (is_carrier k) id ++ reverse rest)
-    ∙ ap (λ z. flat_map (futures_of types) z ++ remaining (futures_of types) (self_steps (is_carrier k) id ++ reverse rest)) same
-    ∙ ap (λ z. flat_map (futures_of types) (carried_indices k) ++ z) (remaining_self (futures_of types) (is_carrier k) id (reverse rest)) in
+    let shown : remaining (futures_of types) (reverse ((rest ++ self_steps entry.is_carrier id) ++ map Enter (reverse entry.parts))) ≡ flat_map (futures_of types) parts ++ (own ++ after) =
+    ap (remaining (futures_of types)) (entered_first rest entry.is_carrier id entry.parts) ∙ remaining_enters (futures_of types) entry.parts (self_steps entry.is_carrier id ++ reverse rest)
+    ∙ ap (λ z. flat_map (futures_of types) parts ++ z) (remaining_self (futures_of types) entry.is_carrier id (reverse rest)) in
     record {
-      within = λ s h. elim (Contains-append_cases (rest ++ self_steps (is_carrier k) id) (map Enter (reverse ids)) s h) [
-        | inl front ↦ elim (Contains-append_cases rest (self_steps (is_carrier k) id) s front) [
+      within = λ s h. elim (Contains-append_cases (rest ++ self_steps entry.is_carrier id) (map Enter (reverse entry.parts)) s h) [
+        | inl front ↦ elim (Contains-append_cases rest (self_steps entry.is_carrier id) s front) [
           | inl before ↦ rest_within types goal found steps rest (Enter id) w e s before
-          | inr mine ↦ self_within types (is_carrier k) id small s mine
+          | inr mine ↦ self_within types entry.is_carrier id small s mine
         ]
-        | inr back ↦ ids_within types (reverse ids) below s back
+        | inr back ↦ ids_within types (reverse entry.parts) below s back
       ];
-      each = facing types goal found steps rest (Enter id) w e ∙ ap (λ z. found ++ (z ++ after)) rule
-          ∙ ap (λ z. found ++ z) (append_assoc (flat_map (futures_of types) (carried_indices k)) itself after ∙ sym shown);
+      each = facing types goal found steps rest (Enter id) w e ∙ ap (λ z. found ++ (z ++ after)) kept.made
+          ∙ ap (λ z. found ++ z) (append_assoc (flat_map (futures_of types) parts) own after ∙ sym shown);
     }
 
 pub future_end : (types : List TypeView) (goal found : List ℕ) (steps : List TypeStep) → IsFutureWalk types goal found steps → steps ≡ [] → found ≡ goal
@@ -129,39 +113,18 @@ future_end types goal found steps w none = sym (w.each ∙ ap (λ z. found ++ re
 
 -- turns
 
-carried_less : (f : ℕ → List ℕ) (k : KindView) → length (flat_map f (carried_indices k)) ≤ length (flat_map f (referenced_indices k))
-carried_less f (handle_kind h) = omega arith
-carried_less f (record_kind h) = omega arith
-carried_less f resource_kind = omega arith
-carried_less f (flags_kind h) = omega arith
-carried_less f (tuple_kind h) = omega arith
-carried_less f (variant_kind h) = omega arith
-carried_less f (enum_kind h) = omega arith
-carried_less f (option_kind h) = omega arith
-carried_less f (result_kind h e) = omega arith
-carried_less f (list_kind h) = omega arith
-carried_less f (future_kind h) = omega arith
-carried_less f (stream_kind h) = omega arith
-carried_less f (alias_kind h) = omega arith
-
 self_turns : (listed : ℕ → List ℕ) (carrier : Bool) (id : TypeId) → turns listed (self_steps carrier id) ≤ 1
 self_turns listed true id = omega arith
 self_turns listed false id = omega arith
 
-pub future_turns : (types : List TypeView) (steps rest : List TypeStep) (id : TypeId) (ids : List TypeId) (k : KindView) → Follows listing_rule types (listing_of types) → id.0 < length types
-    → kind_at types id.0 ≡ Some k → map id_index ids ≡ carried_indices k → steps ≡ rest ++ Enter id ∷ []
-    → turns (listing_of types) ((rest ++ self_steps (is_carrier k) id) ++ map Enter (reverse ids)) < turns (listing_of types) steps
-future_turns types steps rest id ids k follows small at same e =
+pub future_turns : (types : List TypeView) (steps rest : List TypeStep) (id : TypeId) (entry : EntryView) → IsFuturesEntry types id.0 entry → steps ≡ rest ++ Enter id ∷ []
+    → turns (listing_of types) ((rest ++ self_steps entry.is_carrier id) ++ map Enter (reverse entry.parts)) < turns (listing_of types) steps
+future_turns types steps rest id entry kept e =
     let listed : ℕ → List ℕ = listing_of types in
     let sum : turns listed steps ≡ turns listed rest + turns listed (Enter id ∷ []) = ap (turns listed) e ∙ turns_append listed rest (Enter id ∷ []) in
-    let one : length (listed id.0) ≡ length (flat_map listed (children types id.0)) + 1 = one_listed types id.0 follows small in
-    let referenced : length (flat_map listed (children types id.0)) ≡ length (flat_map listed (referenced_indices k)) = ap (λ o. length (flat_map listed (option_map_or referenced_indices o []))) at in
-    let front : turns listed (rest ++ self_steps (is_carrier k) id) ≡ turns listed rest + turns listed (self_steps (is_carrier k) id) = turns_append listed rest (self_steps (is_carrier k) id) in
-    let full = turns_append listed (rest ++ self_steps (is_carrier k) id) (map Enter (reverse ids)) in
-    let below : turns listed (map Enter (reverse ids)) ≡ 2 * length (flat_map listed (carried_indices k)) = turns_reverse listed ids ∙ ap (λ z. 2 * length (flat_map listed z)) same in
-    let less = carried_less listed k in
-    let itself = self_turns listed (is_carrier k) id in
-    omega (arith, sum, one, referenced, front, full, below, less, itself)
-
-pub kind_is : (types : List TypeView) (x : ℕ) (t : TypeView) → slice_get types x ≡ Some t → kind_at types x ≡ Some t.kind
-kind_is types x t at = ap (option_map (λ (v : TypeView). v.kind)) at
+    let less : length (flat_map listed (map id_index entry.parts)) < length (listed id.0) = kept.shorter in
+    let front : turns listed (rest ++ self_steps entry.is_carrier id) ≡ turns listed rest + turns listed (self_steps entry.is_carrier id) = turns_append listed rest (self_steps entry.is_carrier id) in
+    let full = turns_append listed (rest ++ self_steps entry.is_carrier id) (map Enter (reverse entry.parts)) in
+    let below : turns listed (map Enter (reverse entry.parts)) ≡ 2 * length (flat_map listed (map id_index entry.parts)) = turns_reverse listed entry.parts in
+    let own = self_turns listed entry.is_carrier id in
+    omega (arith, sum, less, front, full, below, own)

@@ -2,7 +2,8 @@ pub mod Acyclic
 pub mod Aliases
 pub mod Alike
 pub mod AlikeFlattenings
-pub mod Carriers
+pub mod FuturesEntries
+pub mod CanonicalIds
 pub mod Children
 pub mod CoreSignatures
 pub mod DistinctLemmas
@@ -10,8 +11,11 @@ pub mod FlatSteps
 pub mod FlatTable
 pub mod TypeRules
 pub mod FutureWalks
+pub mod FuturesAt
 pub mod ResourcesByValue
-pub mod Identified
+pub mod KeyLemmas
+pub mod LookupLemmas
+pub mod WellFormedLemmas
 pub mod Listings
 pub mod ResourceFlags
 pub mod NamedLists

@@ -1,15 +1,15 @@
 -- `==` of packages' names says whether they are equal.
-use Rattle.std.proofs.Common.{◌≡◌, ◌↔◌, ℕ, Bool, true, false, ◌&&◌, List, Option, Some, None, inl, inr, refl, sym, ap, ◌∙◌}
+use Rattle.std.proofs.Common.{◌≡◌, ◌↔◌, ℕ, Bool, true, false, ◌&&◌, List, Option, Some, None, refl, ap, ◌∙◌}
 use Rattle.std.specs.Option.{option_eq, option_map}
 use Rattle.std.proofs.lemmas.Slice.Eq.{bytes_eq-Decides}
-use Rattle.std.proofs.lemmas.Bool.Decides.{eqb_tells}
-use Rattle.std.specs.Prelude.{nat_eq, string_bytes}
+use Rattle.std.specs.Prelude.{string_bytes}
 use Rattle.semver.specs.declared.Version.{Version}
 use Rattle.semver.specs.Identifiers.{parts_of, pre_text, build_text}
 use Rattle.semver.specs.contracts.VersionPartialEq.TheImpl.{eq-value as version_eq}
 use Rattle.wc_resolve.specs.declared.packages.PackageName.{PackageName}
 use Rattle.wc_resolve.specs.contracts.packages.PackageNamePartialEq.TheImpl.{eq-value}
 use Rattle.wc_resolve.specs.Views.{PackageNameView, package_name_view}
+use Rattle.wc_resolve.proofs.KeyLemmas.{nat_from, nat_to}
 
 both : (b c : Bool) → (b && c) ≡ true → (b ≡ true) × (c ≡ true)
 both true c h = (refl, h)
@@ -18,12 +18,6 @@ both false c h = absurd (let bad : ⊥ = cc h in bad)
 together : (b c : Bool) → b ≡ true → c ≡ true → (b && c) ≡ true
 together true c h k = k
 together false c h k = absurd (let bad : ⊥ = cc h in bad)
-
-nat_from : (a b : ℕ) → nat_eq a b ≡ true → a ≡ b
-nat_from a b h = elim (eqb_tells a b) [ inl e ↦ e.1 | inr e ↦ absurd (let f : false ≡ true = sym e.0 ∙ h in let bad : ⊥ = cc f in bad) ]
-
-nat_to : (a b : ℕ) → a ≡ b → nat_eq a b ≡ true
-nat_to a b h = elim (eqb_tells a b) [ inl e ↦ e.0 | inr e ↦ absurd (e.1 h) ]
 
 version_from : (v w : Version) → version_eq.it v w ≡ true → parts_of v ≡ parts_of w
 version_from v w h =

@@ -1,63 +1,69 @@
--- The search for a package by its name.
-use Rattle.std.proofs.Common.{◌≡◌, ◌≢◌, ◌↔◌, IsTrue, true, false, ℕ, ◌+◌, ◌<◌, ◌≤◌, ◌^◌, List, map, length, get_or, Option, Some, None, refl, sym, ap, ◌∙◌, subst, inl, inr, arith}
-use Rattle.std.specs.List.{slice_get}
-use Rattle.std.specs.Option.{IfNone, option_map}
-use Rattle.std.proofs.lemmas.Bool.{cases_eq, cases_lt}
+-- The search for a package by its name, among the names of the packages.
+use Rattle.std.proofs.Common.{◌≡◌, ◌≢◌, Bool, true, false, ℕ, ◌<◌, ◌≤◌, ◌^◌, List, map, length, get_or, position, Option, Some, None, Result, Ok, Err, sym, ap, ◌∙◌, subst, inl, inr, arith}
+use Rattle.std.specs.List.{position_or_len, slice_get}
+use Rattle.std.specs.Option.{IfNone, IfSome}
+use Rattle.std.specs.Result.{OkIff, result_ok}
+use Rattle.std.proofs.lemmas.Bool.{cases_lt}
+use Rattle.std.proofs.lemmas.Grind.{common_steps}
+use Rattle.std.proofs.lemmas.List.Quantifiers.{position-Some}
+use Rattle.std.proofs.lemmas.List.Sums.{fails_before_first}
+use Rattle.std.proofs.lemmas.Option.{slice_get-map, slice_get_within}
 use Rattle.std.proofs.lemmas.List.{length-map}
-use Rattle.std.proofs.lemmas.Option.{slice_get-map, slice_get_read}
-use Rattle.wc_resolve.specs.declared.packages.Package.{Package}
-use Rattle.wc_resolve.specs.Views.{PackageNameView, PackageView, package_name_view, package_view}
+use Rattle.wc_resolve.specs.declared.packages.PackageName.{PackageName}
+use Rattle.wc_resolve.specs.contracts.packages.PackageNamePartialEq.TheImpl.{eq-value}
+use Rattle.wc_resolve.specs.Views.{PackageNameView, PackageView, package_name_view}
 use Rattle.wc_resolve.specs.Queries.{package_name_at}
-use Rattle.wc_resolve.proofs.Acyclic.{slice_get_in}
+use Rattle.wc_resolve.specs.Tables.{AreNamesOf}
+use Rattle.wc_resolve.proofs.PackageNames.{names_law}
+use Rattle.wc_resolve.proofs.Viewed.{view_found}
 
--- none of the first packages has the name
-pub record IsSearch (packages : List Package) (name : PackageNameView) (index position : ℕ) : Type 0 where
-  pub same : position ≡ index
-  pub others : (p : ℕ) → p < index → package_name_at (map package_view packages) p ≢ Some name
+-- the name at the position that was found
+pub name_found : (names : List PackageName) (name : PackageName) (i : ℕ) → position (eq-value.it name) names ≡ Some i → slice_get (map package_name_view names) i ≡ Some (package_name_view name)
+name_found names name i at =
+    let first = position-Some (eq-value.it name) names i name at in
+    view_found package_name_view names i name first.0 ∙ ap (λ (z : PackageNameView). Some z) (sym ((names_law name (get_or names i name)).0 first.1))
 
-at_position : (packages : List Package) (i : ℕ) (p : Package) → i < length packages → p ≡ get_or packages i p → package_name_at (map package_view packages) i ≡ Some (package_name_view p.name)
-at_position packages i p h e =
-    ap (option_map (λ (v : PackageView). v.name)) (slice_get-map package_view packages i ∙ ap (option_map package_view) (slice_get_read packages (length packages) i p refl h e))
+-- a name that is there passes the test
+passes : (names : List PackageName) (name : PackageName) (k : ℕ) → slice_get (map package_name_view names) k ≡ Some (package_name_view name) → eq-value.it name (get_or names k name) ≡ true
+passes names name k at =
+    let small : k < length names = subst (λ (n : ℕ). k < n) (length-map names package_name_view) (slice_get_within (map package_name_view names) k (package_name_view name) at) in
+    let read : Some (package_name_view (get_or names k name)) ≡ Some (package_name_view name) = sym (view_found package_name_view names k name small) ∙ at in
+    (names_law name (get_or names k name)).1 (let same : package_name_view (get_or names k name) ≡ package_name_view name = cc read in sym same)
 
--- nor has the next one
-pub others_more : (packages : List Package) (name : PackageNameView) (i position : ℕ) (p : Package) → IsSearch packages name i position → i < length packages → p ≡ get_or packages i p
-    → (package_name_view p.name ≡ name → ⊥) → (q : ℕ) → q < i + 1 → package_name_at (map package_view packages) q ≢ Some name
-others_more packages name i position p s h e other q below is =
-    elim (cases_eq q i) [
-      | inl same ↦
-          (let here : package_name_at (map package_view packages) i ≡ Some name = subst (λ (z : ℕ). package_name_at (map package_view packages) z ≡ Some name) same is in
-          let each : Some (package_name_view p.name) ≡ Some name = sym (at_position packages i p h e) ∙ here in
-          other (cc each))
-      | inr differs ↦ (let before : q < i = omega (arith, below, differs) in s.others q before is)
+-- no name before the position that was found is this one
+pub name_later : (names : List PackageName) (name : PackageName) (i k : ℕ) → position (eq-value.it name) names ≡ Some i → k < i → slice_get (map package_name_view names) k ≢ Some (package_name_view name)
+name_later names name i k at before is =
+    let first = position-Some (eq-value.it name) names i name at in
+    let e : true ≡ false = sym (passes names name k is) ∙ first.2 k before in
+    let bad : ⊥ = cc e in bad
+
+none_passes : {X : Type 0} (p : X → Bool) (xs : List X) (d : X) → position p xs ≡ None → (k : ℕ) → k < length xs → p (get_or xs k d) ≡ false
+none_passes p xs d none k small =
+    elim (cases_lt (position_or_len p xs) (length xs)) [
+      | inl there ↦ absurd (let found : position p xs ≡ Some (position_or_len p xs) = grind (arith, common_steps) in let e : Some (position_or_len p xs) ≡ None = sym found ∙ none in let bad : ⊥ = cc e in bad)
+      | inr past ↦ fails_before_first p xs k d (omega (arith, past, small))
     ]
 
-named_within : (packages : List Package) (name : PackageNameView) (q : ℕ) (o : Option PackageView) → slice_get (map package_view packages) q ≡ o → option_map (λ (v : PackageView). v.name) o ≡ Some name → q < length packages
-named_within packages name q None at is = absurd (let bad : ⊥ = cc is in bad)
-named_within packages name q (Some v) at is = rw (← length-map packages package_view) (slice_get_in (map package_view packages) q v at)
+-- none is where none was found
+pub name_absent : (names : List PackageName) (name : PackageName) → position (eq-value.it name) names ≡ None → (k : ℕ) → slice_get (map package_name_view names) k ≢ Some (package_name_view name)
+name_absent names name none k is =
+    let small : k < length names = subst (λ (n : ℕ). k < n) (length-map names package_name_view) (slice_get_within (map package_name_view names) k (package_name_view name) is) in
+    let e : true ≡ false = sym (passes names name k is) ∙ none_passes (eq-value.it name) names name none k small in
+    let bad : ⊥ = cc e in bad
 
--- none has the name
-pub others_all : (packages : List Package) (name : PackageNameView) (i position : ℕ) → IsSearch packages name i position → length packages ≤ i → (q : ℕ) → package_name_at (map package_view packages) q ≢ Some name
-others_all packages name i position s past q is =
-    let within : q < length packages = named_within packages name q (slice_get (map package_view packages) q) refl is in
-    let before : q < i = omega (arith, within, past) in
-    s.others q before is
-
-pub found_at : (packages : List Package) (name : PackageNameView) (i position : ℕ) (p : Package) → IsSearch packages name i position → i < length packages → p ≡ get_or packages i p
-    → package_name_view p.name ≡ name → package_name_at (map package_view packages) position ≡ Some name
-found_at packages name i position p s h e is =
-    subst (λ (z : ℕ). package_name_at (map package_view packages) z ≡ Some name) (sym s.same) (at_position packages i p h e ∙ ap Some is)
+-- the names are those of the packages
+pub names_at : (packages : List PackageView) (names : List PackageName) (i : ℕ) → AreNamesOf packages names → slice_get (map package_name_view names) i ≡ package_name_at packages i
+names_at packages names i same = ap (λ z. slice_get z i) same ∙ slice_get-map (λ (p : PackageView). p.name) packages i
 
 pub none_then : {X : Type 0} (r : Option X) (P : Type 0) → P → IfNone r P
 none_then None P p = p
 none_then (Some x) P p = tt
 
-pub unlike : {P : Type 0} → IsTrue false ↔ P → P → ⊥
-unlike h p = let bad : false ≡ true = h.1 p in let absurdity : ⊥ = cc bad in absurdity
+-- an index as a number of 32 bits, where it is one
+pub index_fits : {E : Type 0} (r : Result ℕ E) (i : ℕ) (P : ℕ → Type 0) → OkIff r (i < 2 ^ 32) i → P i → IfSome (result_ok r) P
+index_fits (Ok n) i P fits p = subst P (sym (fits.1)) p
+index_fits (Err e) i P fits p = tt
 
--- where the next index has no 32 bits
-pub no_more : (packages : List Package) (name : PackageNameView) (i position : ℕ) (p : Package) → IsSearch packages name i position → i < length packages → p ≡ get_or packages i p
-    → (package_name_view p.name ≡ name → ⊥) → (position + 1 < 2 ^ 32 → ⊥) → (q : ℕ) → q < 2 ^ 32 → package_name_at (map package_view packages) q ≢ Some name
-no_more packages name i position p s h e other full q below =
-    let reached : 2 ^ 32 ≤ position + 1 = elim (cases_lt (position + 1) (2 ^ 32)) [ inl less ↦ absurd (full less) | inr ge ↦ ge ] in
-    let near : q < i + 1 = let same = s.same in omega (arith, reached, below, same) in
-    others_more packages name i position p s h e other q near
+pub index_too_large : {E : Type 0} (r : Result ℕ E) (i : ℕ) (P : Type 0) → OkIff r (i < 2 ^ 32) i → (2 ^ 32 ≤ i → P) → IfNone (result_ok r) P
+index_too_large (Ok n) i P fits p = tt
+index_too_large (Err e) i P fits p = elim (cases_lt i (2 ^ 32)) [ inl small ↦ absurd (fits small) | inr large ↦ p large ]

@@ -4,7 +4,7 @@ use Rattle.std.specs.Prelude.{IfOk}
 use Rattle.std.specs.List.{Contains}
 use Rattle.std.proofs.lemmas.List.{length-map}
 use Rattle.wc_resolve.specs.declared.types.TypeDef.{TypeDef}
-use Rattle.wc_resolve.specs.TypeTables.{IsOrder}
+use Rattle.wc_resolve.specs.Tables.{IsOrder}
 use Rattle.wc_resolve.specs.Ranges.{AreIdsInRange, IsFunctionIn}
 use Rattle.wc_resolve.specs.Views.{FunctionView, TypeView, type_view}
 use Rattle.wc_resolve.specs.World.{ResolveView, HasCycle, IsChildrenFirst, SignatureHasOnly, children}

@@ -4,18 +4,17 @@ use Rattle.std.specs.List.{flat_map, slice_get, Contains, All}
 use Rattle.std.specs.Option.{IfSome, option_map_or}
 use Rattle.std.proofs.lemmas.List.Concat.{flat_map_single}
 use Rattle.std.proofs.lemmas.List.Elements.{All-contains, Contains-append_cases, Contains-push_cases}
-use Rattle.std.proofs.lemmas.Option.{get_or_from_slice_get}
 use Rattle.wc_resolve.specs.declared.types.WitType.{WitType}
 use Rattle.wc_resolve.specs.declared.types.WitType.TheVariants.{Id}
 use Rattle.wc_resolve.specs.declared.functions.FunctionKind.{FunctionKind}
 use Rattle.wc_resolve.specs.declared.functions.FunctionKind.TheVariants.{Static, AsyncStatic}
 use Rattle.wc_resolve.specs.Views.{FunctionView, InterfaceView, ItemView, interface_item, function_item, type_item}
 use Rattle.wc_resolve.specs.World.{ResolveView, SignatureHasOnly}
-use Rattle.wc_resolve.specs.Ranges.{AreIdsInRange, AreNamesIn, IsFunctionIn, IsInterfaceIn, IsItemIn, IsKindIn, IsTypeIn}
+use Rattle.wc_resolve.specs.Ranges.{AreIdsInRange, AreNamesIn, IsFunctionIn, IsItemIn, IsKindIn, IsTypeIn}
 use Rattle.wc_resolve.specs.Roots.{type_roots, static_roots, passed_roots, function_roots, interface_roots, item_roots}
-use Rattle.wc_resolve.proofs.Acyclic.{slice_get_in}
 use Rattle.wc_resolve.proofs.Search.{contains_none}
 use Rattle.wc_resolve.proofs.ListUnion.{joined_from}
+use Rattle.wc_resolve.proofs.WellFormedLemmas.{interface_names_in}
 
 -- numbers that are all below a bound
 abbrev pub AreBelow : ℕ → List ℕ → Type 0
@@ -68,21 +67,9 @@ interface_in r i h =
     (below_joined (length r.types) (λ (e : List ℕ × ℕ). e.1 ∷ []) i.types (λ k d small. below_one (length r.types) _ (h.0 k d small))))
     (below_joined (length r.types) (λ e. function_roots e.1) i.functions (λ k d small. function_in (length r.types) _ (h.1 k d small)))
 
-names_in : (r : ResolveView) (i : InterfaceView) → IsInterfaceIn r i → AreNamesIn r i
-unfolding IsInterfaceIn
-names_in r i h = h.0
-
-interfaces_in : (r : ResolveView) → AreIdsInRange r → All (IsInterfaceIn r) r.interfaces
-unfolding AreIdsInRange
-interfaces_in r h = h.1
-
-pub interface_at : (r : ResolveView) (i : ℕ) (v : InterfaceView) → AreIdsInRange r → slice_get r.interfaces i ≡ Some v → AreNamesIn r v
-interface_at r i v h e =
-    names_in r v (subst (IsInterfaceIn r) (get_or_from_slice_get r.interfaces i v v e) (interfaces_in r h i v (slice_get_in r.interfaces i v e)))
-
 found_in : (r : ResolveView) (i : ℕ) (o : Option InterfaceView) → AreIdsInRange r → slice_get r.interfaces i ≡ o → AreBelow (length r.types) (option_map_or interface_roots o [])
 found_in r i None h e = below_none (length r.types)
-found_in r i (Some v) h e = interface_in r v (interface_at r i v h e)
+found_in r i (Some v) h e = interface_in r v (interface_names_in r i v h e)
 
 pub item_in : (r : ResolveView) (item : ItemView) → AreIdsInRange r → IsItemIn r item → AreBelow (length r.types) (item_roots r item)
 item_in r (interface_item i external) h k = found_in r i (slice_get r.interfaces i) h refl

@@ -11,10 +11,14 @@ use Rattle.std.proofs.lemmas.Map.Steps.{length-le_from_distinct_below}
 use Rattle.std.proofs.lemmas.Map.Views.{Contains-from_any}
 use Rattle.wc_resolve.specs.Views.{TypeView}
 use Rattle.wc_resolve.specs.World.{IsChildrenFirst, children, kind_at}
-use Rattle.wc_resolve.specs.TypeTables.{IsOrder}
-use Rattle.wc_resolve.specs.TypeRules.{Rule, Follows, IsOnlyFollowing, LooksDown, repeated, value_by_rule}
+use Rattle.wc_resolve.specs.Tables.{IsOrder}
+use Rattle.wc_resolve.specs.TypeRules.{Rule, Follows, IsOnlyFollowing, repeated, value_by_rule}
 use Rattle.wc_resolve.proofs.Acyclic.{position_before}
 use Rattle.wc_resolve.proofs.Search.{first_push}
+
+-- a rule that depends only on the values of the types that are referred to
+abbrev pub LooksDown : {Y : Type 0} → Rule Y → List TypeView → Type 0
+LooksDown {Y} rule types = (f g : ℕ → Y) (x : ℕ) → ((c : ℕ) → Contains (children types x) c → f c ≡ g c) → rule f x (kind_at types x) ≡ rule g x (kind_at types x)
 
 -- an order without repeats, of the first i of an order
 pub record IsDistinctOrder (next : ℕ → List ℕ) (front reduced : List ℕ) : Type 0 where

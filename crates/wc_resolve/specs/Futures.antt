@@ -1,12 +1,15 @@
 -- The futures and streams that types contain.
-use Rattle.std.specs.Prelude.{◌≡◌, ◌≢◌, ℕ, ◌<◌, List, [], ◌∷◌, ◌++◌, ◌||◌, Bool, true, false, if◌then◌else◌, length, slice_index_or}
-use Rattle.std.specs.List.{filter_map, flat_map, list_any}
+use Rattle.std.specs.Prelude.{◌≡◌, ℕ, ◌<◌, ◌+◌, ◌-◌, ◌^◌, min, nat_eq, List, [], ◌∷◌, ◌++◌, Bool, true, false, if◌then◌else◌, length, slice_index_or, Contains, Option, Some, None}
+use Rattle.std.specs.List.{filter_map, flat_map, sum_by}
 use Rattle.std.specs.Option.{option_map_or}
+use Rattle.wc_resolve.specs.declared.futures.FuturesEntry.{FuturesEntry}
+use Rattle.wc_resolve.specs.declared.ids.TypeId.{TypeId}
 use Rattle.wc_resolve.specs.declared.types.WitType.{WitType}
+use Rattle.wc_resolve.specs.Live.{listing_from, listing_of}
 use Rattle.wc_resolve.specs.Views.{KindView, alias_kind, future_kind, stream_kind, FunctionView, TypeView}
 use Rattle.wc_resolve.specs.World.{ResolveView, contained_types, kind_at, type_index}
 use Rattle.wc_resolve.specs.TypeRules.{Rule, value_by_rule}
-use Rattle.wc_resolve.specs.Roots.{passed_roots}
+use Rattle.wc_resolve.specs.Roots.{indices, passed_roots}
 
 -- the types that a type contains by value, or an alias's target
 abbrev pub carried_types : KindView → List WitType
@@ -38,17 +41,71 @@ futures_from types roots = flat_map (futures_of types) roots
 abbrev pub function_futures : ResolveView → FunctionView → List ℕ
 function_futures r f = futures_from r.types (passed_roots f)
 
--- the types that the type at an index contains by value, or its target
-abbrev pub carried_children : List TypeView → ℕ → List ℕ
-carried_children types x = option_map_or carried_indices (kind_at types x) []
+-- what is kept of a type's futures and streams: the types whose futures and streams these are, one type's after
+-- another's; whether the type itself comes after them; and how many they are, counted up to a limit
+pub record EntryView : Type 0 where
+  pub parts : List TypeId
+  pub is_carrier : Bool
+  pub count : ℕ
 
--- the type at an index is a future or a stream or, by the flags of others, contains one
-abbrev pub carries_by : List Bool → List TypeView → ℕ → Bool
-carries_by carrier_flags types x =
-    option_map_or is_carrier (kind_at types x) false || list_any (λ c. slice_index_or carrier_flags c false) (carried_children types x)
+abbrev pub entry_view : FuturesEntry → EntryView
+entry_view e = record { parts = e.parts.items; is_carrier = e.is_carrier; count = e.count }
 
--- the types that are flagged are those that are or contain futures or streams
-pub record AreCarrierFlags (types : List TypeView) (carrier_flags : List Bool) : Type 0 where
-  pub same_length : length carrier_flags ≡ length types
-  pub no_futures : (x : ℕ) → x < length types → slice_index_or carrier_flags x false ≡ false → futures_of types x ≡ []
-  pub has_futures : (x : ℕ) → x < length types → slice_index_or carrier_flags x false ≡ true → futures_of types x ≢ []
+-- of a type that has none
+abbrev pub no_futures : EntryView
+no_futures = record { parts = []; is_carrier = false; count = 0 }
+
+-- the entry of the type at an index
+abbrev pub entry_at : List EntryView → ℕ → EntryView
+entry_at entries x = slice_index_or entries x no_futures
+
+-- the greatest count
+abbrev pub max_count : ℕ
+max_count = 2 ^ 64 - 1
+
+-- the type itself, where it is a future or a stream
+abbrev pub itself : Bool → ℕ → List ℕ
+itself carrier x = if carrier then x ∷ [] else []
+
+-- what an entry of the type at an index says; its parts are in range, and have fewer types below them
+pub record IsFuturesEntry (types : List TypeView) (x : ℕ) (entry : EntryView) : Type 0 where
+  pub made : futures_of types x ≡ futures_from types (indices entry.parts) ++ itself entry.is_carrier x
+  pub counted : entry.count ≡ min (length (futures_of types x)) max_count
+  pub within : (p : ℕ) → Contains (indices entry.parts) p → p < length types
+  pub shorter : length (listing_from types (indices entry.parts)) < length (listing_of types x)
+
+-- an entry for each type
+pub record AreFuturesEntries (types : List TypeView) (entries : List EntryView) : Type 0 where
+  pub same_length : length entries ≡ length types
+  pub each : (x : ℕ) → x < length types → IsFuturesEntry types x (entry_at entries x)
+
+-- the type whose futures and streams are those of a type, where this has some: its only part, if it is no future or
+-- stream itself
+abbrev pub only_part : List TypeId → Bool → TypeId → TypeId
+only_part parts true id = id
+only_part (part ∷ []) false id = part
+only_part parts false id = id
+
+abbrev pub part_for : List EntryView → TypeId → Option TypeId
+part_for entries id =
+    if nat_eq (entry_at entries id.0).count 0 then None else Some (only_part (entry_at entries id.0).parts (entry_at entries id.0).is_carrier id)
+
+-- how many there are in types, by their entries, counted up to the limit
+abbrev pub count_of : List EntryView → List TypeId → ℕ
+count_of entries ids = min (sum_by (λ (id : TypeId). (entry_at entries id.0).count) ids) max_count
+
+abbrev pub with_itself : Bool → ℕ → ℕ
+with_itself carrier count = min (count + (if carrier then 1 else 0)) max_count
+
+-- the entry of a type that contains these types by value, or is an alias of one
+abbrev pub entry_from : List EntryView → List TypeId → Bool → EntryView
+entry_from entries ids carrier = record {
+  parts = filter_map (part_for entries) ids;
+  is_carrier = carrier;
+  count = with_itself carrier (count_of entries ids);
+}
+
+-- the entry of the type at an index, by those of the types that it contains by value
+abbrev pub IsEntryFor : List EntryView → List TypeView → ℕ → EntryView → Type 0
+IsEntryFor entries types x entry =
+    (ids : List TypeId) × (indices ids ≡ option_map_or carried_indices (kind_at types x) []) × (entry ≡ entry_from entries ids (option_map_or is_carrier (kind_at types x) false))

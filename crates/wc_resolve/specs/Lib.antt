@@ -4,7 +4,7 @@ pub mod Faults
 pub mod Flat
 pub mod TypeRules
 pub mod Futures
-pub mod TypeTables
+pub mod Tables
 pub mod Laws
 pub mod Live
 pub mod Names

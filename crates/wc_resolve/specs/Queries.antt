@@ -29,10 +29,14 @@ member_text show p name = joined_id p.namespace p.name (versioned show name p.ve
 abbrev pub package_of : ResolveView → InterfaceView → Option PackageView
 package_of r i = option_and_then (λ (p : ℕ). slice_get r.packages p) i.in_package
 
+-- the name of the package of the interface at an index, and its own name, where it has both
+abbrev pub qualified_name : ResolveView → ℕ → Option (PackageNameView × List ℕ)
+qualified_name r index =
+    option_and_then (λ (i : InterfaceView). option_and_then (λ (name : List ℕ). option_map (λ (p : PackageView). (p.name, name)) (package_of r i)) i.name) (slice_get r.interfaces index)
+
 -- the id of the interface at an index, where it has a name and a package
 abbrev pub interface_id : (VersionView → List ℕ) → ResolveView → ℕ → Option (List ℕ)
-interface_id show r index =
-    option_and_then (λ (i : InterfaceView). option_and_then (λ (name : List ℕ). option_map (λ (p : PackageView). member_text show p.name name) (package_of r i)) i.name) (slice_get r.interfaces index)
+interface_id show r index = option_map (λ (m : PackageNameView × List ℕ). member_text show m.0 m.1) (qualified_name r index)
 
 -- with the version, and with its track
 abbrev pub full_id : ResolveView → ℕ → Option (List ℕ)
@@ -40,13 +44,6 @@ full_id = interface_id parts_text
 
 abbrev pub canonical_id : ResolveView → ℕ → Option (List ℕ)
 canonical_id = interface_id track
-
--- the interface at an index has this package and name, whatever the text of the version is
-abbrev pub IsMember : ResolveView → ℕ → PackageNameView → List ℕ → Type 0
-IsMember r i p name = (show : VersionView → List ℕ) → interface_id show r i ≡ Some (member_text show p name)
-
-abbrev pub HasNoId : ResolveView → ℕ → Type 0
-HasNoId r i = (show : VersionView → List ℕ) → interface_id show r i ≡ None
 
 -- a plain key's name, or the id of the interface
 abbrev pub key_text : (VersionView → List ℕ) → ResolveView → KeyView → Option (List ℕ)

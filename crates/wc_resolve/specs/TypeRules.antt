@@ -1,7 +1,7 @@
 -- Values of types, each made from the values of the types that it refers to.
-use Rattle.std.specs.Prelude.{◌≡◌, ℕ, zero, suc, ◌<◌, List, length, Option, Contains}
+use Rattle.std.specs.Prelude.{◌≡◌, ℕ, zero, suc, ◌<◌, List, length, Option}
 use Rattle.wc_resolve.specs.Views.{KindView, TypeView}
-use Rattle.wc_resolve.specs.World.{children, kind_at}
+use Rattle.wc_resolve.specs.World.{kind_at}
 
 -- how the value at an index is made: from the values at other indices, the index, and the kind of the type there
 abbrev pub Rule : Type 0 → Type 0
@@ -15,10 +15,6 @@ Follows rule types value = (x : ℕ) → x < length types → value x ≡ rule v
 abbrev pub IsOnlyFollowing : {Y : Type 0} → Rule Y → List TypeView → (ℕ → Y) → Type 0
 IsOnlyFollowing {Y} rule types value =
     (other : ℕ → Y) → Follows rule types other → (x : ℕ) → x < length types → other x ≡ value x
-
--- a rule that depends only on the values of the types that are referred to
-abbrev pub LooksDown : {Y : Type 0} → Rule Y → List TypeView → Type 0
-LooksDown {Y} rule types = (f g : ℕ → Y) (x : ℕ) → ((c : ℕ) → Contains (children types x) c → f c ≡ g c) → rule f x (kind_at types x) ≡ rule g x (kind_at types x)
 
 -- the rule, so many times over
 abbrev pub repeated : {Y : Type 0} → Rule Y → Y → List TypeView → ℕ → ℕ → Y

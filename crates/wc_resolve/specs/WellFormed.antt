@@ -1,5 +1,5 @@
 -- Worlds, interfaces, types and packages that are well-formed.
-use Rattle.std.specs.Prelude.{◌≡◌, ℕ, List, [], ◌∷◌, map, length, Option, Some, slice_get, All, ◌≢◌}
+use Rattle.std.specs.Prelude.{◌≡◌, ℕ, List, [], map, length, Option, Some, slice_get, All, ◌≢◌}
 use Rattle.std.specs.List.{AllPairs}
 use Rattle.std.specs.Option.{IfSome, IsSome, option_and_then}
 use Rattle.wc_resolve.specs.declared.types.WitType.{WitType}

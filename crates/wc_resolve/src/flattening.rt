@@ -2,7 +2,7 @@
 
 ghost use Rattle.std.specs.Prelude.{◌≡◌, ◌<◌, ◌∷◌, [], IfOk, length, map, replicate};
 ghost use Rattle.wc_resolve.specs.Flat.{AreFlattened, cut, flat_cases, flat_fields, flat_flags, flat_kind, flat_rule, flatten_types, flat_variant, flats_in, lists};
-ghost use Rattle.wc_resolve.specs.TypeTables.{IsOrder};
+ghost use Rattle.wc_resolve.specs.Tables.{IsOrder};
 ghost use Rattle.wc_resolve.specs.Views.{kind_view, type_view};
 ghost use Rattle.wc_resolve.specs.World.{kind_at};
 

@@ -1,98 +1,38 @@
 //! The futures and streams that types contain.
 
-ghost use Rattle.std.specs.Prelude.{◌≡◌, ◌<◌, ◌++◌, ◌∷◌, ℕ, [], false, if◌then◌else◌, Contains, IfOk, OnOk, length, map, slice_index_or};
-ghost use Rattle.std.specs.List.{list_any};
-ghost use Rattle.wc_resolve.specs.Futures.{AreCarrierFlags, carried_children, carried_indices, carries_by, function_futures, futures_from, is_carrier};
-ghost use Rattle.wc_resolve.specs.TypeTables.{IsOrder};
-ghost use Rattle.wc_resolve.specs.Ranges.{IsFunctionIn};
-ghost use Rattle.wc_resolve.specs.Roots.{indices};
+ghost use Rattle.std.specs.Prelude.{◌≡◌, ◌<◌, ◌≤◌, ◌^◌, ◌++◌, ◌∷◌, ℕ, [], All, Contains, IfNone, IfOk, IfSome, OnOk, Option, Some, String, filter_map, if◌then◌else◌, length, map, min, replicate, slice_get};
+ghost use Rattle.std.specs.Option.{option_map, option_map_or};
+ghost use Rattle.std.specs.declared.alloc.Global.{Global};
+ghost use Rattle.wc_resolve.specs.declared.types.WitType.{WitType};
+ghost use Rattle.wc_resolve.specs.Futures.{AreFuturesEntries, IsEntryFor, carried_indices, count_of, entry_at, entry_from, entry_view, function_futures, futures_from, futures_of, is_carrier, max_count, no_futures, only_part, part_for, with_itself};
+ghost use Rattle.wc_resolve.specs.Tables.{IsOrder};
+ghost use Rattle.wc_resolve.specs.Ranges.{IsFunctionIn, IsTypeIn};
+ghost use Rattle.wc_resolve.specs.Roots.{id_index, indices, param_roots, type_roots};
 ghost use Rattle.wc_resolve.specs.Views.{function_view, kind_view, type_view};
 
-use crate::kinds::{carried_indices, carried_types};
+use crate::kinds::carried_types;
 use crate::roots::push_passed;
-use crate::walk::{TypeStep, enter_all, ids_of};
-use crate::{Function, Resolve, TypeDef, TypeDefKind, TypeId};
+use crate::walk::{TypeStep, enter_all, enter_reversed, ids_of};
+use crate::{Function, Resolve, TypeDef, TypeDefKind, TypeId, WitType};
 use std::alloc::{AllocError, Global};
+
+/// What is kept of a type's futures and streams.
+#[derive(Drop)]
+pub(crate) struct FuturesEntry {
+    /// The types whose futures and streams these are, one type's after another's; each has some, and is a future or a
+    /// stream or has two parts at least.
+    pub(crate) parts: Vec<TypeId>,
+    /// Whether the type is a future or a stream, which comes after those of its parts.
+    pub(crate) is_carrier: bool,
+    /// How many they are, at most `u64::MAX`.
+    pub(crate) count: u64,
+}
 
 /// Whether a type is a future or a stream.
 fn is_carrier(kind: &TypeDefKind) -> bool
     ensures { result ≡ is_carrier (kind_view kind.now) }
 {
     matches!(kind, TypeDefKind::Future(_) | TypeDefKind::Stream(_))
-}
-
-/// Whether one of these indices is flagged.
-fn is_any_flagged(indices: &[usize], carrier_flags: &[bool]) -> bool
-    ensures { result ≡ list_any (λ c. slice_index_or carrier_flags.now c false) indices.now }
-{
-    indices
-        .iter()
-        .any(|index| is_flagged(carrier_flags, *index))
-}
-
-fn is_flagged(carrier_flags: &[bool], index: usize) -> bool
-    ensures { result ≡ slice_index_or carrier_flags.now index false }
-{
-    match carrier_flags.get(index) {
-        Some(flag) => *flag,
-        None => false,
-    }
-}
-
-/// The indices of the types that the type at an index contains by value, or of an alias's target.
-fn carried_below(alloc: Global, types: &[TypeDef], index: usize) -> Result<Vec<usize>, AllocError>
-    requires { index < length types.now }
-    ensures { IfOk result (λ v. v.items ≡ carried_children (map type_view types.now) index) }
-{
-    carried_indices(alloc, &types[index].kind)
-}
-
-/// Whether the type at an index is a future or a stream or, by the flags, contains one.
-fn is_carrier_below(
-    alloc: Global,
-    types: &[TypeDef],
-    index: usize,
-    carrier_flags: &[bool],
-) -> Result<bool, AllocError>
-    requires { index < length types.now }
-    ensures { IfOk result (λ b. b ≡ carries_by carrier_flags.now (map type_view types.now) index) }
-{
-    let is_itself_carrier = is_carrier(&types[index].kind);
-    let indices = carried_below(alloc, types, index)?;
-    Ok(is_itself_carrier || is_any_flagged(&indices, carrier_flags))
-}
-
-/// For each type whether it is or contains a future or a stream. In `order` each type is after those that it refers to.
-pub(crate) fn carriers(
-    alloc: Global,
-    types: &[TypeDef],
-    order: &[usize],
-) -> Result<Vec<bool>, AllocError>
-    requires { IsOrder (map type_view types.now) order.now }
-    ensures { IfOk result (λ carrier_flags. AreCarrierFlags (map type_view types.now)
-        carrier_flags.items) }
-{
-    let mut carrier_flags = vec![in alloc; false; types.len()]?;
-    for index in order {
-        let flag = is_carrier_below(alloc, types, *index, &carrier_flags)?;
-        carrier_flags[*index] = flag;
-    }
-    Ok(carrier_flags)
-}
-
-/// Appends the step that adds the type itself, where it is a future or a stream.
-fn leave_carrier(
-    kind: &TypeDefKind,
-    id: TypeId,
-    steps: &mut Vec<TypeStep>,
-) -> Result<(), AllocError>
-    ensures { OnOk result (steps.new.items ≡ steps.old.items
-        ++ (if is_carrier (kind_view kind.now) then TypeStep.Leave id ∷ [] else [])) }
-{
-    if is_carrier(kind) {
-        steps.push(TypeStep::Leave(id))?;
-    }
-    Ok(())
 }
 
 /// The defined types that a type contains by value, or an alias's target.
@@ -104,15 +44,167 @@ fn carried_ids(alloc: Global, kind: &TypeDefKind) -> Result<Vec<TypeId>, AllocEr
     Ok(ids)
 }
 
+/// The type whose futures and streams are those of a type that has some.
+fn only_part(parts: &[TypeId], is_carrier: bool, id: TypeId) -> TypeId
+    ensures { result ≡ only_part parts.now is_carrier id }
+{
+    if is_carrier {
+        return id;
+    }
+    match parts {
+        [part] => *part,
+        _ => id,
+    }
+}
+
+/// The type whose futures and streams are those of a type, if this has any.
+fn part_for(entries: &[FuturesEntry], id: TypeId) -> Option<TypeId>
+    ensures { result ≡ part_for (map entry_view entries.now) id }
+{
+    match entries.get(id.0 as usize) {
+        Some(entry) => {
+            if entry.count == 0 {
+                None
+            } else {
+                Some(only_part(&entry.parts, entry.is_carrier, id))
+            }
+        }
+        None => None,
+    }
+}
+
+/// How many futures and streams a type has, at most `u64::MAX`.
+fn count_at(entries: &[FuturesEntry], id: TypeId) -> u64
+    ensures { result ≡ (entry_at (map entry_view entries.now) id.0).count }
+{
+    match entries.get(id.0 as usize) {
+        Some(entry) => entry.count,
+        None => 0,
+    }
+}
+
+/// How many futures and streams types have, at most `u64::MAX`.
+fn count_of(entries: &[FuturesEntry], ids: &[TypeId]) -> u64
+    ensures { result ≡ count_of (map entry_view entries.now) ids.now }
+{
+    let mut count = 0u64;
+    for id in ids {
+        count = count.saturating_add(count_at(entries, *id));
+    }
+    count
+}
+
+/// The count, and one more for the type itself, at most `u64::MAX`.
+fn with_itself(is_carrier: bool, count: u64) -> u64
+    ensures { result ≡ with_itself is_carrier count }
+{
+    if is_carrier {
+        count.saturating_add(1)
+    } else {
+        count
+    }
+}
+
+/// The types whose futures and streams are those of these types, one type's after another's.
+fn parts_for(
+    alloc: Global,
+    entries: &[FuturesEntry],
+    ids: &[TypeId],
+) -> Result<Vec<TypeId>, AllocError>
+    ensures { IfOk result
+        (λ v. v.items ≡ filter_map (part_for (map entry_view entries.now)) ids.now) }
+{
+    ids.iter()
+        .filter_map(|id| part_for(entries, *id))
+        .collect(alloc)
+}
+
+/// The entry of a type that contains these types by value, or is an alias of one.
+fn entry_from(
+    alloc: Global,
+    entries: &[FuturesEntry],
+    ids: &[TypeId],
+    is_carrier: bool,
+) -> Result<FuturesEntry, AllocError>
+    ensures { IfOk result
+        (λ e. entry_view e ≡ entry_from (map entry_view entries.now) ids.now is_carrier) }
+{
+    let parts = parts_for(alloc, entries, ids)?;
+    let count = with_itself(is_carrier, count_of(entries, ids));
+    Ok(FuturesEntry {
+        parts,
+        is_carrier,
+        count,
+    })
+}
+
+/// The entry of the type at an index, by those of the types that it contains by value.
+fn entry_for(
+    alloc: Global,
+    entries: &[FuturesEntry],
+    types: &[TypeDef],
+    index: usize,
+) -> Result<FuturesEntry, AllocError>
+    requires { index < length types.now }
+    ensures { IfOk result (λ e. IsEntryFor (map entry_view entries.now)
+        (map type_view types.now) index (entry_view e)) }
+{
+    let kind = &types[index].kind;
+    let ids = carried_ids(alloc, kind)?;
+    let entry = entry_from(alloc, entries, &ids, is_carrier(kind))?;
+    Ok(entry)
+}
+
+/// So many entries without futures and streams.
+fn empty_entries(alloc: Global, count: usize) -> Result<Vec<FuturesEntry>, AllocError>
+    ensures { IfOk result (λ v. map entry_view v.items ≡ replicate count no_futures) }
+{
+    let mut entries = Vec::with_capacity(alloc, count)?;
+    for _ in 0..count {
+        entries.push(FuturesEntry {
+            parts: Vec::new(alloc),
+            is_carrier: false,
+            count: 0,
+        })?;
+    }
+    Ok(entries)
+}
+
+/// The entries of all types. In `order` each type is after those that it refers to.
+pub(crate) fn futures_entries(
+    alloc: Global,
+    types: &[TypeDef],
+    order: &[usize],
+) -> Result<Vec<FuturesEntry>, AllocError>
+    requires { IsOrder (map type_view types.now) order.now }
+    ensures { IfOk result
+        (λ v. AreFuturesEntries (map type_view types.now) (map entry_view v.items)) }
+{
+    let mut entries = empty_entries(alloc, types.len())?;
+    for index in order {
+        let entry = entry_for(alloc, &entries, types, *index)?;
+        entries[*index] = entry;
+    }
+    Ok(entries)
+}
+
+/// Appends the step that adds the type itself, where it is a future or a stream.
+fn leave_carrier(is_carrier: bool, id: TypeId, steps: &mut Vec<TypeStep>) -> Result<(), AllocError>
+    ensures { OnOk result (steps.new.items ≡ steps.old.items
+        ++ (if is_carrier then TypeStep.Leave id ∷ [] else [])) }
+{
+    if is_carrier {
+        steps.push(TypeStep::Leave(id))?;
+    }
+    Ok(())
+}
+
 /// The futures and streams of types, those of one type after those of another.
 fn list(alloc: Global, resolve: &Resolve, roots: Vec<TypeId>) -> Result<Vec<TypeId>, AllocError>
     requires { (x : ℕ) → Contains (indices roots.items) x → x < length resolve.now.types }
     ensures { IfOk result (λ v. indices v.items ≡
         futures_from resolve.now.types (indices roots.items)) }
 {
-    resolve.formed();
-    resolve.listed();
-    resolve.carried();
     let mut found = Vec::new(alloc);
     let mut steps = Vec::new(alloc);
     enter_all(roots, &mut steps)?;
@@ -120,16 +212,112 @@ fn list(alloc: Global, resolve: &Resolve, roots: Vec<TypeId>) -> Result<Vec<Type
         match step {
             TypeStep::Leave(id) => found.push(id)?,
             TypeStep::Enter(id) => {
-                if resolve.carries(id) {
-                    let kind = &resolve.type_def(id).kind;
-                    leave_carrier(kind, id, &mut steps)?;
-                    let ids = carried_ids(alloc, kind)?;
-                    enter_all(ids, &mut steps)?;
-                }
+                let entry = resolve.futures_entry(id);
+                leave_carrier(entry.is_carrier, id, &mut steps)?;
+                enter_reversed(&entry.parts, &mut steps)?;
             }
         }
     }
     Ok(found)
+}
+
+/// Of these types the one that has the future or stream at index `n` among those of all, and its index there; `None`
+/// if they have no more than `n` together.
+fn part_with(resolve: &Resolve, parts: &[TypeId], n: u64) -> Option<(TypeId, u64)>
+    requires within { (x : ℕ) → Contains (indices parts.now) x →
+        x < length resolve.now.types }
+    requires small { n < 2 ^ 32 }
+    ensures found { IfSome result (λ p. Contains (indices parts.now) p.0.0
+        × (p.1 ≤ n) × (p.1 < length (futures_of resolve.now.types p.0.0))
+        × (slice_get (futures_from resolve.now.types (indices parts.now)) n
+        ≡ slice_get (futures_of resolve.now.types p.0.0) p.1)) }
+    ensures past { IfNone result
+        (length (futures_from resolve.now.types (indices parts.now)) ≤ n) }
+{
+    let mut left = n;
+    for part in parts {
+        let count = resolve.futures_entry(*part).count;
+        if left < count {
+            return Some((*part, left));
+        }
+        left -= count;
+    }
+    None
+}
+
+/// The future or stream at index `n` of a type that has more than `n`.
+fn nth(resolve: &Resolve, id: TypeId, n: u64) -> TypeId
+    requires there { id.0 < length resolve.now.types }
+    requires small { n < 2 ^ 32 }
+    requires more { n < length (futures_of resolve.now.types id.0) }
+    ensures { slice_get (futures_of resolve.now.types id.0) n ≡ Some result.0 }
+{
+    let mut found = id;
+    let mut left = n;
+    'parts: while let Some((part, rest)) = part_with(
+        resolve,
+        &resolve.futures_entry(found).parts,
+        left,
+    ) {
+        found = part;
+        left = rest;
+    }
+    found
+}
+
+/// The future or stream at index `n` of a type, if it has more than `n`.
+fn nth_in(resolve: &Resolve, ty: WitType, n: u64) -> Option<TypeId>
+    requires there { IsTypeIn (length resolve.now.types) ty }
+    requires small { n < 2 ^ 32 }
+    ensures { option_map id_index result ≡
+        slice_get (futures_from resolve.now.types (type_roots ty)) n }
+{
+    match ty {
+        WitType::Id(id) => {
+            if n < resolve.futures_entry(id).count {
+                Some(nth(resolve, id, n))
+            } else {
+                None
+            }
+        }
+        _ => None,
+    }
+}
+
+/// How many futures and streams a type has, at most `u64::MAX`.
+fn count_in(resolve: &Resolve, ty: WitType) -> u64
+    requires { IsTypeIn (length resolve.now.types) ty }
+    ensures { result ≡ min (length (futures_from resolve.now.types (type_roots ty))) max_count }
+{
+    match ty {
+        WitType::Id(id) => resolve.futures_entry(id).count,
+        _ => 0,
+    }
+}
+
+/// The future or stream at index `n` among those of parameters, and after them of a result, if they have more than `n`.
+fn nth_passed(
+    resolve: &Resolve,
+    params: &[(String, WitType)],
+    outcome: Option<WitType>,
+    n: u64,
+) -> Option<TypeId>
+    requires params { All (λ (p : String Global × WitType).
+        IsTypeIn (length resolve.now.types) p.1) params.now }
+    requires outcome { IfSome outcome (IsTypeIn (length resolve.now.types)) }
+    requires small { n < 2 ^ 32 }
+    ensures { option_map id_index result ≡ slice_get (futures_from resolve.now.types
+        (param_roots params.now ++ option_map_or type_roots outcome [])) n }
+{
+    let mut left = n;
+    for param in params {
+        let count = count_in(resolve, param.1);
+        if left < count {
+            return nth_in(resolve, param.1, left);
+        }
+        left -= count;
+    }
+    nth_in(resolve, outcome?, left)
 }
 
 impl Function {
@@ -155,5 +343,17 @@ impl Function {
         push_passed(&mut roots, self)?;
         let found = list(alloc, resolve, roots)?;
         Ok(found)
+    }
+
+    /// The future or stream at an index, from 0, in the list of `find_futures_and_streams`; `None` if the list ends
+    /// before it. The list, which can be too long to be made, is not made.
+    ///
+    /// The ids of the function must be in range (`has_function`).
+    pub fn nth_future_or_stream(&self, resolve: &Resolve, n: u32) -> Option<TypeId>
+        requires { IsFunctionIn (length resolve.now.types) (function_view self.now) }
+        ensures { option_map id_index result ≡
+            slice_get (function_futures resolve.now (function_view self.now)) n }
+    {
+        nth_passed(resolve, &self.params, self.result, u64::from(n))
     }
 }

@@ -5,7 +5,7 @@ ghost use Rattle.std.specs.List.{filter_map};
 ghost use Rattle.std.specs.declared.alloc.Global.{Global};
 ghost use Rattle.wc_resolve.specs.declared.types.WitType.{WitType};
 ghost use Rattle.wc_resolve.specs.Views.{kind_view};
-ghost use Rattle.wc_resolve.specs.Futures.{carried_indices, carried_types};
+ghost use Rattle.wc_resolve.specs.Futures.{carried_types};
 ghost use Rattle.wc_resolve.specs.World.{contained_types, referenced_indices, referenced_types, resource_of, type_index};
 ghost use Rattle.std.specs.Option.{option_to_list};
 
@@ -47,7 +47,8 @@ fn optional(alloc: Global, ty: Option<WitType>) -> Result<Vec<WitType>, AllocErr
 
 /// The types of fields.
 fn field_types(alloc: Global, fields: &[(String, WitType)]) -> Result<Vec<WitType>, AllocError>
-    ensures { IfOk result (λ v. v.items ≡ map (λ (f : String Global × WitType). f.1) fields.now) }
+    ensures { IfOk result
+        (λ v. v.items ≡ map (λ (f : String Global × WitType). f.1) fields.now) }
 {
     fields.iter().map(|field| field.1).collect(alloc)
 }
@@ -121,13 +122,5 @@ pub(crate) fn referenced_indices(
     ensures { IfOk result (λ v. v.items ≡ referenced_indices (kind_view kind.now)) }
 {
     let types = referenced_types(alloc, kind)?;
-    types.iter().filter_map(|ty| type_index(*ty)).collect(alloc)
-}
-
-/// The indices of the defined types that a type contains by value, or of an alias's target.
-pub(crate) fn carried_indices(alloc: Global, kind: &TypeDefKind) -> Result<Vec<usize>, AllocError>
-    ensures { IfOk result (λ v. v.items ≡ carried_indices (kind_view kind.now)) }
-{
-    let types = carried_types(alloc, kind)?;
     types.iter().filter_map(|ty| type_index(*ty)).collect(alloc)
 }

@@ -53,6 +53,7 @@
 //! This function is proved in `wc_bench`, as `examples::resolve::interface_id`.
 #![tactic(auto)]
 
+mod canonical_ids;
 mod fault;
 mod flat;
 mod flattening;

@@ -25,8 +25,8 @@ fn add(resolve: &Resolve, roots: Vec<TypeId>, live: &mut IndexSet<TypeId>) -> Re
         (indices live.old.keys) (indices live.new.keys) (indices roots.items)) }
     ensures kept { Keeps (indices live.old.keys) (indices live.new.keys) }
 {
-    resolve.formed();
-    resolve.listed();
+    resolve.well_formedness();
+    resolve.listings_unique();
     let alloc = *live.allocator();
     let mut steps = Vec::new(alloc);
     enter_all(roots, &mut steps)?;
@@ -163,7 +163,7 @@ impl LiveTypes {
             (item_roots resolve.now (item_view item.now))) }
         ensures kept { Keeps self.old self.new }
     {
-        resolve.formed();
+        resolve.well_formedness();
         let roots = roots_of_item(*self.types.allocator(), resolve, item)?;
         add(resolve, roots, &mut self.types)
     }

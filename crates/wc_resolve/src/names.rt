@@ -5,6 +5,7 @@ ghost use Rattle.semver.specs.Identifiers.{parts_of};
 ghost use Rattle.wc_resolve.specs.Names.{IsFunctionCharacter, IsFunctionName, IsName, IsNameCharacter, track};
 
 use crate::PackageName;
+use crate::canonical_ids::is_track;
 use semver::Version;
 use std::alloc::{AllocError, Global};
 
@@ -67,5 +68,12 @@ impl PackageName {
             return format!(in alloc; "0.{minor}");
         }
         format!(in alloc; "{major}.{minor}.{patch}")
+    }
+
+    /// Whether a text is the track of a version, as `version_compat_track` has it. Nothing is allocated.
+    pub fn is_version_compat_track(version: &Version, text: &str) -> bool
+        ensures { IsTrue result ↔ (text.now ≡ track (parts_of version.now)) }
+    {
+        is_track(text, version)
     }
 }

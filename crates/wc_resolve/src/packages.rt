@@ -1,12 +1,12 @@
 //! Packages and their names.
 
-ghost use Rattle.std.specs.Prelude.{◌≡◌, ◌↔◌, IfNone, IfSome, IsTrue, map};
-ghost use Rattle.wc_resolve.specs.Queries.{HasNoPackage, IsPackageAt};
-ghost use Rattle.wc_resolve.specs.Views.{package_name_view, package_view};
+ghost use Rattle.std.specs.Prelude.{◌≡◌, ◌≢◌, ◌<◌, ◌^◌, ℕ, IfNone, IfOk, IfSome, Some, map, slice_get};
+ghost use Rattle.wc_resolve.specs.Views.{package_name_view};
 
 use crate::InterfaceId;
-use indexmap::IndexMap;
+use indexmap::{IndexMap, IndexSet};
 use semver::Version;
+use std::alloc::{AllocError, Global};
 
 /// The name of a package: `namespace:name`, or `namespace:name@version`. Names are equal where all three are, the build
 /// of the version included.
@@ -25,26 +25,35 @@ pub struct Package {
     pub interfaces: IndexMap<String, InterfaceId>,
 }
 
-/// Whether a package has this name and version.
-fn is_called(package: &Package, name: &PackageName) -> bool
-    ensures { IsTrue result ↔ (package_name_view «package».now.name ≡ package_name_view name.now) }
-{
-    package.name == *name
+impl PackageName {
+    /// A copy of this name: the same namespace, name and version.
+    ///
+    /// # Errors
+    ///
+    /// `AllocError`: an allocation failed.
+    pub fn clone(&self, alloc: Global) -> Result<PackageName, AllocError>
+        ensures { IfOk result (λ n. package_name_view n ≡ package_name_view self.now) }
+    {
+        let version = match &self.version {
+            Some(version) => Some(version.clone()?),
+            None => None,
+        };
+        Ok(PackageName {
+            namespace: String::from_str(alloc, &self.namespace)?,
+            name: String::from_str(alloc, &self.name)?,
+            version,
+        })
+    }
 }
 
-/// The index of the first package with this name and version, if it is below 2^32.
-pub(crate) fn package_index(packages: &[Package], name: &PackageName) -> Option<u32>
-    ensures found { IfSome result (λ position.
-        IsPackageAt (map package_view packages.now) (package_name_view name.now) position) }
-    ensures none { IfNone result
-        (HasNoPackage (map package_view packages.now) (package_name_view name.now)) }
+/// The index of a name, if it is below 2^32.
+pub(crate) fn name_index(names: &IndexSet<PackageName>, name: &PackageName) -> Option<u32>
+    ensures found { IfSome result (λ index.
+        slice_get (map package_name_view names.now.keys) index ≡ Some (package_name_view name.now)) }
+    ensures none { IfNone result ((index : ℕ) → index < 2 ^ 32 →
+        slice_get (map package_name_view names.now.keys) index
+        ≢ Some (package_name_view name.now)) }
 {
-    let mut position: u32 = 0;
-    for package in packages {
-        if is_called(package, name) {
-            return Some(position);
-        }
-        position = position.checked_add(1)?;
-    }
-    None
+    let index = names.get_index_of(name)?;
+    u32::try_from(index).ok()
 }

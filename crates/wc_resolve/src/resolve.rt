@@ -8,21 +8,23 @@ ghost use Rattle.wc_resolve.specs.Dependencies.{AddsDependencies, aliased_at, de
 ghost use Rattle.wc_resolve.specs.Faults.{IsCause};
 ghost use Rattle.wc_resolve.specs.Flat.{flat_of, flat_rule};
 ghost use Rattle.wc_resolve.specs.TypeRules.{Follows};
-ghost use Rattle.wc_resolve.specs.Futures.{futures_of, futures_rule};
+ghost use Rattle.wc_resolve.specs.Futures.{IsFuturesEntry, entry_view, futures_of, futures_rule};
 ghost use Rattle.wc_resolve.specs.Laws.{FlatTypesUnique, FuturesUnique, ListingsUnique};
 ghost use Rattle.wc_resolve.specs.Live.{listing_of, listing_rule};
 ghost use Rattle.wc_resolve.specs.ResolveParts.{parts_view};
-ghost use Rattle.wc_resolve.specs.Queries.{HasNoId, HasNoPackage, IsMember, IsPackageAt, canonical_id, external_id, full_id, if_named, implemented, key_text};
+ghost use Rattle.wc_resolve.specs.Queries.{HasNoPackage, IsPackageAt, canonical_id, external_id, full_id, if_named, implemented, key_text, qualified_name};
 ghost use Rattle.wc_resolve.specs.Ranges.{AreNamesIn, IsItemIn, IsKeyIn};
 ghost use Rattle.wc_resolve.specs.Roots.{id_index};
 ghost use Rattle.wc_resolve.specs.Signatures.{flatten_functype, signature_view};
 ghost use Rattle.wc_resolve.specs.WellFormed.{IsUsable, IsWellFormed};
 
+use crate::canonical_ids::is_canonical_member_id;
+use crate::futures::FuturesEntry;
 use crate::interface_ids::{canonical_member_id, member_id};
-use crate::packages::package_index;
+use crate::packages::name_index;
 use crate::signature::signature_of;
 use crate::validate::resources::is_usable;
-use crate::validate::{TypeTables, check};
+use crate::validate::{Tables, check};
 use crate::{
     AbiVariant, Function, Interface, InterfaceId, Package, PackageId, PackageName, ResolveFault,
     TypeDef, TypeDefKind, TypeId, TypeOwner, WasmSignature, WitType, World, WorldId, WorldItem,
@@ -36,7 +38,7 @@ use std::marker::Model;
 #[derive(Drop)]
 pub struct Resolve {
     parts: Parts,
-    kept: TypeTables,
+    kept: Tables,
 }
 
 /// What a `Resolve` is made of: worlds, interfaces, types and packages. The id of each is its index in its list.
@@ -54,11 +56,11 @@ impl Model for Resolve {
     ghost Value = { ResolveView };
 
     ghost use Rattle.wc_resolve.specs.ResolveParts.{parts_view};
-    ghost use Rattle.wc_resolve.specs.TypeTables.{AreTypeTables};
+    ghost use Rattle.wc_resolve.specs.Tables.{AreTables};
 
     ghost view = { λ r. parts_view r.parts };
 
-    ghost invariant = { λ r. AreTypeTables (parts_view r.parts) r.kept };
+    ghost invariant = { λ r. AreTables (parts_view r.parts) r.kept };
 }
 
 impl Resolve {
@@ -89,7 +91,7 @@ impl Resolve {
     }
 
     /// That the parts are well-formed, for proofs of callers. It does nothing when it runs.
-    pub fn formed(&self)
+    pub fn well_formedness(&self)
         ensures { IsWellFormed self.now }
     {
         let _ = &self.kept;
@@ -135,7 +137,7 @@ impl Resolve {
     /// That the listing of each type (see `LiveTypes`) is the listings of the types that it refers to, in order, and
     /// after them the type itself; and that no other lists follow this rule. For proofs of callers; it does nothing
     /// when it runs.
-    pub fn listed(&self)
+    pub fn listings_unique(&self)
         ensures made { Follows listing_rule self.now.types (listing_of self.now.types) }
         ensures alone { ListingsUnique self.now.types }
     {
@@ -145,26 +147,25 @@ impl Resolve {
     /// That the futures and streams of each type are those of the types that it contains by value, in order, or of its
     /// target where it is an alias, and after them the type itself where it is one; and that no other lists follow this
     /// rule. For proofs of callers; it does nothing when it runs.
-    pub fn carried(&self)
+    pub fn futures_unique(&self)
         ensures made { Follows futures_rule self.now.types (futures_of self.now.types) }
         ensures alone { FuturesUnique self.now.types }
     {
         let _ = &self.kept;
     }
 
-    /// Whether a type is or contains a future or a stream.
-    pub(crate) fn carries(&self, id: TypeId) -> bool
+    /// What is kept of the futures and streams of the type at this index.
+    pub(crate) fn futures_entry(&self, id: TypeId) -> &FuturesEntry
         requires { id.0 < length self.now.types }
-        ensures no_futures { result ≡ false → futures_of self.now.types id.0 ≡ [] }
-        ensures has_futures { IsTrue result → futures_of self.now.types id.0 ≢ [] }
+        ensures { IsFuturesEntry self.now.types id.0 (entry_view result.now) }
     {
-        self.kept.carriers[id.0 as usize]
+        &self.kept.futures[id.0 as usize]
     }
 
     /// That the flat types of each type are those of the Canonical ABI ("Flattening"), by the flat types of the types
     /// that it refers to; and that no other lists follow this rule. For proofs of callers; it does nothing when it
     /// runs.
-    pub fn flattened(&self)
+    pub fn flat_types_unique(&self)
         ensures made { Follows flat_rule self.now.types (flat_of self.now.types) }
         ensures alone { FlatTypesUnique self.now.types }
     {
@@ -197,13 +198,6 @@ impl Resolve {
             flatten_functype (flat_of self.now.types) abi (function_view function.now)) }
     {
         signature_of(alloc, &self.kept.flats, abi, function)
-    }
-
-    /// All packages, by their indices.
-    pub(crate) fn all_packages(&self) -> &[Package]
-        ensures { map package_view result.now ≡ self.now.packages }
-    {
-        &self.parts.packages
     }
 
     /// The world at this index, which must be in range (`has_world`).
@@ -275,7 +269,7 @@ impl Resolve {
         requires { id.0 < length self.now.interfaces }
         ensures { IfOk result (λ text. option_map string_bytes text ≡ full_id self.now id.0) }
     {
-        match self.member(id) {
+        match self.qualified_name(id) {
             Some((package, name)) => Ok(Some(member_id(alloc, package, name)?)),
             None => Ok(None),
         }
@@ -295,22 +289,39 @@ impl Resolve {
         id: InterfaceId,
     ) -> Result<Option<String>, AllocError>
         requires { id.0 < length self.now.interfaces }
-        ensures { IfOk result (λ text. option_map string_bytes text ≡ canonical_id self.now id.0) }
+        ensures { IfOk result
+            (λ text. option_map string_bytes text ≡ canonical_id self.now id.0) }
     {
-        match self.member(id) {
+        match self.qualified_name(id) {
             Some((package, name)) => Ok(Some(canonical_member_id(alloc, package, name)?)),
             None => Ok(None),
         }
     }
 
-    /// The name of an interface's package and the interface's own name, if it has both.
-    fn member(&self, id: InterfaceId) -> Option<(&PackageName, &str)>
+    /// Whether a text is the id that `canonicalized_id_of` has for an interface. Nothing is allocated: the text is
+    /// compared piece by piece. An interface without a name or without a package has no id.
+    ///
+    /// The index must be in range (`has_interface`).
+    pub fn is_canonical_id(&self, id: InterfaceId, text: &str) -> bool
         requires { id.0 < length self.now.interfaces }
-        ensures some { IfSome result (λ m.
-            IsMember self.now id.0 (package_name_view m.0.now) m.1.now) }
-        ensures none { IfNone result (HasNoId self.now id.0) }
+        ensures { IsTrue result ↔ (canonical_id self.now id.0 ≡ Some text.now) }
     {
-        self.formed();
+        match self.qualified_name(id) {
+            Some((package, name)) => is_canonical_member_id(text, package, name),
+            None => false,
+        }
+    }
+
+    /// The name of an interface's package, and the interface's own name, of which its id is made. `None` for an
+    /// interface without a name or without a package.
+    ///
+    /// The index must be in range (`has_interface`).
+    pub fn qualified_name(&self, id: InterfaceId) -> Option<(&PackageName, &str)>
+        requires { id.0 < length self.now.interfaces }
+        ensures { option_map (λ m. (package_name_view m.0.now, m.1.now)) result
+            ≡ qualified_name self.now id.0 }
+    {
+        self.well_formedness();
         let interface = self.interface(id);
         match &interface.name {
             None => None,
@@ -379,7 +390,7 @@ impl Resolve {
             IsPackageAt self.now.packages (package_name_view name.now) id.0) }
         ensures none { IfNone result (HasNoPackage self.now.packages (package_name_view name.now)) }
     {
-        let index = package_index(self.all_packages(), name)?;
+        let index = name_index(&self.kept.package_names, name)?;
         Some(PackageId(index))
     }
 
@@ -399,7 +410,7 @@ impl Resolve {
         requires { id.0 < length self.now.interfaces }
         ensures { IfOk result (λ v. interface_ids v.items ≡ direct_dependencies self.now id.0) }
     {
-        self.formed();
+        self.well_formedness();
         let mut owners = Vec::new(alloc);
         self.push_dependencies(id, self.interface(id), &mut owners)?;
         Ok(owners)
@@ -450,7 +461,7 @@ impl Resolve {
         requires { ty.0 < length self.now.types }
         ensures { option_map id_of_interface result ≡ dependency self.now id.0 ty.0 }
     {
-        self.formed();
+        self.well_formedness();
         match self.alias_target(ty) {
             Some(target) => self.other_owner(id, target),
             None => None,

@@ -1,11 +1,11 @@
 //! Whether parts are well-formed: one file for each rule, in the order of the faults.
 
-ghost use Rattle.std.specs.Prelude.{IfErr, IfOk};
+ghost use Rattle.std.specs.Prelude.{IfErr, IfOk, map};
 ghost use Rattle.wc_resolve.specs.ResolveParts.{parts_view};
 ghost use Rattle.wc_resolve.specs.Faults.{IsCause, IsOrderCause};
 ghost use Rattle.wc_resolve.specs.Flat.{AreFlattened, lists};
-ghost use Rattle.wc_resolve.specs.Futures.{AreCarrierFlags};
-ghost use Rattle.wc_resolve.specs.TypeTables.{AreTypeTables, IsOrder};
+ghost use Rattle.wc_resolve.specs.Futures.{AreFuturesEntries, entry_view};
+ghost use Rattle.wc_resolve.specs.Tables.{AreTables, IsOrder};
 ghost use Rattle.wc_resolve.specs.Ranges.{AreIdsInRange};
 ghost use Rattle.wc_resolve.specs.Resources.{AreResourceFlags};
 
@@ -20,29 +20,32 @@ mod spelling;
 mod type_test;
 
 use crate::flattening::flatten_all;
-use crate::futures::carriers;
-use crate::{Parts, ResolveFault, WasmType};
+use crate::futures::{FuturesEntry, futures_entries};
+use crate::{PackageName, Parts, ResolveFault, WasmType};
 use cases::has_no_empty_type;
+use indexmap::IndexSet;
 use keys::keys_match;
 use naming::are_named;
 use order::children_first;
-use package_names::are_packages_distinct;
+use package_names::distinct_package_names;
 use ranges::are_ids_in_range;
 use resources::{find_resources, has_no_resource_by_value};
 use spelling::are_names_spelled;
 use std::alloc::{AllocError, Global};
 
-/// Tables of the types of well-formed parts.
+/// What a `Resolve` keeps beside its parts.
 #[derive(Drop)]
-pub(crate) struct TypeTables {
+pub(crate) struct Tables {
     /// The indices of all types, each after those that it refers to.
     pub(crate) order: Vec<usize>,
     /// For each type whether it is a resource, or an alias of one.
     pub(crate) resources: Vec<bool>,
     /// For each type its flat types, as many as are kept (`KEPT_FLAT_TYPES`).
     pub(crate) flats: Vec<Vec<WasmType>>,
-    /// For each type whether it is or contains a future or a stream.
-    pub(crate) carriers: Vec<bool>,
+    /// For each type its futures and streams.
+    pub(crate) futures: Vec<FuturesEntry>,
+    /// The names of the packages, in order.
+    pub(crate) package_names: IndexSet<PackageName>,
 }
 
 /// The indices of all types, each after those that it refers to.
@@ -75,22 +78,26 @@ fn flatten_parts(
     flatten_all(alloc, &parts.types, order)
 }
 
-/// For each type whether it is or contains a future or a stream.
-fn carriers_of(alloc: Global, parts: &Parts, order: &[usize]) -> Result<Vec<bool>, AllocError>
+/// For each type its futures and streams.
+fn futures_of_parts(
+    alloc: Global,
+    parts: &Parts,
+    order: &[usize],
+) -> Result<Vec<FuturesEntry>, AllocError>
     requires { IsOrder (parts_view parts.now).types order.now }
-    ensures { IfOk result (λ carrier_flags. AreCarrierFlags (parts_view parts.now).types
-        carrier_flags.items) }
+    ensures { IfOk result
+        (λ v. AreFuturesEntries (parts_view parts.now).types (map entry_view v.items)) }
 {
-    carriers(alloc, &parts.types, order)
+    futures_entries(alloc, &parts.types, order)
 }
 
-/// Checks that the parts are well-formed, and makes the tables of their types.
+/// Checks that the parts are well-formed, and makes what is kept beside them.
 ///
 /// # Errors
 ///
 /// The faults of `Resolve::build`.
-pub(crate) fn check(alloc: Global, parts: &Parts) -> Result<TypeTables, ResolveFault>
-    ensures kept { IfOk result (AreTypeTables (parts_view parts.now)) }
+pub(crate) fn check(alloc: Global, parts: &Parts) -> Result<Tables, ResolveFault>
+    ensures kept { IfOk result (AreTables (parts_view parts.now)) }
     ensures fault { IfErr result (IsCause (parts_view parts.now)) }
 {
     if !are_ids_in_range(alloc, parts)? {
@@ -103,9 +110,9 @@ pub(crate) fn check(alloc: Global, parts: &Parts) -> Result<TypeTables, ResolveF
     if !keys_match(parts) {
         return Err(ResolveFault::KeyMismatch);
     }
-    if !are_packages_distinct(alloc, parts)? {
+    let Some(package_names) = distinct_package_names(alloc, parts)? else {
         return Err(ResolveFault::NameClash);
-    }
+    };
     if !are_names_spelled(parts) {
         return Err(ResolveFault::BadCharacter);
     }
@@ -117,11 +124,12 @@ pub(crate) fn check(alloc: Global, parts: &Parts) -> Result<TypeTables, ResolveF
         return Err(ResolveFault::Empty);
     }
     let flats = flatten_parts(alloc, parts, &order)?;
-    let carriers = carriers_of(alloc, parts, &order)?;
-    Ok(TypeTables {
+    let futures = futures_of_parts(alloc, parts, &order)?;
+    Ok(Tables {
         order,
         resources,
         flats,
-        carriers,
+        futures,
+        package_names,
     })
 }

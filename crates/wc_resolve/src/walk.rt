@@ -63,3 +63,17 @@ pub(crate) fn enter_all(mut ids: Vec<TypeId>, steps: &mut Vec<TypeStep>) -> Resu
     ids.reverse();
     enter_each(&ids, steps)
 }
+
+/// Appends steps that enter these types, the last type first: the last step, which is done first, enters the first
+/// type.
+pub(crate) fn enter_reversed(ids: &[TypeId], steps: &mut Vec<TypeStep>) -> Result<(), AllocError>
+    ensures { OnOk result (steps.new.items ≡
+        steps.old.items ++ map TypeStep.Enter (reverse ids.now)) }
+{
+    let mut left = ids.len();
+    while left > 0 {
+        left -= 1;
+        steps.push(TypeStep::Enter(ids[left]))?;
+    }
+    Ok(())
+}

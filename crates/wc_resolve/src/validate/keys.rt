@@ -95,7 +95,8 @@ fn are_types_called(parts: &Parts, types: &IndexMap<String, TypeId>) -> bool
 }
 
 fn are_functions_called(functions: &IndexMap<String, Function>) -> bool
-    ensures { IsTrue result ↔ All (λ e. e.1.name ≡ e.0) (map function_entry functions.now.entries) }
+    ensures { IsTrue result
+        ↔ All (λ e. e.1.name ≡ e.0) (map function_entry functions.now.entries) }
 {
     functions
         .iter()

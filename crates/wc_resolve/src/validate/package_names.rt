@@ -1,31 +1,43 @@
-//! Whether no two packages have the same name and version.
+//! The names of packages, where no two packages have the same name and version.
 
-ghost use Rattle.std.specs.Prelude.{◌↔◌, IfOk, IsTrue, map};
+ghost use Rattle.std.specs.Prelude.{IfOk, MatchOption, map};
 ghost use Rattle.wc_resolve.specs.Views.{package_view};
 ghost use Rattle.wc_resolve.specs.WellFormed.{ArePackagesDistinct, HaveDistinctNames};
 ghost use Rattle.wc_resolve.specs.ResolveParts.{parts_view};
+ghost use Rattle.wc_resolve.specs.Tables.{AreNamesOf};
 
 use crate::{Package, PackageName, Parts};
 use indexmap::IndexSet;
 use std::alloc::{AllocError, Global};
 
-/// Whether no two of the packages have the same name and version.
-fn are_names_distinct(alloc: Global, packages: &[Package]) -> Result<bool, AllocError>
-    ensures { IfOk result (λ b. IsTrue b ↔ HaveDistinctNames (map package_view packages.now)) }
+/// Copies of the names of the packages in order, if no two packages have the same name and version.
+fn distinct_names(
+    alloc: Global,
+    packages: &[Package],
+) -> Result<Option<IndexSet<PackageName>>, AllocError>
+    ensures { let views = map package_view packages.now in IfOk result (λ o. MatchOption o
+        (¬ HaveDistinctNames views)
+        (λ names. HaveDistinctNames views × AreNamesOf views names.keys)) }
 {
-    let mut seen: IndexSet<&PackageName> = IndexSet::new(alloc);
+    let mut names = IndexSet::new(alloc);
     for package in packages {
-        let (_index, is_new) = seen.insert_full(&package.name)?;
+        let name = package.name.clone(alloc)?;
+        let (_index, is_new) = names.insert_full(name)?;
         if !is_new {
-            return Ok(false);
+            return Ok(None);
         }
     }
-    Ok(true)
+    Ok(Some(names))
 }
 
-/// Whether no two packages of the parts have the same name and version.
-pub(crate) fn are_packages_distinct(alloc: Global, parts: &Parts) -> Result<bool, AllocError>
-    ensures { IfOk result (λ b. IsTrue b ↔ ArePackagesDistinct (parts_view parts.now)) }
+/// Copies of the names of the parts' packages in order, if no two packages have the same name and version.
+pub(crate) fn distinct_package_names(
+    alloc: Global,
+    parts: &Parts,
+) -> Result<Option<IndexSet<PackageName>>, AllocError>
+    ensures { IfOk result (λ o. MatchOption o (¬ ArePackagesDistinct (parts_view parts.now))
+        (λ names. ArePackagesDistinct (parts_view parts.now)
+        × AreNamesOf (parts_view parts.now).packages names.keys)) }
 {
-    are_names_distinct(alloc, &parts.packages)
+    distinct_names(alloc, &parts.packages)
 }

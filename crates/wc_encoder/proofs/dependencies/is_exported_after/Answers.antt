@@ -3,8 +3,8 @@ use Rattle.wc_resolve.specs.declared.worlds.WorldKey.TheVariants.{Interface as I
 use Rattle.wc_resolve.specs.contracts.worlds.WorldKeyPartialEq.TheImpl.{eq-value as key_eq}
 use Rattle.wc_resolve.specs.Views.{interface_key}
 use Rattle.wc_encoder.proofs.EntriesAfterLemmas.{after_none, after_some}
-use Rattle.wc_encoder.proofs.KeyLemmas.{keys_law}
-use Rattle.wc_encoder.proofs.LookupLemmas.{exported}
+use Rattle.wc_resolve.proofs.KeyLemmas.{keys_law}
+use Rattle.wc_encoder.proofs.LookupLemmas.{exported_law}
 use Rattle.wc_encoder.proofs.dependencies.is_exported_after.Goals as goal
 
 pub returns-in-Some : goal.returns-in-Some
@@ -15,5 +15,5 @@ returns-in-Some c =
 pub returns : goal.returns
 returns c =
     after_none (interface_key c.args.id.0) c.args.exports.now.entries c.args.index (λ h.
-    let e : false ≡ true = (exported _ (interface_key c.args.id.0) (λ y. keys_law (InterfaceKey c.args.id) y) c.args.exports.now.entries false (sym (ap is_some c.in-None.is) ∙ c.get_index_of.ensures.found)).1 h in
+    let e : false ≡ true = (exported_law _ (interface_key c.args.id.0) (λ y. keys_law (InterfaceKey c.args.id) y) c.args.exports.now.entries false (sym (ap is_some c.in-None.is) ∙ c.get_index_of.ensures.found)).1 h in
     let bad : ⊥ = cc e in bad)

@@ -2,7 +2,7 @@ use Rattle.std.proofs.Common.{◌≡◌, true, false, map, refl}
 use Rattle.wc_resolve.specs.declared.ids.InterfaceId.{InterfaceId}
 use Rattle.wc_resolve.specs.Views.{world_entry}
 use Rattle.wc_encoder.specs.Distinct.{exported_interfaces}
-use Rattle.wc_encoder.proofs.KeyLemmas.{ids_law}
+use Rattle.wc_resolve.proofs.KeyLemmas.{ids_law}
 use Rattle.wc_encoder.proofs.LookupLemmas.{interface_next}
 use Rattle.wc_encoder.proofs.SeenLemmas.{seen_again, seen_more}
 use Rattle.wc_encoder.proofs.distinct.are_interfaces_once.Goals as goal

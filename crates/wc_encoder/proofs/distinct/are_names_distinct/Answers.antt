@@ -10,7 +10,7 @@ use Rattle.wc_resolve.specs.Ranges.{IsKeyIn}
 use Rattle.wc_resolve.specs.Views.{KeyView, ItemView, key_view, world_entry}
 use Rattle.wc_resolve.proofs.Viewed.{all_unviewed}
 use Rattle.wc_encoder.specs.Distinct.{import_names}
-use Rattle.wc_encoder.proofs.KeyLemmas.{names_law}
+use Rattle.wc_resolve.proofs.KeyLemmas.{names_law}
 use Rattle.wc_encoder.proofs.LookupLemmas.{name_next}
 use Rattle.wc_encoder.proofs.SeenLemmas.{name_text, seen_again, seen_more}
 use Rattle.wc_encoder.proofs.distinct.are_names_distinct.Goals as goal

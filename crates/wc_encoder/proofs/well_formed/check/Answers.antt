@@ -1,10 +1,12 @@
+use Rattle.semver.specs.Identifiers.{parts_text}
 use Rattle.wc_resolve.specs.Views.{world_view}
+use Rattle.wc_resolve.proofs.WellFormedLemmas.{export_items_in, import_keys_have_texts, import_keys_in}
 use Rattle.wc_encoder.specs.EncoderParts.{parts_view}
 use Rattle.wc_encoder.specs.Dependencies.{AreDependenciesBefore}
 use Rattle.wc_encoder.specs.Distinct.{AreInterfacesOnce, AreNamesDistinct}
 use Rattle.wc_encoder.specs.Entries.{Entries}
 use Rattle.wc_encoder.specs.Exported.{AreKeysExported, AreNoTypes}
-use Rattle.wc_encoder.proofs.WorldLemmas.{export_items_in, fails, has_world, holds, import_keys_in, import_keys_identified, imports_fail, imports_hold}
+use Rattle.wc_encoder.proofs.WorldLemmas.{fails, has_world, holds, imports_fail, imports_hold}
 use Rattle.wc_encoder.proofs.well_formed.check.Goals as goal
 
 pub returns-then-not-are_no_types-clause-fault : goal.returns-then-not-are_no_types-clause-fault
@@ -58,21 +60,21 @@ are_dependencies_before-requires c =
     let e = parts_view c.args.parts.now in
     let w = world_view c.in-Some.world.now in
     let there = c.in-Some.ensures.some in
-    export_items_in e.resolve c.formed.ensures e.world w there
+    export_items_in e.resolve c.well_formedness.ensures e.world w there
 
 pub are_names_distinct-requires-clause-there : goal.are_names_distinct-requires-clause-there
 are_names_distinct-requires-clause-there c =
     let e = parts_view c.args.parts.now in
     let w = world_view c.in-Some.world.now in
     let there = c.in-Some.ensures.some in
-    import_keys_in e.resolve c.formed.ensures e.world w there
+    import_keys_in e.resolve c.well_formedness.ensures e.world w there
 
 pub are_names_distinct-requires-clause-named : goal.are_names_distinct-requires-clause-named
 are_names_distinct-requires-clause-named c =
     let e = parts_view c.args.parts.now in
     let w = world_view c.in-Some.world.now in
     let there = c.in-Some.ensures.some in
-    import_keys_identified e.resolve c.formed.ensures e.world w there
+    import_keys_have_texts e.resolve c.well_formedness.ensures e.world w there parts_text
 
 pub returns-clause-formed : goal.returns-clause-formed
 returns-clause-formed c =

@@ -1,10 +1,10 @@
 use Rattle.std.proofs.Common.{map, take, ap, ◌∙◌}
-use Rattle.wc_resolve.specs.Flat.{flatten_type, flatten_types, flat_entry, lists}
+use Rattle.wc_resolve.specs.Flat.{flat_entry, flat_types_kept, flatten_type, flatten_types, lists}
 use Rattle.wc_resolve.proofs.FlatSteps.{types_more, part_read, part_small, all_parts, cut_small}
 use Rattle.wc_resolve.proofs.flattening.flat_fields.Goals as goal
 
 pub put_flat-requires : goal.put_flat-requires
-put_flat-requires c = cut_small 17 c.loop-field.flat.items (flatten_types (flat_entry (lists c.args.flats.now)) (take c.loop-field.field-index (map (λ f. f.1) c.args.fields.now))) c.loop-field.invariant
+put_flat-requires c = cut_small flat_types_kept c.loop-field.flat.items (flatten_types (flat_entry (lists c.args.flats.now)) (take c.loop-field.field-index (map (λ f. f.1) c.args.fields.now))) c.loop-field.invariant
 
 pub loop-field-preserved : goal.loop-field-preserved
 loop-field-preserved c =
@@ -14,4 +14,4 @@ loop-field-preserved c =
     c.in_ok-put_flat.ensures
 
 pub returns : goal.returns
-returns c = c.loop-field.invariant ∙ ap (λ z. take 17 (flatten_types (flat_entry (lists c.args.flats.now)) z)) (all_parts (λ f. f.1) c.args.fields.now c.loop-field.field-index c.loop-field-test.false)
+returns c = c.loop-field.invariant ∙ ap (λ z. take flat_types_kept (flatten_types (flat_entry (lists c.args.flats.now)) z)) (all_parts (λ f. f.1) c.args.fields.now c.loop-field.field-index c.loop-field-test.false)

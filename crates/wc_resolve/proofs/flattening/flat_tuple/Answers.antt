@@ -1,11 +1,11 @@
 use Rattle.std.proofs.Common.{take}
 use Rattle.wc_resolve.specs.declared.types.WitType.TheVariants.{Bool}
-use Rattle.wc_resolve.specs.Flat.{flatten_types, flat_entry, lists}
+use Rattle.wc_resolve.specs.Flat.{flat_entry, flat_types_kept, flatten_types, lists}
 use Rattle.wc_resolve.proofs.FlatSteps.{types_more, cut_small}
 use Rattle.wc_resolve.proofs.flattening.flat_tuple.Goals as goal
 
 pub put_flat-requires : goal.put_flat-requires
-put_flat-requires c = cut_small 17 c.loop-ty.flat.items (flatten_types (flat_entry (lists c.args.flats.now)) (take c.loop-ty.ty-index c.args.types.now)) c.loop-ty.invariant
+put_flat-requires c = cut_small flat_types_kept c.loop-ty.flat.items (flatten_types (flat_entry (lists c.args.flats.now)) (take c.loop-ty.ty-index c.args.types.now)) c.loop-ty.invariant
 
 pub loop-ty-preserved : goal.loop-ty-preserved
 loop-ty-preserved c =

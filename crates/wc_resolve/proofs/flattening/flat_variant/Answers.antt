@@ -4,7 +4,7 @@ use Rattle.std.specs.List.{fold}
 use Rattle.std.specs.declared.alloc.Global.{Global}
 use Rattle.wc_resolve.specs.declared.flat.WasmType.{WasmType}
 use Rattle.wc_resolve.specs.declared.flat.WasmType.TheVariants.{I32}
-use Rattle.wc_resolve.specs.Flat.{flat_payload, join_flats, flat_entry, lists}
+use Rattle.wc_resolve.specs.Flat.{flat_entry, flat_payload, flat_types_kept, join_flats, lists}
 use Rattle.wc_resolve.proofs.FlatSteps.{shared_more, part_read, part_small, all_parts}
 use Rattle.wc_resolve.proofs.flattening.flat_variant.Goals as goal
 
@@ -18,6 +18,6 @@ loop-case-preserved c =
 pub returns : goal.returns
 returns c =
     subst (λ (z : List WasmType). IfOk c.with_case.result (λ (v : Vec WasmType Global). v.items ≡ z))
-    (ap (λ z. take 17 (I32 ∷ z)) (c.loop-case.invariant
+    (ap (λ z. take flat_types_kept (I32 ∷ z)) (c.loop-case.invariant
     ∙ ap (λ z. fold (λ shared t. join_flats shared (flat_payload (flat_entry (lists c.args.flats.now)) t)) [] z) (all_parts (λ f. f.1) c.args.cases.now c.loop-case.case-index c.loop-case-test.false)))
     c.with_case.ensures

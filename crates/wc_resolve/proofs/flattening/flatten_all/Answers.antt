@@ -3,7 +3,7 @@ use Rattle.std.specs.declared.alloc.Global.{Global}
 use Rattle.std.proofs.lemmas.List.{length-map}
 use Rattle.std.proofs.lemmas.List.Elements.{Contains-get_or}
 use Rattle.wc_resolve.specs.declared.flat.WasmType.{WasmType}
-use Rattle.wc_resolve.specs.Flat.{flat_rule, flat_entry, lists}
+use Rattle.wc_resolve.specs.Flat.{flat_entry, flat_rule, flat_types_kept, lists}
 use Rattle.wc_resolve.specs.Views.{type_view}
 use Rattle.wc_resolve.specs.World.{kind_at}
 use Rattle.wc_resolve.proofs.FlatTable.{FlatsOf, flats_start, flats_turn, flats_end, lists-set}
@@ -26,8 +26,8 @@ index_mut-requires c =
 pub loop-index-preserved : goal.loop-index-preserved
 loop-index-preserved c =
     let bound : get_or c.args.order.now c.loop-index.index-index 0 < length (map type_view c.args.types.now) = c.requires.within (get_or c.args.order.now c.loop-index.index-index 0) (Contains-get_or c.args.order.now c.loop-index.index-index 0 c.loop-index-test.true) in
-    let made : c.in_ok-flat.flat.items ≡ take 17 (flat_rule (flat_entry (lists c.loop-index.flats.items)) (get_or c.args.order.now c.loop-index.index-index 0) (kind_at (map type_view c.args.types.now) (get_or c.args.order.now c.loop-index.index-index 0))) =
-    c.in_ok-flat.ensures ∙ ap (λ z. take 17 (flat_rule (flat_entry (lists z)) (get_or c.args.order.now c.loop-index.index-index 0) (kind_at (map type_view c.args.types.now) (get_or c.args.order.now c.loop-index.index-index 0)))) c.deref.ensures.value in
+    let made : c.in_ok-flat.flat.items ≡ take flat_types_kept (flat_rule (flat_entry (lists c.loop-index.flats.items)) (get_or c.args.order.now c.loop-index.index-index 0) (kind_at (map type_view c.args.types.now) (get_or c.args.order.now c.loop-index.index-index 0))) =
+    c.in_ok-flat.ensures ∙ ap (λ z. take flat_types_kept (flat_rule (flat_entry (lists z)) (get_or c.args.order.now c.loop-index.index-index 0) (kind_at (map type_view c.args.types.now) (get_or c.args.order.now c.loop-index.index-index 0)))) c.deref.ensures.value in
     subst (λ (z : List (List WasmType)). FlatsOf (map type_view c.args.types.now) z (take (c.loop-index.index-index + 1) c.args.order.now))
     (sym (lists-set c.loop-index.flats.items (get_or c.args.order.now c.loop-index.index-index 0) c.in_ok-flat.flat))
     (flats_turn (map type_view c.args.types.now) c.args.order.now (lists c.loop-index.flats.items) c.loop-index.index-index (get_or c.args.order.now c.loop-index.index-index 0) c.in_ok-flat.flat.items

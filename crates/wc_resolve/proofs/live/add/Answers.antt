@@ -35,22 +35,22 @@ returns-in_err-ids-in-Enter-clause-begun c = stopped _ _ (walk_stop c.args.resol
 pub steps-smaller-in-Continue-branch-5 : goal.steps-smaller-in-Continue-branch-5
 steps-smaller-in-Continue-branch-5 c =
     rw (c.in_ok-enter_all-in-Enter.ensures, c.in_ok-push-in-Enter.ensures.items)
-    (turns_enter c.args.resolve.now.types c.steps.steps.items c.pop.new.self.items c.in-Enter.id c.in_ok-ids-in-Enter.ids.items c.listed.ensures.made
+    (turns_enter c.args.resolve.now.types c.steps.steps.items c.pop.new.self.items c.in-Enter.id c.in_ok-ids-in-Enter.ids.items c.listings_unique.ensures.made
     (step_within c.args.resolve.now.types (map id_index c.args.live.now.keys) (list_union (map id_index c.args.live.now.keys) (listing_from c.args.resolve.now.types (map id_index c.args.roots.items))) (map id_index c.steps.live.keys) c.steps.steps.items c.pop.new.self.items (Enter c.in-Enter.id) c.steps.invariant (c.in-Some.ensures.items ∙ ap (λ z. c.pop.new.self.items ++ z ∷ []) c.in-Enter.is))
     (children_are c.args.resolve.now.types c.in-Enter.id.0 (type_view c.type_def.result.now) (map id_index c.in_ok-ids-in-Enter.ids.items) c.type_def.ensures c.in_ok-ids-in-Enter.ensures) (c.in-Some.ensures.items ∙ ap (λ z. c.pop.new.self.items ++ z ∷ []) c.in-Enter.is))
 
 pub steps-preserved-in-Continue-branch-5 : goal.steps-preserved-in-Continue-branch-5
 steps-preserved-in-Continue-branch-5 c =
     rw (c.in_ok-enter_all-in-Enter.ensures, c.in_ok-push-in-Enter.ensures.items)
-    (walk_enter c.args.resolve.now.types (map id_index c.args.live.now.keys) (list_union (map id_index c.args.live.now.keys) (listing_from c.args.resolve.now.types (map id_index c.args.roots.items))) (map id_index c.steps.live.keys) c.steps.steps.items c.pop.new.self.items c.in-Enter.id c.in_ok-ids-in-Enter.ids.items c.listed.ensures.made
-    (children_within c.args.resolve.now (ids_of_types c.args.resolve.now c.formed.ensures.in_range)) (children_are c.args.resolve.now.types c.in-Enter.id.0 (type_view c.type_def.result.now) (map id_index c.in_ok-ids-in-Enter.ids.items) c.type_def.ensures c.in_ok-ids-in-Enter.ensures) c.steps.invariant (c.in-Some.ensures.items ∙ ap (λ z. c.pop.new.self.items ++ z ∷ []) c.in-Enter.is))
+    (walk_enter c.args.resolve.now.types (map id_index c.args.live.now.keys) (list_union (map id_index c.args.live.now.keys) (listing_from c.args.resolve.now.types (map id_index c.args.roots.items))) (map id_index c.steps.live.keys) c.steps.steps.items c.pop.new.self.items c.in-Enter.id c.in_ok-ids-in-Enter.ids.items c.listings_unique.ensures.made
+    (children_within c.args.resolve.now (ids_of_types c.args.resolve.now c.well_formedness.ensures.in_range)) (children_are c.args.resolve.now.types c.in-Enter.id.0 (type_view c.type_def.result.now) (map id_index c.in_ok-ids-in-Enter.ids.items) c.type_def.ensures c.in_ok-ids-in-Enter.ensures) c.steps.invariant (c.in-Some.ensures.items ∙ ap (λ z. c.pop.new.self.items ++ z ∷ []) c.in-Enter.is))
 
 pub returns-in_err-enter_all-in-Enter-clause-begun : goal.returns-in_err-enter_all-in-Enter-clause-begun
 returns-in_err-enter_all-in-Enter-clause-begun c = stopped _ _ (walk_stop c.args.resolve.now.types (map id_index c.args.live.now.keys) (map id_index c.steps.live.keys) (listing_from c.args.resolve.now.types (map id_index c.args.roots.items)) c.steps.steps.items c.steps.invariant)
 
 pub steps-smaller : goal.steps-smaller
 steps-smaller c =
-    turns_skip c.args.resolve.now.types c.steps.steps.items c.pop.new.self.items c.in-Enter.id c.listed.ensures.made
+    turns_skip c.args.resolve.now.types c.steps.steps.items c.pop.new.self.items c.in-Enter.id c.listings_unique.ensures.made
     (step_within c.args.resolve.now.types (map id_index c.args.live.now.keys) (list_union (map id_index c.args.live.now.keys) (listing_from c.args.resolve.now.types (map id_index c.args.roots.items))) (map id_index c.steps.live.keys) c.steps.steps.items c.pop.new.self.items (Enter c.in-Enter.id) c.steps.invariant (c.in-Some.ensures.items ∙ ap (λ z. c.pop.new.self.items ++ z ∷ []) c.in-Enter.is)) (c.in-Some.ensures.items ∙ ap (λ z. c.pop.new.self.items ++ z ∷ []) c.in-Enter.is)
 
 pub steps-preserved : goal.steps-preserved

@@ -11,7 +11,7 @@ pub returns-in_err-roots-clause-begun : goal.returns-in_err-roots-clause-begun
 returns-in_err-roots-clause-begun c = stopped _ _ (stopped_first c.args.resolve.now.types c.args.self.now (listing_from c.args.resolve.now.types (item_roots c.args.resolve.now (item_view c.args.item.now))))
 
 pub add-requires : goal.add-requires
-add-requires c = λ x h. item_in c.args.resolve.now (item_view c.args.item.now) c.formed.ensures.in_range c.requires x (subst (λ (z : List ℕ). Contains z x) c.in_ok-roots.ensures h)
+add-requires c = λ x h. item_in c.args.resolve.now (item_view c.args.item.now) c.well_formedness.ensures.in_range c.requires x (subst (λ (z : List ℕ). Contains z x) c.in_ok-roots.ensures h)
 
 pub returns-clause-added : goal.returns-clause-added
 returns-clause-added c = rw (← c.self.view_is, ← c.in_ok-roots.ensures) c.add.ensures.added

@@ -1,0 +1,7 @@
+use Rattle.std.proofs.Common.{map, take}
+use Rattle.wc_resolve.specs.Views.{package_name_view, package_view}
+use Rattle.wc_resolve.proofs.DistinctLemmas.{AreSeen}
+use Rattle.wc_resolve.proofs.validate.package_names.distinct_names.Given as goal
+
+abbrev pub invariant-loop-package : goal.invariant-loop-package
+invariant-loop-package l = AreSeen package_name_view l.names.keys (map (λ p. p.name) (map package_view (take l.package-index l.packages)))
