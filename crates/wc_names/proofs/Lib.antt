@@ -1,0 +1,16 @@
+pub mod SearchLemmas
+pub mod TextLemmas
+pub mod NumberTextLemmas
+pub mod PrefixLemmas
+pub mod BuiltinLemmas
+pub mod AsyncValueLemmas
+pub mod MeaningLemmas
+pub mod KindLemmas
+pub mod RangeLemmas
+pub mod MeaningRangeLemmas
+pub mod PayloadLemmas
+pub mod InterfaceIdLemmas
+pub mod ResolveLemmas
+pub mod MemberLemmas
+pub mod MatchLemmas
+pub mod VerdictLemmas

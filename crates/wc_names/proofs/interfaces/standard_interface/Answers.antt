@@ -1,0 +1,15 @@
+use Rattle.std.proofs.Common.{◌∙◌}
+use Rattle.std.specs.Map.Iter.{deref_pair}
+use Rattle.std.proofs.lemmas.Map.Views.{All-turn}
+use Rattle.wc_resolve.specs.declared.worlds.WorldKey.{WorldKey}
+use Rattle.wc_resolve.specs.declared.worlds.WorldItem.{WorldItem}
+use Rattle.wc_resolve.specs.Ranges.{IsKeyIn}
+use Rattle.wc_resolve.specs.Views.{KeyView, ItemView, key_view, world_entry}
+use Rattle.wc_resolve.proofs.Viewed.{all_unviewed}
+use Rattle.wc_names.proofs.interfaces.standard_interface.Goals as goal
+
+pub canonical_entry-requires : goal.canonical_entry-requires
+canonical_entry-requires c =
+    All-turn deref_pair (λ (e : WorldKey × WorldItem). IsKeyIn c.args.resolve.now (key_view e.0)) _ _ _ _ _ _ _
+    (all_unviewed world_entry (λ (x : KeyView × ItemView). IsKeyIn c.args.resolve.now x.0) c.args.items.now.entries c.requires)
+    (c.into_iter-key-iterator.ensures.into_iter_gives ∙ c.iter-key-items.ensures.rest) c.loop-key.yielded_by c.in-Some.is c.next.ensures.steps

@@ -1,0 +1,254 @@
+//! The legacy scheme.
+
+ghost use Rattle.std.specs.Prelude.{[]};
+ghost use Rattle.wc_names.specs.Imports.{NamesFunctionAs};
+ghost use Rattle.wc_names.specs.Schemes.{legacy};
+
+use crate::environment::environment_import;
+use crate::interfaces::legacy_interface;
+use crate::payloads::async_value_import;
+use crate::texts::{after, pointer_type, slot};
+use crate::{Import, MaybeAsyncLowered, NameMangling, PayloadLookupContext};
+use indexmap::IndexMap;
+use std::alloc::{AllocError, Global};
+use wc_encoder::StringEncoding;
+use wc_read::{FuncType, ValType};
+use wc_resolve::{AbiVariant, InterfaceId, Resolve, WorldItem, WorldKey};
+
+/// The scheme that is older than the standard one: `my:demo/host@1.2.3` is the module of an interface, and
+/// `[resource-drop]file` drops a resource `file`. `task_hook` is the name of the export that is called as tasks begin
+/// and end.
+#[derive(Drop)]
+pub struct Legacy<'a> {
+    pub task_hook: &'a str,
+}
+
+/// The name of an imported function, and how it is lowered.
+fn function_name(name: &str) -> (&str, AbiVariant)
+    ensures { NamesFunctionAs (legacy []) result.0.now result.1 name.now }
+{
+    match after(name, "[async-lower]") {
+        Some(rest) => (rest, AbiVariant::GuestImportAsync),
+        None => (name, AbiVariant::GuestImport),
+    }
+}
+
+impl<'h> NameMangling for Legacy<'h> {
+    ghost use Rattle.wc_names.specs.Schemes.{legacy};
+
+    ghost scheme = { λ l. legacy l.task_hook.now };
+
+    fn import_root(&self) -> &str {
+        "$root"
+    }
+
+    fn import_non_root_prefix(&self) -> &str {
+        ""
+    }
+
+    fn import_exported_intrinsic_prefix(&self) -> &str {
+        "[export]"
+    }
+
+    fn export_memory(&self) -> &str {
+        "memory"
+    }
+
+    fn export_initialize(&self) -> &str {
+        "_initialize"
+    }
+
+    fn export_realloc(&self) -> &str {
+        "cabi_realloc"
+    }
+
+    fn export_indirect_function_table(&self) -> Option<&str> {
+        Some("__indirect_function_table")
+    }
+
+    fn export_wasm_task_hook(&self) -> Option<&str> {
+        Some(self.task_hook)
+    }
+
+    fn resource_drop_name<'a>(&self, name: &'a str) -> Option<&'a str> {
+        after(name, "[resource-drop]")
+    }
+
+    fn resource_new_name<'a>(&self, name: &'a str) -> Option<&'a str> {
+        after(name, "[resource-new]")
+    }
+
+    fn resource_rep_name<'a>(&self, name: &'a str) -> Option<&'a str> {
+        after(name, "[resource-rep]")
+    }
+
+    fn task_return_name<'a>(&self, name: &'a str) -> Option<&'a str> {
+        after(name, "[task-return]")
+    }
+
+    fn task_cancel(&self, name: &str) -> bool {
+        name == "[task-cancel]"
+    }
+
+    fn backpressure_inc(&self, name: &str) -> bool {
+        name == "[backpressure-inc]"
+    }
+
+    fn backpressure_dec(&self, name: &str) -> bool {
+        name == "[backpressure-dec]"
+    }
+
+    fn waitable_set_new(&self, name: &str) -> bool {
+        name == "[waitable-set-new]"
+    }
+
+    fn waitable_set_drop(&self, name: &str) -> bool {
+        name == "[waitable-set-drop]"
+    }
+
+    fn waitable_join(&self, name: &str) -> bool {
+        name == "[waitable-join]"
+    }
+
+    fn subtask_drop(&self, name: &str) -> bool {
+        name == "[subtask-drop]"
+    }
+
+    fn error_context_drop(&self, name: &str) -> bool {
+        name == "[error-context-drop]"
+    }
+
+    fn waitable_set_wait(&self, name: &str) -> Option<ValType> {
+        pointer_type(name, "[waitable-set-wait", "]")
+    }
+
+    fn waitable_set_poll(&self, name: &str) -> Option<ValType> {
+        pointer_type(name, "[waitable-set-poll", "]")
+    }
+
+    fn subtask_cancel(&self, name: &str) -> Option<MaybeAsyncLowered<()>> {
+        if name == "[subtask-cancel]" {
+            Some(MaybeAsyncLowered {
+                inner: (),
+                async_lowered: false,
+            })
+        } else if name == "[async-lower][subtask-cancel]" {
+            Some(MaybeAsyncLowered {
+                inner: (),
+                async_lowered: true,
+            })
+        } else {
+            None
+        }
+    }
+
+    fn async_lift_callback_name<'a>(&self, name: &'a str) -> Option<&'a str> {
+        after(name, "[callback][async-lift]")
+    }
+
+    fn async_lift_name<'a>(&self, name: &'a str) -> Option<&'a str> {
+        after(name, "[async-lift]")
+    }
+
+    fn async_lift_stackful_name<'a>(&self, name: &'a str) -> Option<&'a str> {
+        after(name, "[async-lift-stackful]")
+    }
+
+    fn error_context_new(&self, name: &str) -> Option<StringEncoding> {
+        if name == "[error-context-new-utf8]" {
+            Some(StringEncoding::UTF8)
+        } else if name == "[error-context-new-utf16]" {
+            Some(StringEncoding::UTF16)
+        } else if name == "[error-context-new-latin1+utf16]" {
+            Some(StringEncoding::CompactUTF16)
+        } else {
+            None
+        }
+    }
+
+    fn error_context_debug_message(&self, name: &str) -> Option<StringEncoding> {
+        if name == "[error-context-debug-message-utf8]" {
+            Some(StringEncoding::UTF8)
+        } else if name == "[error-context-debug-message-utf16]" {
+            Some(StringEncoding::UTF16)
+        } else if name == "[error-context-debug-message-latin1+utf16]" {
+            Some(StringEncoding::CompactUTF16)
+        } else {
+            None
+        }
+    }
+
+    fn context_get(&self, name: &str) -> Option<(ValType, u32)> {
+        slot(name, "[context-get-", "]")
+    }
+
+    fn context_set(&self, name: &str) -> Option<(ValType, u32)> {
+        slot(name, "[context-set-", "]")
+    }
+
+    fn thread_intrinsic(&self, name: &str) -> Option<Import> {
+        if name == "[thread-index]" {
+            return Some(Import::ThreadIndex);
+        }
+        if name == "[thread-new-indirect-v0]" {
+            return Some(Import::ThreadNewIndirect);
+        }
+        if name == "[thread-resume-later]" {
+            return Some(Import::ThreadResumeLater);
+        }
+        if name == "[thread-suspend]" {
+            return Some(Import::ThreadSuspend);
+        }
+        if name == "[thread-yield]" {
+            return Some(Import::ThreadYield);
+        }
+        if name == "[thread-suspend-then-resume]" {
+            return Some(Import::ThreadSuspendThenResume);
+        }
+        if name == "[thread-yield-then-resume]" {
+            return Some(Import::ThreadYieldThenResume);
+        }
+        if name == "[thread-suspend-then-promote]" {
+            return Some(Import::ThreadSuspendThenPromote);
+        }
+        if name == "[thread-yield-then-promote]" {
+            return Some(Import::ThreadYieldThenPromote);
+        }
+        None
+    }
+
+    fn world_key_name_and_abi<'a>(&self, name: &'a str) -> (&'a str, AbiVariant) {
+        function_name(name)
+    }
+
+    fn interface_function_name_and_abi<'a>(&self, name: &'a str) -> (&'a str, AbiVariant) {
+        function_name(name)
+    }
+
+    fn payload_intrinsic(
+        &self,
+        alloc: Global,
+        context: &PayloadLookupContext<'_>,
+        name: &str,
+    ) -> Result<Option<Import>, AllocError> {
+        async_value_import(alloc, context, name)
+    }
+
+    fn module_to_interface(
+        &self,
+        alloc: Global,
+        module: &str,
+        resolve: &Resolve,
+        items: &IndexMap<WorldKey, WorldItem>,
+    ) -> Result<Option<(WorldKey, InterfaceId)>, AllocError> {
+        legacy_interface(alloc, resolve, items, module)
+    }
+
+    fn env_import(&self, name: &str, ty: &FuncType) -> Option<Import> {
+        environment_import(name, ty)
+    }
+
+    fn strip_post_return<'a>(&self, name: &'a str) -> Option<&'a str> {
+        after(name, "cabi_post_")
+    }
+}

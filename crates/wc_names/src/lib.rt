@@ -1,0 +1,55 @@
+//! The names by which a core module imports from its component, and exports to it: each names a function, a resource or
+//! a canonical built-in (component model, "Canonical built-ins"). `NameMangling` has a function for each kind of names,
+//! and there are two schemes of them, `Standard` and `Legacy`.
+//!
+//! | What | `Legacy` | `Standard`, after `cm32p2` |
+//! |---|---|---|
+//! | the function `run` of the world | `run` of `$root` | `run` of the module without a name |
+//! | the function `hello` of an interface | `hello` of `my:demo/host@1.2.3` | `hello` of `\|my:demo/host@1` |
+//! | the same, asynchronously | `[async-lower]hello` | none |
+//! | drops a resource `file` | `[resource-drop]file` | `file_drop` |
+//! | reads the first stream of `hello` | `[stream-read-0]hello` | none |
+//! | reads slot 1 of a thread | `[context-get-1]` of `$root` | none |
+//!
+//! A module's text is looked up among what a world imports or exports (`NameMangling::module_to_interface`), and the
+//! names of functions and resources in an interface or in the world itself (`PayloadLookupContext`). Which of several
+//! kinds a name is of is for the caller to decide; that an import means one thing at most, and what it names is there,
+//! is a law (`laws`).
+//!
+//! Where an allocation fails the answer is `AllocError`. A call that names a thing by its id requires that the id is in
+//! range.
+//!
+//! ```rust
+//! use wc_names::{Legacy, NameMangling};
+//!
+//! /// The resource that an import of this name drops, by the legacy scheme.
+//! pub fn dropped_resource(name: &str) -> Option<&str>
+//!     ensures { Finds (option_copied result)
+//!         (λ (r : List ℕ). NamesResource (legacy []) resource_drop r name.now) }
+//! {
+//!     let scheme = Legacy { task_hook: "" };
+//!     scheme.resource_drop_name(name)
+//! }
+//! ```
+#![tactic(auto)]
+
+mod async_values;
+mod environment;
+mod exports;
+mod imports;
+mod interface_ids;
+mod interfaces;
+pub mod laws;
+mod legacy;
+mod lookups;
+mod mangling;
+mod payloads;
+mod standard;
+mod texts;
+
+pub use exports::Export;
+pub use imports::{Import, PayloadInfo, PayloadType};
+pub use legacy::Legacy;
+pub use mangling::{MaybeAsyncLowered, NameMangling};
+pub use payloads::PayloadLookupContext;
+pub use standard::Standard;

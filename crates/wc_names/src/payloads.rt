@@ -1,0 +1,241 @@
+//! Built-ins of futures and streams, and what their names are looked up in.
+
+ghost use Rattle.std.specs.Prelude.{◌≡◌, ◌<◌, [], IfOk, IsTrue, length};
+ghost use Rattle.std.specs.Option.{ForSome, option_map};
+ghost use Rattle.wc_resolve.specs.Ranges.{IsWorldIn};
+ghost use Rattle.wc_resolve.specs.Roots.{id_index};
+ghost use Rattle.wc_resolve.specs.Views.{function_view, key_view, world_view};
+ghost use Rattle.wc_names.specs.AsyncValues.{IsOwnNameImport, IsPayloadType, NamesAsyncImport, operation_row, unit_type};
+ghost use Rattle.wc_names.specs.Contexts.{context_scope};
+ghost use Rattle.wc_names.specs.Finds.{Finds};
+ghost use Rattle.wc_names.specs.Lookups.{function_named, resource_named, scope_key, type_named};
+ghost use Rattle.wc_names.specs.Schemes.{legacy};
+ghost use Rattle.wc_names.specs.Views.{async_value, import_view, payload_type_view, payload_view};
+
+use crate::async_values::{AsyncValue, AsyncValueName, Operation, name_parts};
+use crate::lookups::{function_under, if_resource, plain_function, plain_type, type_under};
+use crate::texts::{after, number};
+use crate::{Import, PayloadInfo, PayloadType};
+use std::alloc::{AllocError, Global};
+use wc_resolve::{Function, InterfaceId, Resolve, TypeId, World, WorldKey};
+
+/// Where the functions and resources that names refer to are looked up: in an interface, or among those that the world
+/// itself imports or exports. What is found is recorded under this key, or under its own name where there is none.
+#[derive(Drop)]
+pub struct PayloadLookupContext<'a> {
+    pub resolve: &'a Resolve,
+    pub world: &'a World,
+    /// The interface; `None`: the world itself.
+    pub id: Option<InterfaceId>,
+    /// Whether the functions are those that the world imports; else it exports them. Resources of the world itself are
+    /// always those that it imports.
+    pub imported: bool,
+    /// The key of the interface.
+    pub key: Option<WorldKey>,
+}
+
+impl<'a> PayloadLookupContext<'a> {
+    /// The function of a name: of the interface, or of those that the world imports (`imported`) or exports.
+    ///
+    /// The interface must be in range (`has_interface`).
+    ///
+    /// # Errors
+    ///
+    /// `AllocError`: an allocation failed.
+    pub fn function(&self, alloc: Global, name: &str) -> Result<Option<&Function>, AllocError>
+        requires { ForSome self.now.id
+            (λ id. id.0 < length self.now.resolve.now.interfaces) }
+        ensures { IfOk result (λ found. option_map (λ f. function_view f.now) found ≡
+            function_named self.now.resolve.now (world_view self.now.world.now) self.now.imported
+            (context_scope self.now) name.now) }
+    {
+        match self.id {
+            Some(id) => Ok(function_under(&self.resolve.interface(id).functions, name)),
+            None => {
+                if self.imported {
+                    plain_function(alloc, &self.world.imports, name)
+                } else {
+                    plain_function(alloc, &self.world.exports, name)
+                }
+            }
+        }
+    }
+
+    /// The type of a name: of the interface, or of those that the world imports.
+    fn type_of(&self, alloc: Global, name: &str) -> Result<Option<TypeId>, AllocError>
+        requires { ForSome self.now.id
+            (λ id. id.0 < length self.now.resolve.now.interfaces) }
+        ensures { IfOk result (λ found. option_map id_index found ≡
+            type_named self.now.resolve.now (world_view self.now.world.now)
+            (context_scope self.now).interface name.now) }
+    {
+        match self.id {
+            Some(id) => Ok(type_under(&self.resolve.interface(id).types, name)),
+            None => plain_type(alloc, &self.world.imports, name),
+        }
+    }
+
+    /// The resource of a name: of the interface, or of those that the world imports. An alias of a resource is none.
+    ///
+    /// The world must be in range of the `Resolve`, as each of its worlds is (`Resolve::well_formedness`), and the
+    /// interface too (`has_interface`).
+    ///
+    /// # Errors
+    ///
+    /// `AllocError`: an allocation failed.
+    pub fn resource(&self, alloc: Global, name: &str) -> Result<Option<TypeId>, AllocError>
+        requires world { IsWorldIn self.now.resolve.now (world_view self.now.world.now) }
+        requires interface { ForSome self.now.id
+            (λ id. id.0 < length self.now.resolve.now.interfaces) }
+        ensures { IfOk result (λ found. option_map id_index found ≡
+            resource_named self.now.resolve.now (world_view self.now.world.now)
+            (context_scope self.now) name.now) }
+    {
+        self.resolve.well_formedness();
+        match self.type_of(alloc, name)? {
+            Some(id) => Ok(if_resource(self.resolve, id)),
+            None => Ok(None),
+        }
+    }
+
+    /// The key of an import for a function, resource or built-in of this name: a copy of `key`, or the name where there
+    /// is no key.
+    ///
+    /// # Errors
+    ///
+    /// `AllocError`: an allocation failed.
+    pub fn key_of(&self, alloc: Global, name: &str) -> Result<WorldKey, AllocError>
+        ensures { IfOk result
+            (λ key. key_view key ≡ scope_key (context_scope self.now) name.now) }
+    {
+        match &self.key {
+            Some(key) => key.clone(alloc),
+            None => Ok(WorldKey::Name(String::from_str(alloc, name)?)),
+        }
+    }
+}
+
+/// A future or a stream without a payload.
+fn unit_type(value: AsyncValue) -> PayloadType
+    ensures { payload_type_view result ≡ unit_type value }
+{
+    match value {
+        AsyncValue::Future => PayloadType::UnitFuture,
+        AsyncValue::Stream => PayloadType::UnitStream,
+    }
+}
+
+/// The future or stream that the parts of a name say.
+fn payload_type(
+    alloc: Global,
+    context: &PayloadLookupContext<'_>,
+    name: &AsyncValueName<'_>,
+) -> Result<Option<PayloadType>, AllocError>
+    requires world { IsWorldIn context.now.resolve.now (world_view context.now.world.now) }
+    requires interface { ForSome context.now.id
+        (λ id. id.0 < length context.now.resolve.now.interfaces) }
+    ensures { IfOk result (λ found. Finds (option_map payload_type_view found)
+        (IsPayloadType context.now.resolve.now (world_view context.now.world.now)
+        context.now.imported (context_scope context.now) name.now.value name.now.which.now
+        name.now.function.now)) }
+{
+    context.resolve.well_formedness();
+    if name.which == "unit" {
+        return Ok(Some(unit_type(name.value)));
+    }
+    let Some(index) = number(name.which) else {
+        return Ok(None);
+    };
+    let Some(function) = context.function(alloc, name.function)? else {
+        return Ok(None);
+    };
+    match function.nth_future_or_stream(context.resolve, index) {
+        Some(id) => Ok(Some(PayloadType::Typed {
+            id,
+            function: String::from_str(alloc, &function.name)?,
+        })),
+        None => Ok(None),
+    }
+}
+
+/// The import of an operation on a future or a stream.
+fn import_of(value: AsyncValue, operation: Operation, async_: bool, info: PayloadInfo) -> Import
+    requires { IsTrue async_ → IsTrue (operation_row value operation).may_be_lowered }
+    ensures { import_view result ≡ async_value value operation async_ (payload_view info) }
+{
+    match value {
+        AsyncValue::Future => match operation {
+            Operation::New => Import::FutureNew(info),
+            Operation::Write => Import::FutureWrite { async_, info },
+            Operation::Read => Import::FutureRead { async_, info },
+            Operation::CancelWrite => Import::FutureCancelWrite { info, async_ },
+            Operation::CancelRead => Import::FutureCancelRead { info, async_ },
+            Operation::Forward => Import::FutureForward(info),
+            Operation::DropWritable => Import::FutureDropWritable(info),
+            Operation::DropReadable => Import::FutureDropReadable(info),
+        },
+        AsyncValue::Stream => match operation {
+            Operation::New => Import::StreamNew(info),
+            Operation::Write => Import::StreamWrite { async_, info },
+            Operation::Read => Import::StreamRead { async_, info },
+            Operation::CancelWrite => Import::StreamCancelWrite { info, async_ },
+            Operation::CancelRead => Import::StreamCancelRead { info, async_ },
+            Operation::Forward => Import::StreamForward(info),
+            Operation::DropWritable => Import::StreamDropWritable(info),
+            Operation::DropReadable => Import::StreamDropReadable(info),
+        },
+    }
+}
+
+/// The import that a name is, which is not after `[async-lower]`, or (`async_`) is.
+fn own_name_import(
+    alloc: Global,
+    context: &PayloadLookupContext<'_>,
+    name: &str,
+    async_: bool,
+) -> Result<Option<Import>, AllocError>
+    requires world { IsWorldIn context.now.resolve.now (world_view context.now.world.now) }
+    requires interface { ForSome context.now.id
+        (λ id. id.0 < length context.now.resolve.now.interfaces) }
+    ensures { IfOk result (λ found. Finds (option_map import_view found)
+        (IsOwnNameImport context.now.resolve.now (world_view context.now.world.now)
+        context.now.imported (context_scope context.now) name.now async_)) }
+{
+    let Some(parts) = name_parts(name) else {
+        return Ok(None);
+    };
+    if async_ && !parts.operation.may_be_lowered() {
+        return Ok(None);
+    }
+    let Some(ty) = payload_type(alloc, context, &parts)? else {
+        return Ok(None);
+    };
+    let info = PayloadInfo {
+        name: String::from_str(alloc, name)?,
+        ty,
+        key: context.key_of(alloc, name)?,
+        interface: context.id,
+        imported: context.imported,
+    };
+    Ok(Some(import_of(parts.value, parts.operation, async_, info)))
+}
+
+/// The import that a name of the legacy scheme is.
+pub(crate) fn async_value_import(
+    alloc: Global,
+    context: &PayloadLookupContext<'_>,
+    name: &str,
+) -> Result<Option<Import>, AllocError>
+    requires world { IsWorldIn context.now.resolve.now (world_view context.now.world.now) }
+    requires interface { ForSome context.now.id
+        (λ id. id.0 < length context.now.resolve.now.interfaces) }
+    ensures { IfOk result (λ found. Finds (option_map import_view found)
+        (NamesAsyncImport (legacy []) context.now.resolve.now
+        (world_view context.now.world.now) context.now.imported
+        (context_scope context.now) name.now)) }
+{
+    match after(name, "[async-lower]") {
+        Some(rest) => own_name_import(alloc, context, rest, true),
+        None => own_name_import(alloc, context, name, false),
+    }
+}
