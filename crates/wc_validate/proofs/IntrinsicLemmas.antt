@@ -1,0 +1,74 @@
+-- Built-ins of resources and tasks: what their names mean, by what is looked up under the names that they hold.
+use Rattle.std.proofs.Common.{◌≡◌, ℕ, Bool, true, false, List, [], ◌∷◌, Option, Some, None, Result, inl, inr, refl, sym, ap, subst, ◌∙◌, codes}
+use Rattle.std.proofs.lemmas.List.{append_cancel_left, append_cancel_right}
+use Rattle.wc_read.specs.declared.types.ValType.TheVariants.{I32}
+use Rattle.wc_read.specs.Types.{FuncTypeValue}
+use Rattle.wc_resolve.specs.Views.{FunctionView, KeyView, WorldView}
+use Rattle.wc_resolve.specs.World.{ResolveView}
+use Rattle.wc_names.specs.declared.imports.Import.{Import}
+use Rattle.wc_names.specs.Builtins.{signature}
+use Rattle.wc_names.specs.Lookups.{Scope, scope_key, function_named}
+use Rattle.wc_names.specs.Meanings.{Meaning, means, refuses, no_such_export}
+use Rattle.wc_names.specs.Schemes.{Scheme, standard, legacy, ResourceOperation, resource_drop, resource_new, resource_rep, NamesResource, NamesTaskReturn}
+use Rattle.wc_names.specs.Verdicts.{FaultKind, IsVerdict}
+use Rattle.wc_names.specs.Views.{ImportView, exported_task_return}
+use Rattle.wc_names.specs.WitIntrinsics.{of_resource, task_return, no_task_return, IsWitIntrinsic, resource_row}
+use Rattle.wc_names.proofs.VerdictLemmas.{verdict_as}
+use Rattle.wc_validate.specs.Kinds.{MeansIntrinsic, MeansOnResource}
+use Rattle.wc_validate.specs.Operations.{has_result}
+
+pub not_found : {X : Type 0} {o : Option X} (x : X) → None ≡ o → o ≡ Some x → ⊥
+not_found x none some = let both : None ≡ Some x = none ∙ some in let bad : ⊥ = cc both in bad
+
+pub same_meaning : (i j : ImportView) (a b : FuncTypeValue) → i ≡ j → a ≡ b → means i (Some a) ≡ means j (Some b)
+same_meaning i j a b e f = cc (e, f)
+
+pub same_task : (k l : KeyView) (o : Option ℕ) (f h : FunctionView) → k ≡ l → f ≡ h → exported_task_return k o f ≡ exported_task_return l o h
+same_task k l o f h d e = cc (d, e)
+
+pub resource_unique : (s : Scheme) (op : ResourceOperation) (a b name : List ℕ) → NamesResource s op a name → NamesResource s op b name → a ≡ b
+resource_unique standard resource_drop a b name x y = append_cancel_right a b (codes "_drop") (sym x ∙ y)
+resource_unique standard resource_new a b name x y = append_cancel_right a b (codes "_new") (sym x ∙ y)
+resource_unique standard resource_rep a b name x y = append_cancel_right a b (codes "_rep") (sym x ∙ y)
+resource_unique (legacy hook) resource_drop a b name x y = append_cancel_left (codes "[resource-drop]") a b (sym x ∙ y)
+resource_unique (legacy hook) resource_new a b name x y = append_cancel_left (codes "[resource-new]") a b (sym x ∙ y)
+resource_unique (legacy hook) resource_rep a b name x y = append_cancel_left (codes "[resource-rep]") a b (sym x ∙ y)
+
+pub task_return_unique : (s : Scheme) (a b name : List ℕ) → NamesTaskReturn s a name → NamesTaskReturn s b name → a ≡ b
+task_return_unique standard a b name x y = absurd x
+task_return_unique (legacy hook) a b name x y = append_cancel_left (codes "[task-return]") a b (sym x ∙ y)
+
+pub with_result : (imported : Bool) (op : ResourceOperation) → has_result imported op ≡ true → signature (I32 ∷ []) (I32 ∷ []) ≡ (resource_row imported op).ty
+with_result true op h = absurd (let bad : ⊥ = cc h in bad)
+with_result false resource_drop h = absurd (let bad : ⊥ = cc h in bad)
+with_result false resource_new h = refl
+with_result false resource_rep h = refl
+
+pub without_result : (imported : Bool) (op : ResourceOperation) → has_result imported op ≡ false → signature (I32 ∷ []) [] ≡ (resource_row imported op).ty
+without_result true op h = refl
+without_result false resource_drop h = refl
+without_result false resource_new h = absurd (let bad : ⊥ = cc h in bad)
+without_result false resource_rep h = absurd (let bad : ⊥ = cc h in bad)
+
+module _ (s : Scheme) (r : ResolveView) (w : WorldView) (imported : Bool) (scope : Scope) (name : List ℕ) where
+  -- the verdict on the resource of a name is that on the name
+  pub of_named_resource : {F : Type 0} (kind : F → FaultKind) (op : ResourceOperation) (resource : List ℕ) (ty : FuncTypeValue) (o : Result (Option Import) F) → NamesResource s op resource name
+      → IsVerdict kind (MeansOnResource r w imported scope op resource) ty o → IsVerdict kind (IsWitIntrinsic s r w imported scope name (of_resource op)) ty o
+  of_named_resource kind op resource ty o named v = verdict_as kind _ _ ty o (λ m h. (resource, h.0, named, h.1, h.2)) (λ m h. from m h) v where
+    from : (m : Meaning) → IsWitIntrinsic s r w imported scope name (of_resource op) m → MeansOnResource r w imported scope op resource m
+    from m h = subst (λ z. MeansOnResource r w imported scope op z m) (resource_unique s op h.0 resource name h.2 named) (h.1, h.3, h.4)
+
+  pub no_task : ((x : List ℕ) → ¬ NamesTaskReturn s x name) → (m : Meaning) → ¬ MeansIntrinsic s r w imported scope (task_return ∷ no_task_return ∷ []) name m
+  no_task none m (inl h) = none h.0 h.2
+  no_task none m (inr (n, inl h)) = none h.0 h.1
+  no_task none m (inr (n, inr h)) = h.1
+
+  pub is_task : (function : List ℕ) (f : FunctionView) (i : ImportView) → NamesTaskReturn s function name → function_named r w imported scope function ≡ Some f
+      → i ≡ exported_task_return (scope_key scope function) scope.interface f → MeansIntrinsic s r w imported scope (task_return ∷ no_task_return ∷ []) name (means i None)
+  is_task function f i named there is = inl (function, f, named, there, ap (λ z. means z None) is)
+
+  pub is_no_task : (function : List ℕ) → NamesTaskReturn s function name → None ≡ function_named r w imported scope function
+      → MeansIntrinsic s r w imported scope (task_return ∷ no_task_return ∷ []) name (refuses no_such_export)
+  is_no_task function named none = inr (not_first, inl (function, named, sym none, refl)) where
+    not_first : (m : Meaning) → ¬ IsWitIntrinsic s r w imported scope name task_return m
+    not_first m h = not_found h.1 none (subst (λ z. function_named r w imported scope z ≡ Some h.1) (task_return_unique s h.0 function name h.2 named) h.3)

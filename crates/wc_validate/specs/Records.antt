@@ -1,0 +1,42 @@
+-- Records of imports by modules, and one import more.
+use Rattle.std.specs.Prelude.{ℕ, List, [], ◌∷◌, ◌++◌, map, if◌then◌else◌, String, string_bytes}
+use Rattle.std.specs.Str.{bytes_eq}
+use Rattle.std.specs.declared.alloc.Global.{Global}
+use Rattle.wc_encoder.specs.Adapters.{which_view}
+use Rattle.wc_names.specs.declared.imports.Import.{Import}
+use Rattle.wc_names.specs.Views.{ImportView, import_view}
+use Rattle.wc_validate.specs.declared.fault.ValidateFault.{ValidateFault}
+use Rattle.wc_validate.specs.declared.fault.ValidateFault.TheVariants.{Memory, Mixed, DuplicateImport}
+use Rattle.wc_validate.specs.declared.records.ImportInstance.{ImportInstance}
+use Rattle.wc_validate.specs.declared.records.ImportInstance.TheVariants.{Whole, Names}
+use Rattle.wc_validate.specs.Entries.{InstanceRecord, all_of, names_of, Records, IsAllRecorded, IsNameRecorded}
+
+abbrev pub import_entry : String Global × Import → List ℕ × ImportView
+import_entry e = (string_bytes e.0, import_view e.1)
+
+abbrev pub instance_view : ImportInstance → InstanceRecord
+instance_view (Whole which) = all_of (which_view which)
+instance_view (Names names) = names_of (map import_entry names.entries)
+
+abbrev pub instance_entry : String Global × ImportInstance → List ℕ × InstanceRecord
+instance_entry e = (string_bytes e.0, instance_view e.1)
+
+abbrev pub add_to : InstanceRecord → List ℕ → ImportView → InstanceRecord
+add_to (all_of which) name i = all_of which
+add_to (names_of names) name i = names_of (names ++ (name, i) ∷ [])
+
+-- an import after the others of its module, or of a new module after all others
+abbrev pub put_in : Records → List ℕ → List ℕ → ImportView → Records
+put_in [] m name i = (m, names_of ((name, i) ∷ [])) ∷ []
+put_in (e ∷ es) m name i = if bytes_eq m e.0 then (e.0, add_to e.1 name i) ∷ es else e ∷ put_in es m name i
+
+-- an import can be recorded under this name
+abbrev pub IsFree : Records → List ℕ → List ℕ → Type 0
+IsFree records m name = (¬ IsAllRecorded records m) × (¬ IsNameRecorded records m name)
+
+-- why it is not recorded
+abbrev pub IsPutFault : Records → List ℕ → List ℕ → ValidateFault → Type 0
+IsPutFault records m name Memory = Unit {0}
+IsPutFault records m name Mixed = IsAllRecorded records m
+IsPutFault records m name DuplicateImport = IsNameRecorded records m name
+IsPutFault records m name f = ⊥

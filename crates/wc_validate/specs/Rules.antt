@@ -1,0 +1,30 @@
+-- What an import of a core module is: a rule of no scheme, or one of a scheme.
+use Rattle.std.specs.Prelude.{ℕ, List, Option, Some, Result, Ok, Err}
+use Rattle.wc_read.specs.Types.{FuncTypeValue}
+use Rattle.wc_names.specs.declared.imports.Import.{Import}
+use Rattle.wc_names.specs.Imports.{Setting, ExternType, CoreImport, Classified}
+use Rattle.wc_names.specs.Meanings.{Meaning, means}
+use Rattle.wc_names.specs.Verdicts.{FaultKind, out_of_memory, IsVerdict}
+use Rattle.wc_names.specs.Views.{import_view}
+use Rattle.wc_validate.specs.declared.fault.ValidateFault.{ValidateFault}
+use Rattle.wc_validate.specs.Entries.{HasSignature, IsNameFault}
+use Rattle.wc_validate.specs.Faults.{fault_kind}
+
+-- an import of a module
+abbrev pub core_import : List ℕ → List ℕ → ExternType → CoreImport
+core_import from name ty = record { from = from; name = name; ty = ty }
+
+-- what a fault says of the import's name; nothing where an allocation failed
+abbrev pub IsNameReason : Setting → CoreImport → FaultKind → Type 0
+IsNameReason e a out_of_memory = Unit {0}
+IsNameReason e a kind = IsNameFault e a kind
+
+-- the import that is meant, with the signature that is fixed, if one is; or the reason of the fault
+unfoldable pub IsClassified : Setting → CoreImport → Result Import ValidateFault → Type 0
+IsClassified e a (Ok i) = (wanted : Option FuncTypeValue) × Classified e a (means (import_view i) wanted) × HasSignature a.ty wanted
+IsClassified e a (Err f) = IsNameReason e a (fault_kind f)
+
+-- an answer that is no None
+abbrev pub IsDecision : (Meaning → Type 0) → FuncTypeValue → Result Import ValidateFault → Type 0
+IsDecision Means ty (Ok i) = IsVerdict fault_kind Means ty (Ok (Some i))
+IsDecision Means ty (Err f) = IsVerdict fault_kind Means ty (Err f)

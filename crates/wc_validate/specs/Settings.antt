@@ -1,0 +1,29 @@
+-- What names are looked up in, and the imports that are looked up.
+use Rattle.std.specs.Prelude.{◌≡◌, ℕ, List, map, Some, slice_get, String, string_bytes}
+use Rattle.std.specs.declared.alloc.Global.{Global}
+use Rattle.wc_read.specs.Types.{FuncTypeValue}
+use Rattle.wc_resolve.specs.Views.{world_view}
+use Rattle.wc_encoder.specs.declared.adapters.Adapter.{Adapter}
+use Rattle.wc_names.specs.Imports.{Setting, CoreFunction}
+use Rattle.wc_validate.specs.declared.setting.Names.{Names}
+
+-- the name of an adapter
+abbrev pub adapter_name : String Global × Adapter → List ℕ
+adapter_name e = string_bytes e.0
+
+abbrev pub setting_of : Names → Setting
+setting_of n = record {
+  resolve = n.resolve.now;
+  world = world_view n.world.now;
+  adapters = map adapter_name n.adapters.now.entries;
+  reject_legacy_names = n.reject_legacy_names;
+  hook = n.task_hook.now;
+}
+
+-- the world is one of the `Resolve`
+abbrev pub HasItsWorld : Setting → Type 0
+HasItsWorld e = (index : ℕ) × (slice_get e.resolve.worlds index ≡ Some e.world)
+
+-- a function that is imported from a module
+abbrev pub imported_function : List ℕ → List ℕ → FuncTypeValue → CoreFunction
+imported_function from name ty = record { from = from; name = name; ty = ty }

@@ -1,0 +1,146 @@
+//! Why core modules are refused.
+
+ghost use Rattle.std.specs.Prelude.{◌≡◌, IfOk, Some};
+ghost use Rattle.wc_validate.specs.Texts.{name_not_exported, not_exported_text};
+ghost use Rattle.wc_validate.specs.declared.fault.ValidateFault.TheVariants.{Memory};
+
+use std::alloc::{AllocError, AllocFailed, Global};
+use std::error::Error as StdError;
+use std::fmt;
+use thiserror::Error;
+use wc_read::ReadFault;
+
+/// That an adapter doesn't export what it has to, by the name of that.
+#[derive(Debug, Drop)]
+pub struct AdapterModuleDidNotExport(String);
+
+impl AdapterModuleDidNotExport {
+    /// A copy of this value.
+    ///
+    /// # Errors
+    ///
+    /// `AllocError`: an allocation failed.
+    pub fn clone(&self, alloc: Global) -> Result<AdapterModuleDidNotExport, AllocError>
+        ensures { IfOk result (λ e. name_not_exported e ≡ name_not_exported self.now) }
+    {
+        Ok(AdapterModuleDidNotExport(String::from_str(alloc, &self.0)?))
+    }
+}
+
+impl fmt::Display for AdapterModuleDidNotExport {
+    ghost output = { λ e. Some (not_exported_text (name_not_exported e)) };
+
+    fn fmt<W: fmt::Write>(&self, f: &mut fmt::Formatter<W>) -> fmt::Result {
+        write!(f, "adapter module did not export `{}`", self.0)
+    }
+}
+
+impl StdError for AdapterModuleDidNotExport {}
+
+/// Why a core module is refused.
+///
+/// Of several causes the first is named. The module is read; then come imports in the order of the module, and for
+/// each import the faults in this order, but `SeveralMemoryImports` before `Mixed`; then exports in the order of the
+/// module, and what is missing among them, in this order. `Memory` may come in place of any.
+#[derive(Debug, Drop, Error)]
+pub enum ValidateFault {
+    /// An allocation failed.
+    #[error("out of memory")]
+    Memory,
+    /// The bytes are neither a module nor a component.
+    #[error("Read: {0}")]
+    Read(ReadFault),
+    /// The bytes begin with a component's header.
+    #[error("NotAModule")]
+    NotAModule,
+    /// An import that has to be a function is none.
+    #[error("NotAFunction")]
+    NotAFunction,
+    /// A function's type is not the one that its name fixes.
+    #[error("SignatureMismatch")]
+    SignatureMismatch,
+    /// The world imports nothing of this name.
+    #[error("NoRootImport")]
+    NoRootImport,
+    /// The world imports something of this name that is no function.
+    #[error("RootNotFunction")]
+    RootNotFunction,
+    /// The name of a module doesn't begin as the standard scheme's names do.
+    #[error("BadSyntax")]
+    BadSyntax,
+    /// The name of a module is about no interface that the world imports or exports.
+    #[error("UnknownInterface")]
+    UnknownInterface,
+    /// A name is none of the built-ins for an exported interface.
+    #[error("UnknownIntrinsic")]
+    UnknownIntrinsic,
+    /// An imported interface has no function, and no built-in, of this name.
+    #[error("MissingFunction")]
+    MissingFunction,
+    /// The function whose `task.return` is imported is not exported.
+    #[error("NoSuchExport")]
+    NoSuchExport,
+    /// A module's name stands for two modules of the component.
+    #[error("WholeDiffers")]
+    WholeDiffers,
+    /// A module's name stands for a module of the component, and for single items too.
+    #[error("Mixed")]
+    Mixed,
+    /// The main module's memory is imported twice.
+    #[error("SeveralMemoryImports")]
+    SeveralMemoryImports,
+    /// Two imports share a module and a name.
+    #[error("DuplicateImport")]
+    DuplicateImport,
+    /// A function of an adapter is imported with two types.
+    #[error("AdapterTypesDiffer")]
+    AdapterTypesDiffer,
+    /// Two memories are exported.
+    #[error("SeveralMemoryExports")]
+    SeveralMemoryExports,
+    /// An asynchronous function is exported without its callback.
+    #[error("MissingCallback")]
+    MissingCallback,
+    /// A function of an interface that has to be exported is not.
+    #[error("MissingInterfaceExport")]
+    MissingInterfaceExport,
+    /// A function of the world that has to be exported is not.
+    #[error("MissingWorldExport")]
+    MissingWorldExport,
+    /// An adapter doesn't export what is imported from it.
+    #[error(transparent)]
+    AdapterModuleDidNotExport(AdapterModuleDidNotExport),
+    /// An adapter exports what is imported from it with another type.
+    #[error("AdapterExportType")]
+    AdapterExportType,
+}
+
+impl From<AllocError> for ValidateFault {
+    ghost from_gives = { λ _ e. e ≡ Memory };
+
+    fn from(_e: AllocError) -> ValidateFault {
+        ValidateFault::Memory
+    }
+}
+
+impl<T: Drop> From<AllocFailed<T>> for ValidateFault {
+    ghost from_gives = { λ _ e. e ≡ Memory };
+
+    fn from(_e: AllocFailed<T>) -> ValidateFault {
+        ValidateFault::Memory
+    }
+}
+
+impl From<ReadFault> for ValidateFault {
+    ghost use Rattle.wc_validate.specs.Faults.{of_read};
+
+    ghost from_gives = { λ f e. e ≡ of_read f };
+
+    fn from(e: ReadFault) -> ValidateFault {
+        match e {
+            ReadFault::Memory => ValidateFault::Memory,
+            ReadFault::Component => ValidateFault::NotAModule,
+            _ => ValidateFault::Read(e),
+        }
+    }
+}

@@ -1,0 +1,102 @@
+//! What the imports of a core module are recorded as.
+
+ghost use Rattle.std.specs.Prelude.{◌≡◌, ◌∷◌, ◌++◌, [], IfErr, IfOk, List, OnOk, map};
+ghost use Rattle.wc_names.specs.Views.{import_view};
+ghost use Rattle.wc_validate.specs.Entries.{Entry, by_modules, single};
+ghost use Rattle.wc_validate.specs.Records.{IsFree, IsPutFault, import_entry, instance_entry, put_in};
+
+use crate::ValidateFault;
+use indexmap::IndexMap;
+use std::alloc::Global;
+use wc_encoder::MainOrAdapter;
+use wc_names::Import;
+
+/// What is imported from a module: a module of the component, all of it, or single imports by their names.
+#[derive(Drop)]
+pub enum ImportInstance {
+    Whole(MainOrAdapter),
+    Names(IndexMap<String, Import>),
+}
+
+/// The one import of a module.
+fn one_import(
+    alloc: Global,
+    name: &str,
+    import: Import,
+) -> Result<IndexMap<String, Import>, ValidateFault>
+    ensures ok { IfOk result (λ names. map import_entry names.entries
+        ≡ (name.now, import_view import) ∷ []) }
+    ensures memory { IfErr result (λ f. f ≡ ValidateFault.Memory) }
+{
+    let mut names = IndexMap::new(alloc);
+    names.insert(String::from_str(alloc, name)?, import)?;
+    Ok(names)
+}
+
+/// Records an import after the others of its module.
+///
+/// # Errors
+///
+/// - `Mixed`: all of another module is recorded for this one.
+/// - `DuplicateImport`: the name is recorded already.
+/// - `Memory`: an allocation failed.
+pub(crate) fn put_import(
+    alloc: Global,
+    instances: &mut IndexMap<String, ImportInstance>,
+    module_name: &str,
+    name: &str,
+    import: Import,
+) -> Result<(), ValidateFault>
+    ensures put { OnOk result (map instance_entry instances.new.entries
+        ≡ put_in (map instance_entry instances.old.entries) module_name.now name.now
+        (import_view import)) }
+    ensures free { OnOk result (IsFree (map instance_entry instances.old.entries) module_name.now
+        name.now) }
+    ensures fault { IfErr result (IsPutFault (map instance_entry instances.old.entries)
+        module_name.now name.now) }
+{
+    if let Some(instance) = instances.get_mut(module_name) {
+        return match instance {
+            ImportInstance::Whole(_) => Err(ValidateFault::Mixed),
+            ImportInstance::Names(names) => {
+                if names.contains_key(name) {
+                    return Err(ValidateFault::DuplicateImport);
+                }
+                names.insert(String::from_str(alloc, name)?, import)?;
+                Ok(())
+            }
+        };
+    }
+    let names = one_import(alloc, name, import)?;
+    instances.insert(
+        String::from_str(alloc, module_name)?,
+        ImportInstance::Names(names),
+    )?;
+    Ok(())
+}
+
+/// Records an import as the entry after these.
+///
+/// # Errors
+///
+/// - `Mixed`: all of another module is recorded for its module.
+/// - `DuplicateImport`: its name is recorded already.
+/// - `Memory`: an allocation failed.
+pub(crate) fn record_import(
+    alloc: Global,
+    instances: &mut IndexMap<String, ImportInstance>,
+    module_name: &str,
+    name: &str,
+    import: Import,
+) -> Result<(), ValidateFault>
+    ensures recorded { (before : List Entry)
+        → map instance_entry instances.old.entries ≡ by_modules before
+        → OnOk result (map instance_entry instances.new.entries
+        ≡ by_modules (before ++ single module_name.now name.now (import_view import) ∷ [])) }
+    ensures free { OnOk result (IsFree (map instance_entry instances.old.entries) module_name.now
+        name.now) }
+    ensures fault { IfErr result (IsPutFault (map instance_entry instances.old.entries)
+        module_name.now name.now) }
+{
+    put_import(alloc, instances, module_name, name, import)
+}

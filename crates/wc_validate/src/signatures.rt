@@ -1,0 +1,172 @@
+//! Core types of imported functions, and the signatures that names fix.
+
+ghost use Rattle.std.specs.Prelude.{◌≡◌, ◌↔◌, IfOk, IsTrue, Some, map};
+ghost use Rattle.wc_read.specs.Types.{FuncTypeValue, func_type_value};
+ghost use Rattle.wc_resolve.specs.Signatures.{signature_view};
+ghost use Rattle.wc_resolve.specs.Views.{function_view};
+ghost use Rattle.wc_resolve.specs.WellFormed.{IsUsable};
+ghost use Rattle.wc_names.specs.Builtins.{signature};
+ghost use Rattle.wc_names.specs.Imports.{function_type, signature_type, val_type};
+ghost use Rattle.wc_names.specs.Verdicts.{IsTypeChecked};
+ghost use Rattle.wc_names.specs.Views.{import_view};
+ghost use Rattle.wc_validate.specs.BuiltinTypes.{async_value_type, thread_type};
+ghost use Rattle.wc_validate.specs.Faults.{fault_kind};
+
+use crate::ValidateFault;
+use std::alloc::{AllocError, Global};
+use wc_names::Import;
+use wc_read::{FuncType, ValType};
+use wc_resolve::{AbiVariant, Function, Resolve, WasmSignature, WasmType};
+
+/// Whether a function has these parameters and results.
+pub(crate) fn has_type(ty: &FuncType, params: &[ValType], results: &[ValType]) -> bool
+    ensures { IsTrue result ↔ (func_type_value ty.now ≡ signature params.now results.now) }
+{
+    ty.params() == params && ty.results() == results
+}
+
+/// The import, if its type is the signature that its name fixes.
+pub(crate) fn checked(
+    import: Import,
+    ty: &FuncType,
+    params: &[ValType],
+    results: &[ValType],
+) -> Result<Option<Import>, ValidateFault>
+    ensures { IsTypeChecked fault_kind result import (func_type_value ty.now)
+        (signature params.now results.now) }
+{
+    if has_type(ty, params, results) {
+        Ok(Some(import))
+    } else {
+        Err(ValidateFault::SignatureMismatch)
+    }
+}
+
+/// Whether the type of a built-in for threads is the one that it has to have.
+fn has_thread_type(import: &Import, ty: &FuncType) -> bool
+    ensures { IsTrue result
+        ↔ (thread_type (import_view import.now) ≡ Some (func_type_value ty.now)) }
+{
+    match import {
+        Import::ThreadIndex | Import::ThreadSuspend | Import::ThreadYield => {
+            has_type(ty, &[], &[ValType::I32])
+        }
+        Import::ThreadNewIndirect => has_type(ty, &[ValType::I32, ValType::I32], &[ValType::I32]),
+        Import::ThreadResumeLater => has_type(ty, &[ValType::I32], &[]),
+        Import::ThreadSuspendThenResume
+        | Import::ThreadYieldThenResume
+        | Import::ThreadSuspendThenPromote
+        | Import::ThreadYieldThenPromote => has_type(ty, &[ValType::I32], &[ValType::I32]),
+        _ => false,
+    }
+}
+
+/// The built-in for threads, if its type is the one that it has to have.
+pub(crate) fn checked_thread(import: Import, ty: &FuncType) -> Result<Option<Import>, ValidateFault>
+    ensures { (wanted : FuncTypeValue) → thread_type (import_view import) ≡ Some wanted
+        → IsTypeChecked fault_kind result import (func_type_value ty.now) wanted }
+{
+    if has_thread_type(&import, ty) {
+        Ok(Some(import))
+    } else {
+        Err(ValidateFault::SignatureMismatch)
+    }
+}
+
+/// Whether the type of a built-in of a future or stream is the one that it has to have.
+fn has_async_value_type(import: &Import, ty: &FuncType) -> bool
+    ensures { IsTrue result
+        ↔ (async_value_type (import_view import.now) ≡ Some (func_type_value ty.now)) }
+{
+    match import {
+        Import::FutureNew(_) | Import::StreamNew(_) => has_type(ty, &[], &[ValType::I64]),
+        Import::FutureRead { .. } | Import::FutureWrite { .. } => {
+            has_type(ty, &[ValType::I32, ValType::I32], &[ValType::I32])
+        }
+        Import::StreamRead { .. } | Import::StreamWrite { .. } => {
+            has_type(
+                ty,
+                &[ValType::I32, ValType::I32, ValType::I32],
+                &[ValType::I32],
+            )
+        }
+        Import::FutureCancelRead { .. }
+        | Import::FutureCancelWrite { .. }
+        | Import::StreamCancelRead { .. }
+        | Import::StreamCancelWrite { .. } => has_type(ty, &[ValType::I32], &[ValType::I32]),
+        Import::FutureForward(_) | Import::StreamForward(_) => {
+            has_type(ty, &[ValType::I32, ValType::I32], &[])
+        }
+        Import::FutureDropReadable(_)
+        | Import::FutureDropWritable(_)
+        | Import::StreamDropReadable(_)
+        | Import::StreamDropWritable(_) => has_type(ty, &[ValType::I32], &[]),
+        _ => false,
+    }
+}
+
+/// The built-in of a future or stream, if its type is the one that it has to have.
+pub(crate) fn checked_async_value(
+    import: Import,
+    ty: &FuncType,
+) -> Result<Option<Import>, ValidateFault>
+    ensures { (wanted : FuncTypeValue) → async_value_type (import_view import) ≡ Some wanted
+        → IsTypeChecked fault_kind result import (func_type_value ty.now) wanted }
+{
+    if has_async_value_type(&import, ty) {
+        Ok(Some(import))
+    } else {
+        Err(ValidateFault::SignatureMismatch)
+    }
+}
+
+/// The value type of a core type: pointers and lengths are 32 bits.
+fn val_type(core: WasmType) -> ValType
+    ensures { result ≡ val_type core }
+{
+    match core {
+        WasmType::I32 | WasmType::Pointer | WasmType::Length => ValType::I32,
+        WasmType::I64 | WasmType::PointerOrI64 => ValType::I64,
+        WasmType::F32 => ValType::F32,
+        WasmType::F64 => ValType::F64,
+    }
+}
+
+/// Whether value types are those of these core types.
+fn are_val_types(core: &[WasmType], types: &[ValType]) -> bool
+    ensures { IsTrue result ↔ (types.now ≡ map val_type core.now) }
+{
+    if core.len() != types.len() {
+        return false;
+    }
+    for index in 0..core.len() {
+        if val_type(core[index]) != types[index] {
+            return false;
+        }
+    }
+    true
+}
+
+/// Whether a function has this core signature.
+fn has_signature(ty: &FuncType, core: &WasmSignature) -> bool
+    ensures { IsTrue result
+        ↔ (func_type_value ty.now ≡ signature_type (signature_view core.now)) }
+{
+    are_val_types(&core.params, ty.params()) && are_val_types(&core.results, ty.results())
+}
+
+/// Whether the type of an import is the core type of a function, lowered so.
+pub(crate) fn has_function_type(
+    alloc: Global,
+    resolve: &Resolve,
+    abi: AbiVariant,
+    function: &Function,
+    ty: &FuncType,
+) -> Result<bool, AllocError>
+    requires { IsUsable resolve.now (function_view function.now) }
+    ensures { IfOk result (λ b. IsTrue b ↔ (func_type_value ty.now
+        ≡ function_type resolve.now abi (function_view function.now))) }
+{
+    let core = resolve.wasm_signature(alloc, abi, function)?;
+    Ok(has_signature(ty, &core))
+}
