@@ -1,1 +1,2 @@
 pub mod SomeElement
+pub mod WorldRanges

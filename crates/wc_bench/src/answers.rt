@@ -1,5 +1,6 @@
 //! A row's answer, from the library whose call it names.
 
+use crate::names::calls as name_calls;
 use crate::rows::{Flaw, Paragraph, Row};
 use crate::worlds::{encoder_calls, resolve_calls};
 use crate::{dedupe_calls, examples, law_calls, read_calls, sink_calls, tool_calls, write_calls};
@@ -35,6 +36,9 @@ fn answer_call(alloc: Global, row: &Row<'_>, out: &mut String) -> Result<(), All
         return Ok(());
     }
     if encoder_calls::answer(alloc, row, out)? {
+        return Ok(());
+    }
+    if name_calls::answer(alloc, row, out)? {
         return Ok(());
     }
     if law_calls::answer(alloc, row, out)? {

@@ -21,14 +21,20 @@ pub(crate) fn answer(alloc: Global, row: &Row<'_>, out: &mut String) -> Result<b
 }
 
 fn answer_call(alloc: Global, row: &Row<'_>, out: &mut String) -> Result<bool, Stop> {
-    match row.call.as_bytes() {
-        b"dedupe" => answer_borrowed(alloc, row, out)?,
-        b"dedupe_owned" => answer_owned(alloc, row, out)?,
-        b"dedupe_imports" => answer_imports(alloc, row, out)?,
-        b"original_names" => answer_originals(alloc, row, out)?,
-        b"read_deduped" => answer_read(alloc, row, out)?,
-        b"dedupe_faults" => put_faults(out)?,
-        _ => return Ok(false),
+    if row.call == "dedupe" {
+        answer_borrowed(alloc, row, out)?;
+    } else if row.call == "dedupe_owned" {
+        answer_owned(alloc, row, out)?;
+    } else if row.call == "dedupe_imports" {
+        answer_imports(alloc, row, out)?;
+    } else if row.call == "original_names" {
+        answer_originals(alloc, row, out)?;
+    } else if row.call == "read_deduped" {
+        answer_read(alloc, row, out)?;
+    } else if row.call == "dedupe_faults" {
+        put_faults(out)?;
+    } else {
+        return Ok(false);
     }
     Ok(true)
 }

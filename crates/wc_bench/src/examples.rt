@@ -2,6 +2,7 @@
 
 mod dedupe;
 mod encoder;
+mod names;
 mod read;
 mod resolve;
 mod tool;
@@ -25,14 +26,22 @@ fn answer_call(alloc: Global, row: &Row<'_>, out: &mut String) -> Result<bool, S
     if row.call != "example" {
         return Ok(false);
     }
-    match argument(row, 0).as_bytes() {
-        b"exports_memory" => answer_exports_memory(alloc, row, out)?,
-        b"import_section" => answer_import_section(alloc, row, out)?,
-        b"original_name" => answer_original_name(alloc, row, out)?,
-        b"interface_id" => answer_interface_id(alloc, row, out)?,
-        b"encoder_for" => answer_encoder_for(alloc, row, out)?,
-        b"printed_lines" => answer_printed_lines(alloc, row, out)?,
-        _ => return Err(bad_row(out, "no example", argument(row, 0))),
+    if argument(row, 0) == "exports_memory" {
+        answer_exports_memory(alloc, row, out)?;
+    } else if argument(row, 0) == "import_section" {
+        answer_import_section(alloc, row, out)?;
+    } else if argument(row, 0) == "original_name" {
+        answer_original_name(alloc, row, out)?;
+    } else if argument(row, 0) == "interface_id" {
+        answer_interface_id(alloc, row, out)?;
+    } else if argument(row, 0) == "dropped_resource" {
+        answer_dropped_resource(row, out)?;
+    } else if argument(row, 0) == "encoder_for" {
+        answer_encoder_for(alloc, row, out)?;
+    } else if argument(row, 0) == "printed_lines" {
+        answer_printed_lines(alloc, row, out)?;
+    } else {
+        return Err(bad_row(out, "no example", argument(row, 0)));
     }
     Ok(true)
 }
@@ -120,6 +129,14 @@ fn empty_world(alloc: Global) -> Result<Resolve, ResolveFault> {
         packages: Vec::new(alloc),
     };
     Resolve::build(alloc, parts)
+}
+
+/// `example dropped_resource NAME`.
+fn answer_dropped_resource(row: &Row<'_>, out: &mut String) -> Result<(), AllocError> {
+    match names::dropped_resource(argument(row, 1)) {
+        Some(resource) => writeln!(out, "{resource:?}"),
+        None => out.push_str("none\n"),
+    }
 }
 
 /// `example encoder_for WORLD`: the encoder's module, and its world.

@@ -40,25 +40,36 @@ fn cut_quoted(text: &str) -> Option<(&str, &str)> {
 
 fn parse_import_type(text: &str) -> Option<ImportType> {
     let (kind, rest) = text.split_once(' ')?;
-    match kind.as_bytes() {
-        b"func" => Some(ImportType::Func(rest.parse::<u32>().ok()?)),
-        b"table" => Some(ImportType::Table(parse_table_type(rest)?)),
-        b"memory" => Some(ImportType::Memory(parse_memory_type(rest)?)),
-        b"global" => Some(ImportType::Global(parse_global_type(rest)?)),
-        _ => None,
+    if kind == "func" {
+        Some(ImportType::Func(rest.parse::<u32>().ok()?))
+    } else if kind == "table" {
+        Some(ImportType::Table(parse_table_type(rest)?))
+    } else if kind == "memory" {
+        Some(ImportType::Memory(parse_memory_type(rest)?))
+    } else if kind == "global" {
+        Some(ImportType::Global(parse_global_type(rest)?))
+    } else {
+        None
     }
 }
 
 fn parse_val_type(word: &str) -> Option<ValType> {
-    match word.as_bytes() {
-        b"i32" => Some(ValType::I32),
-        b"i64" => Some(ValType::I64),
-        b"f32" => Some(ValType::F32),
-        b"f64" => Some(ValType::F64),
-        b"v128" => Some(ValType::V128),
-        b"funcref" => Some(ValType::FuncRef),
-        b"externref" => Some(ValType::ExternRef),
-        _ => None,
+    if word == "i32" {
+        Some(ValType::I32)
+    } else if word == "i64" {
+        Some(ValType::I64)
+    } else if word == "f32" {
+        Some(ValType::F32)
+    } else if word == "f64" {
+        Some(ValType::F64)
+    } else if word == "v128" {
+        Some(ValType::V128)
+    } else if word == "funcref" {
+        Some(ValType::FuncRef)
+    } else if word == "externref" {
+        Some(ValType::ExternRef)
+    } else {
+        None
     }
 }
 
@@ -112,16 +123,18 @@ fn parse_memory_type(text: &str) -> Option<MemoryType> {
 fn parse_global_type(text: &str) -> Option<GlobalType> {
     let (content_type, rest) = text.split_once(' ').unwrap_or((text, ""));
     let content_type = parse_val_type(content_type)?;
-    match rest.as_bytes() {
-        b"" => Some(GlobalType {
+    if rest == "" {
+        Some(GlobalType {
             content_type,
             mutable: false,
-        }),
-        b"mut" => Some(GlobalType {
+        })
+    } else if rest == "mut" {
+        Some(GlobalType {
             content_type,
             mutable: true,
-        }),
-        _ => None,
+        })
+    } else {
+        None
     }
 }
 

@@ -9,6 +9,7 @@ mod imports;
 mod input;
 mod law_calls;
 mod modules;
+mod names;
 mod operators;
 mod program;
 mod read_calls;

@@ -18,20 +18,32 @@ pub(crate) fn answer(alloc: Global, row: &Row<'_>, out: &mut String) -> Result<b
 }
 
 fn answer_call(alloc: Global, row: &Row<'_>, out: &mut String) -> Result<bool, Stop> {
-    match row.call.as_bytes() {
-        b"frames" => answer_frames(alloc, row, out)?,
-        b"read_imports" => answer_imports(alloc, row, out)?,
-        b"read_module" => answer_module(alloc, row, out)?,
-        b"read_body" => answer_body(alloc, row, out)?,
-        b"read_init" => answer_init(alloc, row, out)?,
-        b"refs" => answer_refs(alloc, row, out)?,
-        b"count_operators" => answer_count(alloc, row, out)?,
-        b"form_of" => answer_form(row, out)?,
-        b"forms" => answer_forms(row, out)?,
-        b"page_size" => answer_page_size(row, out)?,
-        b"func_type" => answer_func_type(alloc, row, out)?,
-        b"read_faults" => put_faults(out)?,
-        _ => return Ok(false),
+    if row.call == "frames" {
+        answer_frames(alloc, row, out)?;
+    } else if row.call == "read_imports" {
+        answer_imports(alloc, row, out)?;
+    } else if row.call == "read_module" {
+        answer_module(alloc, row, out)?;
+    } else if row.call == "read_body" {
+        answer_body(alloc, row, out)?;
+    } else if row.call == "read_init" {
+        answer_init(alloc, row, out)?;
+    } else if row.call == "refs" {
+        answer_refs(alloc, row, out)?;
+    } else if row.call == "count_operators" {
+        answer_count(alloc, row, out)?;
+    } else if row.call == "form_of" {
+        answer_form(row, out)?;
+    } else if row.call == "forms" {
+        answer_forms(row, out)?;
+    } else if row.call == "page_size" {
+        answer_page_size(row, out)?;
+    } else if row.call == "func_type" {
+        answer_func_type(alloc, row, out)?;
+    } else if row.call == "read_faults" {
+        put_faults(out)?;
+    } else {
+        return Ok(false);
     }
     Ok(true)
 }
@@ -119,11 +131,14 @@ fn argument<'a>(row: &Row<'a>, index: usize) -> &'a str {
 
 /// The prefix of a family of codes: `fc`, `fd` or `fe`; any other word stands for codes of one byte.
 fn opcode_of(prefix: &str, code: u32) -> Opcode {
-    match prefix.as_bytes() {
-        b"fc" => Opcode::Misc(code),
-        b"fd" => Opcode::Vector(code),
-        b"fe" => Opcode::Atomic(code),
-        _ => Opcode::Byte((code & 0xff) as u8),
+    if prefix == "fc" {
+        Opcode::Misc(code)
+    } else if prefix == "fd" {
+        Opcode::Vector(code)
+    } else if prefix == "fe" {
+        Opcode::Atomic(code)
+    } else {
+        Opcode::Byte((code & 0xff) as u8)
     }
 }
 
@@ -151,10 +166,12 @@ fn answer_form(row: &Row<'_>, out: &mut String) -> Result<(), Stop> {
 /// The codes below 512 of a family that are operators', in runs of one form; `forms byte` those of one byte.
 fn answer_forms(row: &Row<'_>, out: &mut String) -> Result<(), Stop> {
     let prefix = argument(row, 0);
-    let codes = match prefix.as_bytes() {
-        b"byte" => 0x100,
-        b"fc" | b"fd" | b"fe" => 0x200,
-        _ => return Err(bad_row(out, "no prefix", prefix)),
+    let codes = if prefix == "byte" {
+        0x100
+    } else if prefix == "fc" || prefix == "fd" || prefix == "fe" {
+        0x200
+    } else {
+        return Err(bad_row(out, "no prefix", prefix));
     };
     let mut first = 0;
     let mut form = form_of(opcode_of(prefix, 0));

@@ -74,17 +74,21 @@ impl<'a> Paragraph<'a> {
         fixtures: &[Row<'a>],
     ) -> Result<(), AllocError> {
         let (word, rest) = line.split_once(' ').unwrap_or((line, ""));
-        match word.as_bytes() {
-            b"row" => self.row.name = rest,
-            b"fixture" => {
-                self.row.name = rest;
-                self.is_fixture = true;
-            }
-            b"call" => self.set_call(alloc, rest)?,
-            b"in" => self.row.input.push(rest)?,
-            b"out" => self.row.answer.push(rest)?,
-            b"with" => self.add_fixture(rest, fixtures)?,
-            _ => self.find(Flaw::Line(line)),
+        if word == "row" {
+            self.row.name = rest;
+        } else if word == "fixture" {
+            self.row.name = rest;
+            self.is_fixture = true;
+        } else if word == "call" {
+            self.set_call(alloc, rest)?;
+        } else if word == "in" {
+            self.row.input.push(rest)?;
+        } else if word == "out" {
+            self.row.answer.push(rest)?;
+        } else if word == "with" {
+            self.add_fixture(rest, fixtures)?;
+        } else {
+            self.find(Flaw::Line(line));
         }
         Ok(())
     }

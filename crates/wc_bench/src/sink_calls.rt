@@ -14,10 +14,12 @@ pub(crate) fn answer(alloc: Global, row: &Row<'_>, out: &mut String) -> Result<b
 }
 
 fn answer_call(alloc: Global, row: &Row<'_>, out: &mut String) -> Result<bool, Stop> {
-    match row.call.as_bytes() {
-        b"writer_sink" => answer_writer(alloc, row, out)?,
-        b"execute_failing" => answer_failing(alloc, row, out)?,
-        _ => return Ok(false),
+    if row.call == "writer_sink" {
+        answer_writer(alloc, row, out)?;
+    } else if row.call == "execute_failing" {
+        answer_failing(alloc, row, out)?;
+    } else {
+        return Ok(false);
     }
     Ok(true)
 }

@@ -16,11 +16,14 @@ pub(crate) fn answer(alloc: Global, row: &Row<'_>, out: &mut String) -> Result<b
 }
 
 fn answer_call(alloc: Global, row: &Row<'_>, out: &mut String) -> Result<bool, Stop> {
-    match row.call.as_bytes() {
-        b"parse" => answer_parse(alloc, row, out)?,
-        b"execute" => answer_execute(alloc, row, out)?,
-        b"tool_faults" => put_faults(out)?,
-        _ => return Ok(false),
+    if row.call == "parse" {
+        answer_parse(alloc, row, out)?;
+    } else if row.call == "execute" {
+        answer_execute(alloc, row, out)?;
+    } else if row.call == "tool_faults" {
+        put_faults(out)?;
+    } else {
+        return Ok(false);
     }
     Ok(true)
 }
@@ -66,13 +69,15 @@ pub(crate) fn named_command(row: &Row<'_>, out: &mut String) -> Result<Command<'
         Some(word) => *word,
         None => "",
     };
-    match word.as_bytes() {
-        b"dedupe" => Ok(Command::Dedupe {
+    if word == "dedupe" {
+        Ok(Command::Dedupe {
             source: "in.wasm",
             target: "out.wasm",
-        }),
-        b"scan" => Ok(Command::Scan { source: "in.wasm" }),
-        _ => Err(bad_row(out, "no command", word)),
+        })
+    } else if word == "scan" {
+        Ok(Command::Scan { source: "in.wasm" })
+    } else {
+        Err(bad_row(out, "no command", word))
     }
 }
 

@@ -18,17 +18,26 @@ pub(crate) fn answer(alloc: Global, row: &Row<'_>, out: &mut String) -> Result<b
 }
 
 fn answer_call(alloc: Global, row: &Row<'_>, out: &mut String) -> Result<bool, Stop> {
-    match row.call.as_bytes() {
-        b"write_import_section" => answer_import_section(alloc, row, out)?,
-        b"append_import_section" => answer_appended_imports(alloc, row, out)?,
-        b"rewrite_import_section" => answer_rewritten_imports(alloc, row, out)?,
-        b"raw_section" => answer_raw_section(alloc, row, out)?,
-        b"append_raw_section" => answer_appended_section(alloc, row, out)?,
-        b"write_body" => answer_body(alloc, row, out)?,
-        b"write_bodies" => answer_bodies(alloc, row, out)?,
-        b"write_module" => answer_module(alloc, row, out)?,
-        b"write_faults" => put_faults(out)?,
-        _ => return Ok(false),
+    if row.call == "write_import_section" {
+        answer_import_section(alloc, row, out)?;
+    } else if row.call == "append_import_section" {
+        answer_appended_imports(alloc, row, out)?;
+    } else if row.call == "rewrite_import_section" {
+        answer_rewritten_imports(alloc, row, out)?;
+    } else if row.call == "raw_section" {
+        answer_raw_section(alloc, row, out)?;
+    } else if row.call == "append_raw_section" {
+        answer_appended_section(alloc, row, out)?;
+    } else if row.call == "write_body" {
+        answer_body(alloc, row, out)?;
+    } else if row.call == "write_bodies" {
+        answer_bodies(alloc, row, out)?;
+    } else if row.call == "write_module" {
+        answer_module(alloc, row, out)?;
+    } else if row.call == "write_faults" {
+        put_faults(out)?;
+    } else {
+        return Ok(false);
     }
     Ok(true)
 }

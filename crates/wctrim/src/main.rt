@@ -3,7 +3,8 @@
 //! What it does is proved in `wc_tool`. Here it gets its arguments, its files and its standard output.
 #![tactic(auto)]
 
-ghost use Rattle.std.specs.Prelude.{None};
+ghost use Rattle.std.specs.Prelude.{◌≡◌, None};
+ghost use Rattle.std.specs.Process.{exit_status};
 
 use std::io::{self, BufWriter, Write};
 use std::process::ExitCode;
@@ -52,7 +53,14 @@ fn run_on<R: Env + Files + AllocGlobal, W: Write + Drop>(rt: &R, writer: BufWrit
     let arguments = arguments(rt);
     let mut files = SystemFiles { rt };
     let mut out = Printer::new(writer);
-    ExitCode::from(wc_tool::run(rt.alloc(), &arguments, &mut files, &mut out))
+    exit_code(wc_tool::run(rt.alloc(), &arguments, &mut files, &mut out))
+}
+
+/// The exit code with this status.
+fn exit_code(status: u8) -> ExitCode
+    ensures { exit_status result ≡ status }
+{
+    ExitCode::from(status)
 }
 
 fn main(rt: HostRuntime) -> ExitCode {

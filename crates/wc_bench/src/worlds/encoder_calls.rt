@@ -69,7 +69,7 @@ fn answer_on_encoder<'a>(
     out: &mut String,
 ) -> Result<(), Stop<'a>> {
     let encoder = encoder_of(alloc, fixture_of(alloc, &row.input)?)?;
-    encoder.formed();
+    encoder.well_formedness();
     if row.call == "encoder" {
         put_encoder(out, &encoder)?;
     } else if row.call == "encoder_adapters" {

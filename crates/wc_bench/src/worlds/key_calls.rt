@@ -1,9 +1,9 @@
 //! The calls on keys and versions, which need no `Resolve`.
 
 use crate::worlds::functions::complete_function;
-use crate::worlds::members::{version_of, world_key};
+use crate::worlds::members::{package_name, version_of, world_key};
 use crate::worlds::resolve_calls::put_answer;
-use crate::worlds::shown_names::{put_key, put_name};
+use crate::worlds::shown_names::{put_key, put_name, put_package_name};
 use crate::worlds::stop::Stop;
 use crate::worlds::words::Words;
 use std::alloc::AllocError;
@@ -51,6 +51,24 @@ fn version_compat_track<'a>(words: &mut Words, out: &mut String) -> Result<(), S
     Ok(())
 }
 
+/// `is_version_compat_track VERSION TEXT`
+fn is_version_compat_track<'a>(words: &mut Words, out: &mut String) -> Result<(), Stop<'a>> {
+    let version = words.name()?;
+    let version = version_of(words.alloc, &version)?;
+    let text = words.name()?;
+    put_answer(out, PackageName::is_version_compat_track(&version, &text))?;
+    Ok(())
+}
+
+/// The copy of a package's name.
+fn package_name_clone<'a>(words: &mut Words, out: &mut String) -> Result<(), Stop<'a>> {
+    let name = package_name(words)?;
+    let copy = name.clone(words.alloc)?;
+    put_package_name(out, &copy)?;
+    out.push('\n')?;
+    Ok(())
+}
+
 /// `legacy_core_export_name FUNC [of INTERFACE]`, the interface by its name.
 fn legacy_core_export_name<'a>(words: &mut Words, out: &mut String) -> Result<(), Stop<'a>> {
     let function = complete_function(words)?;
@@ -77,6 +95,10 @@ pub(crate) fn key_call<'a>(
         keys_equal(words, out)?;
     } else if call == "version_compat_track" {
         version_compat_track(words, out)?;
+    } else if call == "is_version_compat_track" {
+        is_version_compat_track(words, out)?;
+    } else if call == "package_name_clone" {
+        package_name_clone(words, out)?;
     } else if call == "legacy_core_export_name" {
         legacy_core_export_name(words, out)?;
     } else {

@@ -2,8 +2,8 @@
 
 use crate::worlds::functions::complete_function;
 use crate::worlds::members::{interface_id, world_entry, world_key};
-use crate::worlds::resolve_calls::put_found;
-use crate::worlds::shown_names::{put_id, put_optional_name};
+use crate::worlds::resolve_calls::{put_answer, put_found};
+use crate::worlds::shown_names::{put_id, put_name, put_optional_name, put_package_name};
 use crate::worlds::stop::Stop;
 use crate::worlds::words::Words;
 use std::alloc::AllocError;
@@ -141,6 +141,78 @@ fn find_futures_and_streams<'a>(
     let found = function.find_futures_and_streams(words.alloc, resolve)?;
     put_type_ids(out, &found)?;
     Ok(())
+}
+
+/// `nth_future_or_stream N FUNCTION`
+fn nth_future_or_stream<'a>(
+    resolve: &Resolve,
+    words: &mut Words,
+    out: &mut String,
+) -> Result<(), Stop<'a>> {
+    let n = words.number()?;
+    let function = complete_function(words)?;
+    if !resolve.has_function(&function) {
+        return Err(Stop::Missing("a function that is not usable"));
+    }
+    let found = function.nth_future_or_stream(resolve, n);
+    put_found(out, 't', found.map(|id| id.0))?;
+    Ok(())
+}
+
+/// `is_canonical_id INTERFACE TEXT`
+fn is_canonical_id<'a>(
+    resolve: &Resolve,
+    words: &mut Words,
+    out: &mut String,
+) -> Result<(), Stop<'a>> {
+    let id = interface_id(words)?;
+    let text = words.name()?;
+    if !resolve.has_interface(id) {
+        return Err(Stop::Missing("no such interface"));
+    }
+    put_answer(out, resolve.is_canonical_id(id, &text))?;
+    Ok(())
+}
+
+/// The names of an interface's package and of itself, or `none`.
+fn qualified_name<'a>(
+    resolve: &Resolve,
+    words: &mut Words,
+    out: &mut String,
+) -> Result<(), Stop<'a>> {
+    let id = interface_id(words)?;
+    if !resolve.has_interface(id) {
+        return Err(Stop::Missing("no such interface"));
+    }
+    match resolve.qualified_name(id) {
+        Some((package, name)) => {
+            put_package_name(out, package)?;
+            out.push(' ')?;
+            put_name(out, name)?;
+            out.push('\n')?;
+        }
+        None => out.push_str("none\n")?,
+    }
+    Ok(())
+}
+
+/// The calls by which crates look up names. False where the call is none of these.
+pub(crate) fn lookup_call<'a>(
+    call: &str,
+    resolve: &Resolve,
+    words: &mut Words,
+    out: &mut String,
+) -> Result<bool, Stop<'a>> {
+    if call == "nth_future_or_stream" {
+        nth_future_or_stream(resolve, words, out)?;
+    } else if call == "is_canonical_id" {
+        is_canonical_id(resolve, words, out)?;
+    } else if call == "qualified_name" {
+        qualified_name(resolve, words, out)?;
+    } else {
+        return Ok(false);
+    }
+    Ok(true)
 }
 
 /// False where the call is none of these.

@@ -6,7 +6,7 @@ use crate::worlds::functions::complete_function;
 use crate::worlds::key_calls::key_call;
 use crate::worlds::live_calls::live_call;
 use crate::worlds::members::{handle, package_name};
-use crate::worlds::name_calls::name_call;
+use crate::worlds::name_calls::{lookup_call, name_call};
 use crate::worlds::shown_kinds::put_complete_function;
 use crate::worlds::shown_names::put_id;
 use crate::worlds::shown_worlds::{put_interface, put_package, put_type_def, put_world};
@@ -51,10 +51,10 @@ pub(crate) fn put_found(
 }
 
 fn build(resolve: &Resolve, out: &mut String) -> Result<(), AllocError> {
-    resolve.formed();
-    resolve.listed();
-    resolve.carried();
-    resolve.flattened();
+    resolve.well_formedness();
+    resolve.listings_unique();
+    resolve.futures_unique();
+    resolve.flat_types_unique();
     out.push_str("ok\n")
 }
 
@@ -183,8 +183,8 @@ fn lone_call<'a>(call: &str, words: &mut Words, out: &mut String) -> Result<bool
     Ok(true)
 }
 
-/// The calls on a whole.
-const ON_WHOLE: [&str; 16] = [
+/// The calls on a `Resolve`.
+const ON_RESOLVE: [&str; 19] = [
     "resolve_build",
     "has",
     "type_def",
@@ -199,22 +199,27 @@ const ON_WHOLE: [&str; 16] = [
     "external_id_value",
     "interface_direct_deps",
     "find_futures_and_streams",
+    "nth_future_or_stream",
+    "is_canonical_id",
+    "qualified_name",
     "wasm_signature",
     "live_types",
 ];
 
 fn is_on_resolve(call: &str) -> bool {
-    ON_WHOLE.iter().any(|name| *name == call)
+    ON_RESOLVE.iter().any(|name| *name == call)
 }
 
-/// The calls that need no whole.
-const ALONE: [&str; 7] = [
+/// The calls that need no `Resolve`.
+const ALONE: [&str; 9] = [
     "resolve_faults",
     "handle_resource",
     "function_clone",
     "key_clone",
     "keys_equal",
     "version_compat_track",
+    "is_version_compat_track",
+    "package_name_clone",
     "legacy_core_export_name",
 ];
 
@@ -231,6 +236,9 @@ fn answer_on_resolve<'a>(
 ) -> Result<(), Stop<'a>> {
     let resolve = resolve_of(alloc, &row.input)?;
     if resolve_call(row.call, &resolve, words, out)? || name_call(row.call, &resolve, words, out)? {
+        return Ok(());
+    }
+    if lookup_call(row.call, &resolve, words, out)? {
         return Ok(());
     }
     if signature_call(row.call, &resolve, words, out)? {

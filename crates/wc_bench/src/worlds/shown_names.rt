@@ -5,7 +5,10 @@ use wc_resolve::{PackageName, TypeOwner, WitType, WorldKey};
 
 fn is_plain_character(c: char) -> bool {
     c.is_ascii_alphanumeric()
-        || matches!(c, '-' | '_' | '.' | '[' | ']' | '/' | '@' | '#' | '+' | ':')
+        || matches!(
+            c,
+            '-' | '_' | '.' | '[' | ']' | '/' | '@' | '#' | '+' | ':' | '$' | '|'
+        )
 }
 
 /// Whether a word is a letter and a number, as ids are.

@@ -1,0 +1,109 @@
+#!/usr/bin/env python3
+"""Writes rows with random names, made of the naming schemes' own pieces, to standard output.
+
+    random-names.py [COUNT] [SEED] | crates/wc_bench/out/wc_bench -
+
+Each name is asked of both schemes: on its own, in a world and in an interface, and as the name of a module. The same
+count and seed make the same rows. Nothing is expected of the answers but that each call returns.
+"""
+import random
+import sys
+
+PIECES = [
+    "[async-lower]", "[async-lift]", "[async-lift-stackful]", "[callback]", "[export]", "[cancellable]",
+    "[resource-drop]", "[resource-new]", "[resource-rep]", "[task-return]", "[task-cancel]", "[subtask-cancel]",
+    "[subtask-drop]", "[backpressure-inc]", "[backpressure-dec]", "[waitable-set-new]", "[waitable-set-wait",
+    "[waitable-set-poll", "[waitable-set-drop]", "[waitable-join]", "[error-context-new-",
+    "[error-context-debug-message-", "[error-context-drop]", "[context-get-", "[context-set-", "[thread-index]",
+    "[thread-new-indirect-v0]", "[thread-resume-later]", "[thread-suspend", "[thread-yield", "-then-resume]",
+    "-then-promote]", "[future-", "[stream-", "new-", "read-", "write-", "cancel-read-", "cancel-write-", "forward-",
+    "drop-readable-", "drop-writable-", "unit", "utf8", "utf16", "latin1+utf16", "i32", "i64", "f32", "i32-", "i64-",
+    "-i32", "-i64", "[method]r.m", "[dtor]", "[", "]", "]]", "-", "+", "_", "|", "||", "#", ".", ":", "/", "@", "$root",
+    "env", "__main_module__", "__wasm_get_stack_pointer", "__wasm_set_tls_base", "memory", "cabi_post_",
+    "cabi_realloc", "_initialize", "cm32p2", "_ex_", "_drop", "_new", "_rep", "_post", "_dtor", "a:b/c", "my:demo/host",
+    "my:demo/host@", "@1.2.3", "@1", "@0.2", "1.0.0-rc.1+x", "host", "both", "r", "f", "guest", "0", "1", "2", "00",
+    "+01", "-1", "4294967295", "4294967296", "18446744073709551616", "99999999999999999999999999", " ", ",", "(", ")",
+    "\\", '"', "\n", "\t", "\0", "\x7f", "é", "ß", "１", "\u202e", "\U0001f600", "\ufeff",
+]
+
+# Functions, a resource, and futures and streams, of a world and of an interface; versions of two kinds.
+WORLD = """fixture world
+in type t0 = stream u8
+in type t1 = future t0
+in type t2 r = resource
+in type t3 s in i0 = resource
+in type t4 = borrow t3
+in interface i0 host of p0
+in   type s t3
+in   func both: (a: t1) -> t0
+in   func [method]s.m: method t3 (self: t4)
+in interface i1
+in interface i2 c of p1
+in package p0 my:demo
+in   interface host i0
+in package p1 a:b@1.2.3
+in   interface c i2
+in world w0 foo
+in   import i0: interface i0
+in   import i2: interface i2
+in   import plain: interface i1
+in   import host: func (a: t1)
+in   import r: type t2
+in   export guest: func () -> t1
+in   export i2: interface i2
+"""
+
+NAMES_IN_A_ROW = 1000
+
+
+def random_name(source):
+    """A name of a few pieces; now and then cut, doubled, or with random characters."""
+    name = "".join(source.choice(PIECES) for _ in range(source.choice((1, 1, 2, 2, 3, 3, 4, 5, 8, 13))))
+    kind = source.random()
+    if kind < 0.1 and name:
+        at = source.randrange(len(name))
+        name = name[:at] + name[at + 1:]
+    elif kind < 0.2:
+        at = source.randrange(len(name) + 1)
+        name = name[:at] + chr(source.choice((source.randrange(128), source.randrange(0xd800)))) + name[at:]
+    elif kind < 0.22:
+        name = name * source.randrange(2, 200)
+    return name
+
+
+def quoted(name):
+    """A name as a word of a row. A line can't hold a carriage return at its end, so none is made."""
+    name = name.replace("\r", "").replace("\\", "\\\\").replace('"', '\\"').replace("\n", "\\n")
+    return '"' + name + '"'
+
+
+def row(number, call, scheme, lines, fixture=False):
+    print("row %s %s %d" % (call, scheme, number))
+    print("call %s %s" % (call, scheme))
+    if fixture:
+        print("with world")
+    for line in lines:
+        print("in " + line)
+    print()
+
+
+def main():
+    count = int(sys.argv[1]) if len(sys.argv) > 1 else 100000
+    source = random.Random(int(sys.argv[2]) if len(sys.argv) > 2 else 1)
+    sys.stdout.reconfigure(encoding="utf-8", newline="\n")
+    print(WORLD)
+    for number in range(0, count, NAMES_IN_A_ROW):
+        names = [quoted(random_name(source)) for _ in range(min(NAMES_IN_A_ROW, count - number))]
+        for scheme in ("standard", "legacy hook"):
+            row(number, "names", scheme, names)
+            row(number, "function_names", scheme, names)
+            row(number, "env_import", scheme, [name + " i32 -> i64" for name in names])
+            for where in ("do imports ", "do exports ", "do imports of i0 under i0 "):
+                row(number, "payload_intrinsic", scheme, [where + name for name in names], True)
+                row(number, "payload_lookup", scheme, [where + name for name in names], True)
+            for where in ("do imports ", "do exports "):
+                row(number, "module_to_interface", scheme, [where + name for name in names], True)
+
+
+if __name__ == "__main__":
+    main()

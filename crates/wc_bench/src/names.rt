@@ -1,0 +1,10 @@
+//! Rows on the names of imports and exports of core modules.
+
+pub(crate) mod calls;
+pub(crate) mod contexts;
+pub(crate) mod core_types;
+pub(crate) mod in_worlds;
+pub(crate) mod meanings;
+pub(crate) mod scheme_texts;
+pub(crate) mod shown_imports;
+pub(crate) mod values;
