@@ -91,7 +91,8 @@ fn push_functions(roots: &mut Vec<TypeId>, interface: &Interface) -> Result<(), 
 
 /// The types of an interface, then its functions.
 fn roots_of_interface(alloc: Global, interface: &Interface) -> Result<Vec<TypeId>, AllocError>
-    ensures { IfOk result (λ v. indices v.items ≡ interface_roots (interface_view interface.now)) }
+    ensures { IfOk result
+        (λ v. indices v.items ≡ interface_roots (interface_view interface.now)) }
 {
     let mut roots = Vec::new(alloc);
     push_types(&mut roots, interface)?;

@@ -73,7 +73,8 @@ fn flatten_parts(
     order: &[usize],
 ) -> Result<Vec<Vec<WasmType>>, AllocError>
     requires { IsOrder (parts_view parts.now).types order.now }
-    ensures { IfOk result (λ flats. AreFlattened (parts_view parts.now).types (lists flats.items)) }
+    ensures { IfOk result
+        (λ flats. AreFlattened (parts_view parts.now).types (lists flats.items)) }
 {
     flatten_all(alloc, &parts.types, order)
 }

@@ -211,7 +211,8 @@ fn put_usage<O: Output>(out: &mut O) -> Result<(), PutFailed>
 /// Prints why the program failed. The answer is the status of a failure, also where `out` fails.
 fn report<O: Output>(out: &mut O, fault: &RunFault<'_>) -> u8
     ensures status { result ≡ failure }
-    ensures printed { O.is_failed out.new ≡ false → (text : List ℕ) × IsFaultText fault.now text
+    ensures printed { O.is_failed out.new ≡ false
+        → (text : List ℕ) × IsFaultText fault.now text
         × HandsOn (O.written out.old) (O.written out.new) (O.sent out.new) (fault_line text) }
     ensures refuses { O.is_failed out.new ≡ false → O.is_failed out.old ≡ false }
 {

@@ -51,7 +51,8 @@ pub struct Built<'a> {
 pub fn write_module(alloc: Global, built: &Built<'_>) -> Result<Vec<u8>, WriteFault>
     ensures written { IfOk result (λ v. v.items ≡ built_text (built_value built.now)) }
     ensures fits { IsOk result → SizesFit (built_value built.now) }
-    ensures too_large { IsErrOf result WriteFault.TooLarge → ¬ (SizesFit (built_value built.now)) }
+    ensures too_large { IsErrOf result WriteFault.TooLarge
+        → ¬ (SizesFit (built_value built.now)) }
 {
     let mut out = Vec::from_slice(alloc, MODULE_HEADER)?;
     append_sections(&mut out, built)?;
@@ -63,7 +64,8 @@ fn append_sections(out: &mut Vec<u8>, built: &Built<'_>) -> Result<(), WriteFaul
     ensures written { OnOk result (out.new.items ≡
         out.old.items ++ sections_text (built_value built.now)) }
     ensures fits { IsOk result → SizesFit (built_value built.now) }
-    ensures too_large { IsErrOf result WriteFault.TooLarge → ¬ (SizesFit (built_value built.now)) }
+    ensures too_large { IsErrOf result WriteFault.TooLarge
+        → ¬ (SizesFit (built_value built.now)) }
 {
     let mut content = Vec::new(*out.allocator());
     append_types(out, &mut content, &built.types)?;

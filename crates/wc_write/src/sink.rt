@@ -35,7 +35,8 @@ pub trait Sink {
         ensures fails { OnErr result (is_failed self.new ≡ true) }
         ensures cause { is_failed self.old ≡ false →
             OnErr result (put_fails self.old bytes.now self.new) }
-        ensures quiet { is_failed self.old ≡ true → Keeps (written self.old) (written self.new) };
+        ensures quiet { is_failed self.old ≡ true
+            → Keeps (written self.old) (written self.new) };
 
     /// Whether the sink is failed.
     fn failed(&self) -> bool

@@ -111,7 +111,8 @@ fn has_needed_name(def: &TypeDef) -> bool
 }
 
 fn are_resources_named(parts: &Parts) -> bool
-    ensures { IsTrue result ↔ All (λ t. HasNeededName t.kind t.name) (parts_view parts.now).types }
+    ensures { IsTrue result
+        ↔ All (λ t. HasNeededName t.kind t.name) (parts_view parts.now).types }
 {
     parts.types.iter().all(|def| has_needed_name(def))
 }

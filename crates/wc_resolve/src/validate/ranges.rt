@@ -95,7 +95,8 @@ fn is_world_in(parts: &Parts, world: &World) -> bool
 }
 
 fn are_worlds_in(parts: &Parts) -> bool
-    ensures { IsTrue result ↔ All (IsWorldIn (parts_view parts.now)) (parts_view parts.now).worlds }
+    ensures { IsTrue result
+        ↔ All (IsWorldIn (parts_view parts.now)) (parts_view parts.now).worlds }
 {
     parts.worlds.iter().all(|world| is_world_in(parts, world))
 }
@@ -140,7 +141,8 @@ fn are_links_in(parts: &Parts, interface: &Interface) -> bool
 
 #[tactic(auto, unfolding(crate::specs::Ranges::IsInterfaceIn))]
 fn is_interface_in(parts: &Parts, interface: &Interface) -> bool
-    ensures { IsTrue result ↔ IsInterfaceIn (parts_view parts.now) (interface_view interface.now) }
+    ensures { IsTrue result
+        ↔ IsInterfaceIn (parts_view parts.now) (interface_view interface.now) }
 {
     are_names_in(parts, interface) && are_links_in(parts, interface)
 }
@@ -156,7 +158,8 @@ fn are_interfaces_in(parts: &Parts) -> bool
 }
 
 fn are_interface_names_in(count: usize, interfaces: &IndexMap<String, InterfaceId>) -> bool
-    ensures { IsTrue result ↔ All (λ e. e.1 < count) (map interface_entry interfaces.now.entries) }
+    ensures { IsTrue result
+        ↔ All (λ e. e.1 < count) (map interface_entry interfaces.now.entries) }
 {
     interfaces.iter().all(|(_name, id)| (id.0 as usize) < count)
 }
@@ -190,7 +193,8 @@ fn is_owner_in(parts: &Parts, owner: TypeOwner) -> bool
 
 #[tactic(auto, unfolding(crate::specs::Ranges::IsTypeDefIn))]
 fn is_type_def_in(alloc: Global, parts: &Parts, def: &TypeDef) -> Result<bool, AllocError>
-    ensures { IfOk result (λ b. IsTrue b ↔ IsTypeDefIn (parts_view parts.now) (type_view def.now)) }
+    ensures { IfOk result (λ b. IsTrue b
+        ↔ IsTypeDefIn (parts_view parts.now) (type_view def.now)) }
 {
     let count = parts.types.len();
     let types = referenced_types(alloc, &def.kind)?;

@@ -82,7 +82,8 @@ fn world_passes<T: TypeTest>(test: &T, world: &World) -> bool
 }
 
 fn worlds_pass<T: TypeTest>(test: &T, worlds: &[World]) -> bool
-    ensures { IsTrue result ↔ All (DoesWorldPass (T.Passes test.now)) (map world_view worlds.now) }
+    ensures { IsTrue result
+        ↔ All (DoesWorldPass (T.Passes test.now)) (map world_view worlds.now) }
 {
     worlds.iter().all(|world| world_passes(test, world))
 }
@@ -98,7 +99,8 @@ fn functions_pass<T: TypeTest>(test: &T, functions: &IndexMap<String, Function>)
 
 #[tactic(auto, unfolding(crate::specs::World::DoesInterfacePass))]
 fn interface_passes<T: TypeTest>(test: &T, interface: &Interface) -> bool
-    ensures { IsTrue result ↔ DoesInterfacePass (T.Passes test.now) (interface_view interface.now) }
+    ensures { IsTrue result
+        ↔ DoesInterfacePass (T.Passes test.now) (interface_view interface.now) }
 {
     functions_pass(test, &interface.functions)
 }
@@ -114,7 +116,8 @@ fn interfaces_pass<T: TypeTest>(test: &T, interfaces: &[Interface]) -> bool
 
 #[tactic(auto, unfolding(crate::specs::World::DoesTypePass))]
 fn type_def_passes<T: TypeTest>(alloc: Global, test: &T, def: &TypeDef) -> Result<bool, AllocError>
-    ensures { IfOk result (λ b. IsTrue b ↔ DoesTypePass (T.Passes test.now) (type_view def.now)) }
+    ensures { IfOk result (λ b. IsTrue b
+        ↔ DoesTypePass (T.Passes test.now) (type_view def.now)) }
 {
     kind_passes(alloc, test, &def.kind)
 }
