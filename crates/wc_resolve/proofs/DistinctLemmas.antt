@@ -7,9 +7,9 @@ use Rattle.std.proofs.lemmas.List.Quantifiers.{all_pairs_push}
 use Rattle.wc_resolve.specs.declared.packages.Package.{Package}
 use Rattle.wc_resolve.specs.declared.packages.PackageName.{PackageName}
 use Rattle.wc_resolve.specs.contracts.packages.PackageNamePartialEq.TheImpl.{eq-value}
-use Rattle.wc_resolve.proofs.PackageNames.{names_law}
+use Rattle.wc_resolve.proofs.PackageNameLemmas.{names_law}
 use Rattle.wc_resolve.specs.Views.{PackageNameView, PackageView, package_name_view, package_view}
-use Rattle.wc_resolve.proofs.Search.{contains_cons, contains_head, contains_none, contains_tail}
+use Rattle.wc_resolve.proofs.SearchLemmas.{contains_cons, contains_head, contains_none, contains_tail}
 
 -- no two of the names are equal
 abbrev pub AreDistinct : List PackageNameView → Type 0

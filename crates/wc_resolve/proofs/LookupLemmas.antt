@@ -10,7 +10,7 @@ use Rattle.wc_resolve.specs.declared.worlds.WorldItem.{WorldItem}
 use Rattle.wc_resolve.specs.contracts.worlds.WorldKeyPartialEq.TheImpl.{eq-value as key_eq}
 use Rattle.wc_resolve.specs.Views.{KeyView, ItemView, item_view, key_view, world_entry}
 use Rattle.wc_resolve.proofs.KeyLemmas.{key_view_eq, keys_viewed}
-use Rattle.wc_resolve.proofs.Search.{contains_cons, contains_head, contains_none, contains_tail}
+use Rattle.wc_resolve.proofs.SearchLemmas.{contains_cons, contains_head, contains_none, contains_tail}
 
 -- the keys of what a world imports or exports
 abbrev pub view_keys : List (KeyView × ItemView) → List KeyView

@@ -9,7 +9,7 @@ use Rattle.wc_resolve.specs.Ranges.{AreIdsInRange, IsFunctionIn}
 use Rattle.wc_resolve.specs.Views.{FunctionView, TypeView, type_view}
 use Rattle.wc_resolve.specs.World.{ResolveView, HasCycle, IsChildrenFirst, SignatureHasOnly, children}
 use Rattle.wc_resolve.specs.WellFormed.{IsFree, IsUsable}
-use Rattle.wc_resolve.proofs.Acyclic.{acyclic, children_within, ids_of_types}
+use Rattle.wc_resolve.proofs.AcyclicLemmas.{acyclic, children_within, ids_of_types}
 
 pub refute : {P : Type 0} (b : Bool) → IsTrue b ↔ P → b ≡ false → P → ⊥
 refute b f e p = let t : true ≡ false = sym (f.1 p) ∙ e in let bad : ⊥ = cc t in bad

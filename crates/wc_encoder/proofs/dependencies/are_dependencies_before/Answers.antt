@@ -5,7 +5,7 @@ use Rattle.wc_resolve.specs.declared.worlds.WorldKey.{WorldKey}
 use Rattle.wc_resolve.specs.declared.worlds.WorldItem.{WorldItem}
 use Rattle.wc_resolve.specs.Ranges.{IsItemIn}
 use Rattle.wc_resolve.specs.Views.{KeyView, ItemView, item_view, world_entry}
-use Rattle.wc_resolve.proofs.Viewed.{all_unviewed}
+use Rattle.wc_resolve.proofs.ViewedLemmas.{all_unviewed}
 use Rattle.wc_encoder.proofs.DependencyWalkLemmas.{IsDependencyWalk, walk_fails, walk_more, walk_none}
 use Rattle.wc_encoder.proofs.dependencies.are_dependencies_before.Goals as goal
 

@@ -8,7 +8,7 @@ use Rattle.wc_resolve.specs.declared.worlds.WorldItem.{WorldItem}
 use Rattle.wc_resolve.specs.Queries.{key_text}
 use Rattle.wc_resolve.specs.Ranges.{IsKeyIn}
 use Rattle.wc_resolve.specs.Views.{KeyView, ItemView, key_view, world_entry}
-use Rattle.wc_resolve.proofs.Viewed.{all_unviewed}
+use Rattle.wc_resolve.proofs.ViewedLemmas.{all_unviewed}
 use Rattle.wc_encoder.specs.Distinct.{import_names}
 use Rattle.wc_resolve.proofs.KeyLemmas.{names_law}
 use Rattle.wc_encoder.proofs.LookupLemmas.{name_next}

@@ -1,5 +1,5 @@
 use Rattle.std.proofs.Common.{List, ℕ, rules}
-use Rattle.wc_resolve.proofs.Viewed.{viewed}
+use Rattle.wc_resolve.proofs.ViewedLemmas.{viewed}
 use Rattle.wc_encoder.specs.Adapters.{AdapterView, adapter_entry}
 use Rattle.wc_encoder.specs.Entries.{entries_of}
 use Rattle.wc_encoder.specs.Exported.{AreRequiredExported}

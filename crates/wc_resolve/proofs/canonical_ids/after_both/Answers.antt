@@ -1,5 +1,5 @@
 use Rattle.std.proofs.Common.{◌++◌}
-use Rattle.wc_resolve.proofs.CanonicalIds.{after_front, text_front}
+use Rattle.wc_resolve.proofs.CanonicalIdLemmas.{after_front, text_front}
 use Rattle.wc_resolve.proofs.canonical_ids.after_both.Goals as goal
 
 pub returns-in-Some : goal.returns-in-Some

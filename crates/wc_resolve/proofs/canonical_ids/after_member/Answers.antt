@@ -1,6 +1,6 @@
 use Rattle.std.proofs.Common.{◌≡◌, ◌∙◌, ◌∷◌, ◌++◌, ap, sym, string_bytes}
 use Rattle.wc_resolve.specs.Characters.{colon, slash}
-use Rattle.wc_resolve.proofs.CanonicalIds.{after_front, mark_front, two_marks_front}
+use Rattle.wc_resolve.proofs.CanonicalIdLemmas.{after_front, mark_front, two_marks_front}
 use Rattle.wc_resolve.proofs.canonical_ids.after_member.Goals as goal
 
 pub returns-in-Some-after_both : goal.returns-in-Some-after_both

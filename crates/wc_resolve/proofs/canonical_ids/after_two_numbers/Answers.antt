@@ -1,7 +1,7 @@
 use Rattle.std.proofs.Common.{◌∷◌, ◌++◌}
 use Rattle.std.specs.Fmt.{decimal}
 use Rattle.wc_resolve.specs.Characters.{full_stop}
-use Rattle.wc_resolve.proofs.CanonicalIds.{after_front, mark_front}
+use Rattle.wc_resolve.proofs.CanonicalIdLemmas.{after_front, mark_front}
 use Rattle.wc_resolve.proofs.canonical_ids.after_two_numbers.Goals as goal
 
 pub returns-in-Some : goal.returns-in-Some

@@ -2,7 +2,7 @@ use Rattle.std.proofs.Common.{◌≡◌, ◌∙◌, ◌∷◌, ◌++◌, ap, sym
 use Rattle.std.specs.Fmt.{decimal}
 use Rattle.semver.specs.Identifiers.{pre_text}
 use Rattle.wc_resolve.specs.Characters.{full_stop, hyphen}
-use Rattle.wc_resolve.proofs.CanonicalIds.{is_after_front, refused, texts_equal, three_marks_front, two_marks_front}
+use Rattle.wc_resolve.proofs.CanonicalIdLemmas.{is_after_front, refused, texts_equal, three_marks_front, two_marks_front}
 use Rattle.wc_resolve.proofs.canonical_ids.is_prerelease.Goals as goal
 
 pub returns-in-Some-after_number : goal.returns-in-Some-after_number

@@ -1,7 +1,7 @@
 use Rattle.std.proofs.Common.{◌≡◌, ◌↔◌, ◌∷◌, ◌++◌, IsTrue, List, ℕ, subst, sym}
 use Rattle.std.specs.Fmt.{decimal}
 use Rattle.wc_resolve.specs.Characters.{full_stop}
-use Rattle.wc_resolve.proofs.CanonicalIds.{first_track, is_after_front, two_marks_front}
+use Rattle.wc_resolve.proofs.CanonicalIdLemmas.{first_track, is_after_front, two_marks_front}
 use Rattle.wc_resolve.proofs.canonical_ids.is_release_track.Goals as goal
 
 pub returns-in-Some-after_two_numbers : goal.returns-in-Some-after_two_numbers

@@ -1,7 +1,7 @@
 use Rattle.std.proofs.Common.{◌++◌, min, length, sym, ap, ◌∙◌}
 use Rattle.std.proofs.lemmas.List.{take_rest}
 use Rattle.wc_resolve.specs.declared.flat.WasmType.TheVariants.{I32}
-use Rattle.wc_resolve.proofs.FlatSteps.{joined_start, joined_turn, joined_all}
+use Rattle.wc_resolve.proofs.FlatStepLemmas.{joined_start, joined_turn, joined_all}
 use Rattle.wc_resolve.proofs.flat.join_flat.Goals as goal
 
 pub loop-index-init : goal.loop-index-init

@@ -1,5 +1,5 @@
 use Rattle.std.proofs.Common.{◌≡◌}
-use Rattle.wc_resolve.proofs.FlatSteps.{joined_first}
+use Rattle.wc_resolve.proofs.FlatStepLemmas.{joined_first}
 use Rattle.wc_resolve.proofs.flat.join_flat.Given as goal
 
 abbrev pub invariant-loop-index : goal.invariant-loop-index

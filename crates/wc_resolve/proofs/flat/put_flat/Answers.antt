@@ -1,5 +1,5 @@
 use Rattle.std.proofs.Common.{◌-◌, ◌++◌, take, ap, ◌∙◌}
-use Rattle.wc_resolve.proofs.FlatSteps.{put_room}
+use Rattle.wc_resolve.proofs.FlatStepLemmas.{put_room}
 use Rattle.wc_resolve.specs.Flat.{flat_types_kept}
 use Rattle.wc_resolve.proofs.flat.put_flat.Goals as goal
 

@@ -1,4 +1,4 @@
-use Rattle.wc_resolve.proofs.FlatTable.{lists_push}
+use Rattle.wc_resolve.proofs.FlatTableLemmas.{lists_push}
 use Rattle.wc_resolve.proofs.flattening.empty_lists.Goals as goal
 
 pub loop-preserved : goal.loop-preserved

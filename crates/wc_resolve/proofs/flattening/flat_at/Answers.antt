@@ -1,6 +1,6 @@
 use Rattle.std.proofs.Common.{get_or}
 use Rattle.std.proofs.lemmas.List.{get_or_default}
-use Rattle.wc_resolve.proofs.Children.{kind_found}
+use Rattle.wc_resolve.proofs.ChildLemmas.{kind_found}
 use Rattle.wc_resolve.proofs.flattening.flat_at.Goals as goal
 
 pub returns : goal.returns

@@ -1,6 +1,6 @@
 use Rattle.std.proofs.Common.{map, take, ap, ◌∙◌}
 use Rattle.wc_resolve.specs.Flat.{flat_entry, flat_types_kept, flatten_type, flatten_types, lists}
-use Rattle.wc_resolve.proofs.FlatSteps.{types_more, part_read, part_small, all_parts, cut_small}
+use Rattle.wc_resolve.proofs.FlatStepLemmas.{types_more, part_read, part_small, all_parts, cut_small}
 use Rattle.wc_resolve.proofs.flattening.flat_fields.Goals as goal
 
 pub put_flat-requires : goal.put_flat-requires

@@ -1,7 +1,7 @@
 use Rattle.std.proofs.Common.{min, replicate, ap, ◌∙◌}
 use Rattle.std.specs.Int.{div_ceil}
 use Rattle.wc_resolve.specs.declared.flat.WasmType.TheVariants.{I32}
-use Rattle.wc_resolve.proofs.FlatSteps.{copies_cut}
+use Rattle.wc_resolve.proofs.FlatStepLemmas.{copies_cut}
 use Rattle.wc_resolve.specs.Flat.{flat_types_kept}
 use Rattle.wc_resolve.proofs.flattening.flat_flags.Goals as goal
 

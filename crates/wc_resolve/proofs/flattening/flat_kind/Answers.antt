@@ -1,4 +1,4 @@
-use Rattle.wc_resolve.proofs.NamedLists.{named_values}
+use Rattle.wc_resolve.proofs.NamedListLemmas.{named_values}
 use Rattle.wc_resolve.proofs.flattening.flat_kind.Goals as goal
 
 pub returns-in-Record : goal.returns-in-Record

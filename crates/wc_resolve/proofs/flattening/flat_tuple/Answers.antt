@@ -1,7 +1,7 @@
 use Rattle.std.proofs.Common.{take}
 use Rattle.wc_resolve.specs.declared.types.WitType.TheVariants.{Bool}
 use Rattle.wc_resolve.specs.Flat.{flat_entry, flat_types_kept, flatten_types, lists}
-use Rattle.wc_resolve.proofs.FlatSteps.{types_more, cut_small}
+use Rattle.wc_resolve.proofs.FlatStepLemmas.{types_more, cut_small}
 use Rattle.wc_resolve.proofs.flattening.flat_tuple.Goals as goal
 
 pub put_flat-requires : goal.put_flat-requires

@@ -5,7 +5,7 @@ use Rattle.std.specs.declared.alloc.Global.{Global}
 use Rattle.wc_resolve.specs.declared.flat.WasmType.{WasmType}
 use Rattle.wc_resolve.specs.declared.flat.WasmType.TheVariants.{I32}
 use Rattle.wc_resolve.specs.Flat.{flat_entry, flat_payload, flat_types_kept, join_flats, lists}
-use Rattle.wc_resolve.proofs.FlatSteps.{shared_more, part_read, part_small, all_parts}
+use Rattle.wc_resolve.proofs.FlatStepLemmas.{shared_more, part_read, part_small, all_parts}
 use Rattle.wc_resolve.proofs.flattening.flat_variant.Goals as goal
 
 pub loop-case-preserved : goal.loop-case-preserved

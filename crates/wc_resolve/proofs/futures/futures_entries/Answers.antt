@@ -4,7 +4,7 @@ use Rattle.std.proofs.lemmas.List.Elements.{Contains-get_or}
 use Rattle.wc_resolve.specs.declared.futures.FuturesEntry.{FuturesEntry}
 use Rattle.wc_resolve.specs.Futures.{EntryView, IsEntryFor, entry_view}
 use Rattle.wc_resolve.specs.Views.{type_view}
-use Rattle.wc_resolve.proofs.FuturesEntries.{EntriesOf, entries_start, entries_turn, entries_end, entries-set}
+use Rattle.wc_resolve.proofs.FuturesEntryLemmas.{EntriesOf, entries_start, entries_turn, entries_end, entries-set}
 use Rattle.wc_resolve.proofs.futures.futures_entries.Goals as goal
 
 pub loop-index-init : goal.loop-index-init

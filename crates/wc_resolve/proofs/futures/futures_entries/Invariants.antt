@@ -1,7 +1,7 @@
 use Rattle.std.proofs.Common.{map, take}
 use Rattle.wc_resolve.specs.Futures.{entry_view}
 use Rattle.wc_resolve.specs.Views.{type_view}
-use Rattle.wc_resolve.proofs.FuturesEntries.{EntriesOf}
+use Rattle.wc_resolve.proofs.FuturesEntryLemmas.{EntriesOf}
 use Rattle.wc_resolve.proofs.futures.futures_entries.Given as goal
 
 abbrev pub invariant-loop-index : goal.invariant-loop-index

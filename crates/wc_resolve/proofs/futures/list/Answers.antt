@@ -3,8 +3,8 @@ use Rattle.std.specs.List.{flat_map}
 use Rattle.wc_resolve.specs.Roots.{id_index}
 use Rattle.wc_resolve.specs.Futures.{entry_view, futures_of}
 use Rattle.wc_resolve.specs.declared.walk.TypeStep.TheVariants.{Enter}
-use Rattle.wc_resolve.proofs.Walks.{turns_leave}
-use Rattle.wc_resolve.proofs.FutureWalks.{futures_start, future_enter, future_turns, future_within}
+use Rattle.wc_resolve.proofs.WalkLemmas.{turns_leave}
+use Rattle.wc_resolve.proofs.FutureWalkLemmas.{futures_start, future_enter, future_turns, future_within}
 use Rattle.wc_resolve.proofs.futures.list.Goals as goal
 
 pub steps-init : goal.steps-init

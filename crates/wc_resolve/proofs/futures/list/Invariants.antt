@@ -3,8 +3,8 @@ use Rattle.std.specs.List.{flat_map}
 use Rattle.wc_resolve.specs.Live.{listing_of}
 use Rattle.wc_resolve.specs.Roots.{id_index}
 use Rattle.wc_resolve.specs.Futures.{futures_of}
-use Rattle.wc_resolve.proofs.Listings.{turns}
-use Rattle.wc_resolve.proofs.FutureWalks.{IsFutureWalk}
+use Rattle.wc_resolve.proofs.ListingLemmas.{turns}
+use Rattle.wc_resolve.proofs.FutureWalkLemmas.{IsFutureWalk}
 use Rattle.wc_resolve.proofs.futures.list.Given as goal
 
 abbrev pub invariant-steps : goal.invariant-steps

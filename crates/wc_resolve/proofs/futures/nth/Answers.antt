@@ -3,7 +3,7 @@ use Rattle.std.specs.List.{Contains, slice_get}
 use Rattle.wc_resolve.specs.declared.ids.TypeId.{TypeId}
 use Rattle.wc_resolve.specs.Futures.{entry_view, futures_from, futures_of}
 use Rattle.wc_resolve.specs.Roots.{indices}
-use Rattle.wc_resolve.proofs.FuturesAt.{part_entered, part_shorter, type_reached}
+use Rattle.wc_resolve.proofs.FuturesAtLemmas.{part_entered, part_shorter, type_reached}
 use Rattle.wc_resolve.proofs.futures.nth.Goals as goal
 
 pub part_with-requires-clause-within : goal.part_with-requires-clause-within

@@ -3,7 +3,7 @@ use Rattle.std.specs.List.{slice_get}
 use Rattle.std.specs.Option.{option_map, option_map_or}
 use Rattle.wc_resolve.specs.Futures.{futures_from}
 use Rattle.wc_resolve.specs.Roots.{id_index, param_roots, type_roots}
-use Rattle.wc_resolve.proofs.FuturesAt.{IsPassed, counted_less, counted_more, outcome_end, params_next, passed_found, passed_left, passed_more}
+use Rattle.wc_resolve.proofs.FuturesAtLemmas.{IsPassed, counted_less, counted_more, outcome_end, params_next, passed_found, passed_left, passed_more}
 use Rattle.wc_resolve.proofs.futures.nth_passed.Goals as goal
 
 pub returns-then-left-count : goal.returns-then-left-count

@@ -2,7 +2,7 @@ use Rattle.std.proofs.Common.{[], ◌++◌, drop}
 use Rattle.std.specs.Option.{option_map_or}
 use Rattle.wc_resolve.specs.Futures.{futures_from}
 use Rattle.wc_resolve.specs.Roots.{param_roots, type_roots}
-use Rattle.wc_resolve.proofs.FuturesAt.{IsPassed}
+use Rattle.wc_resolve.proofs.FuturesAtLemmas.{IsPassed}
 use Rattle.wc_resolve.proofs.futures.nth_passed.Given as goal
 
 abbrev pub invariant-loop-param : goal.invariant-loop-param

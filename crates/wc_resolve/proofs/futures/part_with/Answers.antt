@@ -1,7 +1,7 @@
 use Rattle.std.proofs.Common.{◌≡◌, ◌+◌, ◌-◌, ◌<◌, ◌≤◌, ◌^◌, arith, drop, get_or, length, subst, sym, ℕ}
 use Rattle.wc_resolve.specs.Futures.{futures_from, futures_of}
 use Rattle.wc_resolve.specs.Roots.{indices}
-use Rattle.wc_resolve.proofs.FuturesAt.{IsPassed, counted_less, counted_more, part_there, parts_next, passed_found, passed_left, passed_more}
+use Rattle.wc_resolve.proofs.FuturesAtLemmas.{IsPassed, counted_less, counted_more, part_there, parts_next, passed_found, passed_left, passed_more}
 use Rattle.wc_resolve.proofs.futures.part_with.Goals as goal
 
 pub futures_entry-requires : goal.futures_entry-requires

@@ -1,7 +1,7 @@
 use Rattle.std.proofs.Common.{drop}
 use Rattle.wc_resolve.specs.Futures.{futures_from}
 use Rattle.wc_resolve.specs.Roots.{indices}
-use Rattle.wc_resolve.proofs.FuturesAt.{IsPassed}
+use Rattle.wc_resolve.proofs.FuturesAtLemmas.{IsPassed}
 use Rattle.wc_resolve.proofs.futures.part_with.Given as goal
 
 abbrev pub invariant-loop-part : goal.invariant-loop-part

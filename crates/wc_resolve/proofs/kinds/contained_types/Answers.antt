@@ -1,4 +1,4 @@
-use Rattle.wc_resolve.proofs.NamedLists.{named_values, named_options}
+use Rattle.wc_resolve.proofs.NamedListLemmas.{named_values, named_options}
 use Rattle.wc_resolve.proofs.kinds.contained_types.Goals as goal
 
 pub returns-in-Record : goal.returns-in-Record

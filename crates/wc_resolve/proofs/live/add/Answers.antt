@@ -3,8 +3,8 @@ use Rattle.wc_resolve.specs.Views.{type_view}
 use Rattle.wc_resolve.specs.Live.{listing_from, list_union}
 use Rattle.wc_resolve.specs.Roots.{id_index}
 use Rattle.wc_resolve.specs.declared.walk.TypeStep.TheVariants.{Enter}
-use Rattle.wc_resolve.proofs.Acyclic.{children_within, ids_of_types}
-use Rattle.wc_resolve.proofs.Walks.{walk_start, walk_skip, walk_leave, walk_enter, walk_end, walk_stop, step_within, turns_skip, turns_leave, turns_enter, inserted, found, children_are, stopped, stopped_first, none_left}
+use Rattle.wc_resolve.proofs.AcyclicLemmas.{children_within, ids_of_types}
+use Rattle.wc_resolve.proofs.WalkLemmas.{walk_start, walk_skip, walk_leave, walk_enter, walk_end, walk_stop, step_within, turns_skip, turns_leave, turns_enter, inserted, found, children_are, stopped, stopped_first, none_left}
 use Rattle.wc_resolve.proofs.live.add.Goals as goal
 
 pub steps-init : goal.steps-init

@@ -1,8 +1,8 @@
 use Rattle.std.proofs.Common.{map}
 use Rattle.wc_resolve.specs.Live.{listing_from, listing_of, list_union}
 use Rattle.wc_resolve.specs.Roots.{id_index}
-use Rattle.wc_resolve.proofs.Listings.{turns}
-use Rattle.wc_resolve.proofs.Walks.{IsLiveWalk}
+use Rattle.wc_resolve.proofs.ListingLemmas.{turns}
+use Rattle.wc_resolve.proofs.WalkLemmas.{IsLiveWalk}
 use Rattle.wc_resolve.proofs.live.add.Given as goal
 
 abbrev pub invariant-steps : goal.invariant-steps

@@ -1,7 +1,7 @@
 use Rattle.std.proofs.Common.{◌≡◌, ◌≢◌, ◌<◌, ◌^◌, ℕ, map, Some, sym, arith}
 use Rattle.std.specs.List.{slice_get}
 use Rattle.wc_resolve.specs.Views.{package_name_view}
-use Rattle.wc_resolve.proofs.PackagePositions.{index_fits, index_too_large, name_absent, name_found, name_later, none_then}
+use Rattle.wc_resolve.proofs.PackagePositionLemmas.{index_fits, index_too_large, name_absent, name_found, name_later, none_then}
 use Rattle.wc_resolve.proofs.packages.name_index.Goals as goal
 
 pub returns-in_err-index-clause-none : goal.returns-in_err-index-clause-none

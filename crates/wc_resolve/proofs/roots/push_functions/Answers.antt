@@ -3,7 +3,7 @@ use Rattle.std.specs.declared.alloc.Global.{Global}
 use Rattle.wc_resolve.specs.declared.functions.Function.{Function}
 use Rattle.wc_resolve.specs.Views.{function_view}
 use Rattle.wc_resolve.specs.Roots.{function_roots, id_index}
-use Rattle.wc_resolve.proofs.Pushed.{push_turn}
+use Rattle.wc_resolve.proofs.PushedLemmas.{push_turn}
 use Rattle.wc_resolve.proofs.roots.push_functions.Goals as goal
 
 pub loop-name-preserved : goal.loop-name-preserved

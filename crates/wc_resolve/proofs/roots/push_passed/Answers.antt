@@ -1,7 +1,7 @@
 use Rattle.std.proofs.Common.{[], map}
 use Rattle.std.specs.Option.{option_map_or}
 use Rattle.wc_resolve.specs.Roots.{id_index, type_roots}
-use Rattle.wc_resolve.proofs.Pushed.{passed}
+use Rattle.wc_resolve.proofs.PushedLemmas.{passed}
 use Rattle.wc_resolve.proofs.roots.push_passed.Goals as goal
 
 pub returns : goal.returns

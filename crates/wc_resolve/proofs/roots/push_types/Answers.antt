@@ -3,7 +3,7 @@ use Rattle.std.specs.declared.alloc.Global.{Global}
 use Rattle.std.proofs.lemmas.List.{map-append}
 use Rattle.wc_resolve.specs.declared.ids.TypeId.{TypeId}
 use Rattle.wc_resolve.specs.Roots.{id_index}
-use Rattle.wc_resolve.proofs.Pushed.{push_turn}
+use Rattle.wc_resolve.proofs.PushedLemmas.{push_turn}
 use Rattle.wc_resolve.proofs.roots.push_types.Goals as goal
 
 pub loop-name-preserved : goal.loop-name-preserved

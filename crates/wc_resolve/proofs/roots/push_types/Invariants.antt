@@ -2,7 +2,7 @@ use Rattle.std.proofs.Common.{[], ◌∷◌, String, map}
 use Rattle.std.specs.declared.alloc.Global.{Global}
 use Rattle.wc_resolve.specs.declared.ids.TypeId.{TypeId}
 use Rattle.wc_resolve.specs.Roots.{id_index}
-use Rattle.wc_resolve.proofs.Pushed.{IsPushed}
+use Rattle.wc_resolve.proofs.PushedLemmas.{IsPushed}
 use Rattle.wc_resolve.proofs.roots.push_types.Given as goal
 
 abbrev pub invariant-loop-name : goal.invariant-loop-name

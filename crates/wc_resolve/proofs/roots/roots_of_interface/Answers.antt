@@ -1,6 +1,6 @@
 use Rattle.std.proofs.Common.{map, ap}
 use Rattle.wc_resolve.specs.Roots.{id_index}
-use Rattle.wc_resolve.proofs.Pushed.{interface_pushed}
+use Rattle.wc_resolve.proofs.PushedLemmas.{interface_pushed}
 use Rattle.wc_resolve.proofs.roots.roots_of_interface.Goals as goal
 
 pub returns : goal.returns

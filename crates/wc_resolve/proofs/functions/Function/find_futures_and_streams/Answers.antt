@@ -3,7 +3,7 @@ use Rattle.std.proofs.Common.{◌++◌}
 use Rattle.std.specs.List.{Contains}
 use Rattle.wc_resolve.specs.Roots.{id_index, passed_roots}
 use Rattle.wc_resolve.specs.Views.{function_view}
-use Rattle.wc_resolve.proofs.RootsIn.{passes_in}
+use Rattle.wc_resolve.proofs.RootsInLemmas.{passes_in}
 use Rattle.wc_resolve.proofs.functions.Function.find_futures_and_streams.Goals as goal
 
 pub list-requires : goal.list-requires

@@ -7,7 +7,7 @@ use Rattle.wc_resolve.specs.Futures.{futures_from}
 use Rattle.wc_resolve.specs.Ranges.{IsTypeIn}
 use Rattle.wc_resolve.specs.Roots.{param_roots, passed_roots, type_roots}
 use Rattle.wc_resolve.specs.Views.{function_view}
-use Rattle.wc_resolve.proofs.FuturesAt.{outcome_in, params_in, passed_viewed}
+use Rattle.wc_resolve.proofs.FuturesAtLemmas.{outcome_in, params_in, passed_viewed}
 use Rattle.wc_resolve.proofs.functions.Function.nth_future_or_stream.Goals as goal
 
 pub nth_passed-requires-clause-params : goal.nth_passed-requires-clause-params

@@ -3,9 +3,9 @@ use Rattle.std.specs.List.{Contains}
 use Rattle.wc_resolve.specs.Roots.{function_roots}
 use Rattle.std.proofs.Common.{length}
 use Rattle.wc_resolve.specs.Views.{function_view}
-use Rattle.wc_resolve.proofs.RootsIn.{function_in}
+use Rattle.wc_resolve.proofs.RootsInLemmas.{function_in}
 use Rattle.wc_resolve.specs.Live.{listing_from}
-use Rattle.wc_resolve.proofs.Walks.{stopped, stopped_first}
+use Rattle.wc_resolve.proofs.WalkLemmas.{stopped, stopped_first}
 use Rattle.wc_resolve.proofs.live.LiveTypes.add_func.Goals as goal
 
 pub returns-in_err-roots-clause-begun : goal.returns-in_err-roots-clause-begun

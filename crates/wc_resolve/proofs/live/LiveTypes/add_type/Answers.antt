@@ -1,6 +1,6 @@
 use Rattle.wc_resolve.specs.Roots.{type_roots}
 use Rattle.wc_resolve.specs.Live.{listing_from}
-use Rattle.wc_resolve.proofs.Walks.{stopped, stopped_first}
+use Rattle.wc_resolve.proofs.WalkLemmas.{stopped, stopped_first}
 use Rattle.wc_resolve.proofs.live.LiveTypes.add_type.Goals as goal
 
 pub returns-in_err-roots-clause-begun : goal.returns-in_err-roots-clause-begun

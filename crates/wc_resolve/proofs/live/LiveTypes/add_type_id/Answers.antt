@@ -3,8 +3,8 @@ use Rattle.std.specs.List.{Contains}
 use Rattle.std.specs.Result.{OnErr, OnOk}
 use Rattle.wc_resolve.specs.Roots.{id_index}
 use Rattle.wc_resolve.specs.Live.{AddsAll, AddsSome, listing_from}
-use Rattle.wc_resolve.proofs.RootsIn.{below_one}
-use Rattle.wc_resolve.proofs.Walks.{stopped, stopped_first}
+use Rattle.wc_resolve.proofs.RootsInLemmas.{below_one}
+use Rattle.wc_resolve.proofs.WalkLemmas.{stopped, stopped_first}
 use Rattle.wc_resolve.proofs.live.LiveTypes.add_type_id.Goals as goal
 
 pub returns-in_err-roots-clause-begun : goal.returns-in_err-roots-clause-begun

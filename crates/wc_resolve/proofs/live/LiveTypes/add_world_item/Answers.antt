@@ -2,9 +2,9 @@ use Rattle.std.proofs.Common.{List, ℕ, subst}
 use Rattle.std.specs.List.{Contains}
 use Rattle.wc_resolve.specs.Roots.{item_roots}
 use Rattle.wc_resolve.specs.Views.{item_view}
-use Rattle.wc_resolve.proofs.RootsIn.{item_in}
+use Rattle.wc_resolve.proofs.RootsInLemmas.{item_in}
 use Rattle.wc_resolve.specs.Live.{listing_from}
-use Rattle.wc_resolve.proofs.Walks.{stopped, stopped_first}
+use Rattle.wc_resolve.proofs.WalkLemmas.{stopped, stopped_first}
 use Rattle.wc_resolve.proofs.live.LiveTypes.add_world_item.Goals as goal
 
 pub returns-in_err-roots-clause-begun : goal.returns-in_err-roots-clause-begun

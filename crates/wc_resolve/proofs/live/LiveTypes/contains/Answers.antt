@@ -1,4 +1,4 @@
-use Rattle.wc_resolve.proofs.Walks.{found}
+use Rattle.wc_resolve.proofs.WalkLemmas.{found}
 use Rattle.wc_resolve.proofs.live.LiveTypes.contains.Goals as goal
 
 pub returns : goal.returns

@@ -1,4 +1,4 @@
-use Rattle.wc_resolve.proofs.Aliases.{target_within}
+use Rattle.wc_resolve.proofs.AliasLemmas.{target_within}
 use Rattle.wc_resolve.proofs.resolve.Resolve.dependency.Goals as goal
 
 pub other_owner-requires : goal.other_owner-requires

@@ -3,8 +3,8 @@ use Rattle.wc_resolve.specs.Views.{TypeView}
 use Rattle.wc_resolve.specs.World.{ResolveView}
 use Rattle.wc_resolve.specs.Tables.{IsOrder}
 use Rattle.wc_resolve.specs.Futures.{futures_rule}
-use Rattle.wc_resolve.proofs.TypeRules.{value_by_rule_alone, value_by_rule_follows}
-use Rattle.wc_resolve.proofs.FuturesEntries.{futures_look_down}
+use Rattle.wc_resolve.proofs.TypeRuleLemmas.{value_by_rule_alone, value_by_rule_follows}
+use Rattle.wc_resolve.proofs.FuturesEntryLemmas.{futures_look_down}
 use Rattle.wc_resolve.proofs.resolve.Resolve.futures_unique.Goals as goal
 
 pub returns-clause-made : goal.returns-clause-made

@@ -3,7 +3,7 @@ use Rattle.wc_resolve.specs.Queries.{HasNoPackage}
 use Rattle.wc_resolve.specs.Tables.{AreNamesOf}
 use Rattle.wc_resolve.specs.Views.{PackageView, package_name_view}
 use Rattle.wc_resolve.specs.World.{ResolveView}
-use Rattle.wc_resolve.proofs.PackagePositions.{names_at, none_then}
+use Rattle.wc_resolve.proofs.PackagePositionLemmas.{names_at, none_then}
 use Rattle.wc_resolve.proofs.resolve.Resolve.package_named.Goals as goal
 
 pub returns-in_err-index-clause-none : goal.returns-in_err-index-clause-none

@@ -5,8 +5,8 @@ use Rattle.std.proofs.lemmas.List.{map-append}
 use Rattle.wc_resolve.specs.declared.ids.TypeId.{TypeId}
 use Rattle.wc_resolve.specs.Views.{interface_view}
 use Rattle.wc_resolve.specs.Dependencies.{dependency, id_of_interface}
-use Rattle.wc_resolve.proofs.Aliases.{dependencies_end, entry_within}
-use Rattle.wc_resolve.proofs.Pushed.{push_turn}
+use Rattle.wc_resolve.proofs.AliasLemmas.{dependencies_end, entry_within}
+use Rattle.wc_resolve.proofs.PushedLemmas.{push_turn}
 use Rattle.wc_resolve.proofs.resolve.Resolve.push_dependencies.Goals as goal
 
 pub dependency-requires : goal.dependency-requires

@@ -3,7 +3,7 @@ use Rattle.std.specs.Option.{option_to_list}
 use Rattle.std.specs.declared.alloc.Global.{Global}
 use Rattle.wc_resolve.specs.declared.ids.TypeId.{TypeId}
 use Rattle.wc_resolve.specs.Dependencies.{dependency, id_of_interface}
-use Rattle.wc_resolve.proofs.Pushed.{IsPushed}
+use Rattle.wc_resolve.proofs.PushedLemmas.{IsPushed}
 use Rattle.wc_resolve.proofs.resolve.Resolve.push_dependencies.Given as goal
 
 abbrev pub invariant-loop-name : goal.invariant-loop-name

@@ -2,7 +2,7 @@ use Rattle.std.proofs.Common.{rules}
 use Rattle.wc_resolve.specs.Views.{world_entry}
 use Rattle.wc_resolve.specs.WellFormed.{IsMatchingKey}
 use Rattle.wc_resolve.specs.ResolveParts.{parts_view}
-use Rattle.wc_resolve.proofs.Viewed.{viewed}
+use Rattle.wc_resolve.proofs.ViewedLemmas.{viewed}
 use Rattle.wc_resolve.proofs.validate.keys.are_matching_keys.Goals as goal
 
 pub returns : goal.returns

@@ -2,7 +2,7 @@ use Rattle.std.proofs.Common.{rules}
 use Rattle.wc_resolve.specs.Views.{interface_entry}
 use Rattle.wc_resolve.specs.WellFormed.{IsIdentified}
 use Rattle.wc_resolve.specs.ResolveParts.{parts_view}
-use Rattle.wc_resolve.proofs.Viewed.{viewed}
+use Rattle.wc_resolve.proofs.ViewedLemmas.{viewed}
 use Rattle.wc_resolve.proofs.validate.naming.are_listed_identified.Goals as goal
 
 pub returns : goal.returns

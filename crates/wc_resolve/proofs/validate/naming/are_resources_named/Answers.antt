@@ -1,7 +1,7 @@
 use Rattle.std.proofs.Common.{rules}
 use Rattle.wc_resolve.specs.Views.{type_view}
 use Rattle.wc_resolve.specs.WellFormed.{HasNeededName}
-use Rattle.wc_resolve.proofs.Viewed.{viewed}
+use Rattle.wc_resolve.proofs.ViewedLemmas.{viewed}
 use Rattle.wc_resolve.proofs.validate.naming.are_resources_named.Goals as goal
 
 pub returns : goal.returns

@@ -1,4 +1,4 @@
-use Rattle.wc_resolve.proofs.Children.{children_at}
+use Rattle.wc_resolve.proofs.ChildLemmas.{children_at}
 use Rattle.wc_resolve.proofs.validate.order.children.Goals as goal
 
 pub returns : goal.returns

@@ -1,7 +1,7 @@
 use Rattle.std.proofs.Common.{◌+◌, length, map}
 use Rattle.wc_resolve.specs.Views.{type_view}
 use Rattle.wc_resolve.specs.World.{children}
-use Rattle.wc_resolve.proofs.Search.{IsWalk, weight}
+use Rattle.wc_resolve.proofs.SearchLemmas.{IsWalk, weight}
 use Rattle.wc_resolve.proofs.validate.order.children_first.Given as goal
 
 abbrev pub invariant-steps : goal.invariant-steps

@@ -1,6 +1,6 @@
 use Rattle.std.proofs.Common.{◌<◌, rules}
 use Rattle.wc_resolve.specs.Views.{interface_entry}
-use Rattle.wc_resolve.proofs.Viewed.{viewed}
+use Rattle.wc_resolve.proofs.ViewedLemmas.{viewed}
 use Rattle.wc_resolve.proofs.validate.ranges.are_interface_names_in.Goals as goal
 
 pub returns : goal.returns

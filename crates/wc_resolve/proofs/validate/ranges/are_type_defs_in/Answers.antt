@@ -3,7 +3,7 @@ use Rattle.std.proofs.lemmas.List.{take_all}
 use Rattle.wc_resolve.specs.Views.{type_view}
 use Rattle.wc_resolve.specs.ResolveParts.{parts_view}
 use Rattle.wc_resolve.specs.Ranges.{IsTypeDefIn}
-use Rattle.wc_resolve.proofs.Viewed.{not_all}
+use Rattle.wc_resolve.proofs.ViewedLemmas.{not_all}
 use Rattle.wc_resolve.proofs.validate.ranges.are_type_defs_in.Goals as goal
 
 pub returns-then-not-branch : goal.returns-then-not-branch

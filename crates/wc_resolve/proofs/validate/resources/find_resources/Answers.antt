@@ -4,7 +4,7 @@ use Rattle.std.proofs.lemmas.List.Elements.{Contains-get_or}
 use Rattle.wc_resolve.specs.Views.{type_view}
 use Rattle.wc_resolve.specs.World.{kind_at}
 use Rattle.wc_resolve.specs.Resources.{is_resource_kind}
-use Rattle.wc_resolve.proofs.ResourceFlags.{resource_flags_start, resource_flags_turn, resource_flags_end}
+use Rattle.wc_resolve.proofs.ResourceFlagLemmas.{resource_flags_start, resource_flags_turn, resource_flags_end}
 use Rattle.wc_resolve.proofs.validate.resources.find_resources.Goals as goal
 
 pub loop-index-init : goal.loop-index-init

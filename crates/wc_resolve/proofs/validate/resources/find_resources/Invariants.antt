@@ -1,6 +1,6 @@
 use Rattle.std.proofs.Common.{map, take}
 use Rattle.wc_resolve.specs.Views.{type_view}
-use Rattle.wc_resolve.proofs.ResourceFlags.{ResourceFlagsOf}
+use Rattle.wc_resolve.proofs.ResourceFlagLemmas.{ResourceFlagsOf}
 use Rattle.wc_resolve.proofs.validate.resources.find_resources.Given as goal
 
 abbrev pub invariant-loop-index : goal.invariant-loop-index

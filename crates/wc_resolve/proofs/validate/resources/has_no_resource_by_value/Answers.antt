@@ -1,6 +1,6 @@
 use Rattle.wc_resolve.specs.ResolveParts.{parts_view}
-use Rattle.wc_resolve.proofs.ResourcesByValue.{all_free}
-use Rattle.wc_resolve.proofs.Viewed.{iff_ok}
+use Rattle.wc_resolve.proofs.ResourcesByValueLemmas.{all_free}
+use Rattle.wc_resolve.proofs.ViewedLemmas.{iff_ok}
 use Rattle.wc_resolve.proofs.validate.resources.has_no_resource_by_value.Goals as goal
 
 pub returns : goal.returns

@@ -1,7 +1,7 @@
 use Rattle.std.proofs.Common.{map}
 use Rattle.wc_resolve.specs.Views.{type_view, function_view}
-use Rattle.wc_resolve.proofs.ResourcesByValue.{function_free}
-use Rattle.wc_resolve.proofs.Viewed.{iff_trans}
+use Rattle.wc_resolve.proofs.ResourcesByValueLemmas.{function_free}
+use Rattle.wc_resolve.proofs.ViewedLemmas.{iff_trans}
 use Rattle.wc_resolve.proofs.validate.resources.is_function_free.Goals as goal
 
 pub returns : goal.returns

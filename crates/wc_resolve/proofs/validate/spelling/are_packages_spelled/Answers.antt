@@ -1,7 +1,7 @@
 use Rattle.std.proofs.Common.{rules}
 use Rattle.wc_resolve.specs.Views.{package_view}
 use Rattle.wc_resolve.specs.WellFormed.{IsPackageSpelled}
-use Rattle.wc_resolve.proofs.Viewed.{viewed}
+use Rattle.wc_resolve.proofs.ViewedLemmas.{viewed}
 use Rattle.wc_resolve.proofs.validate.spelling.are_packages_spelled.Goals as goal
 
 pub returns : goal.returns

@@ -2,7 +2,7 @@ use Rattle.std.proofs.Common.{◌≡◌, take, refl}
 use Rattle.std.proofs.lemmas.List.{take_all}
 use Rattle.wc_resolve.specs.Views.{type_view}
 use Rattle.wc_resolve.specs.World.{DoesTypePass}
-use Rattle.wc_resolve.proofs.Viewed.{not_all}
+use Rattle.wc_resolve.proofs.ViewedLemmas.{not_all}
 use Rattle.wc_resolve.proofs.validate.type_test.type_defs_pass.Goals as goal
 
 pub returns-then-not-branch : goal.returns-then-not-branch

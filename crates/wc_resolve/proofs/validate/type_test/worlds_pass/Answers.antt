@@ -1,7 +1,7 @@
 use Rattle.std.proofs.Common.{rules}
 use Rattle.wc_resolve.specs.Views.{world_view}
 use Rattle.wc_resolve.specs.World.{DoesWorldPass}
-use Rattle.wc_resolve.proofs.Viewed.{viewed}
+use Rattle.wc_resolve.proofs.ViewedLemmas.{viewed}
 use Rattle.wc_resolve.proofs.validate.type_test.worlds_pass.Goals as goal
 
 pub returns : goal.returns

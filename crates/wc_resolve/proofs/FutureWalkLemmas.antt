@@ -12,9 +12,9 @@ use Rattle.wc_resolve.specs.Views.{TypeView}
 use Rattle.wc_resolve.specs.Roots.{id_index}
 use Rattle.wc_resolve.specs.Live.{listing_of}
 use Rattle.wc_resolve.specs.Futures.{EntryView, IsFuturesEntry, futures_of, itself}
-use Rattle.wc_resolve.proofs.Search.{contains_none}
-use Rattle.wc_resolve.proofs.Listings.{step_index, turns, turns_append, turns_reverse}
-use Rattle.wc_resolve.proofs.Walks.{contains_reverse, ids_within}
+use Rattle.wc_resolve.proofs.SearchLemmas.{contains_none}
+use Rattle.wc_resolve.proofs.ListingLemmas.{step_index, turns, turns_append, turns_reverse}
+use Rattle.wc_resolve.proofs.WalkLemmas.{contains_reverse, ids_within}
 
 -- what steps are going to list, the next one first
 abbrev pub remaining : (ℕ → List ℕ) → List TypeStep → List ℕ

@@ -12,8 +12,8 @@ use Rattle.wc_resolve.specs.declared.types.WitType.TheVariants.{Id}
 use Rattle.wc_resolve.specs.Views.{TypeView}
 use Rattle.wc_resolve.specs.World.{ResolveView, HasCycle, Leads, refers, further, IsChildrenFirst, children, referenced_indices, referenced_types, type_index}
 use Rattle.wc_resolve.specs.Ranges.{AreIdsInRange, IsTypeDefIn, IsTypeIn}
-use Rattle.wc_resolve.proofs.Search.{contains_cons, contains_none}
-use Rattle.wc_resolve.proofs.ResourcesByValue.{kind_none}
+use Rattle.wc_resolve.proofs.SearchLemmas.{contains_cons, contains_none}
+use Rattle.wc_resolve.proofs.ResourcesByValueLemmas.{kind_none}
 
 -- an element among the first i is at an index before i
 pub position_before : (order : List ℕ) (i y : ℕ) → Contains (take i order) y → (j : ℕ) × (j < i) × (j < length order) × (get_or order j 0 ≡ y)

@@ -10,9 +10,9 @@ use Rattle.wc_resolve.specs.Views.{KindView, alias_kind, InterfaceView, type_ent
 use Rattle.wc_resolve.specs.World.{ResolveView, kind_at, referenced_indices}
 use Rattle.wc_resolve.specs.Ranges.{AreIdsInRange, AreNamesIn}
 use Rattle.wc_resolve.specs.Dependencies.{alias_target, dependency}
-use Rattle.wc_resolve.proofs.Acyclic.{children_within, ids_of_types}
-use Rattle.wc_resolve.proofs.Search.{contains_none, contains_head, contains_tail, contains_cons}
-use Rattle.wc_resolve.proofs.Pushed.{IsPushed, push_end}
+use Rattle.wc_resolve.proofs.AcyclicLemmas.{children_within, ids_of_types}
+use Rattle.wc_resolve.proofs.SearchLemmas.{contains_none, contains_head, contains_tail, contains_cons}
+use Rattle.wc_resolve.proofs.PushedLemmas.{IsPushed, push_end}
 
 target_referenced : (o : Option KindView) (t : ℕ) → option_and_then alias_target o ≡ Some t → Contains (option_map_or referenced_indices o []) t
 target_referenced None t e = absurd (let bad : ⊥ = cc e in bad)

@@ -10,10 +10,10 @@ use Rattle.wc_resolve.specs.TypeRules.{Follows}
 use Rattle.wc_resolve.specs.Tables.{IsOrder}
 use Rattle.wc_resolve.specs.Views.{TypeView}
 use Rattle.wc_resolve.specs.World.{children, kind_at}
-use Rattle.wc_resolve.proofs.Alike.{Alike, alike_cut}
-use Rattle.wc_resolve.proofs.AlikeFlattenings.{alike_rule, flat_looks_down}
-use Rattle.wc_resolve.proofs.TypeRules.{value_by_rule_follows}
-use Rattle.wc_resolve.proofs.TableEntries.{AreEntries, table_start, table_turn, table_end}
+use Rattle.wc_resolve.proofs.AlikeLemmas.{Alike, alike_cut}
+use Rattle.wc_resolve.proofs.AlikeFlatteningLemmas.{alike_rule, flat_looks_down}
+use Rattle.wc_resolve.proofs.TypeRuleLemmas.{value_by_rule_follows}
+use Rattle.wc_resolve.proofs.TableEntryLemmas.{AreEntries, table_start, table_turn, table_end}
 
 pub flats_follow : (types : List TypeView) (order : List ℕ) → IsOrder types order → Follows flat_rule types (flat_of types)
 flats_follow types order o = value_by_rule_follows flat_rule [] types order o (flat_looks_down types)

@@ -19,9 +19,9 @@ use Rattle.std.specs.Result.{OnErr}
 use Rattle.wc_resolve.specs.TypeRules.{Follows}
 use Rattle.wc_resolve.specs.Roots.{id_index}
 use Rattle.wc_resolve.specs.Live.{listing_rule, listing_of, listing_from, with_live, list_union, IsComplete, AddsAll, AddsSome, Keeps}
-use Rattle.wc_resolve.proofs.Search.{contains_none}
-use Rattle.wc_resolve.proofs.ListUnion.{keeps_same, keeps_more, with_extends, list_union_extends}
-use Rattle.wc_resolve.proofs.Listings.{step_index, finished, finished_extends, IsAdding, finished_enters, ready_enters, adding_skip, adding_leave, adding_enter, turns, turns_append, turns_reverse}
+use Rattle.wc_resolve.proofs.SearchLemmas.{contains_none}
+use Rattle.wc_resolve.proofs.ListUnionLemmas.{keeps_same, keeps_more, with_extends, list_union_extends}
+use Rattle.wc_resolve.proofs.ListingLemmas.{step_index, finished, finished_extends, IsAdding, finished_enters, ready_enters, adding_skip, adding_leave, adding_enter, turns, turns_append, turns_reverse}
 
 -- steps are stored with the next one last
 pub record IsLiveWalk (types : List TypeView) (old goal live : List ℕ) (steps : List TypeStep) : Type 0 where

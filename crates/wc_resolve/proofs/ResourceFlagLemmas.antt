@@ -9,7 +9,7 @@ use Rattle.wc_resolve.specs.declared.types.WitType.TheVariants.{Id}
 use Rattle.wc_resolve.specs.Views.{KindView, resource_kind, alias_kind, TypeView}
 use Rattle.wc_resolve.specs.World.{IsResource, defined, aliased, IsChildrenFirst, children, kind_at, referenced_indices}
 use Rattle.wc_resolve.specs.Resources.{AreResourceFlags, is_resource_kind}
-use Rattle.wc_resolve.proofs.TableEntries.{AreEntries, table_start, table_turn, table_end}
+use Rattle.wc_resolve.proofs.TableEntryLemmas.{AreEntries, table_start, table_turn, table_end}
 
 abbrev pub AliasOf : List TypeView → ℕ → Type 0
 AliasOf types x = (i : TypeId) × (kind_at types x ≡ Some (alias_kind (Id i))) × IsResource types i.0

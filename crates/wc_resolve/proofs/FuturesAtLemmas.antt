@@ -16,8 +16,8 @@ use Rattle.wc_resolve.specs.World.{SignatureHasOnly}
 use Rattle.wc_resolve.specs.Roots.{indices, param_roots, passed_roots, type_roots}
 use Rattle.wc_resolve.specs.Live.{listing_of}
 use Rattle.wc_resolve.specs.Futures.{EntryView, IsFuturesEntry, futures_from, futures_of, itself}
-use Rattle.wc_resolve.proofs.Search.{contains_none, contains_cons, contains_head, contains_tail}
-use Rattle.wc_resolve.proofs.Viewed.{all_unviewed}
+use Rattle.wc_resolve.proofs.SearchLemmas.{contains_none, contains_cons, contains_head, contains_tail}
+use Rattle.wc_resolve.proofs.ViewedLemmas.{all_unviewed}
 
 -- so much of a list was passed over that an index in all of it is this one in the rest
 pub record IsPassed (all rest : List ℕ) (n left : ℕ) : Type 0 where

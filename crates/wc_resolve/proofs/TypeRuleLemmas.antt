@@ -13,8 +13,8 @@ use Rattle.wc_resolve.specs.Views.{TypeView}
 use Rattle.wc_resolve.specs.World.{IsChildrenFirst, children, kind_at}
 use Rattle.wc_resolve.specs.Tables.{IsOrder}
 use Rattle.wc_resolve.specs.TypeRules.{Rule, Follows, IsOnlyFollowing, repeated, value_by_rule}
-use Rattle.wc_resolve.proofs.Acyclic.{position_before}
-use Rattle.wc_resolve.proofs.Search.{first_push}
+use Rattle.wc_resolve.proofs.AcyclicLemmas.{position_before}
+use Rattle.wc_resolve.proofs.SearchLemmas.{first_push}
 
 -- a rule that depends only on the values of the types that are referred to
 abbrev pub LooksDown : {Y : Type 0} → Rule Y → List TypeView → Type 0

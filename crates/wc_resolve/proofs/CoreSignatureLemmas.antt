@@ -20,9 +20,9 @@ use Rattle.wc_resolve.specs.Ranges.{IsFunctionIn, IsTypeIn}
 use Rattle.wc_resolve.specs.Signatures.{SignatureView, flatten_functype, core_of, has_indirect_result, max_flat_params_of, passed_types, result_pointer, returned_types, is_exported_method, first_as_pointer}
 use Rattle.wc_resolve.specs.Views.{FunctionView, TypeView, function_view, named_view}
 use Rattle.wc_resolve.specs.World.{SignatureHasOnly}
-use Rattle.wc_resolve.proofs.Alike.{Alike, alike_cut}
-use Rattle.wc_resolve.proofs.AlikeFlattenings.{AlikeType, alike_types, alike_payload}
-use Rattle.wc_resolve.proofs.NamedLists.{named_values}
+use Rattle.wc_resolve.proofs.AlikeLemmas.{Alike, alike_cut}
+use Rattle.wc_resolve.proofs.AlikeFlatteningLemmas.{AlikeType, alike_types, alike_payload}
+use Rattle.wc_resolve.proofs.NamedListLemmas.{named_values}
 
 -- lists that agree in their first n elements are equally more than fewer elements long
 over_alike : {X : Type 0} (m n : ℕ) (xs ys : List X) → m < n → Alike n xs ys → nat_lt m (length xs) ≡ nat_lt m (length ys)

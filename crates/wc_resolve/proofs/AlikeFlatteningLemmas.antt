@@ -10,9 +10,9 @@ use Rattle.wc_resolve.specs.declared.types.WitType.TheVariants.{Id}
 use Rattle.wc_resolve.specs.Flat.{join, join_flats, flatten_type, flatten_types, flat_payload, flat_cases, flat_kind, flat_rule}
 use Rattle.wc_resolve.specs.Views.{KindView, record_kind, tuple_kind, variant_kind, option_kind, result_kind, alias_kind, TypeView}
 use Rattle.wc_resolve.specs.World.{children, kind_at, referenced_indices, type_index}
-use Rattle.wc_resolve.proofs.Alike.{Alike, alike_cons, alike_flat_map, alike_same}
-use Rattle.wc_resolve.proofs.TypeRules.{LooksDown}
-use Rattle.wc_resolve.proofs.Search.{contains_none, contains_head, contains_cons}
+use Rattle.wc_resolve.proofs.AlikeLemmas.{Alike, alike_cons, alike_flat_map, alike_same}
+use Rattle.wc_resolve.proofs.TypeRuleLemmas.{LooksDown}
+use Rattle.wc_resolve.proofs.SearchLemmas.{contains_none, contains_head, contains_cons}
 
 -- tables that agree at each index of the list
 abbrev pub AlikeAt : ℕ → (ℕ → List WasmType) → (ℕ → List WasmType) → List ℕ → Type 0

@@ -17,13 +17,13 @@ use Rattle.wc_resolve.specs.Roots.{indices}
 use Rattle.wc_resolve.specs.Live.{listing_from, listing_of, listing_rule}
 use Rattle.wc_resolve.specs.Futures.{AreFuturesEntries, EntryView, IsEntryFor, IsFuturesEntry, carried_indices, count_of, entry_at, entry_view, futures_from, futures_of, futures_rule, is_carrier, itself, max_count, no_futures, only_part, part_for}
 use Rattle.wc_resolve.proofs.KeyLemmas.{nat_from}
-use Rattle.wc_resolve.proofs.Search.{contains_none, contains_head, contains_tail, contains_cons}
-use Rattle.wc_resolve.proofs.ListUnion.{joined_same}
-use Rattle.wc_resolve.proofs.Listings.{listing_looks_down}
-use Rattle.wc_resolve.proofs.TableEntries.{AreEntries, table_start, table_turn, table_end}
-use Rattle.wc_resolve.proofs.TypeRules.{LooksDown, value_by_rule_follows}
-use Rattle.wc_resolve.proofs.Viewed.{view_found}
-use Rattle.wc_resolve.proofs.Walks.{one_listed}
+use Rattle.wc_resolve.proofs.SearchLemmas.{contains_none, contains_head, contains_tail, contains_cons}
+use Rattle.wc_resolve.proofs.ListUnionLemmas.{joined_same}
+use Rattle.wc_resolve.proofs.ListingLemmas.{listing_looks_down}
+use Rattle.wc_resolve.proofs.TableEntryLemmas.{AreEntries, table_start, table_turn, table_end}
+use Rattle.wc_resolve.proofs.TypeRuleLemmas.{LooksDown, value_by_rule_follows}
+use Rattle.wc_resolve.proofs.ViewedLemmas.{view_found}
+use Rattle.wc_resolve.proofs.WalkLemmas.{one_listed}
 
 -- what a type contains by value, and an alias's target, is referred to
 pub carried_referenced : (o : Option KindView) (c : ℕ) → Contains (option_map_or carried_indices o []) c → Contains (option_map_or referenced_indices o []) c

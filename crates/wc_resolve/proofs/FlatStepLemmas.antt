@@ -9,7 +9,7 @@ use Rattle.std.proofs.Math.Seq.{take-append-add}
 use Rattle.wc_resolve.specs.declared.flat.WasmType.{WasmType}
 use Rattle.wc_resolve.specs.declared.types.WitType.{WitType}
 use Rattle.wc_resolve.specs.Flat.{flat_payload, flat_types_kept, flatten_type, flatten_types, join, join_flats}
-use Rattle.wc_resolve.proofs.Alike.{Alike, alike_append, alike_cut}
+use Rattle.wc_resolve.proofs.AlikeLemmas.{Alike, alike_append, alike_cut}
 
 -- what fits after others
 pub put_room : {X : Type 0} (n room : ℕ) (xs ys : List X) → length xs ≤ n → room ≡ n - length xs → xs ++ take (min room (length ys)) ys ≡ take n (xs ++ ys)
