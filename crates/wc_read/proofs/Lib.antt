@@ -35,3 +35,5 @@ pub mod NestingLemmas
 pub mod NestingLoopLemmas
 pub mod LocalCountLemmas
 pub mod BodiesLemmas
+pub mod DecodingLemmas
+pub mod RenumberingLemmas

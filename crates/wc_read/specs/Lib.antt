@@ -21,7 +21,9 @@ pub mod Modules
 pub mod Signed
 pub mod Operators
 pub mod Refs
+pub mod Renumbering
 pub mod Nesting
 pub mod Bodies
+pub mod Decoding
 pub mod Laws
 pub mod Reading

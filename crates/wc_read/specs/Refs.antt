@@ -1,5 +1,5 @@
 -- What an operator refers to: the items of the module that it names, in order.
-use Rattle.std.specs.Prelude.{ℕ, Option, Some, None}
+use Rattle.std.specs.Prelude.{ℕ, Bool, true, false, ◌||◌, Option, Some, None}
 use Rattle.wc_read.specs.Operators.{ImmediatesValue, WithNone, WithBlock, WithIndex, WithIndices, WithLabels, WithValTypes, WithRefType, WithMemArg, WithMemArgLane, WithI32, WithI64, WithBytes, WithLane}
 use Rattle.wc_read.specs.declared.operators.Space.{Space}
 use Rattle.wc_read.specs.declared.operators.Space.TheVariants.{Types, Memories}
@@ -44,3 +44,17 @@ refs_of (WithI32 n) = one_ref None
 refs_of (WithI64 n) = one_ref None
 refs_of (WithBytes bytes) = one_ref None
 refs_of (WithLane lane) = one_ref None
+
+-- whether it names a segment
+
+abbrev pub is_segment : IndexKind → Bool
+is_segment (In space) = false
+is_segment Elem = true
+is_segment Data = true
+is_segment Local = false
+is_segment Label = false
+
+abbrev pub names_segment : ImmediatesValue → Bool
+names_segment (WithIndex i) = is_segment i.kind
+names_segment (WithIndices i j) = is_segment i.kind || is_segment j.kind
+names_segment _ = false

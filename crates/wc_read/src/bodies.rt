@@ -82,7 +82,7 @@ pub fn read_body(alloc: Global, slice: &[u8]) -> Result<Body<'_>, ReadFault>
 }
 
 /// Whether there are less than 2^32 locals.
-fn are_few(locals: &[Locals]) -> bool
+pub fn are_few(locals: &[Locals]) -> bool
     ensures { result ≡ nat_lt (local_count locals.now) (2 ^ 32) }
 {
     let mut total: u32 = 0;

@@ -3,7 +3,7 @@
 //! Where no spelling begins another, bytes spell one value at most. Section numbers are those of the WebAssembly core
 //! specification. A call of a law does nothing when it runs; its clause is known after it.
 
-ghost use Rattle.std.specs.Prelude.{ℕ};
+ghost use Rattle.std.specs.Prelude.{ℕ, List};
 ghost use Rattle.wc_read.specs.Formats.{SpellsNumber, SpellsItems, SpellsVector, SpellsName};
 ghost use Rattle.wc_read.specs.Signed.{SpellsSigned};
 ghost use Rattle.wc_read.specs.Types.{SpellsValType, SpellsGlobal};
@@ -19,6 +19,8 @@ ghost use Rattle.wc_read.specs.Sections.{SpellsSection, SpellsFrames};
 ghost use Rattle.wc_read.specs.Names.{SpellsGlobalName};
 ghost use Rattle.wc_read.specs.Producers.{SpellsField};
 ghost use Rattle.wc_read.specs.Modules.{SpellsModule};
+ghost use Rattle.wc_read.specs.Decoding.{body_in, init_in, IsSpelled};
+ghost use Rattle.wc_read.specs.Renumbering.{KeepsRefs, KeepsSegments};
 ghost use Rattle.wc_read.specs.Laws.{HasOneValue, IsPrefixFree};
 ghost use Rattle.wc_read.specs.declared.operators.Form.{Form};
 
@@ -188,4 +190,22 @@ pub fn runs_unique()
 /// No bytes spell two modules (5.5.16).
 pub fn modules_unique()
     ensures { HasOneValue SpellsModule }
+{}
+
+/// The body that a function of the bytes gives is the one that they spell; where it gives none, they spell none
+/// (5.5.13).
+pub fn body_in_spelled()
+    ensures { (bytes : List ℕ) → IsSpelled SpellsBody bytes (body_in bytes) }
+{}
+
+/// So is the initialiser (5.4.9).
+pub fn initialiser_in_spelled()
+    ensures { (bytes : List ℕ) → IsSpelled SpellsInit bytes (init_in bytes) }
+{}
+
+/// An operator under new indices of the module's items names the items that it named, under these indices, and a
+/// segment where it named one (2.5.1 and 5.4).
+pub fn renumbering_keeps_refs()
+    ensures refs { KeepsRefs }
+    ensures segments { KeepsSegments }
 {}

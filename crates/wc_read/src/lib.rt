@@ -35,6 +35,7 @@
 #![tactic(auto)]
 
 mod bodies;
+mod body_operators;
 pub mod codes;
 mod contents;
 mod core_module;
@@ -67,6 +68,7 @@ mod types;
 mod validity;
 
 pub use bodies::{Body, Locals, read_body};
+pub use body_operators::Operators;
 pub use core_module::Module;
 pub use exports::{Export, ExportKind};
 pub use fault::ReadFault;
@@ -78,6 +80,6 @@ pub use modules::read_module;
 pub use operators::{
     BlockType, Form, Immediates, Index, IndexKind, Instr, MemArg, Opcode, Refs, Space, form_of,
 };
-pub use references::refs;
+pub use references::{names_segment, refs};
 pub use sections::{Frames, MODULE_HEADER, Section};
 pub use types::{FuncType, GlobalType, Import, ImportType, MemoryType, TableType, ValType};

@@ -20,7 +20,7 @@ pub enum Token {
     End,
 }
 
-fn token_of(opcode: Opcode) -> Token
+pub fn token_of(opcode: Opcode) -> Token
     ensures { result ≡ token_of opcode }
 {
     match opcode {
@@ -54,7 +54,7 @@ pub fn nests(alloc: Global, operators: &[Instr<'_>]) -> Result<bool, AllocError>
 
 /// Goes past a token, where it may occur inside the blocks that are open. For each of these the stack says
 /// whether an `else` may occur in it.
-fn step(blocks: &mut Vec<bool>, token: Token) -> Result<bool, AllocError>
+pub fn step(blocks: &mut Vec<bool>, token: Token) -> Result<bool, AllocError>
     ensures { IfOk result (λ may.
         Steps may (step (reverse blocks.old.items) token) (reverse blocks.new.items)) }
 {

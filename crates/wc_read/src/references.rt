@@ -2,7 +2,7 @@
 
 ghost use Rattle.std.specs.Prelude.{◌≡◌};
 ghost use Rattle.wc_read.specs.Operators.{immediates_value};
-ghost use Rattle.wc_read.specs.Refs.{reference, two_refs, refs_of};
+ghost use Rattle.wc_read.specs.Refs.{reference, two_refs, refs_of, is_segment, names_segment};
 
 use crate::operators::{BlockType, Immediates, Index, IndexKind, Instr, Refs, Space};
 
@@ -50,4 +50,21 @@ fn reference(index: Index) -> Option<(Space, u32)>
         IndexKind::In(space) => Some((space, index.number)),
         _ => None,
     }
+}
+
+/// Whether an operator names a segment, of elements or of data, by its index (5.4.5 and 5.4.6).
+pub fn names_segment(instr: &Instr<'_>) -> bool
+    ensures { result ≡ names_segment (immediates_value instr.now.immediates) }
+{
+    match &instr.immediates {
+        Immediates::Index(index) => is_segment(index.kind),
+        Immediates::Indices(first, second) => is_segment(first.kind) || is_segment(second.kind),
+        _ => false,
+    }
+}
+
+fn is_segment(kind: IndexKind) -> bool
+    ensures { result ≡ is_segment kind }
+{
+    matches!(kind, IndexKind::Elem | IndexKind::Data)
 }
