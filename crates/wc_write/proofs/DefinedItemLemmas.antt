@@ -6,7 +6,7 @@ use Rattle.std.proofs.lemmas.List.Folds.{flat_map-map}
 use Rattle.wc_read.specs.Imports.{ImportValue, import_value}
 use Rattle.wc_read.specs.Items.{item_value}
 use Rattle.wc_read.specs.Operators.{instr_value}
-use Rattle.wc_read.specs.Bodies.{body_value}
+use Rattle.wc_read.specs.Bodies.{BodyValue}
 use Rattle.wc_read.specs.Inits.{init_value}
 use Rattle.wc_read.specs.declared.inits.Init.{Init}
 use Rattle.wc_read.specs.declared.types.GlobalType.{GlobalType}
@@ -19,7 +19,7 @@ use Rattle.wc_read.specs.declared.items.Item.{Item}
 use Rattle.wc_write.specs.Text.{global_text}
 use Rattle.wc_write.specs.OperatorText.{instr_text}
 use Rattle.wc_write.specs.Spaces.{imports_of, DefinedValue, defined, defined_types, defined_contents, defined_value}
-use Rattle.wc_write.specs.ModuleText.{built_value, built_imports, defined_global_text, items_content}
+use Rattle.wc_write.specs.ModuleText.{built_value_by, built_imports, defined_global_text, items_content}
 use Rattle.wc_write.specs.declared.modules.Built.{Built}
 use Rattle.wc_write.specs.declared.spaces.Defined.{Defined}
 
@@ -34,9 +34,9 @@ imports_seen kind view [] = refl
 imports_seen kind view (i ∷ items) = import_seen kind view i items (imports_seen kind view items) i.def refl
 
 -- the imports of a module, group by group
-pub imports_grouped : (b : Built) (one two three four : List Import) → map import_value one ≡ [] ++ imports_of Memory (map (item_value (λ x. x)) b.memories.items) → map import_value two ≡ map import_value one ++ imports_of Table (map (item_value (λ x. x)) b.tables.items) → map import_value three ≡ map import_value two ++ imports_of Global (map (item_value (λ x. x)) b.globals.items) → map import_value four ≡ map import_value three ++ imports_of Func (map (item_value (λ x. x)) b.funcs.items) → map import_value four ≡ built_imports (built_value b)
-imports_grouped b one two three four e f g h =
-    rw (h, g, f, e, append_assoc, append_assoc, imports_seen Memory (λ _. tt {0}) b.memories.items, imports_seen Table (λ _. tt {0}) b.tables.items, imports_seen Global init_value b.globals.items, imports_seen Func body_value b.funcs.items) refl
+pub imports_grouped : {C : Type 0} (view : C → BodyValue) (b : Built C) (one two three four : List Import) → map import_value one ≡ [] ++ imports_of Memory (map (item_value (λ x. x)) b.memories.items) → map import_value two ≡ map import_value one ++ imports_of Table (map (item_value (λ x. x)) b.tables.items) → map import_value three ≡ map import_value two ++ imports_of Global (map (item_value (λ x. x)) b.globals.items) → map import_value four ≡ map import_value three ++ imports_of Func (map (item_value (λ x. x)) b.funcs.items) → map import_value four ≡ built_imports (built_value_by view b)
+imports_grouped view b one two three four e f g h =
+    rw (h, g, f, e, append_assoc, append_assoc, imports_seen Memory (λ _. tt {0}) b.memories.items, imports_seen Table (λ _. tt {0}) b.tables.items, imports_seen Global init_value b.globals.items, imports_seen Func view b.funcs.items) refl
 
 -- the defined items
 

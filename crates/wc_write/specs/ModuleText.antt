@@ -36,10 +36,11 @@ pub record BuiltValue : Type 0 where
   pub start : Option ℕ
   pub producers : Option (List ℕ)
 
-abbrev pub built_value : Built → BuiltValue
-built_value b = record {
+-- bodies are seen by view
+abbrev pub built_value_by : {C : Type 0} → (C → BodyValue) → Built C → BuiltValue
+built_value_by view b = record {
   types = map func_type_value b.types.items;
-  funcs = map (item_value body_value) b.funcs.items;
+  funcs = map (item_value view) b.funcs.items;
   tables = map table_value b.tables.items;
   memories = map memory_value b.memories.items;
   globals = map (item_value init_value) b.globals.items;
@@ -47,6 +48,9 @@ built_value b = record {
   start = b.start;
   producers = option_map (λ b. b.now) b.producers;
 }
+
+abbrev pub built_value : Built Body → BuiltValue
+built_value b = built_value_by body_value b
 
 -- its imports: memories, tables, globals and functions, each group in the order of its index space
 abbrev pub built_imports : BuiltValue → List ImportValue
@@ -77,8 +81,8 @@ abbrev pub code_text : BodyValue → List ℕ
 code_text b = number_text (length (body_text b)) ++ body_text b
 
 -- the code of a defined function
-abbrev pub code_text_of : Defined ℕ Body → List ℕ
-code_text_of f = code_text (body_value f.content.now)
+abbrev pub code_text_of : {C : Type 0} → (C → BodyValue) → Defined ℕ C → List ℕ
+code_text_of view f = code_text (view f.content.now)
 
 -- the contents of sections, where there are any
 

@@ -1,8 +1,10 @@
 //! Bodies of functions (WebAssembly core specification, 5.5.13).
 
 ghost use Rattle.std.specs.Prelude.{◌≡◌, ◌++◌, IfOk, OnOk, IsOk, IsErrOf};
-ghost use Rattle.wc_read.specs.Bodies.{body_value};
-ghost use Rattle.wc_write.specs.Text.{FitsSize, ExceedsSize};
+ghost use Rattle.wc_read.specs.Bodies.{BodyValue, body_value};
+ghost use Rattle.wc_read.specs.Operators.{instr_value};
+ghost use Rattle.wc_write.specs.Text.{FitsSize, ExceedsSize, vector_text};
+ghost use Rattle.wc_write.specs.OperatorText.{instr_text};
 ghost use Rattle.wc_write.specs.BodyText.{locals_text, body_text};
 
 use crate::fault::WriteFault;
@@ -10,7 +12,7 @@ use crate::numbers::put_number;
 use crate::types::put_val_type;
 use crate::vectors::{Written, put_all, put_vector};
 use std::alloc::{AllocError, Global};
-use wc_read::{Body, Locals};
+use wc_read::{Body, Instr, Locals};
 
 impl Written for Locals {
     ghost text = { locals_text };
@@ -21,6 +23,28 @@ impl Written for Locals {
     }
 }
 
+/// What can append the text of a function's body, without its size (5.5.13).
+pub trait BodyText: Sized + Drop {
+    /// The body.
+    ghost body: { Self → BodyValue };
+
+    /// Appends the text of the body.
+    ///
+    /// # Errors
+    ///
+    /// `AllocError`: an allocation failed.
+    fn put(&self, out: &mut Vec<u8>) -> Result<(), AllocError>
+        ensures { OnOk result (out.new.items ≡ out.old.items ++ body_text (body self.now)) };
+}
+
+impl<'a> BodyText for Body<'a> {
+    ghost body = { body_value };
+
+    fn put(&self, out: &mut Vec<u8>) -> Result<(), AllocError> {
+        put_body(out, self)
+    }
+}
+
 /// Appends a body without its size.
 pub(crate) fn put_body(out: &mut Vec<u8>, body: &Body<'_>) -> Result<(), AllocError>
     ensures { OnOk result (out.new.items ≡ out.old.items ++ body_text (body_value body.now)) }
@@ -28,6 +52,29 @@ pub(crate) fn put_body(out: &mut Vec<u8>, body: &Body<'_>) -> Result<(), AllocEr
     put_vector(out, &body.locals)?;
     put_all(out, &body.operators)?;
     Ok(())
+}
+
+/// Appends the runs of a body's locals, with which its text begins (5.5.13).
+///
+/// # Errors
+///
+/// `AllocError`: an allocation failed.
+pub fn append_locals(out: &mut Vec<u8>, locals: &[Locals]) -> Result<(), AllocError>
+    ensures { OnOk result (out.new.items ≡ out.old.items ++ vector_text locals_text locals.now) }
+{
+    put_vector(out, locals)
+}
+
+/// Appends an operator (5.4).
+///
+/// # Errors
+///
+/// `AllocError`: an allocation failed.
+pub fn append_operator(out: &mut Vec<u8>, operator: &Instr<'_>) -> Result<(), AllocError>
+    ensures { OnOk result (out.new.items
+        ≡ out.old.items ++ instr_text (instr_value operator.now)) }
+{
+    operator.put(out)
 }
 
 /// A function's body without its size (WebAssembly core specification, 5.4 and 5.5.13): its runs of locals unchanged,

@@ -50,9 +50,9 @@ mod spaces;
 mod types;
 mod vectors;
 
-pub use bodies::write_body;
+pub use bodies::{BodyText, append_locals, append_operator, write_body};
 pub use fault::WriteFault;
 pub use imports::{append_import_section, write_import_section};
-pub use modules::{Built, write_module};
+pub use modules::{Built, write_module, write_module_of};
 pub use sections::{append_raw_section, raw_section};
 pub use sink::{Destination, PutFailed, Sink, WriterSink};

@@ -7,12 +7,11 @@ ghost use Rattle.std.specs.Option.{option_map};
 ghost use Rattle.wc_read.specs.Types.{func_type_value};
 ghost use Rattle.wc_read.specs.Imports.{import_values};
 ghost use Rattle.wc_read.specs.Exports.{export_value};
-ghost use Rattle.wc_read.specs.Bodies.{body_value};
 ghost use Rattle.wc_read.specs.Inits.{init_value};
 ghost use Rattle.wc_read.specs.Items.{item_value, table_value, memory_value};
-ghost use Rattle.wc_write.specs.ModuleText.{built_value, built_imports, code_text_of, items_content, type_section, import_section, func_section, table_section, memory_section, global_section, export_section, start_section, code_section, producers_section, AppendsSection, AppendsContent};
+ghost use Rattle.wc_write.specs.ModuleText.{built_value_by, built_imports, code_text_of, items_content, type_section, import_section, func_section, table_section, memory_section, global_section, export_section, start_section, code_section, producers_section, AppendsSection, AppendsContent};
 
-use crate::bodies::put_body;
+use crate::bodies::BodyText;
 use crate::fault::WriteFault;
 use crate::modules::Built;
 use crate::numbers::{put_name, put_number};
@@ -24,7 +23,7 @@ use wc_read::codes::{
     CODE_ID, CUSTOM_ID, EXPORT_ID, FUNCTION_ID, GLOBAL_ID, IMPORT_ID, MEMORY_ID, PRODUCERS,
     START_ID, TABLE_ID, TYPE_ID,
 };
-use wc_read::{Body, Export, FuncType, GlobalType, Import, Init, Item, Memory, Table};
+use wc_read::{Export, FuncType, GlobalType, Import, Init, Item, Memory, Table};
 
 /// Appends a section of this content.
 fn append_content(out: &mut Vec<u8>, id: u8, content: &[u8]) -> Result<(), WriteFault>
@@ -64,21 +63,25 @@ pub(crate) fn append_types(
 }
 
 /// Appends the section of imports, where there are any.
-pub(crate) fn append_imports(
+pub(crate) fn append_imports<C: BodyText>(
     out: &mut Vec<u8>,
     content: &mut Vec<u8>,
-    built: &Built<'_>,
+    built: &Built<'_, C>,
 ) -> Result<(), WriteFault>
     ensures { AppendsSection result out.old.items out.new.items
-        (import_section (built_imports (built_value built.now))) }
+        (import_section (built_imports (built_value_by C.body built.now))) }
 {
     let imports = imports(*out.allocator(), built)?;
     append_items(out, content, IMPORT_ID, &imports)
 }
 
 /// The imports of a module: memories, tables, globals and functions, each in the order of its index space.
-fn imports<'a>(alloc: Global, built: &Built<'a>) -> Result<Vec<Import<'a>>, AllocError>
-    ensures { IfOk result (λ v. import_values v.items ≡ built_imports (built_value built.now)) }
+fn imports<'a, C: BodyText>(
+    alloc: Global,
+    built: &Built<'a, C>,
+) -> Result<Vec<Import<'a>>, AllocError>
+    ensures { IfOk result (λ v. import_values v.items
+        ≡ built_imports (built_value_by C.body built.now)) }
 {
     let mut imports = Vec::new(alloc);
     push_imports(&mut imports, &built.memories)?;
@@ -89,13 +92,13 @@ fn imports<'a>(alloc: Global, built: &Built<'a>) -> Result<Vec<Import<'a>>, Allo
 }
 
 /// Appends the section of functions, the indices of the types of the defined ones, where there are any.
-pub(crate) fn append_func_types(
+pub(crate) fn append_func_types<C: BodyText>(
     out: &mut Vec<u8>,
     content: &mut Vec<u8>,
-    funcs: &[Item<'_, u32, Body<'_>>],
+    funcs: &[Item<'_, u32, C>],
 ) -> Result<(), WriteFault>
     ensures { AppendsSection result out.old.items out.new.items
-        (func_section (map (item_value body_value) funcs.now)) }
+        (func_section (map (item_value C.body) funcs.now)) }
 {
     let alloc = *out.allocator();
     let funcs = defined_items(alloc, funcs)?;
@@ -104,7 +107,7 @@ pub(crate) fn append_func_types(
 }
 
 /// The indices of the types of functions.
-fn types_of(alloc: Global, funcs: &[Defined<'_, u32, Body<'_>>]) -> Result<Vec<u32>, AllocError>
+fn types_of<C>(alloc: Global, funcs: &[Defined<'_, u32, C>]) -> Result<Vec<u32>, AllocError>
     ensures { IfOk result (λ v. v.items ≡ map (λ f. f.ty) funcs.now) }
 {
     let mut types = Vec::with_capacity(alloc, funcs.len())?;
@@ -182,25 +185,25 @@ pub(crate) fn append_start(
 }
 
 /// Appends the section of code, the bodies of defined functions after their sizes, where there are any.
-pub(crate) fn append_code(
+pub(crate) fn append_code<C: BodyText>(
     out: &mut Vec<u8>,
     content: &mut Vec<u8>,
-    funcs: &[Item<'_, u32, Body<'_>>],
+    funcs: &[Item<'_, u32, C>],
 ) -> Result<(), WriteFault>
     ensures { AppendsSection result out.old.items out.new.items
-        (code_section (map (item_value body_value) funcs.now)) }
+        (code_section (map (item_value C.body) funcs.now)) }
 {
     let funcs = defined_items(*out.allocator(), funcs)?;
     append_bodies(out, content, &funcs)
 }
 
-fn append_bodies(
+fn append_bodies<C: BodyText>(
     out: &mut Vec<u8>,
     content: &mut Vec<u8>,
-    funcs: &[Defined<'_, u32, Body<'_>>],
+    funcs: &[Defined<'_, u32, C>],
 ) -> Result<(), WriteFault>
     ensures { AppendsContent result out.old.items out.new.items CODE_ID
-        (items_content code_text_of funcs.now) }
+        (items_content (code_text_of C.body) funcs.now) }
 {
     if funcs.is_empty() {
         return Ok(());
@@ -212,13 +215,14 @@ fn append_bodies(
 }
 
 /// Appends bodies after their sizes. One buffer serves them all.
-fn put_code(out: &mut Vec<u8>, funcs: &[Defined<'_, u32, Body<'_>>]) -> Result<(), AllocError>
-    ensures { OnOk result (out.new.items ≡ out.old.items ++ flat_map code_text_of funcs.now) }
+fn put_code<C: BodyText>(out: &mut Vec<u8>, funcs: &[Defined<'_, u32, C>]) -> Result<(), AllocError>
+    ensures { OnOk result (out.new.items ≡
+        out.old.items ++ flat_map (code_text_of C.body) funcs.now) }
 {
     let mut text = Vec::new(*out.allocator());
     for func in funcs {
         text.clear();
-        put_body(&mut text, func.content)?;
+        func.content.put(&mut text)?;
         put_number(out, text.len() as u64)?;
         out.extend_from_slice(&text)?;
     }

@@ -1,8 +1,9 @@
 //! Modules.
 
 ghost use Rattle.std.specs.Prelude.{◌≡◌, ◌++◌, IfOk, OnOk, IsOk, IsErrOf};
-ghost use Rattle.wc_write.specs.ModuleText.{SizesFit, built_value, sections_text, built_text};
+ghost use Rattle.wc_write.specs.ModuleText.{SizesFit, built_value, built_value_by, sections_text, built_text};
 
+use crate::bodies::BodyText;
 use crate::fault::WriteFault;
 use crate::module_sections::{
     append_code, append_exports, append_func_types, append_globals, append_imports,
@@ -12,13 +13,14 @@ use std::alloc::Global;
 use wc_read::{Body, Export, FuncType, GlobalType, Init, Item, MODULE_HEADER, Memory, Table};
 
 /// A module to be written (WebAssembly core specification, 2.5). Its imports are the imported items of its index
-/// spaces. In each index space imported items come before defined ones, which is not checked.
+/// spaces. In each index space imported items come before defined ones, which is not checked. The content of a defined
+/// function is its body, or whatever else can append the body's text.
 #[derive(Debug, Drop)]
-pub struct Built<'a> {
+pub struct Built<'a, C = Body<'a>> {
     /// The function types, by their indices (2.5.2).
     pub types: Vec<FuncType>,
     /// The functions, each with the index of its type, and defined ones with their bodies (2.5.3).
-    pub funcs: Vec<Item<'a, u32, Body<'a>>>,
+    pub funcs: Vec<Item<'a, u32, C>>,
     /// The tables (2.5.4).
     pub tables: Vec<Table<'a>>,
     /// The memories (2.5.5).
@@ -47,12 +49,31 @@ pub struct Built<'a> {
 /// - `TooLarge`: the content of a section has 2^32 bytes or more. Counts, names and bodies are no longer than the
 ///   contents that they are in.
 /// - `Memory`: an allocation failed.
-#[tactic(auto, unfolding(crate::specs::ModuleText::built_text))]
 pub fn write_module(alloc: Global, built: &Built<'_>) -> Result<Vec<u8>, WriteFault>
     ensures written { IfOk result (λ v. v.items ≡ built_text (built_value built.now)) }
     ensures fits { IsOk result → SizesFit (built_value built.now) }
     ensures too_large { IsErrOf result WriteFault.TooLarge
         → ¬ (SizesFit (built_value built.now)) }
+{
+    write_module_of(alloc, built)
+}
+
+/// The same of a module whose bodies are given by any content that can append their texts (5.5.13): no operator need be
+/// kept.
+///
+/// # Errors
+///
+/// - `TooLarge`: the content of a section has 2^32 bytes or more.
+/// - `Memory`: an allocation failed.
+#[tactic(auto, unfolding(crate::specs::ModuleText::built_text))]
+pub fn write_module_of<C: BodyText>(
+    alloc: Global,
+    built: &Built<'_, C>,
+) -> Result<Vec<u8>, WriteFault>
+    ensures written { IfOk result (λ v. v.items ≡ built_text (built_value_by C.body built.now)) }
+    ensures fits { IsOk result → SizesFit (built_value_by C.body built.now) }
+    ensures too_large { IsErrOf result WriteFault.TooLarge
+        → ¬ (SizesFit (built_value_by C.body built.now)) }
 {
     let mut out = Vec::from_slice(alloc, MODULE_HEADER)?;
     append_sections(&mut out, built)?;
@@ -60,12 +81,12 @@ pub fn write_module(alloc: Global, built: &Built<'_>) -> Result<Vec<u8>, WriteFa
 }
 
 /// Appends the sections of a module. One buffer serves all their contents.
-fn append_sections(out: &mut Vec<u8>, built: &Built<'_>) -> Result<(), WriteFault>
+fn append_sections<C: BodyText>(out: &mut Vec<u8>, built: &Built<'_, C>) -> Result<(), WriteFault>
     ensures written { OnOk result (out.new.items ≡
-        out.old.items ++ sections_text (built_value built.now)) }
-    ensures fits { IsOk result → SizesFit (built_value built.now) }
+        out.old.items ++ sections_text (built_value_by C.body built.now)) }
+    ensures fits { IsOk result → SizesFit (built_value_by C.body built.now) }
     ensures too_large { IsErrOf result WriteFault.TooLarge
-        → ¬ (SizesFit (built_value built.now)) }
+        → ¬ (SizesFit (built_value_by C.body built.now)) }
 {
     let mut content = Vec::new(*out.allocator());
     append_types(out, &mut content, &built.types)?;

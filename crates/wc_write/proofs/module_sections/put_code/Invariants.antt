@@ -4,4 +4,4 @@ use Rattle.wc_write.specs.ModuleText.{code_text_of}
 use Rattle.wc_write.proofs.module_sections.put_code.Given as goal
 
 abbrev pub invariant-loop-func : goal.invariant-loop-func
-invariant-loop-func l = l.out.items ≡ l.fn.out.items ++ flat_map code_text_of (take l.func-index l.funcs)
+invariant-loop-func g l = l.out.items ≡ l.fn.out.items ++ flat_map (code_text_of g.C.BodyText.body) (take l.func-index l.funcs)
