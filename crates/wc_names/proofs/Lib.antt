@@ -13,4 +13,11 @@ pub mod InterfaceIdLemmas
 pub mod ResolveLemmas
 pub mod MemberLemmas
 pub mod MatchLemmas
+pub mod FirstIndexLemmas
+pub mod InterfaceIndexLemmas
 pub mod VerdictLemmas
+pub mod ExportNameLemmas
+pub mod ExportIndexLemmas
+pub mod ExportLookupLemmas
+pub mod ExportMeaningLemmas
+pub mod ExportRangeLemmas

@@ -53,7 +53,7 @@ resource_in r w false resource_new key interface t scope is = is
 resource_in r w false resource_rep key interface t scope is = is
 
 -- a resource that is found by its name
-named_resource : (r : ResolveView) (o : Option ℕ) (t : ℕ) → option_and_then (resource_at r) o ≡ Some t → kind_at r.types t ≡ Some resource_kind
+pub named_resource : (r : ResolveView) (o : Option ℕ) (t : ℕ) → option_and_then (resource_at r) o ≡ Some t → kind_at r.types t ≡ Some resource_kind
 named_resource r None t is = absurd (let bad : ⊥ = cc is in bad)
 named_resource r (Some u) t is = (resource_is r u t is).1
 
@@ -72,11 +72,11 @@ async_value_in (legacy hook) r w imported scope v op a info name range h =
     (subst (IsScopeIn r) (sym h.is_interface) range, payload_in r w imported scope v h.which h.function info.ty h.is_payload_type)
 
 -- functions of interfaces have the names that they are listed under
-listed_names : (r : ResolveView) → KeysMatch r → All (HasMatchingNames r) r.interfaces
+pub listed_names : (r : ResolveView) → KeysMatch r → All (HasMatchingNames r) r.interfaces
 unfolding KeysMatch
 listed_names r h = h.1
 
-function_names : (r : ResolveView) (v : InterfaceView) → HasMatchingNames r v → All (λ (e : List ℕ × FunctionView). e.1.name ≡ e.0) v.functions
+pub function_names : (r : ResolveView) (v : InterfaceView) → HasMatchingNames r v → All (λ (e : List ℕ × FunctionView). e.1.name ≡ e.0) v.functions
 unfolding HasMatchingNames
 function_names r v h = h.1
 

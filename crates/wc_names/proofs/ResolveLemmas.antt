@@ -14,7 +14,7 @@ use Rattle.wc_resolve.specs.Ranges.{AreIdsInRange, AreNamesIn, IsEntryIn, IsFunc
 use Rattle.wc_resolve.specs.Views.{FunctionView, InterfaceView, ItemView, KeyView, PackageView, PackageNameView, WorldView, function_item, interface_item, plain_key, type_item, key_view, item_view, world_entry}
 use Rattle.wc_resolve.specs.WellFormed.{HaveDistinctNames}
 use Rattle.wc_resolve.specs.World.{ResolveView}
-use Rattle.wc_resolve.proofs.Viewed.{all_unviewed}
+use Rattle.wc_resolve.proofs.ViewedLemmas.{all_unviewed}
 use Rattle.wc_resolve.proofs.LookupLemmas.{lookup_viewed}
 use Rattle.wc_resolve.proofs.WellFormedLemmas.{all_get, interface_names_in}
 use Rattle.wc_encoder.proofs.PairLemmas.{pairs_head, pairs_tail}

@@ -97,7 +97,20 @@ IsCanonicalEntry r text (plain_key n, interface_item i external) found = (n ≡ 
 IsCanonicalEntry r text (plain_key n, item) found = ⊥
 IsCanonicalEntry r text (interface_key i, item) found = (canonical_id r i ≡ Some text) × (found ≡ (interface_key i, i))
 
+-- how a scheme finds the interface of a text: by canonical ids, or by ids
+pub data InterfaceTexts : Type 0 where
+  canonical_ids : InterfaceTexts
+  full_ids : InterfaceTexts
+
+abbrev pub interface_texts : Scheme → InterfaceTexts
+interface_texts standard = canonical_ids
+interface_texts (legacy hook) = full_ids
+
 -- the interface that a text is about, among the entries of a world
+abbrev pub IsAbout : InterfaceTexts → ResolveView → Entries → List ℕ → FoundInterface → Type 0
+IsAbout canonical_ids r entries text found = FirstOf (IsCanonicalEntry r text) entries found
+IsAbout full_ids r entries text found = FirstOf (IsTextMatch r entries text) text_matches found
+
+-- and by a scheme
 abbrev pub NamesInterface : Scheme → ResolveView → Entries → List ℕ → FoundInterface → Type 0
-NamesInterface standard r entries text found = FirstOf (IsCanonicalEntry r text) entries found
-NamesInterface (legacy hook) r entries text found = FirstOf (IsTextMatch r entries text) text_matches found
+NamesInterface s r entries text found = IsAbout (interface_texts s) r entries text found

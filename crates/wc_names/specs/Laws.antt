@@ -1,13 +1,16 @@
--- Laws of names: each means one thing at most.
+-- Laws of names: each means one thing at most, and what it names is there.
 use Rattle.std.specs.Prelude.{◌≡◌, ◌↔◌, ℕ, ◌<◌, ◌^◌, Bool, true, List, Option, Some, length, slice_get}
 use Rattle.std.specs.Option.{IfSome}
 use Rattle.std.specs.Str.Parse.{IsNumeral, digits_value, without_leading_plus}
 use Rattle.wc_read.specs.Types.{FuncTypeValue}
-use Rattle.wc_resolve.specs.Views.{FunctionView, WorldView, function_item, resource_kind}
+use Rattle.wc_resolve.specs.Views.{FunctionView, KeyView, WorldView, function_item, resource_kind}
 use Rattle.wc_resolve.specs.WellFormed.{IsUsable}
 use Rattle.wc_resolve.specs.World.{ResolveView, kind_at}
 use Rattle.wc_encoder.specs.Entries.{Entries}
 use Rattle.wc_names.specs.Builtins.{NamesBuiltin}
+use Rattle.wc_names.specs.ExportNames.{exported_interface, interface_function}
+use Rattle.wc_names.specs.ExportViews.{ExportView, exported_func, exported_func_callback, exported_func_post_return, exported_interface_func, exported_interface_func_callback, exported_interface_func_post_return, resource_dtor}
+use Rattle.wc_names.specs.Exports.{ClassifiedExport, CoreExport, ExportMeaning}
 use Rattle.wc_names.specs.Imports.{Classified, CoreImport, Setting}
 use Rattle.wc_names.specs.Interfaces.{FoundInterface, NamesInterface}
 use Rattle.wc_names.specs.Lookups.{function_at, item_under}
@@ -62,3 +65,32 @@ abbrev pub MeaningsInRange : ResolveView → Type 0
 MeaningsInRange r =
     (e : Setting) (a : CoreImport) (index : ℕ) (i : ImportView) (ty : Option FuncTypeValue)
     → e.resolve ≡ r → slice_get r.worlds index ≡ Some e.world → Classified e a (means i ty) → IsImportIn r e.world i
+
+-- of an export of a core module, for an export set
+abbrev pub ExportsUnique : Type 0
+ExportsUnique = (e : Setting) (keys : List KeyView) (x : CoreExport) (m n : ExportMeaning) → ClassifiedExport e keys x m → ClassifiedExport e keys x n → m ≡ n
+
+-- a function of an interface that a world exports under this key
+abbrev pub IsInterfaceFunctionIn : ResolveView → WorldView → KeyView → ℕ → FunctionView → Type 0
+IsInterfaceFunctionIn r w key i f = (exported_interface w.exports key ≡ Some i) × (i < length r.interfaces) × (interface_function r i f.name ≡ Some f) × IsUsable r f
+
+abbrev pub IsWorldFunctionIn : ResolveView → WorldView → KeyView → FunctionView → Type 0
+IsWorldFunctionIn r w key f = (item_under w.exports key ≡ Some (function_item f)) × IsUsable r f
+
+-- what an export is for is there: a usable function, which is under the key, or of the interface under the key; a type
+-- that is a resource
+abbrev pub IsExportIn : ResolveView → WorldView → ExportView → Type 0
+IsExportIn r w (exported_func key name abi) = (f : FunctionView) × (f.name ≡ name) × IsWorldFunctionIn r w key f
+IsExportIn r w (exported_func_post_return key) = (f : FunctionView) × IsWorldFunctionIn r w key f
+IsExportIn r w (exported_func_callback key) = (f : FunctionView) × IsWorldFunctionIn r w key f
+IsExportIn r w (exported_interface_func key i name abi) = (f : FunctionView) × (f.name ≡ name) × IsInterfaceFunctionIn r w key i f
+IsExportIn r w (exported_interface_func_post_return key name) = (i : ℕ) × (f : FunctionView) × (f.name ≡ name) × IsInterfaceFunctionIn r w key i f
+IsExportIn r w (exported_interface_func_callback key name) = (i : ℕ) × (f : FunctionView) × (f.name ≡ name) × IsInterfaceFunctionIn r w key i f
+IsExportIn r w (resource_dtor t) = kind_at r.types t ≡ Some resource_kind
+IsExportIn r w x = Unit {0}
+
+-- of what an export means, in a world of the `Resolve`
+abbrev pub ExportsInRange : ResolveView → Type 0
+ExportsInRange r =
+    (e : Setting) (keys : List KeyView) (x : CoreExport) (index : ℕ) (m : ExportMeaning)
+    → e.resolve ≡ r → slice_get r.worlds index ≡ Some e.world → ClassifiedExport e keys x m → IsExportIn r e.world m.export

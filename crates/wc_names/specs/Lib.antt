@@ -9,10 +9,16 @@ pub mod Lookups
 pub mod Contexts
 pub mod InterfaceIds
 pub mod Interfaces
+pub mod FirstIndexes
+pub mod InterfaceIndexes
 pub mod AsyncValues
 pub mod Meanings
 pub mod Environment
 pub mod WitIntrinsics
 pub mod Imports
+pub mod ExportNames
+pub mod ExportViews
+pub mod ExportIndexes
+pub mod Exports
 pub mod Verdicts
 pub mod Laws

@@ -50,7 +50,7 @@ fn first_clone(
 }
 
 /// The interface of exactly this id.
-fn member_of(resolve: &Resolve, id: &IdParts<'_>) -> Option<InterfaceId>
+pub(crate) fn member_of(resolve: &Resolve, id: &IdParts<'_>) -> Option<InterfaceId>
     ensures { Finds (option_map id_of_interface result)
         (IsMemberOf resolve.now (package_name_view id.now.«package») id.now.interface.now) }
 {

@@ -1,7 +1,7 @@
 //! Laws of names: contracts of functions that do nothing when they run.
 
 ghost use Rattle.std.specs.Prelude.{◌≡◌, IsTrue};
-ghost use Rattle.wc_names.specs.Laws.{BuiltinsUnique, FunctionNamesUnique, InterfacesUnique, MeaningsInRange, MeaningsUnique, NumbersParsed};
+ghost use Rattle.wc_names.specs.Laws.{BuiltinsUnique, ExportsInRange, ExportsUnique, FunctionNamesUnique, InterfacesUnique, MeaningsInRange, MeaningsUnique, NumbersParsed};
 
 use crate::{PayloadInfo, PayloadType};
 use std::hash::Hash;
@@ -21,6 +21,21 @@ pub fn meanings_unique(resolve: &Resolve)
 /// it runs.
 pub fn meanings_in_range(resolve: &Resolve)
     ensures { MeaningsInRange resolve.now }
+{
+    resolve.well_formedness();
+}
+
+/// An export of a core module means one thing at most for an export set, whatever the world and the flags are: of each
+/// kind of names it is at most one, and the first kind that it is of counts. It does nothing when it runs.
+pub fn exports_unique()
+    ensures { ExportsUnique }
+{}
+
+/// What an export of a core module is for, in a world of the `Resolve`, is there: its function is usable
+/// (`Resolve::has_function`) and exported under the key that the export has, or of the interface that is; its type is a
+/// resource. It does nothing when it runs.
+pub fn exports_in_range(resolve: &Resolve)
+    ensures { ExportsInRange resolve.now }
 {
     resolve.well_formedness();
 }

@@ -5,15 +5,21 @@ ghost use Rattle.wc_names.specs.Imports.{NamesFunctionAs};
 ghost use Rattle.wc_names.specs.Schemes.{legacy};
 
 use crate::environment::environment_import;
+use crate::export_set::{matched_destructor, matched_export};
 use crate::interfaces::legacy_interface;
 use crate::payloads::async_value_import;
 use crate::texts::{after, pointer_type, slot};
-use crate::{Import, MaybeAsyncLowered, NameMangling, PayloadLookupContext};
-use indexmap::IndexMap;
+use crate::{
+    ExportNames, ExportSyntax, Import, InterfaceNames, MaybeAsyncLowered, NameMangling,
+    PayloadLookupContext,
+};
+use indexmap::{IndexMap, IndexSet};
 use std::alloc::{AllocError, Global};
 use wc_encoder::StringEncoding;
 use wc_read::{FuncType, ValType};
-use wc_resolve::{AbiVariant, InterfaceId, Resolve, WorldItem, WorldKey};
+use wc_resolve::{
+    AbiVariant, Function, InterfaceId, Resolve, TypeId, WorldId, WorldItem, WorldKey,
+};
 
 /// The scheme that is older than the standard one: `my:demo/host@1.2.3` is the module of an interface, and
 /// `[resource-drop]file` drops a resource `file`. `task_hook` is the name of the export that is called as tasks begin
@@ -244,11 +250,52 @@ impl<'h> NameMangling for Legacy<'h> {
         legacy_interface(alloc, resolve, items, module)
     }
 
+    fn interface_names<'a>(
+        &self,
+        alloc: Global,
+        resolve: &'a Resolve,
+        items: &'a IndexMap<WorldKey, WorldItem>,
+    ) -> Result<InterfaceNames<'a>, AllocError> {
+        InterfaceNames::by_full_ids(alloc, resolve, items)
+    }
+
     fn env_import(&self, name: &str, ty: &FuncType) -> Option<Import> {
         environment_import(name, ty)
     }
 
     fn strip_post_return<'a>(&self, name: &'a str) -> Option<&'a str> {
         after(name, "cabi_post_")
+    }
+
+    fn export_names<'a>(
+        &self,
+        alloc: Global,
+        resolve: &'a Resolve,
+        world: WorldId,
+        exports: &'a IndexSet<WorldKey>,
+    ) -> Result<ExportNames<'a>, AllocError> {
+        ExportNames::new(alloc, ExportSyntax::Hashed, resolve, world, exports)
+    }
+
+    fn match_wit_export<'a>(
+        &self,
+        alloc: Global,
+        name: &str,
+        resolve: &'a Resolve,
+        world: WorldId,
+        exports: &'a IndexSet<WorldKey>,
+    ) -> Result<Option<(&'a WorldKey, Option<InterfaceId>, &'a Function)>, AllocError> {
+        matched_export(alloc, ExportSyntax::Hashed, name, resolve, world, exports)
+    }
+
+    fn match_wit_resource_dtor<'a>(
+        &self,
+        alloc: Global,
+        name: &str,
+        resolve: &'a Resolve,
+        world: WorldId,
+        exports: &'a IndexSet<WorldKey>,
+    ) -> Result<Option<TypeId>, AllocError> {
+        matched_destructor(alloc, ExportSyntax::Hashed, name, resolve, world, exports)
     }
 }

@@ -10,11 +10,18 @@
 //! | drops a resource `file` | `[resource-drop]file` | `file_drop` |
 //! | reads the first stream of `hello` | `[stream-read-0]hello` | none |
 //! | reads slot 1 of a thread | `[context-get-1]` of `$root` | none |
+//! | exports the function `run` of the world | `run` | `\|\|run` |
+//! | exports the function `hello` of an interface | `my:demo/host@1.2.3#hello` | `\|my:demo/host@1\|hello` |
+//! | destroys a resource `file` of an interface | `my:demo/host@1.2.3#[dtor]file` | `\|my:demo/host@1\|file_dtor` |
 //!
-//! A module's text is looked up among what a world imports or exports (`NameMangling::module_to_interface`), and the
-//! names of functions and resources in an interface or in the world itself (`PayloadLookupContext`). Which of several
+//! A module's text is looked up among what a world imports or exports (`NameMangling::module_to_interface`; to look up
+//! many there is an index, `InterfaceNames`), and the names of functions and resources in an interface or in the world
+//! itself (`PayloadLookupContext`). Which of several
 //! kinds a name is of is for the caller to decide; that an import means one thing at most, and what it names is there,
-//! is a law (`laws`).
+//! is a law (`laws`), and the same of an export.
+//!
+//! Exports are those of an export set, a set of keys of a world: `NameMangling::match_wit_export` and
+//! `match_wit_resource_dtor` look up one name, and `ExportNames` is an index to look up many.
 //!
 //! Where an allocation fails the answer is `AllocError`. A call that names a thing by its id requires that the id is in
 //! range.
@@ -35,9 +42,14 @@
 
 mod async_values;
 mod environment;
+mod export_interfaces;
+mod export_names;
+mod export_set;
 mod exports;
+mod first_interfaces;
 mod imports;
 mod interface_ids;
+mod interface_names;
 mod interfaces;
 pub mod laws;
 mod legacy;
@@ -47,8 +59,11 @@ mod payloads;
 mod standard;
 mod texts;
 
+pub use export_names::ExportSyntax;
+pub use export_set::ExportNames;
 pub use exports::Export;
 pub use imports::{Import, PayloadInfo, PayloadType};
+pub use interface_names::InterfaceNames;
 pub use legacy::Legacy;
 pub use mangling::{MaybeAsyncLowered, NameMangling};
 pub use payloads::PayloadLookupContext;

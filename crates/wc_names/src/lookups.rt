@@ -12,7 +12,10 @@ use std::alloc::{AllocError, Global};
 use wc_resolve::{Function, InterfaceId, Resolve, TypeDefKind, TypeId, WorldItem, WorldKey};
 
 /// The item under a key.
-fn item<'a>(items: &'a IndexMap<WorldKey, WorldItem>, key: &WorldKey) -> Option<&'a WorldItem>
+pub(crate) fn item<'a>(
+    items: &'a IndexMap<WorldKey, WorldItem>,
+    key: &WorldKey,
+) -> Option<&'a WorldItem>
     ensures { option_map (λ i. item_view i.now) result ≡
         item_under (map world_entry items.now.entries) (key_view key.now) }
 {

@@ -1,13 +1,19 @@
 //! The standard scheme.
 
+use crate::export_set::{matched_destructor, matched_export};
 use crate::interfaces::standard_interface;
 use crate::texts::before;
-use crate::{Import, MaybeAsyncLowered, NameMangling, PayloadLookupContext};
-use indexmap::IndexMap;
+use crate::{
+    ExportNames, ExportSyntax, Import, InterfaceNames, MaybeAsyncLowered, NameMangling,
+    PayloadLookupContext,
+};
+use indexmap::{IndexMap, IndexSet};
 use std::alloc::{AllocError, Global};
 use wc_encoder::StringEncoding;
 use wc_read::{FuncType, ValType};
-use wc_resolve::{AbiVariant, InterfaceId, Resolve, WorldItem, WorldKey};
+use wc_resolve::{
+    AbiVariant, Function, InterfaceId, Resolve, TypeId, WorldId, WorldItem, WorldKey,
+};
 
 /// The standard scheme (component model, pull request 378), after `cm32p2`: `|my:demo/host@1` is the module of an
 /// interface, and `file_drop` drops a resource `file`. It has no names for asynchronous functions and their built-ins.
@@ -170,11 +176,52 @@ impl NameMangling for Standard {
         standard_interface(alloc, resolve, items, module)
     }
 
+    fn interface_names<'a>(
+        &self,
+        alloc: Global,
+        resolve: &'a Resolve,
+        items: &'a IndexMap<WorldKey, WorldItem>,
+    ) -> Result<InterfaceNames<'a>, AllocError> {
+        InterfaceNames::by_canonical_ids(alloc, resolve, items)
+    }
+
     fn env_import(&self, _name: &str, _ty: &FuncType) -> Option<Import> {
         None
     }
 
     fn strip_post_return<'a>(&self, name: &'a str) -> Option<&'a str> {
         before(name, "_post")
+    }
+
+    fn export_names<'a>(
+        &self,
+        alloc: Global,
+        resolve: &'a Resolve,
+        world: WorldId,
+        exports: &'a IndexSet<WorldKey>,
+    ) -> Result<ExportNames<'a>, AllocError> {
+        ExportNames::new(alloc, ExportSyntax::Barred, resolve, world, exports)
+    }
+
+    fn match_wit_export<'a>(
+        &self,
+        alloc: Global,
+        name: &str,
+        resolve: &'a Resolve,
+        world: WorldId,
+        exports: &'a IndexSet<WorldKey>,
+    ) -> Result<Option<(&'a WorldKey, Option<InterfaceId>, &'a Function)>, AllocError> {
+        matched_export(alloc, ExportSyntax::Barred, name, resolve, world, exports)
+    }
+
+    fn match_wit_resource_dtor<'a>(
+        &self,
+        alloc: Global,
+        name: &str,
+        resolve: &'a Resolve,
+        world: WorldId,
+        exports: &'a IndexSet<WorldKey>,
+    ) -> Result<Option<TypeId>, AllocError> {
+        matched_destructor(alloc, ExportSyntax::Barred, name, resolve, world, exports)
     }
 }

@@ -5,7 +5,7 @@ use Rattle.wc_resolve.specs.declared.worlds.WorldKey.{WorldKey}
 use Rattle.wc_resolve.specs.declared.worlds.WorldItem.{WorldItem}
 use Rattle.wc_resolve.specs.Ranges.{IsKeyIn}
 use Rattle.wc_resolve.specs.Views.{KeyView, ItemView, key_view, world_entry}
-use Rattle.wc_resolve.proofs.Viewed.{all_unviewed}
+use Rattle.wc_resolve.proofs.ViewedLemmas.{all_unviewed}
 use Rattle.wc_names.proofs.interfaces.first_clone.Goals as goal
 
 pub is_clone_of-requires : goal.is_clone_of-requires
