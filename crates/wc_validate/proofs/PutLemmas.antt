@@ -1,5 +1,5 @@
 -- An import that is recorded after others.
-use Rattle.std.proofs.Common.{◌≡◌, ℕ, Bool, true, false, is_some, cond, List, [], ◌∷◌, ◌++◌, map, Option, Some, None, String, string_bytes, refl, sym, ap, ◌∙◌, subst}
+use Rattle.std.proofs.Common.{◌≡◌, ℕ, Bool, true, false, is_some, cond, List, [], ◌∷◌, ◌++◌, map, Option, Some, None, OnOk, IfErr, Result, Ok, Err, String, string_bytes, refl, sym, ap, ◌∙◌, subst, inl, inr}
 use Rattle.std.specs.Map.{lookup, set_value}
 use Rattle.std.specs.Str.{bytes_eq}
 use Rattle.std.specs.declared.alloc.Global.{Global}
@@ -7,13 +7,15 @@ use Rattle.std.specs.String.{string_eq}
 use Rattle.std.proofs.lemmas.List.{map-append}
 use Rattle.std.specs.Option.{option_map}
 use Rattle.wc_encoder.specs.declared.adapters.MainOrAdapter.{MainOrAdapter}
-use Rattle.wc_encoder.specs.Adapters.{which_view}
+use Rattle.wc_encoder.specs.Adapters.{WhichView, which_view}
 use Rattle.wc_resolve.proofs.LookupLemmas.{name_viewed}
 use Rattle.wc_validate.specs.declared.records.ImportInstance.TheVariants.{Whole, Names}
 use Rattle.indexmap.specs.IndexMap.{insert_entry}
 use Rattle.wc_names.specs.declared.imports.Import.{Import}
-use Rattle.wc_validate.specs.Entries.{InstanceRecord, all_of, names_of, IsAllRecorded, IsNameRecorded}
-use Rattle.wc_validate.specs.Records.{import_entry, instance_view, instance_entry, add_to, put_in, IsFree}
+use Rattle.wc_validate.specs.Entries.{InstanceRecord, all_of, names_of, Records, IsAllRecorded, IsNameRecorded}
+use Rattle.wc_validate.specs.Records.{import_entry, instance_view, instance_entry, add_to, put_in, IsFree, IsInstanceFault, IsWholeFault, IsWholePut}
+use Rattle.wc_validate.specs.declared.fault.ValidateFault.{ValidateFault}
+use Rattle.wc_validate.specs.declared.fault.ValidateFault.TheVariants.{Memory}
 use Rattle.wc_names.specs.Views.{ImportView, import_view}
 use Rattle.wc_validate.specs.declared.records.ImportInstance.{ImportInstance}
 
@@ -72,10 +74,10 @@ put_new es new k m name i x put key none one =
     ap (map instance_entry) (put ∙ insert_new es k x free) ∙ put_after es k m name i x (sym none) key one
 
 -- what is looked up in the records of modules
-record_found : (es : List (String Global × ImportInstance)) (m : List ℕ) (instance : ImportInstance) → lookup (is_called m) es ≡ Some instance → lookup (bytes_eq m) (map instance_entry es) ≡ Some (instance_view instance)
+pub record_found : (es : List (String Global × ImportInstance)) (m : List ℕ) (instance : ImportInstance) → lookup (is_called m) es ≡ Some instance → lookup (bytes_eq m) (map instance_entry es) ≡ Some (instance_view instance)
 record_found es m instance is = sym (name_viewed instance_view es m) ∙ ap (option_map instance_view) is
 
-record_none : (es : List (String Global × ImportInstance)) (m : List ℕ) → lookup (is_called m) es ≡ None → lookup (bytes_eq m) (map instance_entry es) ≡ None
+pub record_none : (es : List (String Global × ImportInstance)) (m : List ℕ) → lookup (is_called m) es ≡ None → lookup (bytes_eq m) (map instance_entry es) ≡ None
 record_none es m is = sym (name_viewed instance_view es m) ∙ ap (option_map instance_view) is
 
 -- all of a module is recorded
@@ -115,4 +117,31 @@ free_new es m name is =
     let here = record_none es m is in (
       (λ all. let both : None ≡ Some (all_of all.0) = sym here ∙ all.1 in let bad : ⊥ = cc both in bad),
       (λ h. let both : None ≡ Some (names_of h.0) = sym here ∙ h.2 in let bad : ⊥ = cc both in bad),
+    )
+
+-- all of a module of the component is recorded already, or another one, or single imports
+pub whole_found : {T : Type 0} (r : Result T ValidateFault) (records : Records) (m : List ℕ) (instance : InstanceRecord) (w : WhichView) → lookup (bytes_eq m) records ≡ Some instance → OnOk r (instance ≡ all_of w)
+    → OnOk r (IsWholePut records records m w)
+whole_found (Ok x) records m instance w is same = inr (is ∙ ap (λ (z : InstanceRecord). Some z) same, refl)
+whole_found (Err f) records m instance w is same = tt
+
+instance_refused : (records : Records) (m : List ℕ) (instance : InstanceRecord) (w : WhichView) (f : ValidateFault) → lookup (bytes_eq m) records ≡ Some instance → IsInstanceFault instance w f → IsWholeFault records m w f
+instance_refused records m instance w Memory is h = tt
+instance_refused records m instance w f is h = (instance, is, h)
+
+pub whole_refused : {T : Type 0} (r : Result T ValidateFault) (records : Records) (m : List ℕ) (instance : InstanceRecord) (w : WhichView) → lookup (bytes_eq m) records ≡ Some instance → IfErr r (IsInstanceFault instance w)
+    → IfErr r (IsWholeFault records m w)
+whole_refused (Ok x) records m instance w is h = tt
+whole_refused (Err f) records m instance w is h = instance_refused records m instance w f is h
+
+-- all of a module of the component after all others
+pub whole_new : (es new : List (String Global × ImportInstance)) (k : String Global) (m : List ℕ) (w : WhichView) (x : ImportInstance) → new ≡ insert_entry string_eq es k x → string_bytes k ≡ m → None ≡ lookup (is_called m) es → instance_view x ≡ all_of w
+    → IsWholePut (map instance_entry es) (map instance_entry new) m w
+whole_new es new k m w x put key none whole =
+    let free : is_some (lookup (is_called (string_bytes k)) es) ≡ false = subst (λ z. is_some (lookup (is_called z) es) ≡ false) (sym key) (ap is_some (sym none)) in
+    inl (
+      record_none es m (sym none),
+      ap (map instance_entry) (put ∙ insert_new es k x free)
+          ∙ (map-append instance_entry es ((k, x) ∷ [])
+          ∙ (ap (λ z. map instance_entry es ++ (z, instance_view x) ∷ []) key ∙ ap (λ z. map instance_entry es ++ (m, z) ∷ []) whole)),
     )

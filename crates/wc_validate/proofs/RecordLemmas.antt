@@ -11,23 +11,23 @@ use Rattle.wc_validate.specs.Entries.{Entry, single, whole, entry_module, Instan
 use Rattle.wc_validate.specs.Records.{add_to, put_in, IsFree}
 use Rattle.wc_names.specs.Views.{ImportView}
 
-self : (m : List ℕ) → bytes_eq m m ≡ true
+pub self : (m : List ℕ) → bytes_eq m m ≡ true
 self m = (bytes_eq-Decides m m).1 refl
 
-same : (m k : List ℕ) → bytes_eq m k ≡ true → m ≡ k
+pub same : (m k : List ℕ) → bytes_eq m k ≡ true → m ≡ k
 same m k h = (bytes_eq-Decides m k).0 h
 
-other : (m k : List ℕ) → bytes_eq m k ≡ false → bytes_eq k m ≡ false
+pub other : (m k : List ℕ) → bytes_eq m k ≡ false → bytes_eq k m ≡ false
 other m k h = at (bytes_eq k m) refl where
   at : (b : Bool) → bytes_eq k m ≡ b → b ≡ false
   at false e = refl
   at true e = absurd (let t : true ≡ false = sym (self k) ∙ (ap (λ z. bytes_eq z k) (same k m e) ∙ h) in let bad : ⊥ = cc t in bad)
 
-abbrev NoneIs : List ℕ → List (List ℕ) → Type 0
+abbrev pub NoneIs : List ℕ → List (List ℕ) → Type 0
 NoneIs m [] = Unit {0}
 NoneIs m (k ∷ ks) = (bytes_eq m k ≡ false) × NoneIs m ks
 
-abbrev IsOnce : List ℕ → List (List ℕ) → Type 0
+abbrev pub IsOnce : List ℕ → List (List ℕ) → Type 0
 IsOnce m [] = ⊥
 IsOnce m (k ∷ ks) = ((bytes_eq m k ≡ true) × NoneIs m ks) ⊎ ((bytes_eq m k ≡ false) × IsOnce m ks)
 
@@ -62,7 +62,7 @@ once_filter m a (k ∷ ks) differ (inl h) = once_at m a k (without a ks) (bytes_
 once_filter m a (k ∷ ks) differ (inr h) = once_at m a k (without a ks) (bytes_eq a k) refl differ (inr (h.0, once_filter m a ks differ h.1))
 
 -- a module that was seen, or wasn't
-abbrev among : List ℕ → List (List ℕ) → Bool
+abbrev pub among : List ℕ → List (List ℕ) → Bool
 among m [] = false
 among m (k ∷ ks) = bytes_eq m k || among m ks
 
@@ -70,7 +70,7 @@ seen_at : (m a : List ℕ) (ms : List (List ℕ)) (b : Bool) → bytes_eq m a �
 seen_at m a ms true is h rest = inl (is, subst (λ z. NoneIs m (without z (first_occurrences ms))) (same m a is) (gone m (first_occurrences ms)))
 seen_at m a ms false is h rest = inr (is, once_filter m a (first_occurrences ms) (other m a is) (rest h))
 
-seen : (m : List ℕ) (ms : List (List ℕ)) → among m ms ≡ true → IsOnce m (first_occurrences ms)
+pub seen : (m : List ℕ) (ms : List (List ℕ)) → among m ms ≡ true → IsOnce m (first_occurrences ms)
 seen m [] h = absurd (let bad : ⊥ = cc h in bad)
 seen m (a ∷ ms) h = seen_at m a ms (bytes_eq m a) refl h (seen m ms)
 
@@ -78,7 +78,7 @@ unseen_at : (m a : List ℕ) (ms : List (List ℕ)) (b : Bool) → bytes_eq m a 
 unseen_at m a ms true is h rest = absurd (let bad : ⊥ = cc h in bad)
 unseen_at m a ms false is h rest = (is, none_filter m a (first_occurrences ms) (rest h))
 
-unseen : (m : List ℕ) (ms : List (List ℕ)) → among m ms ≡ false → NoneIs m (first_occurrences ms)
+pub unseen : (m : List ℕ) (ms : List (List ℕ)) → among m ms ≡ false → NoneIs m (first_occurrences ms)
 unseen m [] h = tt
 unseen m (a ∷ ms) h = unseen_at m a ms (bytes_eq m a) refl h (unseen m ms)
 
@@ -90,7 +90,7 @@ new_at : (m a : List ℕ) (ms : List (List ℕ)) (b : Bool) → bytes_eq m a ≡
 new_at m a ms true is h rest = absurd (let bad : ⊥ = cc h in bad)
 new_at m a ms false is h rest = ap (λ z. a ∷ z) (ap (without a) (rest h) ∙ more_in m a ms false (other m a is))
 
-new_module : (m : List ℕ) (ms : List (List ℕ)) → among m ms ≡ false → first_occurrences (ms ++ m ∷ []) ≡ first_occurrences ms ++ m ∷ []
+pub new_module : (m : List ℕ) (ms : List (List ℕ)) → among m ms ≡ false → first_occurrences (ms ++ m ∷ []) ≡ first_occurrences ms ++ m ∷ []
 new_module m [] h = refl
 new_module m (a ∷ ms) h = new_at m a ms (bytes_eq m a) refl h (new_module m ms)
 
@@ -107,15 +107,15 @@ old_at : (m a : List ℕ) (ms : List (List ℕ)) (b : Bool) → bytes_eq m a ≡
 old_at m a ms true is h rest = ap (λ z. a ∷ z) (old_here m a ms (among m ms) is refl rest)
 old_at m a ms false is h rest = ap (λ z. a ∷ without a z) (rest h)
 
-old_module : (m : List ℕ) (ms : List (List ℕ)) → among m ms ≡ true → first_occurrences (ms ++ m ∷ []) ≡ first_occurrences ms
+pub old_module : (m : List ℕ) (ms : List (List ℕ)) → among m ms ≡ true → first_occurrences (ms ++ m ∷ []) ≡ first_occurrences ms
 old_module m [] h = absurd (let bad : ⊥ = cc h in bad)
 old_module m (a ∷ ms) h = old_at m a ms (bytes_eq m a) refl h (old_module m ms)
 
-append_none : {X : Type 0} (ks : List X) → ks ++ [] ≡ ks
+pub append_none : {X : Type 0} (ks : List X) → ks ++ [] ≡ ks
 append_none [] = refl
 append_none (k ∷ ks) = ap (λ z. k ∷ z) (append_none ks)
 
-abbrev recorded : List Entry → List ℕ → List ℕ × InstanceRecord
+abbrev pub recorded : List Entry → List ℕ → List ℕ × InstanceRecord
 recorded xs k = (k, instance_record xs k (filter_map (whole_of k) xs))
 
 module _ (xs : List Entry) (m n : List ℕ) (i : ImportView) where
@@ -201,13 +201,13 @@ lone_single_at : (m k : List ℕ) (b : Bool) (xs : List Entry) → (b || among m
 lone_single_at m k true xs h rest = absurd (let bad : ⊥ = cc h in bad)
 lone_single_at m k false xs h rest = rest h
 
-lone_whole : (m : List ℕ) (xs : List Entry) → among m (map entry_module xs) ≡ false → filter_map (whole_of m) xs ≡ []
+pub lone_whole : (m : List ℕ) (xs : List Entry) → among m (map entry_module xs) ≡ false → filter_map (whole_of m) xs ≡ []
 lone_whole m [] h = refl
 lone_whole m (single k name v ∷ xs) h = lone_single_at m k (bytes_eq m k) xs h (lone_whole m xs)
 lone_whole m (whole k w ∷ xs) h = lone_whole_at m k w (bytes_eq m k) xs refl h (lone_whole m xs)
 
 -- what is looked up of a module that was seen
-found_once : (xs : List Entry) (m : List ℕ) (ks : List (List ℕ)) → IsOnce m ks → lookup (bytes_eq m) (map (recorded xs) ks) ≡ Some (instance_record xs m (filter_map (whole_of m) xs))
+pub found_once : (xs : List Entry) (m : List ℕ) (ks : List (List ℕ)) → IsOnce m ks → lookup (bytes_eq m) (map (recorded xs) ks) ≡ Some (instance_record xs m (filter_map (whole_of m) xs))
 found_once xs m [] h = absurd h
 found_once xs m (k ∷ ks) (inl h) =
     ap (λ b. cond b (Some (recorded xs k).1) (lookup (bytes_eq m) (map (recorded xs) ks))) h.0 ∙ ap (λ z. Some (instance_record xs z (filter_map (whole_of z) xs))) (sym (same m k h.0))

@@ -6,7 +6,7 @@ use Rattle.std.specs.Str.{bytes_eq}
 use Rattle.std.specs.declared.alloc.Global.{Global}
 use Rattle.std.proofs.lemmas.Slice.Eq.{bytes_eq-Decides}
 use Rattle.wc_encoder.specs.declared.adapters.Adapter.{Adapter}
-use Rattle.wc_resolve.proofs.Search.{contains_cons, contains_head, contains_none, contains_tail}
+use Rattle.wc_resolve.proofs.SearchLemmas.{contains_cons, contains_head, contains_none, contains_tail}
 use Rattle.wc_read.specs.declared.types.MemoryType.{MemoryType}
 use Rattle.wc_read.specs.declared.exports.ExportKind.{ExportKind}
 use Rattle.wc_read.specs.Types.{FuncTypeValue}
@@ -24,8 +24,7 @@ use Rattle.wc_validate.specs.declared.fault.ValidateFault.{ValidateFault}
 use Rattle.wc_validate.specs.declared.fault.ValidateFault.TheVariants.{Memory, NotAFunction}
 use Rattle.wc_validate.specs.Faults.{fault_kind}
 use Rattle.wc_validate.specs.Kinds.{MeansAmong, MeansByScheme, export_kinds, export_root_kinds, root_kinds}
-use Rattle.wc_validate.specs.Rules.{core_import, IsClassified, IsDecision, IsNameReason}
-use Rattle.wc_validate.specs.Entries.{HasSignature}
+use Rattle.wc_validate.specs.Rules.{core_import, HasSignature, IsClassified, IsDecision, IsNameReason}
 use Rattle.wc_validate.specs.Settings.{adapter_name, imported_function}
 use Rattle.wc_validate.proofs.ClassifyLemmas.{of_scheme}
 

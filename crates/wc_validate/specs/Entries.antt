@@ -1,14 +1,14 @@
--- What the imports of a core module are recorded as.
-use Rattle.std.specs.Prelude.{◌≡◌, ◌≢◌, ℕ, List, [], ◌∷◌, map, not, filter, Option, Some, None, if◌then◌else◌}
-use Rattle.std.specs.Map.{lookup}
+-- What the imports of a core module are recorded as: entries, and the same by modules.
+use Rattle.std.specs.Prelude.{◌≡◌, ℕ, List, [], ◌∷◌, map, not, filter, Option, Some, None, if◌then◌else◌}
 use Rattle.std.specs.List.{filter_map}
+use Rattle.std.specs.Map.{lookup}
+use Rattle.std.specs.Option.{option_and_then}
 use Rattle.std.specs.Str.{bytes_eq}
+use Rattle.wc_read.specs.declared.types.MemoryType.{MemoryType}
 use Rattle.wc_read.specs.Types.{FuncTypeValue}
 use Rattle.wc_encoder.specs.Adapters.{WhichView}
-use Rattle.wc_names.specs.Imports.{Setting, ExternType, func_type, CoreImport, Classified}
-use Rattle.wc_names.specs.Meanings.{means, refuses}
-use Rattle.wc_names.specs.Verdicts.{FaultKind, wrong_signature, refused_name}
-use Rattle.wc_names.specs.Views.{ImportView}
+use Rattle.wc_names.specs.Views.{ImportView, adapter_export, main_module_memory}
+use Rattle.wc_validate.specs.AdapterTypes.{first_some, one_type}
 
 -- what an import is recorded as: an import of a module under a name; or a module of the component that is all of the
 -- imported module
@@ -19,11 +19,6 @@ pub data Entry : Type 0 where
 abbrev pub entry_module : Entry → List ℕ
 entry_module (single m name i) = m
 entry_module (whole m which) = m
-
--- the type is the signature that is fixed, if one is
-abbrev pub HasSignature : ExternType → Option FuncTypeValue → Type 0
-HasSignature ty None = Unit {0}
-HasSignature ty (Some wanted) = ty ≡ func_type wanted
 
 -- what is recorded of a module: another module of the component; or single imports by their names
 pub data InstanceRecord : Type 0 where
@@ -63,8 +58,29 @@ abbrev pub IsNameRecorded : Records → List ℕ → List ℕ → Type 0
 IsNameRecorded records m name =
     (names : List (List ℕ × ImportView)) × (other : ImportView) × (lookup (bytes_eq m) records ≡ Some (names_of names)) × (lookup (bytes_eq name) names ≡ Some other)
 
--- what a fault of a name says of the import
-abbrev pub IsNameFault : Setting → CoreImport → FaultKind → Type 0
-IsNameFault e a (refused_name why) = Classified e a (refuses why)
-IsNameFault e a wrong_signature = (v : ImportView) × (wanted : FuncTypeValue) × Classified e a (means v (Some wanted)) × (a.ty ≢ func_type wanted)
-IsNameFault e a kind = ⊥
+-- the type of the memory, of an import that is the main module's memory
+abbrev pub memory_type_of : ImportView → Option MemoryType
+memory_type_of (main_module_memory ty) = Some ty
+memory_type_of i = None
+
+abbrev pub memory_of : Entry → Option MemoryType
+memory_of (single m name i) = memory_type_of i
+memory_of (whole m which) = None
+
+-- the adapter, its function and the function's type, of an import that is a function of an adapter
+abbrev pub adapter_function_of : ImportView → Option (List ℕ × (List ℕ × FuncTypeValue))
+adapter_function_of (adapter_export adapter function ty) = Some (adapter, (function, ty))
+adapter_function_of i = None
+
+-- the type with which an import, or an entry, imports this function of an adapter
+abbrev pub adapter_type_in : List ℕ → List ℕ → ImportView → Option FuncTypeValue
+adapter_type_in adapter function i = option_and_then (λ (x : List ℕ × (List ℕ × FuncTypeValue)). one_type x.0 x.1.0 x.1.1 adapter function) (adapter_function_of i)
+
+abbrev pub adapter_type_of : List ℕ → List ℕ → Entry → Option FuncTypeValue
+adapter_type_of adapter function (single m name i) = adapter_type_in adapter function i
+adapter_type_of adapter function (whole m which) = None
+
+-- the first of a list that there is by f
+abbrev pub first_by : {X Y : Type 0} → (X → Option Y) → List X → Option Y
+first_by f [] = None
+first_by f (x ∷ xs) = first_some (f x) (first_by f xs)

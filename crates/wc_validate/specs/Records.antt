@@ -1,12 +1,13 @@
 -- Records of imports by modules, and one import more.
-use Rattle.std.specs.Prelude.{ℕ, List, [], ◌∷◌, ◌++◌, map, if◌then◌else◌, String, string_bytes}
+use Rattle.std.specs.Prelude.{◌≡◌, ◌≢◌, ◌⊎◌, ℕ, List, [], ◌∷◌, ◌++◌, map, Some, None, if◌then◌else◌, String, string_bytes}
+use Rattle.std.specs.Map.{lookup}
 use Rattle.std.specs.Str.{bytes_eq}
 use Rattle.std.specs.declared.alloc.Global.{Global}
-use Rattle.wc_encoder.specs.Adapters.{which_view}
+use Rattle.wc_encoder.specs.Adapters.{WhichView, which_view}
 use Rattle.wc_names.specs.declared.imports.Import.{Import}
 use Rattle.wc_names.specs.Views.{ImportView, import_view}
 use Rattle.wc_validate.specs.declared.fault.ValidateFault.{ValidateFault}
-use Rattle.wc_validate.specs.declared.fault.ValidateFault.TheVariants.{Memory, Mixed, DuplicateImport}
+use Rattle.wc_validate.specs.declared.fault.ValidateFault.TheVariants.{Memory, WholeDiffers, Mixed, DuplicateImport}
 use Rattle.wc_validate.specs.declared.records.ImportInstance.{ImportInstance}
 use Rattle.wc_validate.specs.declared.records.ImportInstance.TheVariants.{Whole, Names}
 use Rattle.wc_validate.specs.Entries.{InstanceRecord, all_of, names_of, Records, IsAllRecorded, IsNameRecorded}
@@ -40,3 +41,19 @@ IsPutFault records m name Memory = Unit {0}
 IsPutFault records m name Mixed = IsAllRecorded records m
 IsPutFault records m name DuplicateImport = IsNameRecorded records m name
 IsPutFault records m name f = ⊥
+
+-- a module of the component is all of this module: recorded after all others, or recorded already
+abbrev pub IsWholePut : Records → Records → List ℕ → WhichView → Type 0
+IsWholePut old new m which =
+    ((lookup (bytes_eq m) old ≡ None) × (new ≡ old ++ (m, all_of which) ∷ []))
+    ⊎ ((lookup (bytes_eq m) old ≡ Some (all_of which)) × (new ≡ old))
+
+-- why it is not recorded, by what is recorded of the module
+abbrev pub IsInstanceFault : InstanceRecord → WhichView → ValidateFault → Type 0
+IsInstanceFault (all_of other) which WholeDiffers = other ≢ which
+IsInstanceFault (names_of names) which Mixed = Unit {0}
+IsInstanceFault instance which f = ⊥
+
+abbrev pub IsWholeFault : Records → List ℕ → WhichView → ValidateFault → Type 0
+IsWholeFault records m which Memory = Unit {0}
+IsWholeFault records m which f = (instance : InstanceRecord) × (lookup (bytes_eq m) records ≡ Some instance) × IsInstanceFault instance which f

@@ -1,11 +1,18 @@
 -- What names are looked up in, and the imports that are looked up.
-use Rattle.std.specs.Prelude.{◌≡◌, ℕ, List, map, Some, slice_get, String, string_bytes}
+use Rattle.std.specs.Prelude.{◌≡◌, ℕ, List, map, Option, Some, slice_get, String, string_bytes}
+use Rattle.std.specs.Option.{IfSome}
 use Rattle.std.specs.declared.alloc.Global.{Global}
 use Rattle.wc_read.specs.Types.{FuncTypeValue}
 use Rattle.wc_resolve.specs.Views.{world_view}
+use Rattle.wc_resolve.specs.World.{ResolveView}
 use Rattle.wc_encoder.specs.declared.adapters.Adapter.{Adapter}
+use Rattle.wc_encoder.specs.Entries.{Entries}
 use Rattle.wc_names.specs.Imports.{Setting, CoreFunction}
+use Rattle.wc_names.specs.InterfaceIndexes.{InterfaceNamesView, interface_names_view}
+use Rattle.wc_names.specs.Interfaces.{InterfaceTexts, canonical_ids, full_ids}
+use Rattle.wc_validate.specs.declared.setting.Interfaces.{Interfaces}
 use Rattle.wc_validate.specs.declared.setting.Names.{Names}
+use Rattle.wc_validate.specs.declared.setting.SchemeInterfaces.{SchemeInterfaces}
 
 -- the name of an adapter
 abbrev pub adapter_name : String Global × Adapter → List ℕ
@@ -23,6 +30,20 @@ setting_of n = record {
 -- the world is one of the `Resolve`
 abbrev pub HasItsWorld : Setting → Type 0
 HasItsWorld e = (index : ℕ) × (slice_get e.resolve.worlds index ≡ Some e.world)
+
+-- an index, if there is one, is that of these interfaces
+abbrev pub IsIndexFor : InterfaceTexts → ResolveView → Entries → Option InterfaceNamesView → Type 0
+IsIndexFor texts r entries index = IfSome index (λ names. names ≡ interface_names_view texts r entries)
+
+-- the interfaces of the world, by these texts
+pub record AreInterfacesBy (texts : InterfaceTexts) (e : Setting) (i : SchemeInterfaces) : Type 0 where
+  pub imports : IsIndexFor texts e.resolve e.world.imports i.imports
+  pub exports : IsIndexFor texts e.resolve e.world.exports i.exports
+
+-- by those of both schemes
+pub record AreInterfacesOf (e : Setting) (i : Interfaces) : Type 0 where
+  pub standard : AreInterfacesBy canonical_ids e i.standard
+  pub legacy : AreInterfacesBy full_ids e i.legacy
 
 -- a function that is imported from a module
 abbrev pub imported_function : List ℕ → List ℕ → FuncTypeValue → CoreFunction

@@ -3,23 +3,24 @@
 ghost use Rattle.std.specs.Prelude.{Ok};
 ghost use Rattle.wc_read.specs.Types.{func_type_value};
 ghost use Rattle.wc_names.specs.Imports.{kinds};
+ghost use Rattle.wc_names.specs.Interfaces.{interface_texts};
 ghost use Rattle.wc_names.specs.Verdicts.{IsVerdict};
 ghost use Rattle.wc_validate.specs.Faults.{fault_kind};
 ghost use Rattle.wc_validate.specs.Kinds.{MeansAmong, MeansByScheme, MeansEnvironment, export_root_kinds};
 ghost use Rattle.wc_validate.specs.Rules.{IsDecision};
-ghost use Rattle.wc_validate.specs.Settings.{HasItsWorld, setting_of};
+ghost use Rattle.wc_validate.specs.Settings.{AreInterfacesBy, AreInterfacesOf, HasItsWorld, setting_of};
 
 use crate::ValidateFault;
 use crate::interfaces::{after, interface_import};
 use crate::intrinsics::exported_intrinsic;
 use crate::roots::root_import;
-use crate::setting::Names;
+use crate::setting::{Interfaces, Names, SchemeInterfaces};
 use std::alloc::Global;
 use wc_names::{Import, Legacy, NameMangling, PayloadLookupContext, Standard};
 use wc_read::FuncType;
 
 /// How names begin that are always read by the standard scheme.
-const STANDARD_MARKER: &str = "cm32p2";
+pub(crate) const STANDARD_MARKER: &str = "cm32p2";
 
 /// The module of the functions by which linkers reach a thread's stack pointer and its local storage.
 pub(crate) const ENVIRONMENT: &str = "env";
@@ -77,11 +78,14 @@ fn import_by<N: NameMangling>(
     scheme: &N,
     alloc: Global,
     names: &Names<'_>,
+    interfaces: &SchemeInterfaces<'_>,
     module_name: &str,
     name: &str,
     ty: &FuncType,
 ) -> Result<Option<Import>, ValidateFault>
-    requires { HasItsWorld (setting_of names.now) }
+    requires world { HasItsWorld (setting_of names.now) }
+    requires interfaces { AreInterfacesBy (interface_texts (N.scheme scheme.now))
+        (setting_of names.now) interfaces.now }
     ensures { IsVerdict fault_kind
         (MeansAmong (N.scheme scheme.now) (setting_of names.now) kinds module_name.now name.now
         (func_type_value ty.now)) (func_type_value ty.now) result }
@@ -93,7 +97,7 @@ fn import_by<N: NameMangling>(
         Some(variable) => Ok(Some(variable)),
         None => match export_root(scheme, alloc, names, module_name, name, ty)? {
             Some(intrinsic) => Ok(Some(intrinsic)),
-            None => interface_import(scheme, alloc, names, module_name, name, ty),
+            None => interface_import(scheme, alloc, names, interfaces, module_name, name, ty),
         },
     }
 }
@@ -103,16 +107,19 @@ fn decide_by<N: NameMangling>(
     scheme: &N,
     alloc: Global,
     names: &Names<'_>,
+    interfaces: &SchemeInterfaces<'_>,
     module_name: &str,
     name: &str,
     ty: &FuncType,
 ) -> Result<Import, ValidateFault>
-    requires { HasItsWorld (setting_of names.now) }
+    requires world { HasItsWorld (setting_of names.now) }
+    requires interfaces { AreInterfacesBy (interface_texts (N.scheme scheme.now))
+        (setting_of names.now) interfaces.now }
     ensures { IsDecision
         (MeansAmong (N.scheme scheme.now) (setting_of names.now) kinds module_name.now name.now
         (func_type_value ty.now)) (func_type_value ty.now) result }
 {
-    match import_by(scheme, alloc, names, module_name, name, ty)? {
+    match import_by(scheme, alloc, names, interfaces, module_name, name, ty)? {
         Some(import) => Ok(import),
         None => Err(ValidateFault::MissingFunction),
     }
@@ -122,23 +129,27 @@ fn decide_by<N: NameMangling>(
 pub(crate) fn function_import(
     alloc: Global,
     names: &Names<'_>,
+    interfaces: &Interfaces<'_>,
     module_name: &str,
     name: &str,
     ty: &FuncType,
 ) -> Result<Import, ValidateFault>
-    requires { HasItsWorld (setting_of names.now) }
+    requires world { HasItsWorld (setting_of names.now) }
+    requires interfaces { AreInterfacesOf (setting_of names.now) interfaces.now }
     ensures { IsDecision
         (MeansByScheme (setting_of names.now) module_name.now name.now (func_type_value ty.now))
         (func_type_value ty.now) result }
 {
+    let standard = &interfaces.standard;
     if let Some(rest) = after(module_name, STANDARD_MARKER) {
-        return decide_by(&Standard {}, alloc, names, rest, name, ty);
+        return decide_by(&Standard {}, alloc, names, standard, rest, name, ty);
     }
     if names.reject_legacy_names {
-        return decide_by(&Standard {}, alloc, names, module_name, name, ty);
+        return decide_by(&Standard {}, alloc, names, standard, module_name, name, ty);
     }
     let legacy = Legacy {
         task_hook: names.task_hook,
     };
-    decide_by(&legacy, alloc, names, module_name, name, ty)
+    let by_legacy = &interfaces.legacy;
+    decide_by(&legacy, alloc, names, by_legacy, module_name, name, ty)
 }

@@ -27,6 +27,16 @@ impl AdapterModuleDidNotExport {
     }
 }
 
+/// The fault that an adapter doesn't export what has this name.
+pub(crate) fn not_exported(alloc: Global, name: &str) -> Result<ValidateFault, AllocError>
+    ensures { IfOk result (λ f. (e : AdapterModuleDidNotExport)
+        × (f ≡ ValidateFault.AdapterModuleDidNotExport e)
+        × (name_not_exported e ≡ name.now)) }
+{
+    let missing = AdapterModuleDidNotExport(String::from_str(alloc, name)?);
+    Ok(ValidateFault::AdapterModuleDidNotExport(missing))
+}
+
 impl fmt::Display for AdapterModuleDidNotExport {
     ghost output = { λ e. Some (not_exported_text (name_not_exported e)) };
 

@@ -1,29 +1,54 @@
 //! Imports from modules that are about interfaces.
 
-ghost use Rattle.std.specs.Prelude.{◌≡◌, ◌++◌, ℕ, List, option_copied};
+ghost use Rattle.std.specs.Prelude.{◌≡◌, ◌++◌, ℕ, All, IfOk, List, map, option_copied};
+ghost use Rattle.std.specs.Option.{option_map};
 ghost use Rattle.wc_read.specs.Types.{func_type_value};
-ghost use Rattle.wc_resolve.specs.Views.{key_view};
+ghost use Rattle.wc_resolve.specs.Ranges.{IsKeyIn};
+ghost use Rattle.wc_resolve.specs.Views.{key_view, world_entry};
 ghost use Rattle.wc_names.specs.Finds.{Finds};
-ghost use Rattle.wc_names.specs.Interfaces.{NamesInterface};
+ghost use Rattle.wc_names.specs.Interfaces.{NamesInterface, found_interface, interface_texts};
 ghost use Rattle.wc_names.specs.Schemes.{export_prefix, interface_prefix};
 ghost use Rattle.wc_names.specs.Verdicts.{IsVerdict};
 ghost use Rattle.wc_validate.specs.Faults.{fault_kind};
 ghost use Rattle.wc_validate.specs.Kinds.{MeansAmong, export_kinds, interface_kinds, other_kinds};
-ghost use Rattle.wc_validate.specs.Settings.{HasItsWorld, setting_of};
+ghost use Rattle.wc_validate.specs.Settings.{AreInterfacesBy, HasItsWorld, IsIndexFor, setting_of};
 
 use crate::ValidateFault;
 use crate::intrinsics::{exported_intrinsic, function, imported_intrinsic};
-use crate::setting::Names;
-use std::alloc::Global;
-use wc_names::{Import, NameMangling, PayloadLookupContext};
+use crate::setting::{Names, SchemeInterfaces};
+use indexmap::IndexMap;
+use std::alloc::{AllocError, Global};
+use wc_names::{Import, InterfaceNames, NameMangling, PayloadLookupContext};
 use wc_read::FuncType;
-use wc_resolve::{InterfaceId, WorldKey};
+use wc_resolve::{InterfaceId, Resolve, WorldItem, WorldKey};
 
 /// What comes after a beginning.
 pub(crate) fn after<'a>(name: &'a str, first: &str) -> Option<&'a str>
     ensures { Finds (option_copied result) (λ (rest : List ℕ). name.now ≡ first.now ++ rest) }
 {
     name.strip_prefix(first)
+}
+
+/// The interface that a text is about, and its key, among these entries: by an index of them, if there is one.
+fn interface_of<N: NameMangling>(
+    scheme: &N,
+    alloc: Global,
+    index: &Option<InterfaceNames<'_>>,
+    resolve: &Resolve,
+    items: &IndexMap<WorldKey, WorldItem>,
+    text: &str,
+) -> Result<Option<(WorldKey, InterfaceId)>, AllocError>
+    requires keys { All (λ x. IsKeyIn resolve.now x.0) (map world_entry items.now.entries) }
+    requires indexed { IsIndexFor (interface_texts (N.scheme scheme.now)) resolve.now
+        (map world_entry items.now.entries) index.now }
+    ensures { IfOk result (λ found. Finds (option_map found_interface found)
+        (NamesInterface (N.scheme scheme.now) resolve.now (map world_entry items.now.entries)
+        text.now)) }
+{
+    match index {
+        Some(names) => names.interface(alloc, text),
+        None => scheme.module_to_interface(alloc, text, resolve, items),
+    }
 }
 
 /// The built-in that a name is of from the module of an exported interface, which is found.
@@ -67,11 +92,14 @@ fn exported_interface<N: NameMangling>(
     scheme: &N,
     alloc: Global,
     names: &Names<'_>,
+    interfaces: &SchemeInterfaces<'_>,
     text: &str,
     name: &str,
     ty: &FuncType,
 ) -> Result<Option<Import>, ValidateFault>
-    requires { HasItsWorld (setting_of names.now) }
+    requires world { HasItsWorld (setting_of names.now) }
+    requires interfaces { AreInterfacesBy (interface_texts (N.scheme scheme.now))
+        (setting_of names.now) interfaces.now }
     ensures { IsVerdict fault_kind
         (MeansAmong (N.scheme scheme.now) (setting_of names.now) export_kinds
         (interface_prefix (N.scheme scheme.now)
@@ -80,7 +108,8 @@ fn exported_interface<N: NameMangling>(
         (func_type_value ty.now) result }
 {
     names.resolve.well_formedness();
-    match scheme.module_to_interface(alloc, text, names.resolve, &names.world.exports)? {
+    let (resolve, exports) = (names.resolve, &names.world.exports);
+    match interface_of(scheme, alloc, &interfaces.exports, resolve, exports, text)? {
         Some((key, id)) => exported_item(scheme, alloc, names, text, key, id, name, ty),
         None => Err(ValidateFault::UnknownInterface),
     }
@@ -129,18 +158,22 @@ fn imported_interface<N: NameMangling>(
     scheme: &N,
     alloc: Global,
     names: &Names<'_>,
+    interfaces: &SchemeInterfaces<'_>,
     text: &str,
     name: &str,
     ty: &FuncType,
 ) -> Result<Option<Import>, ValidateFault>
-    requires { HasItsWorld (setting_of names.now) }
+    requires world { HasItsWorld (setting_of names.now) }
+    requires interfaces { AreInterfacesBy (interface_texts (N.scheme scheme.now))
+        (setting_of names.now) interfaces.now }
     ensures { IsVerdict fault_kind
         (MeansAmong (N.scheme scheme.now) (setting_of names.now) interface_kinds
         (interface_prefix (N.scheme scheme.now) ++ text.now) name.now (func_type_value ty.now))
         (func_type_value ty.now) result }
 {
     names.resolve.well_formedness();
-    match scheme.module_to_interface(alloc, text, names.resolve, &names.world.imports)? {
+    let (resolve, imports) = (names.resolve, &names.world.imports);
+    match interface_of(scheme, alloc, &interfaces.imports, resolve, imports, text)? {
         Some((key, id)) => imported_item(scheme, alloc, names, text, key, id, name, ty),
         None => Err(ValidateFault::UnknownInterface),
     }
@@ -151,11 +184,14 @@ pub(crate) fn interface_import<N: NameMangling>(
     scheme: &N,
     alloc: Global,
     names: &Names<'_>,
+    interfaces: &SchemeInterfaces<'_>,
     module_name: &str,
     name: &str,
     ty: &FuncType,
 ) -> Result<Option<Import>, ValidateFault>
-    requires { HasItsWorld (setting_of names.now) }
+    requires world { HasItsWorld (setting_of names.now) }
+    requires interfaces { AreInterfacesBy (interface_texts (N.scheme scheme.now))
+        (setting_of names.now) interfaces.now }
     ensures { IsVerdict fault_kind
         (MeansAmong (N.scheme scheme.now) (setting_of names.now) other_kinds module_name.now
         name.now (func_type_value ty.now)) (func_type_value ty.now) result }
@@ -164,7 +200,7 @@ pub(crate) fn interface_import<N: NameMangling>(
         return Err(ValidateFault::BadSyntax);
     };
     match after(text, scheme.import_exported_intrinsic_prefix()) {
-        Some(export) => exported_interface(scheme, alloc, names, export, name, ty),
-        None => imported_interface(scheme, alloc, names, text, name, ty),
+        Some(export) => exported_interface(scheme, alloc, names, interfaces, export, name, ty),
+        None => imported_interface(scheme, alloc, names, interfaces, text, name, ty),
     }
 }

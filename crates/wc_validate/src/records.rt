@@ -1,9 +1,10 @@
 //! What the imports of a core module are recorded as.
 
 ghost use Rattle.std.specs.Prelude.{◌≡◌, ◌∷◌, ◌++◌, [], IfErr, IfOk, List, OnOk, map};
+ghost use Rattle.wc_encoder.specs.Adapters.{which_view};
 ghost use Rattle.wc_names.specs.Views.{import_view};
-ghost use Rattle.wc_validate.specs.Entries.{Entry, by_modules, single};
-ghost use Rattle.wc_validate.specs.Records.{IsFree, IsPutFault, import_entry, instance_entry, put_in};
+ghost use Rattle.wc_validate.specs.Entries.{Entry, all_of, by_modules, single};
+ghost use Rattle.wc_validate.specs.Records.{IsFree, IsInstanceFault, IsPutFault, IsWholeFault, IsWholePut, import_entry, instance_entry, instance_view, put_in};
 
 use crate::ValidateFault;
 use indexmap::IndexMap;
@@ -99,4 +100,53 @@ pub(crate) fn record_import(
         module_name.now name.now) }
 {
     put_import(alloc, instances, module_name, name, import)
+}
+
+/// Whether all of this module of the component is recorded of a module.
+///
+/// # Errors
+///
+/// - `WholeDiffers`: all of another one is.
+/// - `Mixed`: single imports are.
+fn check_whole(instance: &ImportInstance, which: &MainOrAdapter) -> Result<(), ValidateFault>
+    ensures same { OnOk result (instance_view instance.now ≡ all_of (which_view which.now)) }
+    ensures fault { IfErr result (IsInstanceFault (instance_view instance.now)
+        (which_view which.now)) }
+{
+    match instance {
+        ImportInstance::Whole(other) => {
+            if other == which {
+                Ok(())
+            } else {
+                Err(ValidateFault::WholeDiffers)
+            }
+        }
+        ImportInstance::Names(_) => Err(ValidateFault::Mixed),
+    }
+}
+
+/// Records that all of a module of the component is imported from a module.
+///
+/// # Errors
+///
+/// - `WholeDiffers`: all of another one is recorded for the module.
+/// - `Mixed`: single imports of the module are recorded.
+/// - `Memory`: an allocation failed.
+pub(crate) fn record_whole(
+    alloc: Global,
+    instances: &mut IndexMap<String, ImportInstance>,
+    module_name: &str,
+    which: &MainOrAdapter,
+) -> Result<(), ValidateFault>
+    ensures put { OnOk result (IsWholePut (map instance_entry instances.old.entries)
+        (map instance_entry instances.new.entries) module_name.now (which_view which.now)) }
+    ensures fault { IfErr result (IsWholeFault (map instance_entry instances.old.entries)
+        module_name.now (which_view which.now)) }
+{
+    if let Some(instance) = instances.get(module_name) {
+        return check_whole(instance, which);
+    }
+    let instance = ImportInstance::Whole(which.clone(alloc)?);
+    instances.insert(String::from_str(alloc, module_name)?, instance)?;
+    Ok(())
 }

@@ -8,11 +8,11 @@ ghost use Rattle.wc_names.specs.Meanings.{Meaning};
 ghost use Rattle.wc_names.specs.Views.{adapter_export, import_view, main_module_export};
 ghost use Rattle.wc_validate.specs.Externs.{extern_view};
 ghost use Rattle.wc_validate.specs.Rules.{IsClassified, core_import};
-ghost use Rattle.wc_validate.specs.Settings.{HasItsWorld, setting_of};
+ghost use Rattle.wc_validate.specs.Settings.{AreInterfacesOf, HasItsWorld, setting_of};
 
 use crate::ValidateFault;
 use crate::classify::{ENVIRONMENT, function_import};
-use crate::setting::Names;
+use crate::setting::{Interfaces, Names};
 use std::alloc::{AllocError, Global};
 use wc_names::Import;
 use wc_read::{ExportKind, FuncType, GlobalType, MemoryType, TableType};
@@ -117,11 +117,13 @@ fn memory_item(
 fn function_item(
     alloc: Global,
     names: &Names<'_>,
+    interfaces: &Interfaces<'_>,
     module_name: &str,
     name: &str,
     ty: &FuncType,
 ) -> Result<Import, ValidateFault>
-    requires { HasItsWorld (setting_of names.now) }
+    requires world { HasItsWorld (setting_of names.now) }
+    requires interfaces { AreInterfacesOf (setting_of names.now) interfaces.now }
     ensures { IsClassified (setting_of names.now)
         (core_import module_name.now name.now (func_type (func_type_value ty.now))) result }
 {
@@ -131,23 +133,25 @@ fn function_item(
     if names.adapters.contains_key(module_name) {
         return Ok(adapter_function(alloc, module_name, name, ty)?);
     }
-    function_import(alloc, names, module_name, name, ty)
+    function_import(alloc, names, interfaces, module_name, name, ty)
 }
 
 /// What an import of a core module is.
 pub(crate) fn classify(
     alloc: Global,
     names: &Names<'_>,
+    interfaces: &Interfaces<'_>,
     module_name: &str,
     name: &str,
     ty: Extern<'_>,
 ) -> Result<Import, ValidateFault>
-    requires { HasItsWorld (setting_of names.now) }
+    requires world { HasItsWorld (setting_of names.now) }
+    requires interfaces { AreInterfacesOf (setting_of names.now) interfaces.now }
     ensures { IsClassified (setting_of names.now)
         (core_import module_name.now name.now (extern_view ty.entry)) result }
 {
     match ty {
-        Extern::Func(ty) => function_item(alloc, names, module_name, name, ty),
+        Extern::Func(ty) => function_item(alloc, names, interfaces, module_name, name, ty),
         Extern::Memory(ty) => memory_item(alloc, module_name, name, ty),
         Extern::Table(_) => other_item(alloc, module_name, name, ExportKind::Table),
         Extern::Global(_) => other_item(alloc, module_name, name, ExportKind::Global),

@@ -1,8 +1,18 @@
 //! What names are looked up in.
 
+ghost use Rattle.std.specs.Prelude.{IfOk};
+ghost use Rattle.wc_names.specs.Imports.{Setting};
+ghost use Rattle.wc_names.specs.Interfaces.{InterfaceTexts, interface_texts};
+ghost use Rattle.wc_validate.specs.Settings.{AreInterfacesBy, AreInterfacesOf, HasItsWorld, setting_of};
+
 use indexmap::IndexMap;
+use std::alloc::{AllocError, Global};
 use wc_encoder::Adapter;
+use wc_names::{InterfaceNames, Legacy, NameMangling, Standard};
 use wc_resolve::{Resolve, World};
+
+/// How many look-ups by walks over a world's keys take about as long as it takes to index them.
+const FEW_LOOKUPS: usize = 64;
 
 /// What the names of a core module's imports are looked up in: a world of a `Resolve`, and adapters by their names.
 #[derive(Drop)]
@@ -12,4 +22,77 @@ pub(crate) struct Names<'a> {
     pub(crate) adapters: &'a IndexMap<String, Adapter>,
     pub(crate) reject_legacy_names: bool,
     pub(crate) task_hook: &'a str,
+}
+
+/// The interfaces that a world imports and exports, by the texts of one scheme; `None` where they are not indexed.
+#[derive(Drop)]
+pub(crate) struct SchemeInterfaces<'a> {
+    pub(crate) imports: Option<InterfaceNames<'a>>,
+    pub(crate) exports: Option<InterfaceNames<'a>>,
+}
+
+/// The interfaces that a world imports and exports, by the texts of both schemes.
+#[derive(Drop)]
+pub(crate) struct Interfaces<'a> {
+    pub(crate) standard: SchemeInterfaces<'a>,
+    pub(crate) legacy: SchemeInterfaces<'a>,
+}
+
+impl<'a> SchemeInterfaces<'a> {
+    /// The interfaces of any world, not indexed.
+    fn unindexed() -> SchemeInterfaces<'a>
+        ensures { (texts : InterfaceTexts) (e : Setting) → AreInterfacesBy texts e result }
+    {
+        SchemeInterfaces {
+            imports: None,
+            exports: None,
+        }
+    }
+
+    /// The interfaces of the world, indexed.
+    fn indexed<N: NameMangling>(
+        scheme: &N,
+        alloc: Global,
+        names: &Names<'a>,
+    ) -> Result<SchemeInterfaces<'a>, AllocError>
+        requires { HasItsWorld (setting_of names.now) }
+        ensures { IfOk result
+            (AreInterfacesBy (interface_texts (N.scheme scheme.now)) (setting_of names.now)) }
+    {
+        names.resolve.well_formedness();
+        let imports = scheme.interface_names(alloc, names.resolve, &names.world.imports)?;
+        let exports = scheme.interface_names(alloc, names.resolve, &names.world.exports)?;
+        Ok(SchemeInterfaces {
+            imports: Some(imports),
+            exports: Some(exports),
+        })
+    }
+}
+
+impl<'a> Interfaces<'a> {
+    /// The interfaces of the world, indexed if more than a few are looked up.
+    pub(crate) fn new(
+        alloc: Global,
+        names: &Names<'a>,
+        lookups: usize,
+    ) -> Result<Interfaces<'a>, AllocError>
+        requires { HasItsWorld (setting_of names.now) }
+        ensures { IfOk result (AreInterfacesOf (setting_of names.now)) }
+    {
+        if lookups <= FEW_LOOKUPS {
+            return Ok(Interfaces {
+                standard: SchemeInterfaces::unindexed(),
+                legacy: SchemeInterfaces::unindexed(),
+            });
+        }
+        let legacy = Legacy {
+            task_hook: names.task_hook,
+        };
+        let by_standard = SchemeInterfaces::indexed(&Standard {}, alloc, names)?;
+        let by_legacy = SchemeInterfaces::indexed(&legacy, alloc, names)?;
+        Ok(Interfaces {
+            standard: by_standard,
+            legacy: by_legacy,
+        })
+    }
 }

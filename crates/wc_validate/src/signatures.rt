@@ -6,6 +6,7 @@ ghost use Rattle.wc_resolve.specs.Signatures.{signature_view};
 ghost use Rattle.wc_resolve.specs.Views.{function_view};
 ghost use Rattle.wc_resolve.specs.WellFormed.{IsUsable};
 ghost use Rattle.wc_names.specs.Builtins.{signature};
+ghost use Rattle.wc_names.specs.Exports.{post_return_type};
 ghost use Rattle.wc_names.specs.Imports.{function_type, signature_type, val_type};
 ghost use Rattle.wc_names.specs.Verdicts.{IsTypeChecked};
 ghost use Rattle.wc_names.specs.Views.{import_view};
@@ -169,4 +170,20 @@ pub(crate) fn has_function_type(
 {
     let core = resolve.wasm_signature(alloc, abi, function)?;
     Ok(has_signature(ty, &core))
+}
+
+/// Whether the type of an export is that of what runs after a function has returned: its parameters are the results of
+/// the function, as it is exported synchronously.
+pub(crate) fn has_post_return_type(
+    alloc: Global,
+    resolve: &Resolve,
+    function: &Function,
+    ty: &FuncType,
+) -> Result<bool, AllocError>
+    requires { IsUsable resolve.now (function_view function.now) }
+    ensures { IfOk result (λ b. IsTrue b ↔ (func_type_value ty.now
+        ≡ post_return_type resolve.now (function_view function.now))) }
+{
+    let core = resolve.wasm_signature(alloc, AbiVariant::GuestExport, function)?;
+    Ok(are_val_types(&core.results, ty.params()) && ty.results().is_empty())
 }

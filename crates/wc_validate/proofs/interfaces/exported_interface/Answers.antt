@@ -8,10 +8,10 @@ use Rattle.wc_validate.proofs.ScopeLemmas.{keys_in_range}
 use Rattle.wc_validate.proofs.StageLemmas.{failed}
 use Rattle.wc_validate.proofs.interfaces.exported_interface.Goals as goal
 
-pub module_to_interface-requires : goal.module_to_interface-requires
-module_to_interface-requires g c =
+pub interface_of-requires-clause-keys : goal.interface_of-requires-clause-keys
+interface_of-requires-clause-keys g c =
     let e = setting_of c.args.names.now in
-    keys_in_range e.resolve e.world c.requires.0 false c.well_formedness.ensures c.requires.1
+    keys_in_range e.resolve e.world c.requires.world.0 false c.well_formedness.ensures c.requires.world.1
 
 pub returns-in_err-key : goal.returns-in_err-key
 returns-in_err-key g c = failed _ _ _ c.from_residual.ensures.1

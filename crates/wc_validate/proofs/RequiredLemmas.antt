@@ -1,0 +1,128 @@
+-- Functions of adapters, the first of each name.
+use Rattle.std.proofs.Common.{◌≡◌, ℕ, Bool, true, false, not, cond, is_some, List, [], ◌∷◌, ◌++◌, map, Option, Some, None, OnOk, Result, Ok, Err, String, string_bytes, refl, sym, ap, subst, ◌∙◌, append-nil}
+use Rattle.std.specs.List.{filter, filter_map, cons_option}
+use Rattle.std.specs.Map.{lookup}
+use Rattle.std.specs.Option.{option_map, option_map_or}
+use Rattle.std.specs.String.{string_eq}
+use Rattle.std.specs.Str.{bytes_eq}
+use Rattle.std.specs.declared.alloc.Global.{Global}
+use Rattle.std.proofs.lemmas.List.{map-append}
+use Rattle.std.proofs.lemmas.List.Elements.{filter-append}
+use Rattle.indexmap.specs.IndexMap.{insert_entry}
+use Rattle.wc_read.specs.declared.types.FuncType.{FuncType}
+use Rattle.wc_read.specs.Types.{FuncTypeValue, func_type_value}
+use Rattle.wc_resolve.proofs.LookupLemmas.{name_viewed}
+use Rattle.wc_names.specs.declared.imports.Import.{Import}
+use Rattle.wc_names.specs.Views.{ImportView, import_view}
+use Rattle.wc_validate.specs.declared.records.ImportInstance.{ImportInstance}
+use Rattle.wc_validate.specs.Entries.{Records}
+use Rattle.wc_validate.specs.ImportMaps.{first_of_names, function_of, functions_in, required_entry, required_in}
+use Rattle.wc_validate.specs.Records.{import_entry, instance_entry, instance_view}
+use Rattle.wc_validate.specs.Required.{HasFirsts, functions_of}
+use Rattle.wc_validate.proofs.IndexLemmas.{index_kept, index_more}
+use Rattle.wc_validate.proofs.PutLemmas.{insert_new, is_called, record_found, record_none}
+use Rattle.wc_validate.proofs.RecordLemmas.{other, same, self}
+
+module _ {X : Type 0} where
+  abbrev others : List ℕ → List (List ℕ × X) → List (List ℕ × X)
+  others m ys = filter (λ (y : List ℕ × X). not (bytes_eq m y.0)) ys
+
+  abbrev one_unless : Bool → List ℕ × X → List (List ℕ × X)
+  one_unless b y = cond b [] (y ∷ [])
+
+  others_of : (m : List ℕ) (y : List ℕ × X) (b c : Bool) → bytes_eq m y.0 ≡ b → others m (one_unless c y) ≡ cond b [] (one_unless c y)
+  others_of m y true true is = refl
+  others_of m y false true is = refl
+  others_of m y true false is = ap (λ z. cond (not z) (y ∷ []) []) is
+  others_of m y false false is = ap (λ z. cond (not z) (y ∷ []) []) is
+
+  there_at : (x y : List ℕ × X) (xs : List (List ℕ × X)) (b : Bool) → bytes_eq x.0 y.0 ≡ b → cond b [] (one_unless (is_some (lookup (bytes_eq y.0) xs)) y) ≡ one_unless (is_some (lookup (bytes_eq y.0) (x ∷ xs))) y
+  there_at x y xs true is = sym (ap (λ b. one_unless (is_some (cond b (Some x.1) (lookup (bytes_eq y.0) xs))) y) (subst (λ z. bytes_eq z x.0 ≡ true) (same x.0 y.0 is) (self x.0)))
+  there_at x y xs false is = sym (ap (λ b. one_unless (is_some (cond b (Some x.1) (lookup (bytes_eq y.0) xs))) y) (other x.0 y.0 is))
+
+  -- one more of a list by names
+  firsts_more : (xs : List (List ℕ × X)) (y : List ℕ × X) → first_of_names (xs ++ y ∷ []) ≡ first_of_names xs ++ one_unless (is_some (lookup (bytes_eq y.0) xs)) y
+  firsts_more [] y = refl
+  firsts_more (x ∷ xs) y =
+      ap (λ z. x ∷ others x.0 z) (firsts_more xs y)
+      ∙ (ap (λ z. x ∷ z) (filter-append (λ (k : List ℕ × X). not (bytes_eq x.0 k.0)) (first_of_names xs) (one_unless (is_some (lookup (bytes_eq y.0) xs)) y))
+      ∙ ap (λ z. x ∷ (others x.0 (first_of_names xs) ++ z)) (others_of x.0 y (bytes_eq x.0 y.0) (is_some (lookup (bytes_eq y.0) xs)) refl ∙ there_at x y xs (bytes_eq x.0 y.0) refl))
+
+abbrev Functions : Type 0
+Functions = List (List ℕ × FuncTypeValue)
+
+module _ (functions passed : Functions) (k : List ℕ) (v : FuncTypeValue) (h : HasFirsts functions passed) where
+  found_alike : (b : Bool) → is_some (lookup (bytes_eq k) functions) ≡ b → is_some (lookup (bytes_eq k) passed) ≡ b
+  found_alike b is = ap is_some (sym (h.1 k)) ∙ is
+
+  firsts_kept : is_some (lookup (bytes_eq k) functions) ≡ true → HasFirsts functions (passed ++ (k, v) ∷ [])
+  firsts_kept there = (
+    h.0 ∙ sym (firsts_more passed (k, v) ∙ (ap (λ b. first_of_names passed ++ cond b [] ((k, v) ∷ [])) (found_alike true there) ∙ append-nil (first_of_names passed))),
+    index_kept functions passed k v h.1 there,
+  )
+
+  firsts_added : is_some (lookup (bytes_eq k) functions) ≡ false → HasFirsts (functions ++ (k, v) ∷ []) (passed ++ (k, v) ∷ [])
+  firsts_added absent = (
+    ap (λ z. z ++ (k, v) ∷ []) h.0 ∙ sym (firsts_more passed (k, v) ∙ ap (λ b. first_of_names passed ++ cond b [] ((k, v) ∷ [])) (found_alike false absent)),
+    index_more functions passed k v h.1,
+  )
+
+is_some_map : {X Y : Type 0} (f : X → Y) (o : Option X) → is_some (option_map f o) ≡ is_some o
+is_some_map f None = refl
+is_some_map f (Some x) = refl
+
+called : (es : List (String Global × FuncType)) (name : List ℕ) (there b : Bool) → there ≡ is_some (lookup (is_called name) es) → there ≡ b → is_some (lookup (bytes_eq name) (map required_entry es)) ≡ b
+called es name there b is test = ap is_some (sym (name_viewed func_type_value es name)) ∙ (is_some_map func_type_value (lookup (is_called name) es) ∙ (sym is ∙ test))
+
+pub function_kept : (es : List (String Global × FuncType)) (name : List ℕ) (ty : FuncTypeValue) (there : Bool) (passed : Functions) → there ≡ is_some (lookup (is_called name) es) → there ≡ true → HasFirsts (map required_entry es) passed
+    → HasFirsts (map required_entry es) (passed ++ (name, ty) ∷ [])
+function_kept es name ty there passed is test h = firsts_kept (map required_entry es) passed name ty h (called es name there true is test)
+
+pub function_added : (es new : List (String Global × FuncType)) (k : String Global) (v : FuncType) (name : List ℕ) (ty : FuncTypeValue) (there : Bool) (passed : Functions) → new ≡ insert_entry string_eq es k v → string_bytes k ≡ name → func_type_value v ≡ ty
+    → there ≡ is_some (lookup (is_called name) es) → there ≡ false → HasFirsts (map required_entry es) passed → HasFirsts (map required_entry new) (passed ++ (name, ty) ∷ [])
+function_added es new k v name ty there passed put key same is test h =
+    let free : is_some (lookup (is_called (string_bytes k)) es) ≡ false = subst (λ z. is_some (lookup (is_called z) es) ≡ false) (sym key) (sym is ∙ test) in
+    let entries : map required_entry new ≡ map required_entry es ++ (name, ty) ∷ [] =
+    ap (map required_entry) (put ∙ insert_new es k v free) ∙ (map-append required_entry es ((k, v) ∷ []) ∙ (ap (λ z. map required_entry es ++ (z, func_type_value v) ∷ []) key ∙ ap (λ z. map required_entry es ++ (name, z) ∷ []) same)) in
+    subst (λ z. HasFirsts z (passed ++ (name, ty) ∷ [])) (sym entries) (firsts_added (map required_entry es) passed name ty h (called es name there false is test))
+
+-- the functions of imports that are gone through
+pub record Gathered (all rest : List (String Global × Import)) (functions : Functions) : Type 0 where
+  pub passed : Functions
+  pub firsts : HasFirsts functions passed
+  pub split : passed ++ filter_map function_of (map import_entry rest) ≡ filter_map function_of (map import_entry all)
+
+pub gathered_start : (all rest : List (String Global × Import)) (functions : Functions) → rest ≡ all → functions ≡ [] → Gathered all rest functions
+gathered_start all rest functions is none = record { passed = []; firsts = (none, λ name. ap (lookup (bytes_eq name)) none); split = ap (λ z. filter_map function_of (map import_entry z)) is }
+
+option_cons : {X : Type 0} (passed : List X) (o : Option X) (rest : List X) → (passed ++ cons_option o []) ++ rest ≡ passed ++ cons_option o rest
+option_cons [] None rest = refl
+option_cons [] (Some x) rest = refl
+option_cons (p ∷ passed) o rest = ap (λ z. p ∷ z) (option_cons passed o rest)
+
+pub gathered_next : (all left rest : List (String Global × Import)) (e : String Global × Import) (old new : Functions) → (g : Gathered all left old) → left ≡ e ∷ rest → HasFirsts new (g.passed ++ functions_of (import_view e.1)) → Gathered all rest new
+gathered_next all left rest e old new g is firsts = record {
+  passed = g.passed ++ functions_of (import_view e.1);
+  firsts = firsts;
+  split = option_cons g.passed (function_of (import_entry e)) (filter_map function_of (map import_entry rest)) ∙ (ap (λ z. g.passed ++ filter_map function_of (map import_entry z)) (sym is) ∙ g.split);
+}
+
+pub gathered_end : (all left : List (String Global × Import)) (functions : Functions) → Gathered all left functions → left ≡ [] → functions ≡ first_of_names (filter_map function_of (map import_entry all))
+gathered_end all left functions g none =
+    g.firsts.0 ∙ ap first_of_names (sym (append-nil g.passed) ∙ (ap (λ z. g.passed ++ filter_map function_of (map import_entry z)) (sym none) ∙ g.split))
+
+pub required_passed : (functions passed : Functions) (i : ImportView) → None ≡ function_of ([], i) → HasFirsts functions passed → HasFirsts functions (passed ++ functions_of i)
+required_passed functions passed i none h = subst (HasFirsts functions) (sym (append-nil passed) ∙ ap (λ z. passed ++ cons_option z []) none) h
+
+pub required_one : {T F : Type 0} (r : Result T F) (functions passed : Functions) (i : ImportView) (f : List ℕ × FuncTypeValue) → Some f ≡ function_of ([], i) → OnOk r (HasFirsts functions (passed ++ f ∷ [])) → OnOk r (HasFirsts functions (passed ++ functions_of i))
+required_one (Ok x) functions passed i f is h = subst (HasFirsts functions) (ap (λ z. passed ++ cons_option z []) is) h
+required_one (Err e) functions passed i f is h = tt
+
+-- what is recorded of an adapter's module
+pub required_is : (es : List (String Global × ImportInstance)) (records : Records) (adapter : List ℕ) (instance : ImportInstance) → Some instance ≡ lookup (is_called adapter) es → map instance_entry es ≡ records
+    → first_of_names (functions_in (instance_view instance)) ≡ required_in records adapter
+required_is es records adapter instance is view =
+    ap (λ z. first_of_names (option_map_or functions_in z [])) (sym (record_found es adapter instance (sym is)) ∙ ap (lookup (bytes_eq adapter)) view)
+
+pub required_none : (es : List (String Global × ImportInstance)) (records : Records) (adapter : List ℕ) → None ≡ lookup (is_called adapter) es → map instance_entry es ≡ records → [] ≡ required_in records adapter
+required_none es records adapter is view = ap (λ z. first_of_names (option_map_or functions_in z [])) (sym (record_none es adapter (sym is)) ∙ ap (lookup (bytes_eq adapter)) view)

@@ -1,0 +1,11 @@
+use Rattle.std.proofs.Common.{drop, map}
+use Rattle.wc_read.specs.Exports.{export_value}
+use Rattle.wc_read.specs.Modules.{module_value}
+use Rattle.wc_validate.specs.ExportMaps.{export_entry}
+use Rattle.wc_validate.specs.Settings.{setting_of}
+use Rattle.wc_validate.proofs.ExportRecordLemmas.{ExportProgress}
+use Rattle.wc_validate.proofs.recorded_exports.record_exports.Given as goal
+
+abbrev pub invariant-loop-export : goal.invariant-loop-export
+invariant-loop-export l =
+    ExportProgress (setting_of l.context.names) l.context.standard.keys (module_value l.«module») (map export_value l.exports) (map export_value (drop l.export-index l.exports)) (map export_entry l.names.entries)

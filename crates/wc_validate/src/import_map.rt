@@ -1,0 +1,174 @@
+//! Recorded imports, and what is looked up in them.
+
+ghost use Rattle.std.specs.Prelude.{◌≡◌, ◌∷◌, ◌++◌, [], IfOk, List, OnOk, map, ℕ};
+ghost use Rattle.std.specs.List.{filter_map};
+ghost use Rattle.std.specs.Option.{option_map};
+ghost use Rattle.wc_read.specs.Types.{FuncTypeValue, func_type_value};
+ghost use Rattle.wc_names.specs.Views.{import_view};
+ghost use Rattle.wc_validate.specs.ImportMaps.{first_of_names, function_of, imports_in, memory_in, required_entry, required_in};
+ghost use Rattle.wc_validate.specs.Records.{import_entry, instance_entry};
+ghost use Rattle.wc_validate.specs.Required.{HasFirsts, functions_of};
+ghost use Rattle.wc_validate.specs.SingleImports.{imports_left};
+
+use crate::recorder::Recorder;
+use crate::records::ImportInstance;
+use crate::single_imports::Imports;
+use indexmap::IndexMap;
+use std::alloc::{AllocError, Global};
+use std::marker::Model;
+use wc_names::Import;
+use wc_read::{FuncType, MemoryType};
+
+/// The imports of a core module, by the names of the modules that they are imported from.
+#[derive(Drop)]
+pub struct ImportMap {
+    instances: IndexMap<String, ImportInstance>,
+    memory: Option<MemoryType>,
+}
+
+impl Model for ImportMap {
+    ghost use Rattle.std.specs.Prelude.{List, ℕ};
+    ghost use Rattle.wc_validate.specs.Entries.{InstanceRecord};
+
+    ghost Value = { List (List ℕ × InstanceRecord) };
+
+    ghost use Rattle.std.specs.Prelude.{◌≡◌, map};
+    ghost use Rattle.wc_validate.specs.ImportMaps.{memory_in};
+    ghost use Rattle.wc_validate.specs.Records.{instance_entry};
+
+    ghost view = { λ m. map instance_entry m.instances.entries };
+
+    ghost invariant = { λ m. memory_in (map instance_entry m.instances.entries) ≡ m.memory };
+}
+
+/// Adds a function with its type, if none of its name is there.
+fn add_function(
+    alloc: Global,
+    functions: &mut IndexMap<String, FuncType>,
+    name: &str,
+    ty: &FuncType,
+) -> Result<(), AllocError>
+    ensures { (passed : List (List ℕ × FuncTypeValue))
+        → HasFirsts (map required_entry functions.old.entries) passed
+        → OnOk result (HasFirsts (map required_entry functions.new.entries)
+        (passed ++ (name.now, func_type_value ty.now) ∷ [])) }
+{
+    if functions.contains_key(name) {
+        return Ok(());
+    }
+    functions.insert(String::from_str(alloc, name)?, ty.clone(alloc)?)?;
+    Ok(())
+}
+
+/// The function and its type, if an import is a function of an adapter.
+fn adapter_function(import: &Import) -> Option<(&str, &FuncType)>
+    ensures { option_map (λ f. (f.0.now, func_type_value f.1.now)) result
+        ≡ function_of ([], import_view import.now) }
+{
+    match import {
+        Import::AdapterExport { func, ty, .. } => Some((func.as_str(), ty)),
+        _ => None,
+    }
+}
+
+/// Adds the function of an adapter that an import is, if it is one and none of its name is there.
+fn add_required(
+    alloc: Global,
+    functions: &mut IndexMap<String, FuncType>,
+    import: &Import,
+) -> Result<(), AllocError>
+    ensures { (passed : List (List ℕ × FuncTypeValue))
+        → HasFirsts (map required_entry functions.old.entries) passed
+        → OnOk result (HasFirsts (map required_entry functions.new.entries)
+        (passed ++ functions_of (import_view import.now))) }
+{
+    match adapter_function(import) {
+        Some((name, ty)) => add_function(alloc, functions, name, ty),
+        None => Ok(()),
+    }
+}
+
+/// The functions of adapters among imports of one module: of each name the first.
+fn required_among(
+    alloc: Global,
+    names: &IndexMap<String, Import>,
+) -> Result<IndexMap<String, FuncType>, AllocError>
+    ensures { IfOk result (λ functions. map required_entry functions.entries
+        ≡ first_of_names (filter_map function_of (map import_entry names.now.entries))) }
+{
+    let mut functions = IndexMap::new(alloc);
+    for (_name, import) in names.iter() {
+        add_required(alloc, &mut functions, import)?;
+    }
+    Ok(functions)
+}
+
+impl ImportMap {
+    /// A map of no imports.
+    pub fn new(alloc: Global) -> ImportMap
+        ensures { result ≡ [] }
+    {
+        ImportMap {
+            instances: IndexMap::new(alloc),
+            memory: None,
+        }
+    }
+
+    /// The imports that a recorder has.
+    pub(crate) fn from_recorder(recorder: Recorder) -> ImportMap
+        requires { memory_in (map instance_entry recorder.instances.entries) ≡ recorder.memory }
+        ensures { result ≡ map instance_entry recorder.instances.entries }
+    {
+        ImportMap {
+            instances: recorder.instances,
+            memory: recorder.memory,
+        }
+    }
+
+    /// The functions that are imported from the adapter of this name, with their types, in the order of the first
+    /// import of each. Other imports from a module of this name are passed over.
+    ///
+    /// # Errors
+    ///
+    /// `AllocError`: an allocation failed.
+    pub fn required_from_adapter(
+        &self,
+        alloc: Global,
+        name: &str,
+    ) -> Result<IndexMap<String, FuncType>, AllocError>
+        ensures { IfOk result (λ functions. map required_entry functions.entries
+            ≡ required_in self.now name.now) }
+    {
+        match self.instances.get(name) {
+            Some(ImportInstance::Names(names)) => required_among(alloc, names),
+            Some(ImportInstance::Whole(_)) => Ok(IndexMap::new(alloc)),
+            None => Ok(IndexMap::new(alloc)),
+        }
+    }
+
+    /// The single imports, each by its module and its name: module by module, and of each module in order. Modules that
+    /// stand for another one are passed over.
+    pub fn imports(&self) -> Imports<'_>
+        ensures { imports_left result ≡ imports_in self.now }
+    {
+        Imports {
+            modules: self.instances.iter(),
+            module_name: "",
+            names: None,
+        }
+    }
+
+    /// What is recorded of each module, by the modules' names in the order of their first imports.
+    pub fn modules(&self) -> &IndexMap<String, ImportInstance>
+        ensures { map instance_entry result.now.entries ≡ self.now }
+    {
+        &self.instances
+    }
+
+    /// The type of the memory, if the main module's memory is imported (as `memory` from `env`).
+    pub fn imported_memory(&self) -> Option<MemoryType>
+        ensures { result ≡ memory_in self.now }
+    {
+        self.memory
+    }
+}

@@ -1,0 +1,57 @@
+//! Laws of what is recorded of modules: contracts of functions that do nothing when they run.
+
+ghost use Rattle.wc_validate.specs.Laws.{EntriesInRange, EntriesUnique, RecordsAreImports, RecordsInRange, RecordsUnique, SignaturesFixed};
+
+use wc_encoder::ComponentEncoder;
+use wc_names::laws::{exports_unique, meanings_in_range, meanings_unique};
+use wc_read::laws::modules_unique;
+use wc_resolve::Resolve;
+
+/// Of a module there is one record at most, of its imports and of its exports, for one job: an encoder, what a library
+/// is handed, original names, and what the module has to export. It does nothing when it runs.
+pub fn records_unique(encoder: &ComponentEncoder)
+    ensures { RecordsUnique encoder.now }
+{
+    let metadata = encoder.metadata();
+    meanings_unique(&metadata.resolve);
+    exports_unique();
+    modules_unique();
+}
+
+/// An import is recorded as one thing at most. It does nothing when it runs.
+pub fn entries_unique(resolve: &Resolve)
+    ensures { EntriesUnique resolve.now }
+{
+    meanings_unique(resolve);
+}
+
+/// An import that is recorded by its name, and not by an argument of a library, and whose name fixes a signature, has
+/// exactly that one. It does nothing when it runs.
+pub fn signatures_fixed(resolve: &Resolve)
+    ensures { SignaturesFixed resolve.now }
+{
+    meanings_unique(resolve);
+}
+
+/// What a recorded import names is there (`wc_names::laws::meanings_in_range`). It does nothing when it runs.
+pub fn entries_in_range(resolve: &Resolve)
+    ensures { EntriesInRange resolve.now }
+{
+    meanings_in_range(resolve);
+}
+
+/// All that is recorded of a module are its imports, each by its own entry. It does nothing when it runs.
+pub fn records_are_imports(encoder: &ComponentEncoder)
+    ensures { RecordsAreImports encoder.now }
+{
+    let _ = encoder;
+}
+
+/// What the recorded imports of a module name is there (`wc_names::laws::meanings_in_range`). It does nothing when it
+/// runs.
+pub fn records_in_range(encoder: &ComponentEncoder)
+    ensures { RecordsInRange encoder.now }
+{
+    let metadata = encoder.metadata();
+    meanings_in_range(&metadata.resolve);
+}
