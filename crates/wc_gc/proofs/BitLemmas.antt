@@ -1,0 +1,50 @@
+-- Sets of bits.
+use Rattle.std.proofs.Common.{◌≡◌, ◌≢◌, ℕ, zero, suc, ◌*◌, ◌/◌, ◌%◌, ◌^◌, ◌<◌, List, length, get_or, set, max, refl, sym, ◌∙◌, ap, not, ◌⊎◌, inl, inr, arith, bit_or, bit_and}
+use Rattle.std.specs.Prelude.{◌==◌}
+use Rattle.std.specs.Int.{bit_at}
+use Rattle.std.proofs.lemmas.Nat.Bits.{bit_at_or, bit_at-pow_same, bit_at-pow_other, and_pow, bit_at-lt}
+use Rattle.std.proofs.lemmas.Bool.Decides.{eqb_tells, nat_tests}
+use Rattle.std.proofs.lemmas.List.{get_or-set_same, get_or-set_other}
+use Rattle.std.proofs.lemmas.Nat.{pow_pos}
+use Rattle.wc_read.proofs.NumbersLemmas.{shl_without_overflow}
+use Rattle.wc_gc.specs.Bits.{bit_of}
+use Rattle.wc_gc.specs.LiveSets.{Inserts}
+
+-- a bit that is not set is zero under its mask
+mask_zero : (b p : ℕ) → b < 2 → 0 < p → (b * p == 0) ≡ not (b == 1)
+mask_zero zero p h k = let e : 0 * p ≡ 0 = omega arith in ap (λ (z : ℕ). z == 0) e
+mask_zero (suc zero) p h k = grind (arith, nat_tests)
+mask_zero (suc (suc b)) p h k = absurd (omega arith)
+
+pub new_bit : (n k : ℕ) → (bit_and n (2 ^ k) == 0) ≡ not (bit_at n k == 1)
+new_bit n k = ap (λ (z : ℕ). z == 0) (and_pow n k) ∙ mask_zero (bit_at n k) (2 ^ k) (bit_at-lt n k) (pow_pos k)
+
+set_same : (n k : ℕ) → bit_at (bit_or n (2 ^ k)) k ≡ 1
+set_same n k = bit_at_or n (2 ^ k) k ∙ (ap (max (bit_at n k)) (bit_at-pow_same k) ∙ (let h = bit_at-lt n k in omega arith))
+
+set_other : (n k i : ℕ) → i ≢ k → bit_at (bit_or n (2 ^ k)) i ≡ bit_at n i
+set_other n k i d = bit_at_or n (2 ^ k) i ∙ (ap (max (bit_at n i)) (bit_at-pow_other k i d) ∙ omega arith)
+
+other_bit : (words : List ℕ) (x y : ℕ) → x / 64 < length words → y ≢ x → (i k : ℕ) → y / 64 ≡ i → y % 64 ≡ k → (i ≡ x / 64) ⊎ (i ≢ x / 64)
+    → (bit_at (get_or (set words (x / 64) (bit_or (get_or words (x / 64) 0) (2 ^ (x % 64)))) i 0) k == 1) ≡ (bit_at (get_or words i 0) k == 1)
+other_bit words x y h d i k ei ek (inr other) = ap (λ (z : ℕ). bit_at z k == 1) (get_or-set_other words (x / 64) i _ 0 other)
+other_bit words x y h d i k ei ek (inl same) =
+    let differ : k ≢ x % 64 = λ e. d (let p : y / 64 ≡ x / 64 = ei ∙ same in let q : y % 64 ≡ x % 64 = ek ∙ e in omega arith) in
+    ap (λ (z : ℕ). bit_at (get_or (set words (x / 64) (bit_or (get_or words (x / 64) 0) (2 ^ (x % 64)))) z 0) k == 1) same
+    ∙ (ap (λ (z : ℕ). bit_at z k == 1) (get_or-set_same words (x / 64) _ 0 h)
+    ∙ (ap (λ (z : ℕ). z == 1) (set_other (get_or words (x / 64) 0) (x % 64) k differ)
+    ∙ ap (λ (z : ℕ). bit_at (get_or words z 0) k == 1) (sym same)))
+
+pub inserts_bit : (words : List ℕ) (x : ℕ) → x / 64 < length words
+    → Inserts (bit_of words) (bit_of (set words (x / 64) (bit_or (get_or words (x / 64) 0) (2 ^ (x % 64))))) x
+inserts_bit words x h = record {
+  present = ap (λ (z : ℕ). bit_at z (x % 64) == 1) (get_or-set_same words (x / 64) _ 0 h) ∙ ap (λ (z : ℕ). z == 1) (set_same (get_or words (x / 64) 0) (x % 64));
+  others = λ y d. other_bit words x y h d (y / 64) (y % 64) refl refl (elim (eqb_tells (y / 64) (x / 64)) [ inl e ↦ inl e.1 | inr n ↦ inr n.1 ]);
+}
+
+-- a mask of one bit
+pub mask_is : (x : ℕ) → 1 * 2 ^ (x % 64) % 2 ^ 64 ≡ 2 ^ (x % 64)
+mask_is x = shl_without_overflow 1 (x % 64) 1 (omega arith) (omega arith) ∙ one_mul (2 ^ (x % 64))
+  where
+    one_mul : (n : ℕ) → 1 * n ≡ n
+    one_mul n = omega arith

@@ -1,0 +1,13 @@
+pub mod LivenessLemmas
+pub mod ExportLemmas
+pub mod BitLemmas
+pub mod SearchLemmas
+pub mod ItemCountLemmas
+pub mod ReachLemmas
+pub mod FoundLemmas
+pub mod RankLemmas
+pub mod NewIndexLemmas
+pub mod RewriteLemmas
+pub mod ImageLemmas
+pub mod TrimLemmas
+pub mod SpellableLemmas

@@ -1,0 +1,263 @@
+-- A search in an adapter.
+use Rattle.std.proofs.Common.{◌≡◌, ℕ, zero, suc, ◌+◌, ◌-◌, ◌<◌, ◌≤◌, List, [], ◌∷◌, ◌++◌, map, take, length, get_or, subst, sym, ◌∙◌, ap, refl, Bool, true, false, ◌⊎◌, inl, inr, arith, ◌&&◌, Option, Some, None, append_assoc, append-nil}
+use Rattle.std.proofs.Common.{ltb-true}
+use Rattle.std.proofs.lemmas.Bool.{ltb-false}
+use Rattle.std.specs.Prelude.{IsTrue, nat_lt, Contains, All, ◌↔◌, Result, Ok, Err, OnOk}
+use Rattle.std.proofs.lemmas.List.{take_more, take_all, get_or_append_left}
+use Rattle.std.proofs.lemmas.List.Elements.{filter-append, filter_passes, All-contains, Contains-get_or}
+use Rattle.std.specs.List.{slice_get}
+use Rattle.std.specs.Borrow.{Bor}
+use Rattle.std.proofs.lemmas.Option.{slice_get-map, slice_get_past}
+use Rattle.wc_read.specs.Decoding.{body_in, init_in}
+use Rattle.wc_read.specs.Items.{func_value, global_value}
+use Rattle.wc_read.specs.declared.core_module.Module.{Module}
+use Rattle.wc_read.specs.declared.items.Item.{Item}
+use Rattle.wc_read.specs.declared.types.GlobalType.{GlobalType}
+use Rattle.wc_read.specs.declared.operators.Space.{Space}
+use Rattle.wc_read.specs.declared.operators.Space.TheVariants.{Funcs, Globals}
+use Rattle.wc_write.specs.BuiltValues.{item_seen}
+use Rattle.std.specs.Option.{option_map, option_map_or, option_to_list}
+use Rattle.std.proofs.lemmas.List.Folds.{list_all-append}
+use Rattle.std.proofs.lemmas.Grind.{flat_map-append}
+use Rattle.wc_read.specs.Operators.{InstrValue, instr_value, instr_values}
+use Rattle.wc_read.specs.Bodies.{BodyValue}
+use Rattle.wc_read.specs.Decoding.{body_operators}
+use Rattle.wc_read.specs.Refs.{refs_of}
+use Rattle.wc_read.specs.declared.operators.Refs.{Refs}
+use Rattle.wc_read.specs.declared.operators.Instr.{Instr}
+use Rattle.wc_gc.specs.Decoded.{DecodedModule, FuncCode, GlobalCode, ItemIndex, decoded_module, func_code, is_in, size_of}
+use Rattle.wc_gc.specs.Entries.{no_entry, func_entry, global_entry, entry_in, refs_in, entry_refs, entry_at}
+use Rattle.wc_gc.specs.Reached.{IsPath, IsReachedFrom}
+use Rattle.wc_gc.specs.Searches.{IsTied, HasGrown, IsGrown}
+use Rattle.wc_gc.specs.Soundness.{is_sound, is_sound_code, is_sound_body, is_sound_at}
+use Rattle.wc_gc.specs.Liveness.{IsCount}
+use Rattle.wc_gc.specs.Searches.{Finds}
+use Rattle.wc_gc.specs.declared.search.Search.{Search}
+use Rattle.wc_gc.specs.Entries.{present, refs_list, instr_refs, code_refs, init_refs, body_refs}
+use Rattle.wc_gc.proofs.SearchLemmas.{IsSearched, grown_none, only_if_tied, search_start, search_turn, search_end, false_true}
+
+-- what was found, of which so many were passed and are sound
+pub record IsAt (m : DecodedModule) (roots : List ItemIndex) (has : ItemIndex → Bool) (found : List ItemIndex) (next : ℕ) : Type 0 where
+  pub searched : IsSearched (refs_in m) roots has found next
+  pub sound : (k : ℕ) (d : ItemIndex) → k < next → is_sound_at m (get_or found k d) ≡ true
+
+pub tied_none : (has : ItemIndex → Bool) (found : List ItemIndex) → found ≡ [] → ((x : ItemIndex) → has x ≡ false) → IsTied has found
+tied_none has found e none = subst (IsTied has) (sym e) (record {
+  is_listed = λ x h. absurd (false_true (none x) h);
+  is_in_set = λ x c. absurd (omega (arith, c.1));
+  distinct = λ i j d h k. absurd (omega arith);
+})
+
+pub get_or_any : {A : Type 0} (xs : List A) (i : ℕ) (d e : A) → i < length xs → get_or xs i d ≡ get_or xs i e
+get_or_any [] i d e h = absurd (omega arith)
+get_or_any (x ∷ xs) zero d e h = refl
+get_or_any (x ∷ xs) (suc i) d e h = get_or_any xs i d e (omega arith)
+
+pub roots_more : (has : ItemIndex → Bool) (found : List ItemIndex) (has' : ItemIndex → Bool) (found' : List ItemIndex) (has'' : ItemIndex → Bool) (found'' : List ItemIndex) (roots : List ItemIndex) (i : ℕ) (d : ItemIndex) → i < length roots
+    → IsGrown has found has' found' (take i roots) → IsGrown has' found' has'' found'' (get_or roots i d ∷ []) → IsGrown has found has'' found'' (take (i + 1) roots)
+roots_more has found has' found' has'' found'' roots i d h a b =
+    subst (λ (z : List ItemIndex). IsGrown has found has'' found'' z) (sym (take_more roots i d h)) (only_if_tied has found has' found' has'' found'' (take i roots) (get_or roots i d ∷ []) a b)
+
+pub start_at : (m : DecodedModule) (roots : List ItemIndex) (has0 : ItemIndex → Bool) (found0 : List ItemIndex) (has : ItemIndex → Bool) (found : List ItemIndex) (i : ℕ) → length roots ≤ i
+    → IsGrown has0 found0 has found (take i roots) → found0 ≡ [] → IsTied has0 found0 → IsAt m roots has found 0
+start_at m roots has0 found0 has found i over g e tied = record {
+  searched = search_start (refs_in m) roots has found
+      (subst (λ (z : List ItemIndex). HasGrown z has found roots) e (subst (λ (z : List ItemIndex). HasGrown found0 has found z) (take_all i roots over) (g tied)));
+  sound = λ k d h. absurd (omega arith);
+}
+
+pub turn_at : (m : DecodedModule) (roots : List ItemIndex) (has : ItemIndex → Bool) (found : List ItemIndex) (next : ℕ) (has' : ItemIndex → Bool) (found' : List ItemIndex) (x : ItemIndex) → next < length found
+    → ((d : ItemIndex) → get_or found next d ≡ x) → IsAt m roots has found next → IsGrown has found has' found' (refs_in m x) → is_sound_at m x ≡ true → IsAt m roots has' found' (next + 1)
+turn_at m roots has found next has' found' x lt at s g good = record {
+  searched = search_turn (refs_in m) roots has found next has' found' x lt at s.searched grown;
+  sound = λ k d h. elim (below k h) [
+    | inl old ↦ subst (λ (z : ItemIndex). is_sound_at m z ≡ true) (sym (same k d (omega arith))) (s.sound k d old)
+    | inr e ↦ subst (λ (z : ItemIndex). is_sound_at m z ≡ true) (sym (ap (λ (j : ℕ). get_or found' j d) e ∙ (same next d lt ∙ at d))) good
+  ];
+}
+  where
+    grown : HasGrown found has' found' (refs_in m x)
+    grown = g s.searched.tied
+
+    same : (k : ℕ) (d : ItemIndex) → k < length found → get_or found' k d ≡ get_or found k d
+    same k d h = ap (λ (z : List ItemIndex). get_or z k d) grown.after.1 ∙ get_or_append_left found grown.after.0 d k h
+
+    below : (k : ℕ) → k < next + 1 → (k < next) ⊎ (k ≡ next)
+    below k h = grind arith
+
+pub reached_at : (m : DecodedModule) (roots : List ItemIndex) (has : ItemIndex → Bool) (found : List ItemIndex) (next : ℕ) → length found ≤ next → IsAt m roots has found next → (x : ItemIndex) → IsTrue (has x) ↔ IsReachedFrom (refs_in m) roots x
+reached_at m roots has found next over s = search_end (refs_in m) roots has found next over s.searched
+
+-- all that is found is reached, and once: so there are as many turns as reached items
+pub count_at : (m : DecodedModule) (roots : List ItemIndex) (has : ItemIndex → Bool) (found : List ItemIndex) (next : ℕ) → length found ≤ next → IsAt m roots has found next → IsCount (IsReachedFrom (refs_in m) roots) next
+count_at m roots has found next over s = (
+  found,
+  s.searched.tied.distinct,
+  (λ x. ((λ r. s.searched.tied.is_listed x ((reached_at m roots has found next over s x).1 r)), s.searched.sound x)),
+  (let w = s.searched.within in omega arith),
+)
+
+pub sound_at : (m : DecodedModule) (roots : List ItemIndex) (has : ItemIndex → Bool) (found : List ItemIndex) (next : ℕ) → length found ≤ next → IsAt m roots has found next
+    → (x : ItemIndex) → IsReachedFrom (refs_in m) roots x → is_sound_at m x ≡ true
+sound_at m roots has found next over s x r =
+    let c = s.searched.tied.is_listed x ((reached_at m roots has found next over s x).1 r) in
+    subst (λ (z : ItemIndex). is_sound_at m z ≡ true) c.2 (s.sound c.0 x (let h = c.1 in omega arith))
+
+-- what is reached is there
+
+there_from : (m : DecodedModule) (x : ItemIndex) (path : List ItemIndex) (y : ItemIndex) → IsTrue (is_in m x) → IsPath (refs_in m) x path y → IsTrue (is_in m y)
+there_from m x [] y h w = subst (λ (z : ItemIndex). IsTrue (is_in m z)) w h
+there_from m x (z ∷ path) y h w = there_from m z path y (All-contains (λ (v : ItemIndex). is_in m v ≡ true) (refs_in m x) z (filter_passes (is_in m) (entry_refs (entry_at m x))) w.0) w.1
+
+pub there_at : (m : DecodedModule) (roots : List ItemIndex) (has : ItemIndex → Bool) (found : List ItemIndex) (next : ℕ) → All (λ (x : ItemIndex). IsTrue (is_in m x)) roots → IsAt m roots has found next
+    → next < length found → (x : ItemIndex) → get_or found next x ≡ x → IsTrue (is_in m x)
+there_at m roots has found next small s lt x at =
+    let r = s.searched.sound x (subst (Contains found) at (Contains-get_or found next x lt)) in
+    there_from m r.0 r.2 x (All-contains (λ (v : ItemIndex). IsTrue (is_in m v)) roots r.0 small r.1) r.3
+
+pub bad_at : (m : DecodedModule) (roots : List ItemIndex) (has : ItemIndex → Bool) (found : List ItemIndex) (next : ℕ) → IsAt m roots has found next
+    → next < length found → (x : ItemIndex) → get_or found next x ≡ x → IsReachedFrom (refs_in m) roots x
+bad_at m roots has found next s lt x at = s.searched.sound x (subst (Contains found) at (Contains-get_or found next x lt))
+
+-- so all that is found is there
+pub all_there : (m : DecodedModule) (roots : List ItemIndex) (has : ItemIndex → Bool) (found : List ItemIndex) (next : ℕ) → All (λ (x : ItemIndex). IsTrue (is_in m x)) roots → IsAt m roots has found next
+    → All (λ (x : ItemIndex). x.1 < size_of m x.0) found
+all_there m roots has found next small s = λ k d h.
+    let x = get_or found k d in
+    let r = s.searched.sound x (Contains-get_or found k d h) in
+    ltb-true x.1 (size_of m x.0) (there_from m r.0 r.2 x (All-contains (λ (v : ItemIndex). IsTrue (is_in m v)) roots r.0 small r.1) r.3)
+
+pub falls_by : (total next found : ℕ) → next < found → found ≤ total → total - (next + 1) < total - next
+falls_by total next found h k = omega arith
+
+-- searches
+
+pub finds_none : {L : Type 0} (has : L → ℕ → Bool) (a : Search L) → Finds has a a []
+finds_none has a = λ tied. grown_none _ _ tied
+
+pub finds_more : {L : Type 0} (has : L → ℕ → Bool) (a b c : Search L) (xs ys : List ItemIndex) → Finds has a b xs → Finds has b c ys → Finds has a c (xs ++ ys)
+finds_more has a b c xs ys p q = only_if_tied _ _ _ _ _ _ xs ys p q
+
+-- of those items that are there
+pub finds_present : {L : Type 0} (has : L → ℕ → Bool) (m : DecodedModule) (a b c : Search L) (xs ys : List ItemIndex) → Finds has a b (present m xs) → Finds has b c (present m ys) → Finds has a c (present m (xs ++ ys))
+finds_present has m a b c xs ys p q = subst (Finds has a c) (sym (filter-append (is_in m) xs ys)) (finds_more has a b c (present m xs) (present m ys) p q)
+
+-- those of two references
+pub finds_two : {L : Type 0} (has : L → ℕ → Bool) (m : DecodedModule) (a b c : Search L) (r : Refs) (i : InstrValue) → r ≡ refs_of i.immediates
+    → Finds has a b (present m (option_to_list r.first)) → Finds has b c (present m (option_to_list r.second)) → Finds has a c (present m (instr_refs i))
+finds_two has m a b c r i e p q = subst (λ (z : Refs). Finds has a c (present m (refs_list z))) e (finds_present has m a b c (option_to_list r.first) (option_to_list r.second) p q)
+
+-- operators that were gone through
+
+code_push : (is : List InstrValue) (i : InstrValue) → code_refs (is ++ i ∷ []) ≡ code_refs is ++ instr_refs i
+code_push is i = flat_map-append instr_refs is (i ∷ []) ∙ ap (λ z. code_refs is ++ z) (append-nil (instr_refs i))
+
+sound_push : (m : DecodedModule) (is : List InstrValue) (i : InstrValue) → is_sound_code m (is ++ i ∷ []) ≡ (is_sound_code m is && (is_sound m i && true))
+sound_push m is i = list_all-append (is_sound m) is (i ∷ [])
+
+pub finds_code : {L : Type 0} (has : L → ℕ → Bool) (m : DecodedModule) (a b c : Search L) (is : List InstrValue) (i : InstrValue)
+    → Finds has a b (present m (code_refs is)) → Finds has b c (present m (instr_refs i)) → Finds has a c (present m (code_refs (is ++ i ∷ [])))
+finds_code has m a b c is i p q = subst (λ (z : List ItemIndex). Finds has a c (present m z)) (sym (code_push is i)) (finds_present has m a b c (code_refs is) (instr_refs i) p q)
+
+-- those of a body, of which some are left
+pub record IsBodyFound {L : Type 0} (has : L → ℕ → Bool) (m : DecodedModule) (body : Option BodyValue) (a b : Search L) (left : Option (List InstrValue)) : Type 0 where
+  pub before : List InstrValue
+  pub split : body_operators body ≡ option_map (λ is. before ++ is) left
+  pub found : Finds has a b (present m (code_refs before))
+  pub sound : is_sound_code m before ≡ true
+
+map_nothing : (o : Option (List InstrValue)) → option_map (λ is. [] ++ is) o ≡ o
+map_nothing None = refl
+map_nothing (Some is) = refl
+
+map_push : (before : List InstrValue) (i : InstrValue) (o : Option (List InstrValue)) → option_map (λ is. before ++ is) (option_map (λ is. i ∷ is) o) ≡ option_map (λ is. (before ++ i ∷ []) ++ is) o
+map_push before i None = refl
+map_push before i (Some is) = ap Some (sym (append_assoc before (i ∷ []) is))
+
+pub body_start : {L : Type 0} (has : L → ℕ → Bool) (m : DecodedModule) (body : Option BodyValue) (a : Search L) (left : Option (List InstrValue)) → left ≡ body_operators body → IsBodyFound has m body a a left
+body_start has m body a left e = record { before = []; split = sym e ∙ sym (map_nothing left); found = finds_none has a; sound = refl }
+
+pub body_more : {L : Type 0} (has : L → ℕ → Bool) (m : DecodedModule) (body : Option BodyValue) (a b c : Search L) (left after : Option (List InstrValue)) (i : InstrValue)
+    → IsBodyFound has m body a b left → left ≡ option_map (λ is. i ∷ is) after → Finds has b c (present m (instr_refs i)) → is_sound m i ≡ true → IsBodyFound has m body a c after
+body_more has m body a b c left after i s e f good = record {
+  before = s.before ++ i ∷ [];
+  split = s.split ∙ ap (option_map (λ is. s.before ++ is)) e ∙ map_push s.before i after;
+  found = finds_code has m a b c s.before i s.found f;
+  sound = sound_push m s.before i ∙ (ap (λ (z : Bool). z && (is_sound m i && true)) s.sound ∙ ap (λ (z : Bool). true && (z && true)) good);
+}
+
+whole_body : {L : Type 0} (has : L → ℕ → Bool) (m : DecodedModule) (body : Option BodyValue) (a b : Search L) (left : Option (List InstrValue)) (s : IsBodyFound has m body a b left) → left ≡ Some [] → body_operators body ≡ Some s.before
+whole_body has m body a b left s e = s.split ∙ ap (option_map (λ is. s.before ++ is)) e ∙ ap Some (append-nil s.before)
+
+pub body_end : {L : Type 0} (has : L → ℕ → Bool) (m : DecodedModule) (body : Option BodyValue) (a b : Search L) (left : Option (List InstrValue)) → IsBodyFound has m body a b left → left ≡ Some [] → Finds has a b (present m (body_refs body))
+body_end has m body a b left s e = subst (λ (z : Option (List InstrValue)). Finds has a b (present m (init_refs z))) (sym (whole_body has m body a b left s e)) s.found
+
+pub body_sound : {L : Type 0} (has : L → ℕ → Bool) (m : DecodedModule) (body : Option BodyValue) (a b : Search L) (left : Option (List InstrValue)) → IsBodyFound has m body a b left → left ≡ Some [] → is_sound_body m body ≡ true
+body_sound has m body a b left s e = ap (λ (z : Option (List InstrValue)). option_map_or (is_sound_code m) z false) (whole_body has m body a b left s e) ∙ s.sound
+
+unsound_in : (m : DecodedModule) (before is : List InstrValue) (i : InstrValue) → is_sound m i ≡ false → is_sound_code m (before ++ i ∷ is) ≡ false
+unsound_in m [] is i bad = ap (λ (z : Bool). z && is_sound_code m is) bad
+unsound_in m (x ∷ before) is i bad = ap (λ (z : Bool). is_sound m x && z) (unsound_in m before is i bad) ∙ and_false (is_sound m x)
+  where
+    and_false : (z : Bool) → (z && false) ≡ false
+    and_false true = refl
+    and_false false = refl
+
+pub body_unsound : {L : Type 0} (has : L → ℕ → Bool) (m : DecodedModule) (body : Option BodyValue) (a b : Search L) (left after : Option (List InstrValue)) (i : InstrValue)
+    → IsBodyFound has m body a b left → left ≡ option_map (λ is. i ∷ is) after → is_sound m i ≡ false → is_sound_body m body ≡ false
+body_unsound has m body a b left after i s e bad = ap (λ (z : Option (List InstrValue)). option_map_or (is_sound_code m) z false) (s.split ∙ ap (option_map (λ is. s.before ++ is)) e) ∙ go after
+  where
+    go : (o : Option (List InstrValue)) → option_map_or (is_sound_code m) (option_map (λ is. s.before ++ is) (option_map (λ is. i ∷ is) o)) false ≡ false
+    go None = refl
+    go (Some is) = unsound_in m s.before is i bad
+
+pub body_none : {L : Type 0} (has : L → ℕ → Bool) (m : DecodedModule) (body : Option BodyValue) (a b : Search L) (left : Option (List InstrValue)) → IsBodyFound has m body a b left → left ≡ None → is_sound_body m body ≡ false
+body_none has m body a b left s e = ap (λ (z : Option (List InstrValue)). option_map_or (is_sound_code m) z false) (s.split ∙ ap (option_map (λ is. s.before ++ is)) e)
+
+-- one more of the operators of an initialiser
+pub code_more : (is : List Instr) (i : ℕ) (x : Instr) → i < length is → x ≡ get_or is i x → instr_values (take (i + 1) is) ≡ instr_values (take i is) ++ instr_value x ∷ []
+code_more is i x h e =
+    ap instr_values (take_more is i x h) ∙ (map-push (take i is) (get_or is i x)
+    ∙ ap (λ z. instr_values (take i is) ++ instr_value z ∷ []) (sym e))
+  where
+    map-push : (xs : List Instr) (x : Instr) → instr_values (xs ++ x ∷ []) ≡ instr_values xs ++ instr_value x ∷ []
+    map-push [] x = refl
+    map-push (y ∷ xs) x = ap (λ zs. instr_value y ∷ zs) (map-push xs x)
+
+-- functions and globals of a module that was read
+
+pub func_at : (a : Module) (x : ItemIndex) (f : Item ℕ (Bor (List ℕ))) → x.0 ≡ Funcs → slice_get a.funcs.items x.1 ≡ Some f → entry_at (decoded_module a) x ≡ func_entry (func_code f)
+unfolding decoded_module
+func_at a x f s e =
+    ap (λ (z : Space). entry_in (decoded_module a) z x.1) s
+    ∙ ap (λ (o : Option FuncCode). option_map_or func_entry o no_entry)
+    (slice_get-map (item_seen body_in) (map func_value a.funcs.items) x.1 ∙ (ap (option_map (item_seen body_in)) (slice_get-map func_value a.funcs.items x.1) ∙ ap (λ o. option_map (item_seen body_in) (option_map func_value o)) e))
+
+pub no_func_at : (a : Module) (x : ItemIndex) → x.0 ≡ Funcs → slice_get a.funcs.items x.1 ≡ None → entry_at (decoded_module a) x ≡ no_entry
+unfolding decoded_module
+no_func_at a x s e =
+    ap (λ (z : Space). entry_in (decoded_module a) z x.1) s
+    ∙ ap (λ (o : Option FuncCode). option_map_or func_entry o no_entry)
+    (slice_get-map (item_seen body_in) (map func_value a.funcs.items) x.1 ∙ (ap (option_map (item_seen body_in)) (slice_get-map func_value a.funcs.items x.1) ∙ ap (λ o. option_map (item_seen body_in) (option_map func_value o)) e))
+
+pub global_at : (a : Module) (x : ItemIndex) (g : Item GlobalType (Bor (List ℕ))) → x.0 ≡ Globals → slice_get a.globals.items x.1 ≡ Some g → entry_at (decoded_module a) x ≡ global_entry (item_seen init_in (global_value g))
+unfolding decoded_module
+global_at a x g s e =
+    ap (λ (z : Space). entry_in (decoded_module a) z x.1) s
+    ∙ ap (λ (o : Option GlobalCode). option_map_or global_entry o no_entry)
+    (slice_get-map (item_seen init_in) (map global_value a.globals.items) x.1 ∙ (ap (option_map (item_seen init_in)) (slice_get-map global_value a.globals.items x.1) ∙ ap (λ o. option_map (item_seen init_in) (option_map global_value o)) e))
+
+pub no_global_at : (a : Module) (x : ItemIndex) → x.0 ≡ Globals → slice_get a.globals.items x.1 ≡ None → entry_at (decoded_module a) x ≡ no_entry
+unfolding decoded_module
+no_global_at a x s e =
+    ap (λ (z : Space). entry_in (decoded_module a) z x.1) s
+    ∙ ap (λ (o : Option GlobalCode). option_map_or global_entry o no_entry)
+    (slice_get-map (item_seen init_in) (map global_value a.globals.items) x.1 ∙ (ap (option_map (item_seen init_in)) (slice_get-map global_value a.globals.items x.1) ∙ ap (λ o. option_map (item_seen init_in) (option_map global_value o)) e))
+
+-- of a last step, where it is Ok
+pub finds_present_then : {L E : Type 0} (has : L → ℕ → Bool) (m : DecodedModule) (a b c : Search L) (xs ys : List ItemIndex) (r : Result Unit E) → Finds has a b (present m xs) → OnOk r (Finds has b c (present m ys)) → OnOk r (Finds has a c (present m (xs ++ ys)))
+finds_present_then has m a b c xs ys (Ok u) p q = finds_present has m a b c xs ys p q
+finds_present_then has m a b c xs ys (Err e) p q = q
+
+pub no_item : {X : Type 0} (xs : List X) (i : ℕ) → false ≡ nat_lt i (length xs) → slice_get xs i ≡ None
+no_item xs i e = slice_get_past xs i (ltb-false i (length xs) (sym e))

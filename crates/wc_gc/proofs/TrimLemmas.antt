@@ -1,0 +1,204 @@
+-- The causes of faults of trimming, and their order.
+use Rattle.std.proofs.Common.{◌≡◌, ℕ, suc, ◌<◌, ◌≤◌, ◌^◌, List, [], ◌∷◌, length, map, refl, sym, ◌∙◌, ap, subst, Bool, true, false, Option, Some, None, ◌⊎◌, inl, inr, arith}
+use Rattle.std.specs.Prelude.{IsTrue, MatchOption, IfSome, Result, Ok, Err, IfOk, IfErr, IsOk, IsErrOf}
+use Rattle.std.specs.Map.{values_of}
+use Rattle.std.specs.Borrow.{Bor}
+use Rattle.std.proofs.Math.Path.{fun_ext}
+use Rattle.wc_read.specs.Exports.{ExportValue, export_value}
+use Rattle.wc_read.specs.Contents.{SpellsFuncTypes}
+use Rattle.wc_read.specs.Types.{FuncTypeValue}
+use Rattle.wc_read.specs.Order.{content_of}
+use Rattle.wc_read.specs.Sections.{type_id}
+use Rattle.wc_read.specs.Modules.{ModuleValue, module_value, SpellsModule}
+use Rattle.wc_read.specs.declared.exports.Export.{Export}
+use Rattle.wc_read.specs.declared.core_module.Module.{Module}
+use Rattle.wc_read.specs.declared.operators.Space.TheVariants.{Funcs}
+use Rattle.wc_read.proofs.ModulesLemmas.{modules_one}
+use Rattle.wc_write.specs.Values.{AreBytes}
+use Rattle.wc_write.specs.ModuleText.{BuiltValue, SizesFit, built_text}
+use Rattle.wc_write.specs.declared.fault.WriteFault.{WriteFault}
+use Rattle.wc_write.specs.declared.fault.WriteFault.TheVariants.{Memory as write_memory, TooLarge as write_too_large}
+use Rattle.wc_write.proofs.ByteLemmas.{front_bytes}
+use Rattle.wc_write.proofs.ValueLemmas.{number_fits}
+use Rattle.wc_write.proofs.WritableModuleLemmas.{all_bytes, content_bytes}
+use Rattle.wc_gc.specs.Causes.{IsFoundCause, Tells}
+use Rattle.wc_gc.specs.Decoded.{DecodedModule, ItemIndex, decode, decoded_module}
+use Rattle.wc_gc.specs.Faults.{of_write}
+use Rattle.wc_gc.specs.Fewness.{AreFewItems}
+use Rattle.wc_gc.specs.Found.{FoundValue, found_in}
+use Rattle.wc_gc.specs.Image.{image_of}
+use Rattle.wc_gc.specs.KeptExports.{kept_exports, export_entries}
+use Rattle.wc_gc.specs.Liveness.{IsCause, IsFault, IsFaultOf, IsLivenessOf, Wanted, order_of}
+use Rattle.wc_gc.specs.Soundness.{is_sound_at}
+use Rattle.wc_gc.specs.Trimming.{IsLaterCause, IsLaterCauseIn, IsLaterFault, IsTrimCause, IsTrimFault, IsTrimFaultOf, IsTrimmed, IsTrimmedOf}
+use Rattle.wc_gc.specs.declared.fault.GcFault.{GcFault}
+use Rattle.wc_gc.specs.declared.fault.GcFault.TheVariants.{Memory, Read, MissingExport, UnsupportedSection, LiveBody, SeveralNamed, LiveTable, SeveralMemories, LocalMemory, NotYet, TooLarge}
+use Rattle.wc_gc.proofs.LivenessLemmas.{fault_of, no_cause_of}
+
+-- exports by their names
+
+pub values_seen : (es : List (Bor (List ℕ) × Export)) → map export_value (values_of es) ≡ export_entries es
+values_seen [] = refl
+values_seen (e ∷ es) = ap (λ xs. export_value e.1 ∷ xs) (values_seen es)
+
+pub seen_answer : {T E : Type 0} (items : T → List Export) (r : Result T E) (vs : List Export) (seen : List ExportValue) → IfOk r (λ v. items v ≡ vs) → map export_value vs ≡ seen → IfOk r (λ v. map export_value (items v) ≡ seen)
+seen_answer items (Ok v) vs seen h e = ap (map export_value) h ∙ e
+seen_answer items (Err f) vs seen h e = h
+
+-- causes of what is found, and the one after them
+
+found_small : (m : DecodedModule) (x : FoundValue) (f : GcFault) → IsFoundCause m x f → order_of f < 10
+found_small m x SeveralNamed c = omega arith
+found_small m x LiveTable c = omega arith
+found_small m x SeveralMemories c = omega arith
+found_small m x LocalMemory c = omega arith
+found_small m x NotYet c = omega arith
+found_small m x f c = absurd c
+
+module _ (m : DecodedModule) (exports : List ExportValue) (live : ItemIndex → Bool) where
+  found_later : (f : GcFault) → order_of f < 10 → IsFoundCause m (found_in m live) f → IsLaterCause m exports live f
+  found_later TooLarge h c = absurd (omega arith)
+  found_later f h c = c
+
+  later_found : (f : GcFault) → order_of f < 10 → IsLaterCause m exports live f → IsFoundCause m (found_in m live) f
+  later_found TooLarge h c = absurd (omega arith)
+  later_found f h c = c
+
+  -- of what was found
+
+  pub found_fault : (x : FoundValue) → x ≡ found_in m live → (f : GcFault) → IsFoundCause m x f × ((g : GcFault) → order_of g < order_of f → ¬ (IsFoundCause m x g)) → IsLaterFault m exports live f
+  found_fault x is f c =
+      let small = found_small m x f c.0 in
+      (found_later f small (subst (λ (z : FoundValue). IsFoundCause m z f) is c.0), λ g h k. c.1 g h (subst (λ (z : FoundValue). IsFoundCause m z g) (sym is) (later_found g (omega arith) k)))
+
+  pub write_fault : {T : Type 0} (x : FoundValue) → x ≡ found_in m live → ((f : GcFault) → ¬ (IsFoundCause m x f)) → (w : WriteFault) (b : BuiltValue) → b ≡ image_of m exports live → (IsErrOf {T = T} (Err w) write_too_large → ¬ (SizesFit b))
+      → (of_write w ≡ Memory) ⊎ IsLaterFault m exports live (of_write w)
+  write_fault x is none write_memory b e h = inl refl
+  write_fault x is none write_too_large b e h = inr ((λ fits. h refl (subst SizesFit (sym e) fits)), (λ g small k. none g (subst (λ (z : FoundValue). IsFoundCause m z g) (sym is) (later_found g small k))))
+
+  pub none_later : (x : FoundValue) → x ≡ found_in m live → ((f : GcFault) → ¬ (IsFoundCause m x f)) → (b : BuiltValue) → b ≡ image_of m exports live → SizesFit b → (f : GcFault) → ¬ (IsLaterCause m exports live f)
+  none_later x is none b e fits TooLarge c = c (subst SizesFit e fits)
+  none_later x is none b e fits f c = none f (subst (λ (z : FoundValue). IsFoundCause m z f) (sym is) c)
+
+  later_large : (f : GcFault) → IsLaterCause m exports live f → 5 ≤ order_of f
+  later_large SeveralNamed c = omega arith
+  later_large LiveTable c = omega arith
+  later_large SeveralMemories c = omega arith
+  later_large LocalMemory c = omega arith
+  later_large NotYet c = omega arith
+  later_large TooLarge c = omega arith
+  later_large f c = absurd c
+
+-- what liveness says of a module that was read
+
+pub live_sound : (a : Module) (required : List (List ℕ)) (live : ItemIndex → Bool) (turns : ℕ) → IsLivenessOf required (module_value a) live turns → (n : ℕ) → IsTrue (live (Funcs, n)) → is_sound_at (decoded_module a) (Funcs, n) ≡ true
+unfolding decoded_module
+live_sound a required live turns l n h = by (is_sound_at (decode (module_value a)) (Funcs, n)) refl
+  where
+    by : (b : Bool) → is_sound_at (decode (module_value a)) (Funcs, n) ≡ b → b ≡ true
+    by true e = refl
+    by false e = absurd (l.sound ((Funcs, n), (l.is_live (Funcs, n)).0 h, e))
+
+module _ (a : Module) (required : List (List ℕ)) (live : ItemIndex → Bool) (turns : ℕ) (l : IsLivenessOf required (module_value a) live turns) where
+  pub trimmed_of : {T : Type 0} (items : T → List ℕ) (r : Result T GcFault) → IfOk r (λ v. items v ≡ built_text (image_of (decoded_module a) (kept_exports required (module_value a).exports) live))
+      → (IsOk r → (f : GcFault) → ¬ (IsLaterCause (decoded_module a) (kept_exports required (module_value a).exports) live f)) → IfOk r (λ v. IsTrimmedOf required (module_value a) (items v))
+  unfolding decoded_module
+  trimmed_of items (Ok v) w none = record { live = live; tells = l.is_live; supported = l.supported; sound = l.sound; none = none refl; written = w }
+  trimmed_of items (Err f) w none = w
+
+  one_fault : (f : GcFault) → (f ≡ Memory) ⊎ IsLaterFault (decoded_module a) (kept_exports required (module_value a).exports) live f → IsTrimFaultOf required (module_value a) f
+  unfolding decoded_module
+  one_fault f (inl e) = inl (subst (IsFaultOf required (module_value a)) (sym e) refl)
+  one_fault f (inr k) = inr (record { live = live; tells = l.is_live; supported = l.supported; sound = l.sound; fault = k })
+
+  pub later_of : {T : Type 0} (r : Result T GcFault) → IfErr r (λ f. (f ≡ Memory) ⊎ IsLaterFault (decoded_module a) (kept_exports required (module_value a).exports) live f) → IfErr r (IsTrimFaultOf required (module_value a))
+  later_of (Ok v) h = h
+  later_of (Err f) h = one_fault f h
+
+-- a fault of liveness is one of trimming
+
+cause_small : (w : Wanted) (f : GcFault) → IsCause w f → order_of f < 5
+cause_small w Memory c = omega arith
+cause_small w (Read r) c = omega arith
+cause_small w (MissingExport name) c = omega arith
+cause_small w UnsupportedSection c = omega arith
+cause_small w LiveBody c = omega arith
+cause_small w f c = absurd c.2
+
+pub fault_trims : (w : Wanted) (f : GcFault) → IsFault w f → IsTrimFault w f
+fault_trims w f (inl e) = inl e
+fault_trims w f (inr c) =
+    let small = cause_small w f c.0 in
+    inr (
+      inl c.0,
+      λ g h k. elim k [
+        | inl a ↦ c.1 g h a
+        | inr b ↦ (let large = later_large (decode b.0) (kept_exports w.required b.0.exports) b.1 g b.4 in absurd (omega (arith, small, h, large)))
+      ],
+    )
+
+-- a module has one test that tells what is live
+
+bools : (a b : Bool) → (IsTrue a → IsTrue b) → (IsTrue b → IsTrue a) → a ≡ b
+bools true true f g = refl
+bools true false f g = sym (f refl)
+bools false true f g = g refl
+bools false false f g = refl
+
+tests_one : (required : List (List ℕ)) (m : ModuleValue) (a b : ItemIndex → Bool) → Tells required m a → Tells required m b → a ≡ b
+tests_one required m a b ta tb = fun_ext (λ x. bools (a x) (b x) (λ h. (tb x).1 ((ta x).0 h)) (λ h. (ta x).1 ((tb x).0 h)))
+
+module _ (w : Wanted) (m : ModuleValue) (s : SpellsModule w.bytes m) where
+  same_later : (live : ItemIndex → Bool) → Tells w.required m live → (f : GcFault) → IsLaterCauseIn w f → IsLaterCause (decode m) (kept_exports w.required m.exports) live f
+  same_later live tells f (m', live', s', tells', c) =
+      let one : m' ≡ m = modules_one w.bytes m' m s' s in
+      let told = subst (λ (z : ModuleValue). Tells w.required z live') one tells' in
+      let cause = subst (λ (z : ModuleValue). IsLaterCause (decode z) (kept_exports w.required z.exports) live' f) one c in
+      subst (λ (z : ItemIndex → Bool). IsLaterCause (decode m) (kept_exports w.required m.exports) z f) (tests_one w.required m live' live told tells) cause
+
+  one_answer : (f : GcFault) → IsTrimFaultOf w.required m f → IsTrimFault w f
+  one_answer f (inl h) = fault_trims w f (fault_of w m s f h)
+  one_answer f (inr k) = inr (
+    inr (m, k.live, s, k.tells, k.fault.0),
+    λ g h c. elim c [
+      | inl a ↦ no_cause_of w m s k.supported k.sound g a
+      | inr b ↦ k.fault.1 g h (same_later k.live k.tells g b)
+    ],
+  )
+
+  pub fault_answer : {T : Type 0} (r : Result T GcFault) → IfErr r (IsTrimFaultOf w.required m) → IfErr r (IsTrimFault w)
+  fault_answer (Ok v) h = h
+  fault_answer (Err f) h = one_answer f h
+
+  pub trimmed_answer : {T : Type 0} (items : T → List ℕ) (r : Result T GcFault) → IfOk r (λ v. IsTrimmedOf w.required m (items v)) → IfOk r (λ v. IsTrimmed w (items v))
+  trimmed_answer items (Ok v) h = record { value = m; live = h.live; spelled = s; tells = h.tells; written = h.written }
+  trimmed_answer items (Err f) h = h
+
+  pub no_cause_answer : {T : Type 0} (items : T → List ℕ) (r : Result T GcFault) → IfOk r (λ v. IsTrimmedOf w.required m (items v)) → IsOk r → (f : GcFault) → ¬ (IsTrimCause w f)
+  no_cause_answer items (Ok v) h ok f c = elim c [ inl a ↦ no_cause_of w m s h.supported h.sound f a | inr b ↦ h.none f (same_later h.live h.tells f b) ]
+  no_cause_answer items (Err e) h ok f c = absurd cc
+
+-- each item of a module that was read has an index of 32 bits
+
+few_types : (content : Option (List ℕ)) (types : List FuncTypeValue) → IfSome content AreBytes → MatchOption content (types ≡ []) (λ c. SpellsFuncTypes c types) → length types < 2 ^ 32
+few_types None types all h = rw h (omega arith)
+few_types (Some c) types all h = number_fits h.3 (front_bytes h.0 h.1 (rw h.2 at all))
+
+length_map : {A B : Type 0} (f : A → B) (xs : List A) → length (map f xs) ≡ length xs
+length_map f [] = refl
+length_map f (x ∷ xs) = ap suc (length_map f xs)
+
+below : {A B : Type 0} (f : A → B) (xs : List A) → length (map f xs) < 2 ^ 32 → length xs < 2 ^ 32
+below f xs h = let e = length_map f xs in omega arith
+
+pub few_items : (bytes : List ℕ) (a : Module) → AreBytes bytes → SpellsModule bytes (module_value a) → AreFewItems a
+few_items bytes a all s =
+    let types = few_types (content_of type_id s.sections) s.has_sections.parts.types (content_bytes type_id s.sections (all_bytes bytes s.sections s.has_frames all)) s.has_sections.has_contents.has_types in
+    let few = s.has_sections.valid.few in
+    record {
+      types = below _ a.types.items (subst (λ (m : ModuleValue). length m.types < 2 ^ 32) (sym s.has_sections.assembled.is) types);
+      funcs = below _ a.funcs.items few.funcs;
+      tables = below _ a.tables.items few.tables;
+      memories = below _ a.memories.items few.memories;
+      globals = below _ a.globals.items few.globals;
+    }

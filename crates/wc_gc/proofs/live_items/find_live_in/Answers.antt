@@ -1,0 +1,20 @@
+use Rattle.std.proofs.Common.{◌∙◌, refl}
+use Rattle.std.proofs.lemmas.Result.{err_from_is_err_and}
+use Rattle.wc_gc.specs.LiveSets.{has_item}
+use Rattle.wc_gc.specs.Liveness.{names_of}
+use Rattle.wc_gc.proofs.LivenessLemmas.{roots_there, liveness_is, live_fault}
+use Rattle.wc_gc.proofs.live_items.find_live_in.Goals as goal
+
+pub reach_all-requires-clause-there : goal.reach_all-requires-clause-there
+reach_all-requires-clause-there g c =
+    roots_there c.args.adapter.now (names_of c.args.required.now.keys) c.deref.result.now c.requires (c.deref.ensures.value ∙ c.in_ok-roots.ensures.found)
+
+pub returns-in_err-turns-clause-fault : goal.returns-in_err-turns-clause-fault
+returns-in_err-turns-clause-fault g c =
+    let p = err_from_is_err_and c.from_residual-in_err-turns.result c.from_residual-in_err-turns.ensures.1 in
+    rw (p.1, p.2) (live_fault c.args.adapter.now (names_of c.args.required.now.keys) c.deref.result.now _ (c.deref.ensures.value ∙ c.in_ok-roots.ensures.found) (c.in_ok-roots.ensures.supported refl) c.in_err-turns.ensures.fault)
+
+pub returns-clause-live : goal.returns-clause-live
+returns-clause-live g c =
+    liveness_is c.args.adapter.now (names_of c.args.required.now.keys) c.deref.result.now (has_item g.L.LiveSet.has c.reach_all.new.self.live) c.in_ok-turns.turns (c.deref.ensures.value ∙ c.in_ok-roots.ensures.found)
+    (c.in_ok-turns.ensures.reached refl) c.in_ok-turns.ensures.counted (c.in_ok-turns.ensures.sound refl) (c.in_ok-roots.ensures.supported refl)

@@ -1,0 +1,13 @@
+use Rattle.std.proofs.Common.{[], ◌∷◌}
+use Rattle.wc_read.specs.declared.operators.Space.TheVariants.{Types}
+use Rattle.wc_read.specs.Decoding.{body_in}
+use Rattle.wc_gc.specs.Decoded.{ItemIndex, decoded_module}
+use Rattle.wc_gc.specs.Entries.{body_refs}
+use Rattle.wc_gc.proofs.ReachLemmas.{finds_present_then}
+use Rattle.wc_gc.proofs.search.Search.reach_func.Goals as goal
+
+pub returns-in-Local-clause-found : goal.returns-in-Local-clause-found
+returns-in-Local-clause-found g c =
+    let type : ItemIndex = (Types, c.args.func.ty) in
+    rw c.in-Local.is (finds_present_then g.L.LiveSet.has (decoded_module c.args.adapter.now) c.args.self.now c.reach_present.new.self c.reach_body.new.self (type ∷ []) (body_refs (body_in c.in-Local.bytes.now)) c.reach_body.result
+    c.in_ok-reach_present.ensures.found c.reach_body.ensures.found)

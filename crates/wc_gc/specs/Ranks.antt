@@ -1,0 +1,9 @@
+-- The ranks of numbers in a set.
+use Rattle.std.specs.Prelude.{ℕ}
+use Rattle.wc_gc.specs.Bits.{bit_of}
+use Rattle.wc_gc.specs.Counts.{count_below}
+use Rattle.wc_gc.specs.declared.ranks.Ranks.{Ranks}
+
+-- how many numbers of the set are below one
+abbrev pub rank_of : Ranks → ℕ → ℕ
+rank_of r x = count_below (bit_of r.words.items) x

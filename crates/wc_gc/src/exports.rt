@@ -1,0 +1,81 @@
+//! The exports that are kept.
+
+ghost use Rattle.std.specs.Prelude.{◌≡◌, ◌≢◌, ◌⊎◌, map, AllPairs, None, Some, IfErr, IfOk, IsOk, String, string_bytes};
+ghost use Rattle.std.specs.Option.{option_map};
+ghost use Rattle.wc_read.specs.Exports.{export_value};
+ghost use Rattle.wc_gc.specs.KeptExports.{AreNamed, by_name, export_entries, export_names, kept_exports, missing_name};
+
+use crate::fault::GcFault;
+use indexmap::{IndexMap, IndexSet};
+use std::alloc::{AllocError, Global};
+use wc_read::Export;
+
+/// Exports by their names.
+pub fn exports_by_name<'a>(
+    alloc: Global,
+    exports: &[Export<'a>],
+) -> Result<IndexMap<&'a str, Export<'a>>, AllocError>
+    requires { AllPairs (λ x y. x ≢ y) (export_names (map export_value exports.now)) }
+    ensures { IfOk result (λ m. m.entries ≡ map by_name exports.now) }
+{
+    let mut named = IndexMap::new(alloc);
+    for export in exports {
+        named.insert(export.name, *export)?;
+    }
+    Ok(named)
+}
+
+/// The first of the names that is not exported.
+fn missing_name<'a>(
+    exports: &IndexMap<&str, Export<'_>>,
+    required: &'a IndexSet<String>,
+) -> Option<&'a str>
+    requires { AreNamed exports.now.entries }
+    ensures { option_map (λ name. name.now) result
+        ≡ missing_name (export_entries exports.now.entries) (map string_bytes required.now.keys) }
+{
+    for name in required {
+        if !exports.contains_key(name.as_str()) {
+            return Some(name.as_str());
+        }
+    }
+    None
+}
+
+/// Says which of the names is not exported, the first of them.
+pub fn check_required(
+    alloc: Global,
+    exports: &IndexMap<&str, Export<'_>>,
+    required: &IndexSet<String>,
+) -> Result<(), GcFault>
+    requires { AreNamed exports.now.entries }
+    ensures none { IsOk result → missing_name (export_entries exports.now.entries)
+        (map string_bytes required.now.keys) ≡ None }
+    ensures fault { IfErr result (λ f. (f ≡ GcFault.Memory)
+        ⊎ (name : String Global) × (f ≡ GcFault.MissingExport name)
+        × (missing_name (export_entries exports.now.entries) (map string_bytes required.now.keys)
+        ≡ Some (string_bytes name))) }
+{
+    match missing_name(exports, required) {
+        None => Ok(()),
+        Some(name) => Err(GcFault::MissingExport(String::from_str(alloc, name)?)),
+    }
+}
+
+/// Takes out each export that is not required, in their order; the last export takes its index.
+pub fn drop_exports<'a>(
+    kept: &mut IndexMap<&'a str, Export<'a>>,
+    exports: &[Export<'a>],
+    required: &IndexSet<String>,
+)
+    requires { kept.old.entries ≡ map by_name exports.now }
+    ensures { export_entries kept.new.entries
+        ≡ kept_exports (map string_bytes required.now.keys) (map export_value exports.now) }
+{
+    for export in exports {
+        if required.contains(export.name) {
+            continue;
+        }
+        kept.swap_remove(export.name);
+    }
+}

@@ -1,0 +1,90 @@
+//! Why an adapter is not trimmed.
+
+ghost use Rattle.std.specs.Prelude.{◌≡◌};
+ghost use Rattle.wc_gc.specs.declared.fault.GcFault.TheVariants.{Memory};
+
+use std::alloc::{AllocError, AllocFailed};
+use thiserror::Error;
+use wc_read::ReadFault;
+use wc_write::WriteFault;
+
+/// Why an adapter is not trimmed. Of several causes the first in this order is named; `Memory` may come in place of
+/// any.
+#[derive(Debug, Drop, Error)]
+pub enum GcFault {
+    /// An allocation failed.
+    #[error("out of memory")]
+    Memory,
+    /// The bytes are no module.
+    #[error("Read: {0}")]
+    Read(ReadFault),
+    /// The first of the wanted names that the adapter does not export.
+    #[error("adapter module does not have export `{0}`")]
+    MissingExport(String),
+    /// The adapter has a start function, or a section of elements, data or a data count.
+    #[error("UnsupportedSection")]
+    UnsupportedSection,
+    /// A body that is reached is no code, or names an index that is out of range.
+    #[error("LiveBody")]
+    LiveBody,
+    /// Two live globals are named as the stack pointer, or two as the state of its allocation.
+    #[error("SeveralNamed")]
+    SeveralNamed,
+    /// A table is live.
+    #[error("LiveTable")]
+    LiveTable,
+    /// Two memories are live.
+    #[error("SeveralMemories")]
+    SeveralMemories,
+    /// A live memory is the adapter's own.
+    #[error("LocalMemory")]
+    LocalMemory,
+    /// A stack pointer is live, or an import of the main module's realloc.
+    #[error("NotYet")]
+    NotYet,
+    /// A count or a size of the trimmed module has no encoding in 32 bits.
+    #[error("TooLarge")]
+    TooLarge,
+}
+
+impl From<AllocError> for GcFault {
+    ghost from_gives = { λ _ e. e ≡ Memory };
+
+    fn from(_e: AllocError) -> GcFault {
+        GcFault::Memory
+    }
+}
+
+impl<T: Drop> From<AllocFailed<T>> for GcFault {
+    ghost from_gives = { λ _ e. e ≡ Memory };
+
+    fn from(_e: AllocFailed<T>) -> GcFault {
+        GcFault::Memory
+    }
+}
+
+impl From<ReadFault> for GcFault {
+    ghost use Rattle.wc_gc.specs.Faults.{of_read};
+
+    ghost from_gives = { λ f e. e ≡ of_read f };
+
+    fn from(e: ReadFault) -> GcFault {
+        match e {
+            ReadFault::Memory => GcFault::Memory,
+            _ => GcFault::Read(e),
+        }
+    }
+}
+
+impl From<WriteFault> for GcFault {
+    ghost use Rattle.wc_gc.specs.Faults.{of_write};
+
+    ghost from_gives = { λ f e. e ≡ of_write f };
+
+    fn from(e: WriteFault) -> GcFault {
+        match e {
+            WriteFault::Memory => GcFault::Memory,
+            WriteFault::TooLarge => GcFault::TooLarge,
+        }
+    }
+}

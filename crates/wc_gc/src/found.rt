@@ -1,0 +1,207 @@
+//! What is found among live items.
+
+ghost use Rattle.std.specs.Prelude.{◌≡◌, ◌&&◌, ◌≤◌, ◌<◌, ◌^◌, length, filter, IfOk, IfErr, IsOk};
+ghost use Rattle.std.specs.List.{list_any, range_with_len};
+ghost use Rattle.wc_gc.specs.Causes.{IsFoundCause};
+ghost use Rattle.wc_gc.specs.Liveness.{order_of};
+ghost use Rattle.wc_gc.specs.Decoded.{decoded_module};
+ghost use Rattle.wc_gc.specs.Found.{allocation_state, found_in, found_value, has_name, indices_where, is_mutable_i32, is_mutable_i32_at, is_named_at, is_own_memory_at, is_realloc, is_realloc_at, is_realloc_name, main_module, stack_pointer};
+ghost use Rattle.wc_gc.specs.LiveSets.{has_item};
+ghost use Rattle.wc_gc.specs.Fewness.{AreFewItems};
+ghost use Rattle.wc_read.specs.Items.{def_value};
+
+use crate::fault::GcFault;
+use crate::live::{LiveSet, LiveSets};
+use std::alloc::{AllocError, Global};
+use wc_read::{Def, GlobalType, Module, ValType};
+
+const MAIN_MODULE: &str = "__main_module__";
+
+const REALLOC: &str = "cabi_realloc";
+
+const OLD_REALLOC: &str = "canonical_abi_realloc";
+
+const STACK_POINTER: &str = "__stack_pointer";
+
+const ALLOCATION_STATE: &str = "allocation_state";
+
+/// Live items that trimming goes by, by their indices.
+#[derive(Debug, Drop)]
+pub struct Found {
+    /// Mutable globals of type i32 that are named as the stack pointer.
+    pub stacks: Vec<u32>,
+    /// Those that are named as the state of the stack's allocation.
+    pub states: Vec<u32>,
+    /// Imports of the main module's realloc.
+    pub reallocs: Vec<u32>,
+    /// All tables.
+    pub tables: Vec<u32>,
+    /// All memories.
+    pub memories: Vec<u32>,
+}
+
+/// What is found among live items.
+pub fn find_parts<L: LiveSet>(
+    alloc: Global,
+    adapter: &Module<'_>,
+    live: &LiveSets<L>,
+) -> Result<Found, AllocError>
+    requires { AreFewItems adapter.now }
+    ensures { IfOk result (λ f. found_value f
+        ≡ found_in (decoded_module adapter.now) (has_item L.has live.now)) }
+{
+    Ok(Found {
+        stacks: live_named(alloc, adapter, &live.globals, STACK_POINTER)?,
+        states: live_named(alloc, adapter, &live.globals, ALLOCATION_STATE)?,
+        reallocs: live_reallocs(alloc, adapter, &live.funcs)?,
+        tables: live_indices(alloc, &live.tables, adapter.tables.len())?,
+        memories: live_indices(alloc, &live.memories, adapter.memories.len())?,
+    })
+}
+
+/// The numbers of a set that are below a bound, in their order.
+fn live_indices<L: LiveSet>(alloc: Global, live: &L, size: usize) -> Result<Vec<u32>, AllocError>
+    requires { size < 2 ^ 32 }
+    ensures { IfOk result (λ v. v.items
+        ≡ filter (λ n. L.has live.now n) (range_with_len 0 size)) }
+{
+    (0..size as u32)
+        .filter(|index| live.contains(*index))
+        .collect(alloc)
+}
+
+/// The live mutable globals of type i32 that have a name.
+fn live_named<L: LiveSet>(
+    alloc: Global,
+    adapter: &Module<'_>,
+    live: &L,
+    name: &str,
+) -> Result<Vec<u32>, AllocError>
+    requires { AreFewItems adapter.now }
+    ensures { IfOk result (λ v. v.items ≡ filter
+        (λ n. L.has live.now n && is_named_at (decoded_module adapter.now) name.now n)
+        (range_with_len 0 (length adapter.now.globals.items))) }
+{
+    (0..adapter.globals.len() as u32)
+        .filter(|index| live.contains(*index) && is_named(adapter, *index, name))
+        .collect(alloc)
+}
+
+/// The live imports of the main module's realloc.
+fn live_reallocs<L: LiveSet>(
+    alloc: Global,
+    adapter: &Module<'_>,
+    live: &L,
+) -> Result<Vec<u32>, AllocError>
+    requires { AreFewItems adapter.now }
+    ensures { IfOk result (λ v. v.items ≡ filter
+        (λ n. L.has live.now n && is_realloc_at (decoded_module adapter.now) n)
+        (range_with_len 0 (length adapter.now.funcs.items))) }
+{
+    (0..adapter.funcs.len() as u32)
+        .filter(|index| live.contains(*index) && is_realloc(adapter, *index))
+        .collect(alloc)
+}
+
+/// Whether an index is that of a mutable global of type i32 that has a name.
+fn is_named(adapter: &Module<'_>, index: u32, name: &str) -> bool
+    ensures { result ≡ is_named_at (decoded_module adapter.now) name.now index }
+{
+    is_mutable_i32(adapter, index) && has_name(adapter, index, name)
+}
+
+fn is_mutable_i32(adapter: &Module<'_>, index: u32) -> bool
+    ensures { result ≡ is_mutable_i32_at (decoded_module adapter.now) index }
+{
+    match adapter.globals.get(index as usize) {
+        Some(global) => is_mutable_i32_type(global.ty),
+        None => false,
+    }
+}
+
+fn is_mutable_i32_type(ty: GlobalType) -> bool
+    ensures { result ≡ is_mutable_i32 ty }
+{
+    ty.mutable && matches!(ty.content_type, ValType::I32)
+}
+
+fn has_name(adapter: &Module<'_>, index: u32, name: &str) -> bool
+    ensures { result ≡ has_name (decoded_module adapter.now) name.now index }
+{
+    match adapter.global_names.get(&index) {
+        Some(found) => *found == name,
+        None => false,
+    }
+}
+
+/// Whether an index is that of an import of the main module's realloc.
+fn is_realloc(adapter: &Module<'_>, index: u32) -> bool
+    ensures { result ≡ is_realloc_at (decoded_module adapter.now) index }
+{
+    match adapter.funcs.get(index as usize) {
+        Some(func) => imports_realloc(func.def),
+        None => false,
+    }
+}
+
+fn imports_realloc(def: Def<'_, &[u8]>) -> bool
+    ensures { result ≡ is_realloc (def_value (λ b. b.now) def.entry) }
+{
+    match def {
+        Def::Import(module, name) => module == MAIN_MODULE && is_realloc_name(name),
+        Def::Local(_) => false,
+    }
+}
+
+fn is_realloc_name(name: &str) -> bool
+    ensures { result ≡ is_realloc_name name.now }
+{
+    name == REALLOC || name == OLD_REALLOC
+}
+
+/// Whether an index is that of a memory of the adapter's own.
+#[tactic(auto, unfolding(crate::specs::Decoded::decoded_module))]
+fn is_own_memory(adapter: &Module<'_>, index: u32) -> bool
+    ensures { result ≡ is_own_memory_at (decoded_module adapter.now) index }
+{
+    match adapter.memories.get(index as usize) {
+        Some(memory) => matches!(&memory.def, Def::Local(_)),
+        None => false,
+    }
+}
+
+/// Checks what was found.
+pub fn check_parts(adapter: &Module<'_>, found: &Found) -> Result<(), GcFault>
+    ensures fault { IfErr result (λ f.
+        IsFoundCause (decoded_module adapter.now) (found_value found.now) f
+        × ((g : GcFault) → order_of g < order_of f
+        → ¬ (IsFoundCause (decoded_module adapter.now) (found_value found.now) g))) }
+    ensures none { IsOk result → (f : GcFault) →
+        ¬ (IsFoundCause (decoded_module adapter.now) (found_value found.now) f) }
+{
+    if found.stacks.len() > 1 || found.states.len() > 1 {
+        return Err(GcFault::SeveralNamed);
+    }
+    if !found.tables.is_empty() {
+        return Err(GcFault::LiveTable);
+    }
+    if found.memories.len() > 1 {
+        return Err(GcFault::SeveralMemories);
+    }
+    if has_own_memory(adapter, &found.memories) {
+        return Err(GcFault::LocalMemory);
+    }
+    if !found.stacks.is_empty() || !found.reallocs.is_empty() {
+        return Err(GcFault::NotYet);
+    }
+    Ok(())
+}
+
+/// Whether one of the memories is the adapter's own.
+fn has_own_memory(adapter: &Module<'_>, memories: &[u32]) -> bool
+    ensures { result ≡ list_any (is_own_memory_at (decoded_module adapter.now)) memories.now }
+{
+    memories
+        .iter()
+        .any(|memory| is_own_memory(adapter, *memory))
+}

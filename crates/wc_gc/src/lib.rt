@@ -1,0 +1,48 @@
+//! Trimming of adapter modules: an adapter cut to what its wanted exports reach, under new indices (`run`); the items
+//! that they reach (`liveness_counted`), and the sets that these are in (`LiveSet`, `LiveSets`, `BitVec`, `Ranks`). No
+//! code is added to an adapter yet: one with a live stack pointer, or a live import of the main module's realloc, is
+//! refused.
+//!
+//! An item is a type, function, table, memory or global. An export names an item, a function its type and what the
+//! operators of its body name, a global what its initialiser names. What is reached is the end of a list of items that
+//! begins at the item of a wanted export, each of them named by the one before.
+//!
+//! ```rust
+//! use indexmap::IndexSet;
+//! use std::alloc::Global;
+//! use wc_gc::{GcFault, LiveSet, liveness_counted};
+//! use wc_read::Space;
+//!
+//! /// Whether the wanted exports of an adapter reach its first memory.
+//! pub fn reaches_memory(
+//!     alloc: Global,
+//!     adapter: &[u8],
+//!     required: &IndexSet<String>,
+//! ) -> Result<bool, GcFault>
+//!     ensures { IfOk result (λ answer. (m : ModuleValue) × SpellsModule adapter.now m
+//!         × (IsTrue answer ↔ IsLive (names_of required.now.keys) m (Space.Memories, 0))) }
+//! {
+//!     let found = liveness_counted(alloc, adapter, required)?;
+//!     Ok(found.live.contains((Space::Memories, 0)))
+//! }
+//! ```
+#![tactic(auto)]
+
+mod assemble;
+mod exports;
+mod fault;
+mod found;
+pub mod laws;
+mod live;
+mod live_items;
+mod new_indices;
+mod ranks;
+mod rewrite;
+mod search;
+mod trim;
+
+pub use fault::GcFault;
+pub use live::{BitVec, LiveSet, LiveSets};
+pub use live_items::{Liveness, liveness_counted};
+pub use ranks::Ranks;
+pub use trim::run;

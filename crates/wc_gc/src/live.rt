@@ -1,0 +1,168 @@
+//! Sets of live items.
+
+ghost use Rattle.std.specs.Prelude.{◌≡◌, ◌<◌, ◌/◌, ◌^◌, ℕ, Bool, not, false, length, slice_index, IfOk, OnOk, OnErr};
+ghost use Rattle.wc_gc.specs.Decoded.{ItemIndex};
+ghost use Rattle.wc_gc.specs.Bits.{bit_of};
+ghost use Rattle.wc_gc.specs.Counts.{count_below};
+ghost use Rattle.wc_gc.specs.LiveSets.{Inserts, has_item};
+ghost use Rattle.wc_gc.specs.Ranks.{rank_of};
+
+use crate::ranks::Ranks;
+use std::alloc::{AllocError, Global};
+use wc_read::Space;
+
+/// A set of numbers.
+pub trait LiveSet: Sized + Drop {
+    /// Whether a number is in the set.
+    ghost has: { Self → ℕ → Bool };
+
+    /// The empty set.
+    fn new(alloc: Global) -> Self
+        ensures { (x : ℕ) → has result x ≡ false };
+
+    /// Puts a number in, and answers whether it is new.
+    ///
+    /// # Errors
+    ///
+    /// `AllocError`: an allocation failed. The set is as before.
+    fn insert(&mut self, x: u32) -> Result<bool, AllocError>
+        ensures new { IfOk result (λ new. new ≡ not (has self.old x)) }
+        ensures inserts { OnOk result (Inserts (has self.old) (has self.new) x) }
+        ensures err { OnErr result ((y : ℕ) → has self.new y ≡ has self.old y) };
+
+    /// Whether a number is in the set.
+    fn contains(&self, x: u32) -> bool
+        ensures { result ≡ has self.now x };
+
+    /// How many numbers of the set are below each number.
+    ///
+    /// # Errors
+    ///
+    /// `AllocError`: an allocation failed.
+    fn ranks(&self, alloc: Global) -> Result<Ranks, AllocError>
+        ensures { IfOk result (λ r. (x : ℕ) → rank_of r x ≡ count_below (has self.now) x) };
+}
+
+/// A set of numbers as bits, up to the largest that was put in.
+#[derive(Debug, Drop)]
+pub struct BitVec {
+    words: Vec<u64>,
+}
+
+impl LiveSet for BitVec {
+    ghost has = { λ b. bit_of b.words.items };
+
+    fn new(alloc: Global) -> BitVec {
+        BitVec {
+            words: Vec::new(alloc),
+        }
+    }
+
+    fn insert(&mut self, x: u32) -> Result<bool, AllocError> {
+        self.make_room((x / 64) as usize)?;
+        Ok(set_bit(&mut self.words, x))
+    }
+
+    fn contains(&self, x: u32) -> bool {
+        match self.words.get((x / 64) as usize) {
+            Some(word) => (*word >> (x % 64)) & 1 == 1,
+            None => false,
+        }
+    }
+
+    fn ranks(&self, alloc: Global) -> Result<Ranks, AllocError> {
+        Ranks::of_words(alloc, &self.words)
+    }
+}
+
+impl BitVec {
+    /// Makes room for a word.
+    fn make_room(&mut self, index: usize) -> Result<(), AllocError>
+        requires { index < 2 ^ 32 }
+        ensures room { OnOk result (index < length self.new.words.items) }
+        ensures same { (i : ℕ) →
+            slice_index self.new.words.items i ≡ slice_index self.old.words.items i }
+    {
+        if index >= self.words.len() {
+            self.words.resize(index + 1, 0)?;
+        }
+        Ok(())
+    }
+}
+
+/// Sets a bit, and answers whether it was not set.
+fn set_bit(words: &mut [u64], x: u32) -> bool
+    requires { x / 64 < length words.old }
+    ensures new { result ≡ not (bit_of words.old x) }
+    ensures inserts { Inserts (bit_of words.old) (bit_of words.new) x }
+{
+    let index = (x / 64) as usize;
+    let mask = 1u64 << (x % 64);
+    let word = words[index];
+    words[index] = word | mask;
+    word & mask == 0
+}
+
+/// A set for each space.
+#[derive(Debug, Drop)]
+pub struct LiveSets<L> {
+    /// The live function types.
+    pub types: L,
+    /// The live functions.
+    pub funcs: L,
+    /// The live tables.
+    pub tables: L,
+    /// The live memories.
+    pub memories: L,
+    /// The live globals.
+    pub globals: L,
+}
+
+impl<L: LiveSet> LiveSets<L> {
+    /// No items.
+    pub fn new(alloc: Global) -> LiveSets<L>
+        ensures { (x : ItemIndex) → has_item L.has result x ≡ false }
+    {
+        LiveSets {
+            types: L::new(alloc),
+            funcs: L::new(alloc),
+            tables: L::new(alloc),
+            memories: L::new(alloc),
+            globals: L::new(alloc),
+        }
+    }
+
+    /// Puts an item in, and answers whether it is new.
+    ///
+    /// # Errors
+    ///
+    /// `AllocError`: an allocation failed. The sets are as before.
+    pub fn insert(&mut self, item: (Space, u32)) -> Result<bool, AllocError>
+        ensures new { IfOk result (λ new. new ≡ not (has_item L.has self.old item)) }
+        ensures inserts { OnOk result
+            (Inserts (has_item L.has self.old) (has_item L.has self.new) item) }
+        ensures err { OnErr result ((x : ItemIndex) →
+            has_item L.has self.new x ≡ has_item L.has self.old x) }
+    {
+        match item.0 {
+            Space::Types => self.types.insert(item.1),
+            Space::Funcs => self.funcs.insert(item.1),
+            Space::Tables => self.tables.insert(item.1),
+            Space::Memories => self.memories.insert(item.1),
+            Space::Globals => self.globals.insert(item.1),
+        }
+    }
+
+    /// Whether an item is in the set of its space.
+    pub fn contains(&self, item: (Space, u32)) -> bool
+        ensures { result ≡ has_item L.has self.now item }
+    {
+        match item.0 {
+            Space::Types => self.types.contains(item.1),
+            Space::Funcs => self.funcs.contains(item.1),
+            Space::Tables => self.tables.contains(item.1),
+            Space::Memories => self.memories.contains(item.1),
+            Space::Globals => self.globals.contains(item.1),
+        }
+    }
+}

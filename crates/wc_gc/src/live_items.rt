@@ -1,0 +1,149 @@
+//! The items that the wanted exports of an adapter reach.
+
+ghost use Rattle.std.specs.Prelude.{◌≡◌, map, IsTrue, IsOk, IfOk, IfErr, ◌↔◌};
+ghost use Rattle.indexmap.specs.IndexMap.{values};
+ghost use Rattle.wc_read.specs.Exports.{export_value};
+ghost use Rattle.wc_read.specs.Modules.{IsModule, module_value};
+ghost use Rattle.wc_gc.specs.Decoded.{exported_item};
+ghost use Rattle.wc_gc.specs.KeptExports.{kept_exports};
+ghost use Rattle.wc_gc.specs.LiveSets.{has_item};
+ghost use Rattle.wc_gc.specs.Liveness.{HasUnsupported, IsCause, IsFault, IsFaultOf, IsLiveness, IsLivenessOf, IsSupported, names_of, wanted};
+
+use crate::exports::{check_required, drop_exports, exports_by_name};
+use crate::fault::GcFault;
+use crate::live::{BitVec, LiveSet, LiveSets};
+use crate::search::Search;
+use indexmap::{IndexMap, IndexSet};
+use std::alloc::{AllocError, Global};
+use wc_read::{Export, ExportKind, Module, Space, read_module};
+
+/// The reached items of an adapter.
+#[derive(Debug, Drop)]
+pub struct Liveness<L> {
+    /// The items, by their spaces.
+    pub live: LiveSets<L>,
+    /// How many items were taken up to be gone through.
+    pub turns: u64,
+}
+
+/// The items that the wanted exports of an adapter reach: those that they name, and those that a reached item names. A
+/// function names its type and what its body names, a global what its initialiser names. Each reached item is taken up
+/// once. Bodies that are not reached are not read.
+///
+/// # Errors
+///
+/// Of several causes the first in this order is named; `Memory` may come in place of any.
+///
+/// - `Read`: the bytes are no module; the fault of `read_module`.
+/// - `MissingExport`: a wanted name is not exported; the first of them.
+/// - `UnsupportedSection`: the adapter has a start function, or a section of elements, data or a data count.
+/// - `LiveBody`: a body that is reached is no code, or names a segment or an index that is out of range.
+/// - `Memory`: an allocation failed.
+pub fn liveness_counted(
+    alloc: Global,
+    wasm: &[u8],
+    required: &IndexSet<String>,
+) -> Result<Liveness<BitVec>, GcFault>
+    // What is live is what is reached.
+    ensures live { IfOk result (λ l. IsLiveness (wanted wasm.now required.now.keys)
+        (has_item ⟦<BitVec as LiveSet>⟧.has l.live) l.turns) }
+    // A fault has its cause, and no fault before it has.
+    ensures fault { IfErr result (IsFault (wanted wasm.now required.now.keys)) }
+    // Without a fault there is no cause.
+    ensures no_cause { IsOk result →
+        (f : GcFault) → ¬ (IsCause (wanted wasm.now required.now.keys) f) }
+{
+    find_live::<BitVec>(alloc, wasm, required)
+}
+
+/// The same in sets of any kind.
+fn find_live<L: LiveSet>(
+    alloc: Global,
+    wasm: &[u8],
+    required: &IndexSet<String>,
+) -> Result<Liveness<L>, GcFault>
+    ensures live { IfOk result (λ l.
+        IsLiveness (wanted wasm.now required.now.keys) (has_item L.has l.live) l.turns) }
+    ensures fault { IfErr result (IsFault (wanted wasm.now required.now.keys)) }
+    ensures no_cause { IsOk result →
+        (f : GcFault) → ¬ (IsCause (wanted wasm.now required.now.keys) f) }
+{
+    let adapter = read_module(alloc, wasm)?;
+    find_live_in(alloc, &adapter, required)
+}
+
+/// The live items of a module that was read.
+pub fn find_live_in<L: LiveSet>(
+    alloc: Global,
+    adapter: &Module<'_>,
+    required: &IndexSet<String>,
+) -> Result<Liveness<L>, GcFault>
+    requires { IsModule (module_value adapter.now) }
+    ensures live { IfOk result (λ l. IsLivenessOf
+        (names_of required.now.keys) (module_value adapter.now) (has_item L.has l.live) l.turns) }
+    ensures fault { IfErr result
+        (IsFaultOf (names_of required.now.keys) (module_value adapter.now)) }
+{
+    let roots = roots_of(alloc, adapter, required)?;
+    let mut search = Search::new(alloc);
+    let turns = search.reach_all(alloc, adapter, &roots)?;
+    let Search { live, order: _ } = search;
+    Ok(Liveness { live, turns })
+}
+
+/// The items that kept exports name.
+fn roots_of(
+    alloc: Global,
+    adapter: &Module<'_>,
+    required: &IndexSet<String>,
+) -> Result<Vec<(Space, u32)>, GcFault>
+    requires { IsModule (module_value adapter.now) }
+    ensures found { IfOk result (λ v. v.items ≡ map exported_item
+        (kept_exports (names_of required.now.keys) (module_value adapter.now).exports)) }
+    ensures supported { IsOk result →
+        IsSupported (names_of required.now.keys) (module_value adapter.now) }
+    ensures fault { IfErr result
+        (IsFaultOf (names_of required.now.keys) (module_value adapter.now)) }
+{
+    let mut exports = exports_by_name(alloc, &adapter.exports)?;
+    check_required(alloc, &exports, required)?;
+    if has_unsupported(adapter) {
+        return Err(GcFault::UnsupportedSection);
+    }
+    drop_exports(&mut exports, &adapter.exports, required);
+    Ok(exported_items(alloc, &exports)?)
+}
+
+/// Whether a module has a start function, or a section of elements, data or a data count.
+fn has_unsupported(adapter: &Module<'_>) -> bool
+    ensures { IsTrue result ↔ HasUnsupported (module_value adapter.now) }
+{
+    adapter.start.is_some() || !adapter.ids.is_empty()
+}
+
+/// The items that exports name.
+fn exported_items(
+    alloc: Global,
+    exports: &IndexMap<&str, Export<'_>>,
+) -> Result<Vec<(Space, u32)>, AllocError>
+    ensures { IfOk result
+        (λ v. v.items ≡ map (λ e. exported_item (export_value e)) (values exports.now)) }
+{
+    exports
+        .values()
+        .map(|export| exported_item(export))
+        .collect(alloc)
+}
+
+/// The item that an export names.
+pub fn exported_item(export: &Export<'_>) -> (Space, u32)
+    ensures { result ≡ exported_item (export_value export.now) }
+{
+    let space = match export.kind {
+        ExportKind::Func => Space::Funcs,
+        ExportKind::Table => Space::Tables,
+        ExportKind::Memory => Space::Memories,
+        ExportKind::Global => Space::Globals,
+    };
+    (space, export.index)
+}

@@ -1,0 +1,299 @@
+//! The search for the items that exports reach.
+
+ghost use Rattle.std.specs.Prelude.{◌≡◌, ◌⊎◌, [], ◌∷◌, map, All, Bool, true, false, IsTrue, None, IsOk, IfOk, IfErr, IfSome, OnOk, ◌↔◌, ◌<◌};
+ghost use Rattle.std.specs.List.{list_all};
+ghost use Rattle.std.specs.Option.{option_map, option_to_list};
+ghost use Rattle.wc_read.specs.Operators.{instr_value, instr_values};
+ghost use Rattle.wc_read.specs.Inits.{init_value};
+ghost use Rattle.wc_read.specs.Decoding.{body_in, body_operators, bytes_left, init_in, next_and_left, operators_left};
+ghost use Rattle.wc_gc.specs.Decoded.{ItemIndex, decoded_module, func_code, init_code, is_in};
+ghost use Rattle.wc_gc.specs.Entries.{body_refs, code_refs, def_refs, func_refs, init_refs, instr_refs, present, refs_in};
+ghost use Rattle.wc_gc.specs.Reached.{IsReachedFrom};
+ghost use Rattle.wc_gc.specs.Searches.{Finds, IsConsistent, finds};
+ghost use Rattle.wc_gc.specs.Soundness.{is_sound, is_sound_at, is_sound_body, is_sound_def};
+ghost use Rattle.wc_gc.specs.Liveness.{IsCount};
+
+use crate::fault::GcFault;
+use crate::live::{LiveSet, LiveSets};
+use std::alloc::{AllocError, Global};
+use wc_read::{
+    Def, Func, Init, Instr, Module, Operators, ReadFault, Space, names_segment, read_init, refs,
+};
+
+/// The items found so far: as sets, and in the order in which they were found.
+#[derive(Drop)]
+pub struct Search<L> {
+    pub live: LiveSets<L>,
+    pub order: Vec<(Space, u32)>,
+}
+
+impl<L: LiveSet> Search<L> {
+    /// A search that has found nothing.
+    pub fn new(alloc: Global) -> Search<L>
+        ensures consistent { IsConsistent L.has result }
+        ensures none { result.order.items ≡ [] }
+    {
+        Search {
+            live: LiveSets::new(alloc),
+            order: Vec::new(alloc),
+        }
+    }
+
+    /// Finds an item.
+    fn reach(&mut self, item: (Space, u32)) -> Result<(), AllocError>
+        ensures { OnOk result (Finds L.has self.old self.new (item ∷ [])) }
+    {
+        if self.live.insert(item)? {
+            self.order.push(item)?;
+        }
+        Ok(())
+    }
+
+    /// Finds an item where the adapter has it, and answers whether it has.
+    fn reach_present(
+        &mut self,
+        adapter: &Module<'_>,
+        item: (Space, u32),
+    ) -> Result<bool, AllocError>
+        ensures found { OnOk result
+            (Finds L.has self.old self.new (present (decoded_module adapter.now) (item ∷ []))) }
+        ensures there { IfOk result (λ there. there ≡ is_in (decoded_module adapter.now) item) }
+    {
+        let there = has_item(adapter, item);
+        if there {
+            self.reach(item)?;
+        }
+        Ok(there)
+    }
+
+    /// Finds an item that an operator names, and answers whether the adapter has it.
+    fn reach_named(
+        &mut self,
+        adapter: &Module<'_>,
+        item: Option<(Space, u32)>,
+    ) -> Result<bool, AllocError>
+        ensures found { OnOk result (Finds L.has self.old self.new
+            (present (decoded_module adapter.now) (option_to_list item))) }
+        ensures there { IfOk result (λ there. there
+            ≡ list_all (is_in (decoded_module adapter.now)) (option_to_list item)) }
+    {
+        match item {
+            Some(item) => self.reach_present(adapter, item),
+            None => Ok(true),
+        }
+    }
+
+    /// Finds the items that an operator names, and answers whether it is sound.
+    fn reach_operator(
+        &mut self,
+        adapter: &Module<'_>,
+        instr: &Instr<'_>,
+    ) -> Result<bool, AllocError>
+        ensures found { OnOk result (Finds L.has self.old self.new
+            (present (decoded_module adapter.now) (instr_refs (instr_value instr.now)))) }
+        ensures sound { IfOk result (λ sound. sound
+            ≡ is_sound (decoded_module adapter.now) (instr_value instr.now)) }
+    {
+        let named = refs(instr);
+        let first = self.reach_named(adapter, named.first)?;
+        let second = self.reach_named(adapter, named.second)?;
+        Ok(first && second && !names_segment(instr))
+    }
+
+    /// Finds the items that a body names.
+    fn reach_body(
+        &mut self,
+        alloc: Global,
+        adapter: &Module<'_>,
+        bytes: &[u8],
+    ) -> Result<(), GcFault>
+        ensures found { OnOk result (Finds L.has self.old self.new
+            (present (decoded_module adapter.now) (body_refs (body_in bytes.now)))) }
+        ensures sound { IsOk result →
+            is_sound_body (decoded_module adapter.now) (body_in bytes.now) ≡ true }
+        ensures fault { IfErr result (λ f. (f ≡ GcFault.Memory) ⊎ ((f ≡ GcFault.LiveBody)
+            × (is_sound_body (decoded_module adapter.now) (body_in bytes.now) ≡ false))) }
+    {
+        let mut operators = operators_of(alloc, bytes)?;
+        while let Some(instr) = next_of(&mut operators, alloc)? {
+            if !self.reach_operator(adapter, &instr)? {
+                return Err(GcFault::LiveBody);
+            }
+        }
+        Ok(())
+    }
+
+    /// Finds the items that an initialiser names.
+    fn reach_code(&mut self, adapter: &Module<'_>, code: &[Instr<'_>]) -> Result<(), AllocError>
+        ensures { OnOk result (Finds L.has self.old self.new
+            (present (decoded_module adapter.now) (code_refs (instr_values code.now)))) }
+    {
+        for instr in code {
+            self.reach_operator(adapter, instr)?;
+        }
+        Ok(())
+    }
+}
+
+impl<L: LiveSet> Search<L> {
+    /// Finds the items that a function names.
+    fn reach_func(
+        &mut self,
+        alloc: Global,
+        adapter: &Module<'_>,
+        func: Func<'_>,
+    ) -> Result<(), GcFault>
+        ensures found { OnOk result (Finds L.has self.old self.new (present
+            (decoded_module adapter.now) (func_refs (func_code func.entry)))) }
+        ensures sound { IsOk result →
+            is_sound_def (decoded_module adapter.now) (func_code func.entry).def ≡ true }
+        ensures fault { IfErr result (λ f. (f ≡ GcFault.Memory) ⊎ ((f ≡ GcFault.LiveBody)
+            × (is_sound_def (decoded_module adapter.now) (func_code func.entry).def ≡ false))) }
+    {
+        self.reach_present(adapter, (Space::Types, func.ty))?;
+        match func.def {
+            Def::Import(_, _) => Ok(()),
+            Def::Local(bytes) => self.reach_body(alloc, adapter, bytes),
+        }
+    }
+
+    /// Finds the items that the initialiser of a global names.
+    fn reach_global(
+        &mut self,
+        alloc: Global,
+        adapter: &Module<'_>,
+        def: Def<'_, &[u8]>,
+    ) -> Result<(), AllocError>
+        ensures { OnOk result (Finds L.has self.old self.new (present
+            (decoded_module adapter.now) (def_refs init_refs (init_code def.entry)))) }
+    {
+        match def {
+            Def::Import(_, _) => Ok(()),
+            Def::Local(bytes) => match init_of(alloc, bytes)? {
+                Some(init) => self.reach_code(adapter, &init.operators),
+                None => Ok(()),
+            },
+        }
+    }
+
+    /// Finds the items that an item names.
+    fn reach_from(
+        &mut self,
+        alloc: Global,
+        adapter: &Module<'_>,
+        item: (Space, u32),
+    ) -> Result<(), GcFault>
+        ensures found { OnOk result
+            (Finds L.has self.old self.new (refs_in (decoded_module adapter.now) item)) }
+        ensures sound { IsOk result → is_sound_at (decoded_module adapter.now) item ≡ true }
+        ensures fault { IfErr result (λ f. (f ≡ GcFault.Memory) ⊎ ((f ≡ GcFault.LiveBody)
+            × (is_sound_at (decoded_module adapter.now) item ≡ false))) }
+    {
+        match item.0 {
+            Space::Funcs => match adapter.funcs.get(item.1 as usize) {
+                Some(func) => self.reach_func(alloc, adapter, *func),
+                None => Ok(()),
+            },
+            Space::Globals => match adapter.globals.get(item.1 as usize) {
+                Some(global) => {
+                    self.reach_global(alloc, adapter, global.def)?;
+                    Ok(())
+                }
+                None => Ok(()),
+            },
+            _ => Ok(()),
+        }
+    }
+
+    /// Finds what roots reach, and answers how many items were taken up.
+    pub fn reach_all(
+        &mut self,
+        alloc: Global,
+        adapter: &Module<'_>,
+        roots: &[(Space, u32)],
+    ) -> Result<u64, GcFault>
+        requires consistent { IsConsistent L.has self.old }
+        requires none { self.old.order.items ≡ [] }
+        requires there { All (λ x. IsTrue (is_in (decoded_module adapter.now) x)) roots.now }
+        ensures reached { IsOk result → (x : ItemIndex) → IsTrue (finds L.has self.new x)
+            ↔ IsReachedFrom (refs_in (decoded_module adapter.now)) roots.now x }
+        ensures counted { IfOk result
+            (IsCount (IsReachedFrom (refs_in (decoded_module adapter.now)) roots.now)) }
+        ensures sound { IsOk result → (x : ItemIndex) →
+            IsReachedFrom (refs_in (decoded_module adapter.now)) roots.now x →
+            is_sound_at (decoded_module adapter.now) x ≡ true }
+        ensures fault { IfErr result (λ f. (f ≡ GcFault.Memory) ⊎ ((f ≡ GcFault.LiveBody)
+            × (x : ItemIndex) × IsReachedFrom (refs_in (decoded_module adapter.now)) roots.now x
+            × (is_sound_at (decoded_module adapter.now) x ≡ false))) }
+    {
+        for root in roots {
+            self.reach(*root)?;
+        }
+        let mut next: usize = 0;
+        while next < self.order.len() {
+            let item = self.order[next];
+            match self.reach_from(alloc, adapter, item) {
+                Ok(()) => next += 1,
+                Err(fault) => return Err(fault),
+            }
+        }
+        Ok(next as u64)
+    }
+}
+
+/// The operators of a body.
+fn operators_of(alloc: Global, bytes: &[u8]) -> Result<Operators<'_>, GcFault>
+    ensures found { IfOk result (λ o. operators_left o ≡ body_operators (body_in bytes.now)) }
+    ensures fault { IfErr result (λ f. (f ≡ GcFault.Memory)
+        ⊎ ((f ≡ GcFault.LiveBody) × (body_in bytes.now ≡ None))) }
+{
+    match Operators::new(alloc, bytes) {
+        Ok(operators) => Ok(operators),
+        Err(ReadFault::Memory) => Err(GcFault::Memory),
+        Err(_) => Err(GcFault::LiveBody),
+    }
+}
+
+/// The next operator of a body.
+fn next_of<'a>(operators: &mut Operators<'a>, alloc: Global) -> Result<Option<Instr<'a>>, GcFault>
+    ensures found { IfOk result (λ i. operators_left operators.old
+        ≡ next_and_left (option_map instr_value i) (operators_left operators.new)) }
+    ensures shorter { IfOk result (λ i.
+        IfSome i (λ _. bytes_left operators.new < bytes_left operators.old)) }
+    ensures fault { IfErr result (λ f. (f ≡ GcFault.Memory)
+        ⊎ ((f ≡ GcFault.LiveBody) × (operators_left operators.old ≡ None))) }
+{
+    match operators.next(alloc) {
+        Ok(next) => Ok(next),
+        Err(ReadFault::Memory) => Err(GcFault::Memory),
+        Err(_) => Err(GcFault::LiveBody),
+    }
+}
+
+/// The initialiser that bytes spell. Those of a module that was read spell one.
+pub fn init_of(alloc: Global, bytes: &[u8]) -> Result<Option<Init<'_>>, AllocError>
+    ensures { IfOk result (λ i. option_map init_value i ≡ init_in bytes.now) }
+{
+    match read_init(alloc, bytes) {
+        Ok(init) => Ok(Some(init)),
+        Err(fault) => match fault {
+            ReadFault::Memory => Err(AllocError),
+            _ => Ok(None),
+        },
+    }
+}
+
+/// Whether the adapter has an item.
+#[tactic(auto, unfolding(crate::specs::Decoded::decoded_module))]
+fn has_item(adapter: &Module<'_>, item: (Space, u32)) -> bool
+    ensures { result ≡ is_in (decoded_module adapter.now) item }
+{
+    let size = match item.0 {
+        Space::Types => adapter.types.len(),
+        Space::Funcs => adapter.funcs.len(),
+        Space::Tables => adapter.tables.len(),
+        Space::Memories => adapter.memories.len(),
+        Space::Globals => adapter.globals.len(),
+    };
+    (item.1 as usize) < size
+}

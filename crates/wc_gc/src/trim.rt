@@ -1,0 +1,164 @@
+//! Trimming, from bytes to bytes.
+
+ghost use Rattle.std.specs.Prelude.{◌≡◌, ◌≢◌, ◌≤◌, ◌⊎◌, ℕ, [], map, true, IsTrue, IfOk, IfErr, IsOk};
+ghost use Rattle.indexmap.specs.IndexMap.{values};
+ghost use Rattle.wc_read.specs.Exports.{export_value};
+ghost use Rattle.wc_read.specs.Modules.{IsModule, module_value};
+ghost use Rattle.wc_read.specs.declared.operators.Space.TheVariants.{Funcs};
+ghost use Rattle.wc_write.specs.ModuleText.{built_text};
+ghost use Rattle.wc_gc.specs.Decoded.{decoded_module};
+ghost use Rattle.wc_gc.specs.Fewness.{AreFewItems};
+ghost use Rattle.wc_gc.specs.Image.{image_of};
+ghost use Rattle.wc_gc.specs.KeptExports.{kept_exports};
+ghost use Rattle.wc_gc.specs.Liveness.{names_of, wanted};
+ghost use Rattle.wc_gc.specs.LiveSets.{has_item};
+ghost use Rattle.wc_gc.specs.Soundness.{is_sound_at};
+ghost use Rattle.wc_gc.specs.Trimming.{IsLaterCause, IsLaterFault, IsTrimCause, IsTrimFault, IsTrimFaultOf, IsTrimmed, IsTrimmedOf};
+
+use crate::assemble::image;
+use crate::exports::{drop_exports, exports_by_name};
+use crate::fault::GcFault;
+use crate::found::{check_parts, find_parts};
+use crate::live::{BitVec, LiveSet, LiveSets};
+use crate::live_items::find_live_in;
+use crate::new_indices::NewIndices;
+use indexmap::{IndexMap, IndexSet};
+use std::alloc::{AllocError, Global};
+use wc_read::{Export, Module, read_module};
+use wc_write::laws::slices_are_bytes;
+use wc_write::write_module_of;
+
+/// Trims an adapter: its wanted exports, and of its items those that they reach, in their order, each index replaced by
+/// the item's rank among these. Exports that are not wanted are taken out one after another, in their order; the last
+/// one takes the index of each. Bodies that are not reached are not read. Numbers are written as minimal LEB128, runs
+/// of locals and the content of producers as they were; names of globals and other custom sections are left out.
+///
+/// So far no code is added to an adapter for its stack, and no import is replaced: the name of the main module's realloc
+/// and the exponent of its page size have no effect yet.
+///
+/// # Errors
+///
+/// Of several causes the first in this order is named; `Memory` may come in place of any.
+///
+/// - `Read`: the bytes are no module; the fault of `read_module`.
+/// - `MissingExport`: a wanted name is not exported; the first of them.
+/// - `UnsupportedSection`: the adapter has a start function, or a section of elements, data or a data count.
+/// - `LiveBody`: a body that is reached is no code, or names a segment or an index that is out of range.
+/// - `SeveralNamed`: two live mutable globals of type i32 are named `__stack_pointer`, or two `allocation_state`.
+/// - `LiveTable`: a table is reached.
+/// - `SeveralMemories`: two memories are reached.
+/// - `LocalMemory`: a memory that is reached is not imported.
+/// - `NotYet`: a stack pointer is reached, or an import of `cabi_realloc` or `canonical_abi_realloc` from
+///   `__main_module__`.
+/// - `TooLarge`: the content of a section would have 2^32 bytes or more.
+/// - `Memory`: an allocation failed.
+pub fn run(
+    alloc: Global,
+    wasm: &[u8],
+    required: &IndexSet<String>,
+    main_module_realloc: Option<&str>,
+    page_size_log2: u32,
+) -> Result<Vec<u8>, GcFault>
+    requires some { required.now.keys ≢ [] }
+    requires paged { page_size_log2 ≤ 16 }
+    // What is answered is the text of the image.
+    ensures trimmed { IfOk result (λ v. IsTrimmed (wanted wasm.now required.now.keys) v.items) }
+    // A fault has its cause, and no fault before it has.
+    ensures fault { IfErr result (IsTrimFault (wanted wasm.now required.now.keys)) }
+    // Without a fault there is no cause.
+    ensures no_cause { IsOk result →
+        (f : GcFault) → ¬ (IsTrimCause (wanted wasm.now required.now.keys) f) }
+{
+    let _realloc = main_module_realloc;
+    let _exponent = page_size_log2;
+    trim::<BitVec>(alloc, wasm, required)
+}
+
+/// The same with sets of any kind.
+fn trim<L: LiveSet>(
+    alloc: Global,
+    wasm: &[u8],
+    required: &IndexSet<String>,
+) -> Result<Vec<u8>, GcFault>
+    ensures trimmed { IfOk result (λ v. IsTrimmed (wanted wasm.now required.now.keys) v.items) }
+    ensures fault { IfErr result (IsTrimFault (wanted wasm.now required.now.keys)) }
+    ensures no_cause { IsOk result →
+        (f : GcFault) → ¬ (IsTrimCause (wanted wasm.now required.now.keys) f) }
+{
+    // So a vector has fewer than 2^32 items.
+    slices_are_bytes(wasm);
+    let adapter = read_module(alloc, wasm)?;
+    trim_module::<L>(alloc, &adapter, required)
+}
+
+/// Trims a module that was read.
+fn trim_module<L: LiveSet>(
+    alloc: Global,
+    adapter: &Module<'_>,
+    required: &IndexSet<String>,
+) -> Result<Vec<u8>, GcFault>
+    requires valid { IsModule (module_value adapter.now) }
+    requires few { AreFewItems adapter.now }
+    ensures trimmed { IfOk result (λ v.
+        IsTrimmedOf (names_of required.now.keys) (module_value adapter.now) v.items) }
+    ensures fault { IfErr result
+        (IsTrimFaultOf (names_of required.now.keys) (module_value adapter.now)) }
+{
+    let found = find_live_in::<L>(alloc, adapter, required)?;
+    cut(alloc, adapter, required, &found.live)
+}
+
+/// The text of the image of a module, where nothing that is live stops it.
+fn cut<L: LiveSet>(
+    alloc: Global,
+    adapter: &Module<'_>,
+    required: &IndexSet<String>,
+    live: &LiveSets<L>,
+) -> Result<Vec<u8>, GcFault>
+    requires valid { IsModule (module_value adapter.now) }
+    requires few { AreFewItems adapter.now }
+    requires sound { (n : ℕ) → IsTrue (L.has live.now.funcs n)
+        → is_sound_at (decoded_module adapter.now) (Funcs, n) ≡ true }
+    ensures written { IfOk result (λ v. v.items
+        ≡ built_text (image_of (decoded_module adapter.now)
+        (kept_exports (names_of required.now.keys) (module_value adapter.now).exports)
+        (has_item L.has live.now))) }
+    ensures none { IsOk result → (f : GcFault) → ¬ (IsLaterCause (decoded_module adapter.now)
+        (kept_exports (names_of required.now.keys) (module_value adapter.now).exports)
+        (has_item L.has live.now) f) }
+    ensures fault { IfErr result (λ f. (f ≡ GcFault.Memory)
+        ⊎ IsLaterFault (decoded_module adapter.now)
+        (kept_exports (names_of required.now.keys) (module_value adapter.now).exports)
+        (has_item L.has live.now) f) }
+{
+    let found = find_parts(alloc, adapter, live)?;
+    check_parts(adapter, &found)?;
+    let exports = exports_kept(alloc, adapter, required)?;
+    let new = NewIndices::new(alloc, live)?;
+    let built = image(alloc, adapter, &exports, live, &new)?;
+    Ok(write_module_of(alloc, &built)?)
+}
+
+/// The exports that are kept.
+fn exports_kept<'a>(
+    alloc: Global,
+    adapter: &Module<'a>,
+    required: &IndexSet<String>,
+) -> Result<Vec<Export<'a>>, AllocError>
+    requires { IsModule (module_value adapter.now) }
+    ensures { IfOk result (λ v. map export_value v.items
+        ≡ kept_exports (names_of required.now.keys) (module_value adapter.now).exports) }
+{
+    let mut exports = exports_by_name(alloc, &adapter.exports)?;
+    drop_exports(&mut exports, &adapter.exports, required);
+    exports_of(alloc, &exports)
+}
+
+fn exports_of<'a>(
+    alloc: Global,
+    exports: &IndexMap<&str, Export<'a>>,
+) -> Result<Vec<Export<'a>>, AllocError>
+    ensures { IfOk result (λ v. v.items ≡ values exports.now) }
+{
+    exports.values().copied().collect(alloc)
+}
