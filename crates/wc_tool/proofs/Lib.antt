@@ -1,4 +1,6 @@
+mod WordsLemmas
 mod CommandLemmas
+mod ExportsLemmas
 mod FaultsLemmas
 mod ExecutionLemmas
 mod OutputLemmas

@@ -1,16 +1,32 @@
 -- What a command makes of its input, and the causes of its faults.
-use Rattle.std.specs.Prelude.{◌≡◌, ◌≢◌, ◌↔◌, ℕ, List, Option, Some, None}
+use Rattle.std.specs.Prelude.{◌≡◌, ◌≢◌, ◌↔◌, ℕ, List, [], Option, Some, None}
 use Rattle.wc_read.specs.Sections.{IsComponent}
 use Rattle.wc_read.specs.Modules.{ModuleValue, SpellsModule}
 use Rattle.wc_read.specs.declared.fault.ReadFault.TheVariants.{Memory as read_memory, Component}
 use Rattle.wc_dedupe.specs.Renaming.{RenameValue}
 use Rattle.wc_dedupe.specs.Dedupe.{IsDeduped, IsCause as IsDedupeCause}
 use Rattle.wc_dedupe.specs.declared.fault.DedupeFault.TheVariants.{Memory as dedupe_memory}
-use Rattle.wc_tool.specs.Command.{CommandValue, dedupe, scan}
+use Rattle.wc_gc.specs.Liveness.{Wanted}
+use Rattle.wc_gc.specs.Trimming.{IsTrimmed, IsTrimCause, IsTrimFault}
+use Rattle.wc_gc.specs.declared.fault.GcFault.{GcFault}
+use Rattle.wc_gc.specs.declared.fault.GcFault.TheVariants.{Memory as gc_memory}
+use Rattle.wc_tool.specs.Command.{CommandValue, dedupe, scan, trim}
+use Rattle.wc_tool.specs.Exports.{wanted_of}
 use Rattle.wc_tool.specs.Lines.{lines_of}
 use Rattle.wc_tool.specs.Scan.{scan_lines}
 use Rattle.wc_tool.specs.declared.fault.ToolFault.{ToolFault}
-use Rattle.wc_tool.specs.declared.fault.ToolFault.TheVariants.{Memory, Dedupe, Read, Output}
+use Rattle.wc_tool.specs.declared.fault.ToolFault.TheVariants.{Memory, Dedupe, Trim, Read, Output}
+
+-- the text of the trimmed adapter, for which there is no cause of a fault
+pub record IsTrim (w : Wanted) (bytes : List ℕ) : Type 0 where
+  pub trimmed : IsTrimmed w bytes
+  pub no_cause : (f : GcFault) → ¬ (IsTrimCause w f)
+
+-- the cause of a fault of trimming
+abbrev pub IsTrimsCause : Wanted → ToolFault → Type 0
+IsTrimsCause w Memory = Unit {0}
+IsTrimsCause w (Trim f) = (f ≢ gc_memory) × IsTrimFault w f
+IsTrimsCause w f = ⊥
 
 -- the command makes these lines of the input, and these bytes, where it makes any
 abbrev pub Runs : CommandValue → List ℕ → List ℕ → Option (List ℕ) → Type 0
@@ -18,12 +34,19 @@ Runs (dedupe source target) input lines answer =
     (bytes : List ℕ) × (renames : List RenameValue) × IsDeduped input bytes renames × (lines ≡ lines_of renames) × (answer ≡ Some bytes)
 Runs (scan source) input lines answer =
     (m : ModuleValue) × SpellsModule input m × (lines ≡ scan_lines m) × (answer ≡ None)
+Runs (trim source target realloc page exports) input lines answer =
+    (bytes : List ℕ) × IsTrim (wanted_of input exports) bytes × (lines ≡ []) × (answer ≡ Some bytes)
 
 -- the cause of a fault. Memory and Output may come with any input: that a put failed is said of the sink
 abbrev pub IsCause : CommandValue → List ℕ → ToolFault → Type 0
 IsCause c input Memory = Unit {0}
 IsCause (dedupe source target) input (Dedupe f) = (f ≢ dedupe_memory) × IsDedupeCause input f
 IsCause (dedupe source target) input (Read f) = ⊥
+IsCause (dedupe source target) input (Trim f) = ⊥
 IsCause (scan source) input (Dedupe f) = ⊥
+IsCause (scan source) input (Trim f) = ⊥
 IsCause (scan source) input (Read f) = (f ≢ read_memory) × ((f ≡ Component) ↔ IsComponent input) × ((m : ModuleValue) → ¬ (SpellsModule input m))
+IsCause (trim source target realloc page exports) input (Trim f) = IsTrimsCause (wanted_of input exports) (Trim f)
+IsCause (trim source target realloc page exports) input (Dedupe f) = ⊥
+IsCause (trim source target realloc page exports) input (Read f) = ⊥
 IsCause c input Output = Unit {0}

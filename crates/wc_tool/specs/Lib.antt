@@ -1,4 +1,6 @@
 pub mod Command
+pub mod Words
+pub mod Exports
 pub mod Lines
 pub mod Scan
 pub mod Faults

@@ -1,7 +1,7 @@
 -- The program: what it prints, what becomes of files, and its exit status.
 use Rattle.std.specs.Prelude.{◌≡◌, ◌≢◌, ℕ, ◌⊎◌, ⊤, Bool, true, false, List, [], ◌∷◌, ◌++◌, codes, Option, Some, None}
 use Rattle.std.specs.Io.KnownBytes.{Appends}
-use Rattle.wc_tool.specs.Command.{CommandValue, source_of, target_of, arguments_of}
+use Rattle.wc_tool.specs.Command.{CommandValue, source_of, target_of, IsCommandLine}
 use Rattle.wc_tool.specs.Lines.{line_feed}
 use Rattle.wc_tool.specs.Execution.{Runs, IsCause}
 use Rattle.wc_tool.specs.Files.{Held, Holds, Writes, KeepsOthers}
@@ -33,6 +33,10 @@ unread_text path = codes "cannot read " ++ path
 
 abbrev pub unwritten_text : List ℕ → List ℕ
 unwritten_text path = codes "cannot write " ++ path
+
+-- an export that is wanted is missing
+abbrev pub missing_text : List ℕ → List ℕ
+missing_text name = (codes "adapter module does not have export `" ++ name) ++ codes "`"
 
 -- these bytes were put to an output, which handed on all its bytes
 pub record HandsOn (written_before written_after sent_after : Option (List ℕ)) (bytes : List ℕ) : Type 0 where
@@ -115,8 +119,8 @@ Prints text wanted puts failed status = (puts text × (failed ≡ false) × (sta
 abbrev pub ProgramEnds : List (List ℕ) → Option Held → Option Held → (List ℕ → Type 0) → Bool → ℕ → Type 0
 ProgramEnds [] before after puts failed status = (after ≡ before) × Prints usage_text success puts failed status
 ProgramEnds (x ∷ xs) before after puts failed status =
-    ((c : CommandValue) × (x ∷ xs ≡ arguments_of c) × CommandEnds c before after puts failed status)
-    ⊎ (((c : CommandValue) → x ∷ xs ≢ arguments_of c) × (after ≡ before) × Prints usage_text wrong_arguments puts failed status)
+    ((c : CommandValue) × IsCommandLine (x ∷ xs) c × CommandEnds c before after puts failed status)
+    ⊎ (((c : CommandValue) → ¬ (IsCommandLine (x ∷ xs) c)) × (after ≡ before) × Prints usage_text wrong_arguments puts failed status)
 
 -- how the program ends where its arguments are not known: there was no memory for them, or they are no text
 pub record EndsWithoutArguments (no_memory : Type 0) (puts : List ℕ → Type 0) (failed : Bool) (status : ℕ) : Type 0 where

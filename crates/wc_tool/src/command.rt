@@ -1,16 +1,34 @@
 //! The arguments of a command.
 
-ghost use Rattle.std.specs.Prelude.{◌≡◌, ◌≢◌, IfOk, IfErr, map, string_bytes};
-ghost use Rattle.wc_tool.specs.Command.{CommandValue, command_value, arguments_of};
+ghost use Rattle.std.specs.Prelude.{◌≡◌, IfOk, IfErr, IsErr, None, map, string_bytes};
+ghost use Rattle.wc_tool.specs.Command.{CommandValue, command_value, IsCommandLine, IsExecutable};
+ghost use Rattle.wc_tool.specs.Words.{trim_parts, IsTrimOf};
+
+use crate::words::trim_words;
 
 /// What the program is asked to do.
 #[derive(Clone, Copy, Debug, PartialEq, Eq)]
 pub enum Command<'a> {
     /// Renames the repeated imports of the module in the file `source`, prints each rename, and writes the renamed
     /// module to the file `target`. Both are paths.
-    Dedupe { source: &'a str, target: &'a str },
+    Dedupe {
+        source: &'a str,
+        target: &'a str,
+    },
     /// Prints the imports and the exports of the module in the file `source`, a path, and writes no file.
-    Scan { source: &'a str },
+    Scan {
+        source: &'a str,
+    },
+    /// Cuts the adapter in the file `source` to what the exports of these names reach, and writes it to the file
+    /// `target`. Both are paths. The main module's realloc is named `realloc`, and its pages have 2^`page` bytes: both
+    /// have no effect yet.
+    Trim {
+        source: &'a str,
+        target: &'a str,
+        realloc: Option<&'a str>,
+        page: u32,
+        exports: &'a [String],
+    },
 }
 
 impl<'a> Command<'a> {
@@ -23,6 +41,7 @@ impl<'a> Command<'a> {
     {
         match *self {
             Command::Dedupe { source, .. } | Command::Scan { source } => source,
+            Command::Trim { source, .. } => source,
         }
     }
 
@@ -33,6 +52,7 @@ impl<'a> Command<'a> {
         match *self {
             Command::Dedupe { target, .. } => Some(target),
             Command::Scan { .. } => None,
+            Command::Trim { target, .. } => Some(target),
         }
     }
 }
@@ -41,17 +61,24 @@ impl<'a> Command<'a> {
 #[derive(Clone, Copy, Debug, PartialEq, Eq)]
 pub struct Usage;
 
-/// The command of these arguments, the first of them the one after the program's name: `dedupe IN OUT`, or `scan IN`.
-/// IN and OUT may be any strings. It does not allocate.
+/// The command of these arguments, the first of them the one after the program's name: `dedupe IN OUT`, `scan IN`, or
+/// `trim IN OUT [--realloc NAME] [--page 0|16] EXPORT...`. IN, OUT and NAME may be any strings. It does not allocate.
+///
+/// Directly behind OUT the words `--realloc` and `--page` are options, in either order, each at most once. The page is
+/// 16 where it is not given. From the first other word on all words are exports, one at least.
 ///
 /// # Errors
 ///
 /// `Usage`: they are the arguments of no command.
 pub fn parse(arguments: &[String]) -> Result<Command<'_>, Usage>
-    ensures command { IfOk result (λ c. map string_bytes arguments.now ≡ arguments_of
+    ensures command { IfOk result (λ c. IsCommandLine (map string_bytes arguments.now)
         (command_value c)) }
+    // No other command has these arguments.
+    ensures unique { IfOk result (λ c. (d : CommandValue)
+        → IsCommandLine (map string_bytes arguments.now) d → d ≡ command_value c) }
+    ensures executable { IfOk result (λ c. IsExecutable (command_value c)) }
     ensures usage { IfErr result (λ _. (c : CommandValue)
-        → map string_bytes arguments.now ≢ arguments_of c) }
+        → ¬ (IsCommandLine (map string_bytes arguments.now) c)) }
 {
     match arguments {
         [name, source, target] if name.as_str() == "dedupe" => Ok(Command::Dedupe {
@@ -61,6 +88,29 @@ pub fn parse(arguments: &[String]) -> Result<Command<'_>, Usage>
         [name, file] if name.as_str() == "scan" => Ok(Command::Scan {
             source: file.as_str(),
         }),
+        [name, source, target, words @ ..] if name.as_str() == "trim" => {
+            parse_trim(source.as_str(), target.as_str(), words)
+        }
         _ => Err(Usage),
     }
+}
+
+/// The trim from one file to another with these words behind their paths.
+fn parse_trim<'a>(
+    source: &'a str,
+    target: &'a str,
+    words: &'a [String],
+) -> Result<Command<'a>, Usage>
+    ensures parts { IfOk result (λ c. IsTrimOf source.now target.now
+        (trim_parts (map string_bytes words.now)) (command_value c)) }
+    ensures none { IsErr result → trim_parts (map string_bytes words.now) ≡ None }
+{
+    let words = trim_words(words)?;
+    Ok(Command::Trim {
+        source,
+        target,
+        realloc: words.realloc,
+        page: words.page,
+        exports: words.exports,
+    })
 }

@@ -1,24 +1,29 @@
 //! A command, from the bytes of its input to the bytes of its output.
 
-ghost use Rattle.std.specs.Prelude.{◌≡◌, ◌≢◌, true, ℕ, List, IfOk, IfErr, IsErrOf, OnOk};
+ghost use Rattle.std.specs.Prelude.{◌≡◌, ◌≢◌, ◌≤◌, true, ℕ, List, [], map, string_bytes, IfOk, IfErr, IsErrOf, OnOk};
 ghost use Rattle.std.specs.Option.{option_map};
 ghost use Rattle.std.specs.Cow.{cow_slice_items};
 ghost use Rattle.std.specs.Io.KnownBytes.{Appends};
 ghost use Rattle.wc_read.specs.Modules.{ModuleValue, SpellsModule};
 ghost use Rattle.wc_dedupe.specs.Renaming.{RenameValue};
 ghost use Rattle.wc_dedupe.specs.Dedupe.{IsDeduped};
-ghost use Rattle.wc_tool.specs.Command.{dedupe, scan, command_value};
+ghost use Rattle.wc_gc.specs.Liveness.{names_of};
+ghost use Rattle.wc_gc.specs.declared.fault.GcFault.TheVariants.{Memory as gc_memory};
+ghost use Rattle.wc_tool.specs.Command.{dedupe, scan, command_value, IsExecutable};
+ghost use Rattle.wc_tool.specs.Exports.{first_occurrences, wanted_of};
 ghost use Rattle.wc_tool.specs.Lines.{lines_of};
 ghost use Rattle.wc_tool.specs.Scan.{scan_lines};
-ghost use Rattle.wc_tool.specs.Execution.{Runs, IsCause};
+ghost use Rattle.wc_tool.specs.Execution.{Runs, IsCause, IsTrim, IsTrimsCause};
 
 use crate::command::Command;
 use crate::fault::ToolFault;
 use crate::lines::put_renames;
 use crate::scan::put_scan;
+use indexmap::IndexSet;
 use std::alloc::{AllocError, Global};
 use std::borrow::CowSlice;
 use wc_dedupe::ModuleImportMap;
+use wc_gc::run;
 use wc_read::read_module;
 use wc_write::Sink;
 
@@ -26,11 +31,15 @@ use wc_write::Sink;
 /// bytes of its output file, `None` for a scan.
 ///
 /// - A dedupe puts `MODULE: OLD -> NEW` for each renamed import; its bytes are those of `ModuleImportMap::new`.
+/// - A trim puts nothing; its bytes are those of `wc_gc::run`. A repeated export counts once. The name of the realloc and
+///   the page have no effect yet.
 /// - A scan puts `import MODULE NAME KIND` for each import, and then `export NAME KIND INDEX` for each export.
 ///
 /// # Errors
 ///
 /// - `Dedupe`: of a dedupe alone, the fault of `ModuleImportMap::new`.
+/// - `Trim`: of a trim alone, the fault of `wc_gc::run`; `NotYet` where a stack pointer is reached, or an import of the
+///   main module's realloc.
 /// - `Read`: of a scan alone, the bytes are no module. It carries `Component` exactly where they begin with a
 ///   component's header.
 /// - `Output`: a put failed. The sink is failed, and how much was written is left open.
@@ -43,6 +52,8 @@ pub fn execute<S: Sink>(
     input: &[u8],
     out: &mut S,
 ) -> Result<Option<Vec<u8>>, ToolFault>
+    // A trim has an export at least, and an exponent of 16 at most; `parse` gives no other.
+    requires { IsExecutable (command_value command.now) }
     ensures done { IfOk result (λ r. (lines : List ℕ)
         × Runs (command_value command.now) input.now lines (option_map (λ v. v.items) r)
         × Appends (S.written out.old) (S.written out.new) lines) }
@@ -57,6 +68,12 @@ pub fn execute<S: Sink>(
             scan(alloc, input, out)?;
             Ok(None)
         }
+        Command::Trim {
+            realloc,
+            page,
+            exports,
+            ..
+        } => Ok(Some(trim(alloc, input, realloc, page, exports)?)),
     }
 }
 
@@ -100,4 +117,36 @@ fn scan<S: Sink>(alloc: Global, input: &[u8], out: &mut S) -> Result<(), ToolFau
     let module = read_module(alloc, input)?;
     put_scan(out, &module)?;
     Ok(())
+}
+
+/// The adapter, trimmed to what the exports of these names reach.
+fn trim(
+    alloc: Global,
+    input: &[u8],
+    realloc: Option<&str>,
+    page: u32,
+    exports: &[String],
+) -> Result<Vec<u8>, ToolFault>
+    requires some { exports.now ≢ [] }
+    requires paged { page ≤ 16 }
+    ensures done { IfOk result (λ v.
+        IsTrim (wanted_of input.now (map string_bytes exports.now)) v.items) }
+    ensures fault { IfErr result
+        (IsTrimsCause (wanted_of input.now (map string_bytes exports.now))) }
+{
+    let required = required_exports(alloc, exports)?;
+    let bytes = run(alloc, input, &required, realloc, page)?;
+    Ok(bytes)
+}
+
+/// The names as a set, in order of their first occurrences.
+fn required_exports(alloc: Global, exports: &[String]) -> Result<IndexSet<String>, AllocError>
+    ensures { IfOk result (λ names. names_of names.keys
+        ≡ first_occurrences (map string_bytes exports.now)) }
+{
+    let mut names = IndexSet::new(alloc);
+    for export in exports {
+        names.insert(export.clone()?)?;
+    }
+    Ok(names)
 }

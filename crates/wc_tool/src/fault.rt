@@ -6,11 +6,12 @@ ghost use Rattle.wc_tool.specs.declared.fault.ToolFault.TheVariants.{Memory, Out
 use std::alloc::AllocError;
 use thiserror::Error;
 use wc_dedupe::DedupeFault;
+use wc_gc::GcFault;
 use wc_read::ReadFault;
 use wc_write::PutFailed;
 
 /// Why a command could not be executed.
-#[derive(Clone, Copy, Debug, PartialEq, Eq, Error)]
+#[derive(Debug, Drop, Error)]
 pub enum ToolFault {
     /// An allocation failed.
     #[error("out of memory")]
@@ -18,6 +19,9 @@ pub enum ToolFault {
     /// The imports of the module could not be renamed. It carries why, never `Memory`.
     #[error("Dedupe: {0}")]
     Dedupe(DedupeFault),
+    /// The adapter could not be trimmed. It carries why, never `Memory`.
+    #[error("{0}")]
+    Trim(GcFault),
     /// The bytes are no module. It carries why, never `Memory`.
     #[error("Read: {0}")]
     Read(ReadFault),
@@ -43,6 +47,19 @@ impl From<DedupeFault> for ToolFault {
         match e {
             DedupeFault::Memory => ToolFault::Memory,
             _ => ToolFault::Dedupe(e),
+        }
+    }
+}
+
+impl From<GcFault> for ToolFault {
+    ghost use Rattle.wc_tool.specs.Faults.{of_trim};
+
+    ghost from_gives = { λ f e. e ≡ of_trim f };
+
+    fn from(e: GcFault) -> ToolFault {
+        match e {
+            GcFault::Memory => ToolFault::Memory,
+            _ => ToolFault::Trim(e),
         }
     }
 }

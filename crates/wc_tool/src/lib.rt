@@ -17,10 +17,10 @@
 //! ) -> Result<Option<Vec<u8>>, ToolFault>
 //!     ensures lines { IfOk result (λ answer. IfSome answer (λ lines.
 //!         (c : CommandValue) × (written : Option (List ℕ))
-//!         × (map string_bytes arguments.now ≡ arguments_of c)
+//!         × IsCommandLine (map string_bytes arguments.now) c
 //!         × Runs c input.now lines.items written)) }
 //!     ensures usage { IfOk result (λ answer. IfNone answer
-//!         ((c : CommandValue) → map string_bytes arguments.now ≢ arguments_of c)) }
+//!         ((c : CommandValue) → ¬ (IsCommandLine (map string_bytes arguments.now) c))) }
 //! {
 //!     let Ok(command) = parse(arguments) else {
 //!         return Ok(None);
@@ -42,6 +42,7 @@ mod lines;
 mod output;
 mod program;
 mod scan;
+mod words;
 
 pub use command::{Command, Usage, parse};
 pub use execution::execute;

@@ -4,9 +4,9 @@ ghost use Rattle.std.specs.Prelude.{◌≡◌, ◌≢◌, ◌++◌, false, true,
 ghost use Rattle.std.specs.Option.{option_map};
 ghost use Rattle.std.specs.Io.KnownBytes.{Appends};
 ghost use Rattle.std.specs.IoError.{error_kind};
-ghost use Rattle.wc_tool.specs.Command.{command_value};
+ghost use Rattle.wc_tool.specs.Command.{command_value, IsExecutable};
 ghost use Rattle.wc_tool.specs.Execution.{Runs, IsCause};
-ghost use Rattle.wc_tool.specs.Program.{HandsOn, EndsWell, IsRunCause, HasPut, IsFaultText, Prints, CommandEnds, ProgramEnds, EndsWithoutArguments, fault_line, usage_text, failure};
+ghost use Rattle.wc_tool.specs.Program.{HandsOn, EndsWell, IsRunCause, HasPut, IsFaultText, Prints, CommandEnds, ProgramEnds, EndsWithoutArguments, fault_line, usage_text, failure, missing_text};
 
 use crate::command::{Command, Usage, parse};
 use crate::execution::execute;
@@ -17,6 +17,7 @@ use crate::output::Output;
 use std::alloc::Global;
 use std::fmt::InlineText;
 use std::io::{self, ErrorKind};
+use wc_gc::GcFault;
 use wc_write::PutFailed;
 
 const USAGE: &[u8] = b"usage: wctrim dedupe IN OUT
@@ -37,7 +38,7 @@ const WRONG_ARGUMENTS: u8 = 2;
 const TEXT_SIZE: usize = 64;
 
 /// Why a command could not be run on its files.
-#[derive(Clone, Copy, Debug, PartialEq, Eq)]
+#[derive(Debug, Drop)]
 pub enum RunFault<'a> {
     /// The file of this path could not be read.
     CannotRead(&'a str),
@@ -113,6 +114,7 @@ fn run_and_report<F: FileStore, O: Output>(
     files: &mut F,
     out: &mut O,
 ) -> u8
+    requires { IsExecutable (command_value command.now) }
     ensures { CommandEnds (command_value command.now) (F.held files.old) (F.held files.new)
         (HandsOn (O.written out.old) (O.written out.new) (O.sent out.new)) (O.is_failed out.new)
         result }
@@ -141,6 +143,7 @@ pub fn run_command<'a, F: FileStore, O: Output>(
     files: &mut F,
     out: &mut O,
 ) -> Result<(), RunFault<'a>>
+    requires { IsExecutable (command_value command.now) }
     ensures done { OnOk result (EndsWell
         (command_value command.now) (F.held files.old) (F.held files.new)
         (HandsOn (O.written out.old) (O.written out.new) (O.sent out.new)) (O.is_failed out.new)) }
@@ -172,6 +175,7 @@ fn execute_and_flush<O: Output>(
     input: &[u8],
     out: &mut O,
 ) -> Result<Option<Vec<u8>>, ToolFault>
+    requires { IsExecutable (command_value command.now) }
     ensures done { IfOk result (λ r. (lines : List ℕ)
         × Runs (command_value command.now) input.now lines (option_map (λ v. v.items) r)
         × HandsOn (O.written out.old) (O.written out.new) (O.sent out.new) lines) }
@@ -234,7 +238,7 @@ fn put_fault<O: Output>(out: &mut O, fault: &RunFault<'_>) -> Result<(), PutFail
     out.flush()
 }
 
-/// Puts the text of a fault; of a long one that is not about a file, the beginning. It does not allocate.
+/// Puts the text of a fault; of a long one that is about no file and no export, the beginning. It does not allocate.
 fn put_fault_text<O: Output>(out: &mut O, fault: &RunFault<'_>) -> Result<(), PutFailed>
     ensures written { OnOk result ((text : List ℕ) × IsFaultText fault.now text
         × Appends (O.written out.old) (O.written out.new) text) }
@@ -245,14 +249,27 @@ fn put_fault_text<O: Output>(out: &mut O, fault: &RunFault<'_>) -> Result<(), Pu
     match fault {
         RunFault::CannotRead(path) => put_path(out, b"cannot read ", path),
         RunFault::CannotWrite(path) => put_path(out, b"cannot write ", path),
+        RunFault::Tool(ToolFault::Trim(GcFault::MissingExport(name))) => put_missing(out, name),
         RunFault::Tool(fault) => {
-            let text = InlineText::<TEXT_SIZE>::of(*fault);
+            let text = InlineText::<TEXT_SIZE>::of(fault);
             out.put(text.as_str().as_bytes())
         }
     }
 }
 
-/// Puts a prefix, and then a path.
+/// Puts the text of a fault for an export that is missing, of any length.
+fn put_missing<O: Output>(out: &mut O, name: &str) -> Result<(), PutFailed>
+    ensures written { OnOk result (Appends (O.written out.old) (O.written out.new)
+        (missing_text name.now)) }
+    ensures refuses { OnOk result (O.is_failed out.old ≡ false) }
+    ensures works { OnOk result (O.is_failed out.new ≡ false) }
+    ensures fails { OnErr result (O.is_failed out.new ≡ true) }
+{
+    put_path(out, b"adapter module does not have export `", name)?;
+    out.put(b"`")
+}
+
+/// Puts a prefix, and then a path or a name.
 fn put_path<O: Output>(out: &mut O, prefix: &[u8], path: &str) -> Result<(), PutFailed>
     ensures written { OnOk result (Appends (O.written out.old) (O.written out.new)
         (prefix.now ++ path.now)) }
