@@ -2,8 +2,11 @@
 
 use crate::names::calls as name_calls;
 use crate::rows::{Flaw, Paragraph, Row};
+use crate::validation::calls as validate_calls;
 use crate::worlds::{encoder_calls, resolve_calls};
-use crate::{dedupe_calls, examples, law_calls, read_calls, sink_calls, tool_calls, write_calls};
+use crate::{
+    dedupe_calls, examples, gc_calls, law_calls, read_calls, sink_calls, tool_calls, write_calls,
+};
 use std::alloc::{AllocError, Global};
 
 /// Appends the lines of a row's answer.
@@ -19,49 +22,60 @@ pub(crate) fn answer(
     }
 }
 
-fn answer_call(alloc: Global, row: &Row<'_>, out: &mut String) -> Result<(), AllocError> {
-    if read_calls::answer(alloc, row, out)? {
-        return Ok(());
+/// The calls on bytes. False where the call is none.
+fn answer_on_bytes(alloc: Global, row: &Row<'_>, out: &mut String) -> Result<bool, AllocError> {
+    if read_calls::answer(alloc, row, out)? || write_calls::answer(alloc, row, out)? {
+        return Ok(true);
     }
-    if write_calls::answer(alloc, row, out)? {
-        return Ok(());
+    if dedupe_calls::answer(alloc, row, out)? || gc_calls::answer(alloc, row, out)? {
+        return Ok(true);
     }
-    if dedupe_calls::answer(alloc, row, out)? {
-        return Ok(());
-    }
-    if tool_calls::answer(alloc, row, out)? {
-        return Ok(());
-    }
-    if resolve_calls::answer(alloc, row, out)? {
-        return Ok(());
-    }
-    if encoder_calls::answer(alloc, row, out)? {
-        return Ok(());
+    tool_calls::answer(alloc, row, out)
+}
+
+/// The calls on worlds, encoders, names and validated modules. False where the call is none.
+fn answer_on_worlds(alloc: Global, row: &Row<'_>, out: &mut String) -> Result<bool, AllocError> {
+    if resolve_calls::answer(alloc, row, out)? || encoder_calls::answer(alloc, row, out)? {
+        return Ok(true);
     }
     if name_calls::answer(alloc, row, out)? {
+        return Ok(true);
+    }
+    validate_calls::answer(alloc, row, out)
+}
+
+/// The laws, sinks and examples. False where the call is none.
+fn answer_other(alloc: Global, row: &Row<'_>, out: &mut String) -> Result<bool, AllocError> {
+    if law_calls::answer(alloc, row, out)? || sink_calls::answer(alloc, row, out)? {
+        return Ok(true);
+    }
+    examples::answer(alloc, row, out)
+}
+
+fn answer_call(alloc: Global, row: &Row<'_>, out: &mut String) -> Result<(), AllocError> {
+    if answer_on_bytes(alloc, row, out)? || answer_on_worlds(alloc, row, out)? {
         return Ok(());
     }
-    if law_calls::answer(alloc, row, out)? {
-        return Ok(());
-    }
-    if sink_calls::answer(alloc, row, out)? {
-        return Ok(());
-    }
-    if examples::answer(alloc, row, out)? {
+    if answer_other(alloc, row, out)? {
         return Ok(());
     }
     let call = row.call;
     writeln!(out, "bad row: no call {call:?}")
 }
 
-/// Whether the lines of an answer are those that a row wants.
-pub(crate) fn is_wanted(row: &Row<'_>, answer: &str) -> bool {
+/// Whether the lines of an answer are those that a row wants. Where memory may fail, an answer may stop at a line that
+/// says so.
+pub(crate) fn is_wanted(row: &Row<'_>, answer: &str, may_fail: bool) -> bool {
     let mut lines = answer.lines();
     for wanted in &row.answer {
         match lines.next() {
             Some(line) if line == *wanted => {}
-            _ => return false,
+            Some(line) => return may_fail && line.ends_with("out of memory"),
+            None => return false,
         }
     }
-    lines.next().is_none()
+    match lines.next() {
+        Some(line) => may_fail && line.ends_with("out of memory"),
+        None => true,
+    }
 }

@@ -2,12 +2,15 @@
 
 mod dedupe;
 mod encoder;
+mod gc;
 mod names;
 mod read;
 mod resolve;
 mod tool;
+mod validate;
 mod write;
 
+use crate::gc_calls::names_from;
 use crate::imports::imports_of;
 use crate::input::{Stop, answered, bad_row, bytes_of};
 use crate::rows::Row;
@@ -15,6 +18,7 @@ use crate::values::{put_bytes_lines, put_fault};
 use indexmap::IndexMap;
 use std::alloc::{AllocError, Global};
 use std::str;
+use wc_encoder::{ComponentEncoder, EncoderFault};
 use wc_resolve::{Parts, Resolve, ResolveFault, World, WorldId};
 
 /// Appends the answer of an example, and says whether the row's call is one.
@@ -41,9 +45,20 @@ fn answer_call(alloc: Global, row: &Row<'_>, out: &mut String) -> Result<bool, S
     } else if argument(row, 0) == "printed_lines" {
         answer_printed_lines(alloc, row, out)?;
     } else {
-        return Err(bad_row(out, "no example", argument(row, 0)));
+        answer_on_module(alloc, row, out)?;
     }
     Ok(true)
+}
+
+/// The examples of trimming and validation.
+fn answer_on_module(alloc: Global, row: &Row<'_>, out: &mut String) -> Result<(), Stop> {
+    if argument(row, 0) == "reaches_memory" {
+        answer_reaches_memory(alloc, row, out)
+    } else if argument(row, 0) == "imported_memory" {
+        answer_imported_memory(alloc, row, out)
+    } else {
+        Err(bad_row(out, "no example", argument(row, 0)))
+    }
 }
 
 /// An argument of a row that has so many or less; it is empty where there are fewer.
@@ -174,6 +189,46 @@ fn answer_printed_lines(alloc: Global, row: &Row<'_>, out: &mut String) -> Resul
         Err(fault) => put_fault(out, fault)?,
     }
     Ok(())
+}
+
+/// `example reaches_memory NAME..`.
+fn answer_reaches_memory(alloc: Global, row: &Row<'_>, out: &mut String) -> Result<(), Stop> {
+    let bytes = bytes_of(alloc, &row.input, out)?;
+    let required = names_from(alloc, row, 1)?;
+    match gc::reaches_memory(alloc, &bytes, &required) {
+        Ok(answer) => writeln!(out, "{answer}")?,
+        Err(fault) => writeln!(out, "fault {fault}")?,
+    }
+    Ok(())
+}
+
+/// `example imported_memory`: for an encoder of a world that imports and exports nothing.
+fn answer_imported_memory(alloc: Global, row: &Row<'_>, out: &mut String) -> Result<(), Stop> {
+    let module = bytes_of(alloc, &row.input, out)?;
+    match empty_encoder(alloc, module) {
+        Ok(encoder) => put_imported_memory(alloc, &encoder, out)?,
+        Err(fault) => writeln!(out, "fault {fault}")?,
+    }
+    Ok(())
+}
+
+/// An encoder of a main module without adapters, for a world that imports and exports nothing.
+fn empty_encoder(alloc: Global, module: Vec<u8>) -> Result<ComponentEncoder, EncoderFault> {
+    match empty_world(alloc) {
+        Ok(resolve) => encoder::encoder_for(alloc, module, resolve, WorldId(0)),
+        Err(_) => Err(EncoderFault::Memory),
+    }
+}
+
+fn put_imported_memory(
+    alloc: Global,
+    encoder: &ComponentEncoder,
+    out: &mut String,
+) -> Result<(), AllocError> {
+    match validate::imported_memory(alloc, encoder, encoder.module()) {
+        Ok(memory) => writeln!(out, "{memory:?}"),
+        Err(fault) => writeln!(out, "fault {fault}"),
+    }
 }
 
 /// A line for each line that was printed.

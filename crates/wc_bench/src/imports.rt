@@ -38,7 +38,8 @@ fn cut_quoted(text: &str) -> Option<(&str, &str)> {
     text.trim_start().strip_prefix('"')?.split_once('"')
 }
 
-fn parse_import_type(text: &str) -> Option<ImportType> {
+/// The type that a text describes.
+pub(crate) fn parse_import_type(text: &str) -> Option<ImportType> {
     let (kind, rest) = text.split_once(' ')?;
     if kind == "func" {
         Some(ImportType::Func(rest.parse::<u32>().ok()?))

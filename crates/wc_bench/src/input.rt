@@ -3,6 +3,7 @@
 //! A line is bytes in hex, two digits each, with spaces between them or not; a text in double quotes is its bytes. After
 //! `#` outside quotes comes a comment. `repeat N` at the front makes N copies of the line's bytes.
 
+use hex::FromHexError;
 use std::alloc::{AllocError, AllocFailed, Global};
 
 /// Why a row has no answer of its call.
@@ -106,6 +107,7 @@ fn put_digits(
     for word in digits.split_whitespace() {
         match hex::decode(alloc, word) {
             Ok(decoded) => bytes.extend_from_slice(&decoded)?,
+            Err(FromHexError::OutOfMemory) => return Err(Stop::Memory),
             Err(_) => return Err(bad_row(out, "no hex", word)),
         }
     }

@@ -3,6 +3,7 @@
 pub(crate) mod calls;
 pub(crate) mod contexts;
 pub(crate) mod core_types;
+pub(crate) mod exports_in_worlds;
 pub(crate) mod in_worlds;
 pub(crate) mod meanings;
 pub(crate) mod scheme_texts;

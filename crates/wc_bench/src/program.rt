@@ -7,11 +7,12 @@ use std::process::ExitCode;
 use std::rt::{Env, Files};
 use std::{env, fs, io};
 
-const USAGE: &str = "usage: wc_bench FILE...
+const USAGE: &str = "usage: wc_bench [--memory-may-fail] FILE...
        wc_bench -
 
-Runs the rows of tests in files, and prints each whose answer differs. With -, reads rows
-from standard input and prints each with its answer. docs/ROWS.md says what a row is.";
+Runs the rows of tests in files, and prints each whose answer differs. With --memory-may-fail,
+an answer may stop at a line that says that memory ran out. With -, reads rows from standard
+input and prints each with its answer. docs/ROWS.md says what a row is.";
 
 /// Runs the rows of all files that are named, and gives the program's status.
 pub(crate) fn run<R: Env + Files + Print + Input + AllocGlobal>(rt: &R) -> ExitCode {
@@ -31,16 +32,23 @@ fn run_files<R: Env + Files + Print + Input + AllocGlobal>(rt: &R) -> io::Result
     if names.is_empty() {
         rt.println(USAGE)?;
     }
+    let mut may_fail = false;
     let mut agree = true;
     for name in &names {
-        if !run_named(rt, name.as_str())? {
+        if name.as_str() == "--memory-may-fail" {
+            may_fail = true;
+        } else if !run_named(rt, name.as_str(), may_fail)? {
             agree = false;
         }
     }
     Ok(agree)
 }
 
-fn run_named<R: Files + Print + Input + AllocGlobal>(rt: &R, name: &str) -> io::Result<bool> {
+fn run_named<R: Files + Print + Input + AllocGlobal>(
+    rt: &R,
+    name: &str,
+    may_fail: bool,
+) -> io::Result<bool> {
     if name == "-" {
         let text = io::read_to_string(rt.alloc(), rt.reader())?;
         print_answers(rt, text.as_str())?;
@@ -50,7 +58,7 @@ fn run_named<R: Files + Print + Input + AllocGlobal>(rt: &R, name: &str) -> io::
         println!(rt; "{name}: cannot be read")?;
         return Ok(false);
     };
-    compare(rt, name, text.as_str())
+    compare(rt, name, text.as_str(), may_fail)
 }
 
 /// Prints each row with its answer.
@@ -68,11 +76,16 @@ fn print_answers<R: Print + AllocGlobal>(rt: &R, text: &str) -> io::Result<()> {
 }
 
 /// Runs the rows of a file, prints those whose answer differs, and how many agreed. Whether all did.
-fn compare<R: Print + AllocGlobal>(rt: &R, file: &str, text: &str) -> io::Result<bool> {
+fn compare<R: Print + AllocGlobal>(
+    rt: &R,
+    file: &str,
+    text: &str,
+    may_fail: bool,
+) -> io::Result<bool> {
     let rows = Rows::read(rt.alloc(), text)?;
     let mut agreed = 0u64;
     for paragraph in &rows.rows {
-        if agrees(rt, file, paragraph)? {
+        if agrees(rt, file, paragraph, may_fail)? {
             agreed = agreed.saturating_add(1);
         }
     }
@@ -86,10 +99,11 @@ fn agrees<R: Print + AllocGlobal>(
     rt: &R,
     file: &str,
     paragraph: &Paragraph<'_>,
+    may_fail: bool,
 ) -> io::Result<bool> {
     let mut out = String::new(rt.alloc());
     answer(rt.alloc(), paragraph, &mut out)?;
-    if is_wanted(&paragraph.row, out.as_str()) {
+    if is_wanted(&paragraph.row, out.as_str(), may_fail) {
         return Ok(true);
     }
     let name = paragraph.row.name;

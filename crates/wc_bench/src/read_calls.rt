@@ -8,7 +8,7 @@ use crate::rows::Row;
 use crate::values::{put_fault, put_func_type, put_imports};
 use std::alloc::{AllocError, Global};
 use wc_read::{
-    Form, FuncType, MemoryType, Opcode, ReadFault, ValType, form_of, frames, read_body,
+    Body, Form, FuncType, MemoryType, Opcode, ReadFault, ValType, form_of, frames, read_body,
     read_imports, read_init, read_module, refs,
 };
 
@@ -17,22 +17,52 @@ pub(crate) fn answer(alloc: Global, row: &Row<'_>, out: &mut String) -> Result<b
     answered(answer_call(alloc, row, out))
 }
 
+/// The calls on bytes.
+const ON_BYTES: [&str; 7] = [
+    "frames",
+    "read_imports",
+    "read_module",
+    "read_body",
+    "read_init",
+    "refs",
+    "count_operators",
+];
+
+fn is_on_bytes(call: &str) -> bool {
+    ON_BYTES.iter().any(|name| *name == call)
+}
+
 fn answer_call(alloc: Global, row: &Row<'_>, out: &mut String) -> Result<bool, Stop> {
-    if row.call == "frames" {
-        answer_frames(alloc, row, out)?;
-    } else if row.call == "read_imports" {
-        answer_imports(alloc, row, out)?;
-    } else if row.call == "read_module" {
-        answer_module(alloc, row, out)?;
-    } else if row.call == "read_body" {
-        answer_body(alloc, row, out)?;
-    } else if row.call == "read_init" {
-        answer_init(alloc, row, out)?;
-    } else if row.call == "refs" {
-        answer_refs(alloc, row, out)?;
-    } else if row.call == "count_operators" {
-        answer_count(alloc, row, out)?;
-    } else if row.call == "form_of" {
+    if !is_on_bytes(row.call) {
+        return answer_other(alloc, row, out);
+    }
+    let bytes = bytes_of(alloc, &row.input, out)?;
+    answer_on_bytes(alloc, row.call, &bytes, out)?;
+    Ok(true)
+}
+
+fn answer_on_bytes(
+    alloc: Global,
+    call: &str,
+    bytes: &[u8],
+    out: &mut String,
+) -> Result<(), AllocError> {
+    if call == "frames" {
+        answer_frames(alloc, bytes, out)
+    } else if call == "read_imports" {
+        answer_imports(alloc, bytes, out)
+    } else if call == "read_module" {
+        answer_module(alloc, bytes, out)
+    } else if call == "read_init" {
+        answer_init(alloc, bytes, out)
+    } else {
+        answer_body(alloc, call, bytes, out)
+    }
+}
+
+/// The calls on arguments.
+fn answer_other(alloc: Global, row: &Row<'_>, out: &mut String) -> Result<bool, Stop> {
+    if row.call == "form_of" {
         answer_form(row, out)?;
     } else if row.call == "forms" {
         answer_forms(row, out)?;
@@ -48,77 +78,75 @@ fn answer_call(alloc: Global, row: &Row<'_>, out: &mut String) -> Result<bool, S
     Ok(true)
 }
 
-fn answer_frames(alloc: Global, row: &Row<'_>, out: &mut String) -> Result<(), Stop> {
-    let bytes = bytes_of(alloc, &row.input, out)?;
-    match frames(alloc, &bytes) {
-        Ok(found) => put_frames(out, &found)?,
-        Err(fault) => put_fault(out, fault)?,
+fn answer_frames(alloc: Global, bytes: &[u8], out: &mut String) -> Result<(), AllocError> {
+    match frames(alloc, bytes) {
+        Ok(found) => put_frames(out, &found),
+        Err(fault) => put_fault(out, fault),
     }
-    Ok(())
 }
 
-fn answer_imports(alloc: Global, row: &Row<'_>, out: &mut String) -> Result<(), Stop> {
-    let bytes = bytes_of(alloc, &row.input, out)?;
-    match read_imports(alloc, &bytes) {
-        Ok(imports) => put_imports(out, &imports)?,
-        Err(fault) => put_fault(out, fault)?,
+fn answer_imports(alloc: Global, bytes: &[u8], out: &mut String) -> Result<(), AllocError> {
+    match read_imports(alloc, bytes) {
+        Ok(imports) => put_imports(out, &imports),
+        Err(fault) => put_fault(out, fault),
     }
-    Ok(())
 }
 
-pub(crate) fn answer_module(alloc: Global, row: &Row<'_>, out: &mut String) -> Result<(), Stop> {
-    let bytes = bytes_of(alloc, &row.input, out)?;
-    match read_module(alloc, &bytes) {
-        Ok(module) => put_module(out, &module)?,
-        Err(fault) => put_fault(out, fault)?,
+/// A line for each item of the module that the bytes are.
+pub(crate) fn answer_module(
+    alloc: Global,
+    bytes: &[u8],
+    out: &mut String,
+) -> Result<(), AllocError> {
+    match read_module(alloc, bytes) {
+        Ok(module) => put_module(out, &module),
+        Err(fault) => put_fault(out, fault),
     }
-    Ok(())
 }
 
-fn answer_body(alloc: Global, row: &Row<'_>, out: &mut String) -> Result<(), Stop> {
-    let bytes = bytes_of(alloc, &row.input, out)?;
-    match read_body(alloc, &bytes) {
-        Ok(body) => put_body(out, &body)?,
-        Err(fault) => put_fault(out, fault)?,
+fn answer_init(alloc: Global, bytes: &[u8], out: &mut String) -> Result<(), AllocError> {
+    match read_init(alloc, bytes) {
+        Ok(init) => put_init(out, &init),
+        Err(fault) => put_fault(out, fault),
     }
-    Ok(())
 }
 
-fn answer_init(alloc: Global, row: &Row<'_>, out: &mut String) -> Result<(), Stop> {
-    let bytes = bytes_of(alloc, &row.input, out)?;
-    match read_init(alloc, &bytes) {
-        Ok(init) => put_init(out, &init)?,
-        Err(fault) => put_fault(out, fault)?,
+/// The calls on a body.
+fn answer_body(
+    alloc: Global,
+    call: &str,
+    bytes: &[u8],
+    out: &mut String,
+) -> Result<(), AllocError> {
+    match read_body(alloc, bytes) {
+        Ok(body) => put_of_body(call, &body, out),
+        Err(fault) => put_fault(out, fault),
     }
-    Ok(())
+}
+
+fn put_of_body(call: &str, body: &Body<'_>, out: &mut String) -> Result<(), AllocError> {
+    if call == "refs" {
+        put_first_refs(body, out)
+    } else if call == "count_operators" {
+        put_counts(body, out)
+    } else {
+        put_body(out, body)
+    }
 }
 
 /// What a body's first operator refers to.
-fn answer_refs(alloc: Global, row: &Row<'_>, out: &mut String) -> Result<(), Stop> {
-    let bytes = bytes_of(alloc, &row.input, out)?;
-    match read_body(alloc, &bytes) {
-        Ok(body) => {
-            if let Some(operator) = body.operators.first() {
-                put_refs(out, &refs(operator))?;
-            }
-        }
-        Err(fault) => put_fault(out, fault)?,
+fn put_first_refs(body: &Body<'_>, out: &mut String) -> Result<(), AllocError> {
+    match body.operators.first() {
+        Some(operator) => put_refs(out, &refs(operator)),
+        None => Ok(()),
     }
-    Ok(())
 }
 
 /// How many operators a body has, and how many runs of locals.
-fn answer_count(alloc: Global, row: &Row<'_>, out: &mut String) -> Result<(), Stop> {
-    let bytes = bytes_of(alloc, &row.input, out)?;
-    match read_body(alloc, &bytes) {
-        Ok(body) => {
-            let runs = body.locals.len();
-            let operators = body.operators.len();
-            writeln!(out, "{runs} runs of locals, {operators} operators")?;
-        }
-        Err(fault) => put_fault(out, fault)?,
-    }
-    Ok(())
+fn put_counts(body: &Body<'_>, out: &mut String) -> Result<(), AllocError> {
+    let runs = body.locals.len();
+    let operators = body.operators.len();
+    writeln!(out, "{runs} runs of locals, {operators} operators")
 }
 
 /// An argument of a row that has so many or less; it is empty where there are fewer.

@@ -1,11 +1,15 @@
 //! Calls of `wc_tool`.
 
+ghost use Rattle.std.specs.Prelude.{IfOk};
+ghost use Rattle.wc_tool.specs.Command.{IsExecutable, command_value};
+
 use crate::input::{Stop, answered, bad_row, bytes_of};
 use crate::rows::Row;
 use crate::values::{put_bytes_lines, put_fault};
 use std::alloc::{AllocError, Global};
 use std::str;
 use wc_dedupe::DedupeFault;
+use wc_gc::GcFault;
 use wc_read::ReadFault;
 use wc_tool::{Command, ToolFault, execute, parse};
 use wc_write::WriterSink;
@@ -39,8 +43,26 @@ fn arguments_of(alloc: Global, lines: &[&str]) -> Result<Vec<String>, AllocError
 fn command_word(command: &Command<'_>) -> &'static str {
     match command {
         Command::Dedupe { .. } => "dedupe",
+        Command::Trim { .. } => "trim",
         Command::Scan { .. } => "scan",
     }
+}
+
+/// The options of a trim, and the exports that it keeps.
+fn put_options(out: &mut String, command: &Command<'_>) -> Result<(), AllocError> {
+    if let Command::Trim {
+        realloc,
+        page,
+        exports,
+        ..
+    } = command
+    {
+        writeln!(out, "realloc {realloc:?}\npage {page}")?;
+        for export in exports.iter() {
+            writeln!(out, "export {export:?}")?;
+        }
+    }
+    Ok(())
 }
 
 /// A command, the file that it reads and the one that it writes.
@@ -49,9 +71,10 @@ fn put_command(out: &mut String, command: &Command<'_>) -> Result<(), AllocError
     let source = command.source();
     write!(out, "{word}\nreads {source:?}\nwrites ")?;
     match command.target() {
-        Some(target) => writeln!(out, "{target:?}"),
-        None => out.push_str("nothing\n"),
+        Some(target) => writeln!(out, "{target:?}")?,
+        None => out.push_str("nothing\n")?,
     }
+    put_options(out, command)
 }
 
 fn answer_parse(alloc: Global, row: &Row<'_>, out: &mut String) -> Result<(), Stop> {
@@ -64,7 +87,9 @@ fn answer_parse(alloc: Global, row: &Row<'_>, out: &mut String) -> Result<(), St
 }
 
 /// The command that the first argument names.
-pub(crate) fn named_command(row: &Row<'_>, out: &mut String) -> Result<Command<'static>, Stop> {
+pub(crate) fn named_command(row: &Row<'_>, out: &mut String) -> Result<Command<'static>, Stop>
+    ensures { IfOk result (λ c. IsExecutable (command_value c)) }
+{
     let word = match row.arguments.first() {
         Some(word) => *word,
         None => "",
@@ -82,13 +107,48 @@ pub(crate) fn named_command(row: &Row<'_>, out: &mut String) -> Result<Command<'
 }
 
 fn answer_execute(alloc: Global, row: &Row<'_>, out: &mut String) -> Result<(), Stop> {
-    let command = named_command(row, out)?;
     let input = bytes_of(alloc, &row.input, out)?;
-    let mut sink = WriterSink::new(Vec::new(alloc));
-    let answer = execute(alloc, &command, &input, &mut sink);
-    put_lines(out, &sink.into_inner())?;
-    put_answer(out, &answer)?;
+    if row.arguments.first() == Some(&"trim") {
+        return answer_trim(alloc, row, &input, out);
+    }
+    let command = named_command(row, out)?;
+    put_executed(alloc, &command, &input, out)?;
     Ok(())
+}
+
+/// `execute trim NAME..`.
+fn answer_trim(alloc: Global, row: &Row<'_>, input: &[u8], out: &mut String) -> Result<(), Stop> {
+    let names = arguments_of(alloc, &row.arguments)?;
+    let Some((_, exports)) = names.as_slice().split_first() else {
+        return Err(bad_row(out, "no exports", row.call));
+    };
+    if exports.is_empty() {
+        return Err(bad_row(out, "no exports", row.call));
+    }
+    let command = Command::Trim {
+        source: "in.wasm",
+        target: "out.wasm",
+        realloc: None,
+        page: 16,
+        exports,
+    };
+    put_executed(alloc, &command, input, out)?;
+    Ok(())
+}
+
+/// What a command prints, and its answer.
+fn put_executed(
+    alloc: Global,
+    command: &Command<'_>,
+    input: &[u8],
+    out: &mut String,
+) -> Result<(), AllocError>
+    requires { IsExecutable (command_value command.now) }
+{
+    let mut sink = WriterSink::new(Vec::new(alloc));
+    let answer = execute(alloc, command, input, &mut sink);
+    put_lines(out, &sink.into_inner())?;
+    put_answer(out, &answer)
 }
 
 /// The lines that were printed, or their bytes where they are no text.
@@ -109,7 +169,7 @@ pub(crate) fn put_answer(
     match answer {
         Ok(Some(bytes)) => put_bytes_lines(out, "bytes", bytes),
         Ok(None) => out.push_str("no bytes\n"),
-        Err(fault) => put_fault(out, *fault),
+        Err(fault) => writeln!(out, "fault {fault}"),
     }
 }
 
@@ -117,6 +177,7 @@ pub(crate) fn put_answer(
 fn put_faults(out: &mut String) -> Result<(), AllocError> {
     put_fault(out, ToolFault::Memory)?;
     put_fault(out, ToolFault::Dedupe(DedupeFault::TooLarge))?;
+    put_fault(out, ToolFault::Trim(GcFault::LiveBody))?;
     put_fault(out, ToolFault::Read(ReadFault::Truncated))?;
     put_fault(out, ToolFault::Output)
 }

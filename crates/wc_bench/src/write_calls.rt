@@ -17,23 +17,54 @@ pub(crate) fn answer(alloc: Global, row: &Row<'_>, out: &mut String) -> Result<b
     answered(answer_call(alloc, row, out))
 }
 
+/// The calls on bytes.
+const ON_BYTES: [&str; 4] = [
+    "rewrite_import_section",
+    "write_body",
+    "write_bodies",
+    "write_module",
+];
+
+fn is_on_bytes(call: &str) -> bool {
+    ON_BYTES.iter().any(|name| *name == call)
+}
+
 fn answer_call(alloc: Global, row: &Row<'_>, out: &mut String) -> Result<bool, Stop> {
+    if !is_on_bytes(row.call) {
+        return answer_other(alloc, row, out);
+    }
+    let bytes = bytes_of(alloc, &row.input, out)?;
+    answer_on_bytes(alloc, row.call, &bytes, out)?;
+    Ok(true)
+}
+
+fn answer_on_bytes(
+    alloc: Global,
+    call: &str,
+    bytes: &[u8],
+    out: &mut String,
+) -> Result<(), AllocError> {
+    if call == "rewrite_import_section" {
+        answer_rewritten_imports(alloc, bytes, out)
+    } else if call == "write_body" {
+        put_body_text(alloc, bytes, out)
+    } else if call == "write_bodies" {
+        answer_bodies(alloc, bytes, out)
+    } else {
+        answer_module(alloc, bytes, out)
+    }
+}
+
+/// The calls on imports and contents of sections.
+fn answer_other(alloc: Global, row: &Row<'_>, out: &mut String) -> Result<bool, Stop> {
     if row.call == "write_import_section" {
         answer_import_section(alloc, row, out)?;
     } else if row.call == "append_import_section" {
         answer_appended_imports(alloc, row, out)?;
-    } else if row.call == "rewrite_import_section" {
-        answer_rewritten_imports(alloc, row, out)?;
     } else if row.call == "raw_section" {
         answer_raw_section(alloc, row, out)?;
     } else if row.call == "append_raw_section" {
         answer_appended_section(alloc, row, out)?;
-    } else if row.call == "write_body" {
-        answer_body(alloc, row, out)?;
-    } else if row.call == "write_bodies" {
-        answer_bodies(alloc, row, out)?;
-    } else if row.call == "write_module" {
-        answer_module(alloc, row, out)?;
     } else if row.call == "write_faults" {
         put_faults(out)?;
     } else {
@@ -78,13 +109,15 @@ fn answer_appended_imports(alloc: Global, row: &Row<'_>, out: &mut String) -> Re
 }
 
 /// The section of imports that are read out of a section's content.
-fn answer_rewritten_imports(alloc: Global, row: &Row<'_>, out: &mut String) -> Result<(), Stop> {
-    let content = bytes_of(alloc, &row.input, out)?;
-    match read_imports(alloc, &content) {
-        Ok(imports) => put_written(out, &write_import_section(alloc, &imports))?,
-        Err(fault) => put_fault(out, fault)?,
+fn answer_rewritten_imports(
+    alloc: Global,
+    content: &[u8],
+    out: &mut String,
+) -> Result<(), AllocError> {
+    match read_imports(alloc, content) {
+        Ok(imports) => put_written(out, &write_import_section(alloc, &imports)),
+        Err(fault) => put_fault(out, fault),
     }
-    Ok(())
 }
 
 /// The id that the first argument is, and the other arguments.
@@ -123,12 +156,6 @@ fn put_body_text(alloc: Global, bytes: &[u8], out: &mut String) -> Result<(), Al
     }
 }
 
-fn answer_body(alloc: Global, row: &Row<'_>, out: &mut String) -> Result<(), Stop> {
-    let bytes = bytes_of(alloc, &row.input, out)?;
-    put_body_text(alloc, &bytes, out)?;
-    Ok(())
-}
-
 fn put_body_texts(alloc: Global, funcs: &[Func<'_>], out: &mut String) -> Result<(), AllocError> {
     for func in funcs {
         if let Def::Local(body) = func.def {
@@ -139,23 +166,19 @@ fn put_body_texts(alloc: Global, funcs: &[Func<'_>], out: &mut String) -> Result
 }
 
 /// The text of each body of a module.
-fn answer_bodies(alloc: Global, row: &Row<'_>, out: &mut String) -> Result<(), Stop> {
-    let bytes = bytes_of(alloc, &row.input, out)?;
-    match read_module(alloc, &bytes) {
-        Ok(module) => put_body_texts(alloc, &module.funcs, out)?,
-        Err(fault) => put_fault(out, fault)?,
+fn answer_bodies(alloc: Global, bytes: &[u8], out: &mut String) -> Result<(), AllocError> {
+    match read_module(alloc, bytes) {
+        Ok(module) => put_body_texts(alloc, &module.funcs, out),
+        Err(fault) => put_fault(out, fault),
     }
-    Ok(())
 }
 
 /// The text of the module that the bytes are.
-fn answer_module(alloc: Global, row: &Row<'_>, out: &mut String) -> Result<(), Stop> {
-    let bytes = bytes_of(alloc, &row.input, out)?;
-    match built_of(alloc, &bytes) {
-        Ok(built) => put_written(out, &write_module(alloc, &built))?,
-        Err(fault) => put_fault(out, fault)?,
+fn answer_module(alloc: Global, bytes: &[u8], out: &mut String) -> Result<(), AllocError> {
+    match built_of(alloc, bytes) {
+        Ok(built) => put_written(out, &write_module(alloc, &built)),
+        Err(fault) => put_fault(out, fault),
     }
-    Ok(())
 }
 
 /// The texts of all faults.

@@ -1,8 +1,8 @@
 //! An example of `wc_tool`.
 
-ghost use Rattle.std.specs.Prelude.{◌≡◌, ◌≢◌, ℕ, IfNone, IfOk, IfSome, List, Option};
+ghost use Rattle.std.specs.Prelude.{ℕ, IfNone, IfOk, IfSome, List, Option};
 ghost use Rattle.std.specs.Prelude.{map, string_bytes};
-ghost use Rattle.wc_tool.specs.Command.{CommandValue, arguments_of};
+ghost use Rattle.wc_tool.specs.Command.{CommandValue, IsCommandLine};
 ghost use Rattle.wc_tool.specs.Execution.{Runs};
 
 use std::alloc::Global;
@@ -18,10 +18,10 @@ pub(crate) fn printed_lines(
 ) -> Result<Option<Vec<u8>>, ToolFault>
     ensures lines { IfOk result (λ answer. IfSome answer (λ lines.
         (c : CommandValue) × (written : Option (List ℕ))
-        × (map string_bytes arguments.now ≡ arguments_of c)
+        × IsCommandLine (map string_bytes arguments.now) c
         × Runs c input.now lines.items written)) }
     ensures usage { IfOk result (λ answer. IfNone answer
-        ((c : CommandValue) → map string_bytes arguments.now ≢ arguments_of c)) }
+        ((c : CommandValue) → ¬ (IsCommandLine (map string_bytes arguments.now) c))) }
 {
     let Ok(command) = parse(arguments) else {
         return Ok(None);

@@ -10,6 +10,7 @@ use crate::worlds::stop::Stop;
 use crate::worlds::words::Words;
 use std::alloc::{AllocError, Global};
 use wc_names::{Legacy, NameMangling, Standard};
+use wc_resolve::Resolve;
 
 /// The calls on names alone, each of which is a line of input.
 fn is_on_names(call: &str) -> bool {
@@ -17,11 +18,14 @@ fn is_on_names(call: &str) -> bool {
 }
 
 /// The calls on names in a world, with a script.
-const IN_WORLD: [&str; 4] = [
+const IN_WORLD: [&str; 7] = [
     "payload_intrinsic",
     "payload_lookup",
     "payload",
     "module_to_interface",
+    "interface_names",
+    "match_wit_export",
+    "match_wit_resource_dtor",
 ];
 
 fn is_in_world(call: &str) -> bool {
@@ -57,10 +61,20 @@ fn put_script<'a, N: NameMangling>(
     out: &mut String,
 ) -> Result<(), Stop<'a>> {
     let resolve = resolve_of(alloc, &row.input)?;
+    put_world_lines(alloc, scheme, row, &resolve, out)
+}
+
+fn put_world_lines<'a, N: NameMangling>(
+    alloc: Global,
+    scheme: &N,
+    row: &'a Row<'a>,
+    resolve: &Resolve,
+    out: &mut String,
+) -> Result<(), Stop<'a>> {
     for line in &row.input {
         if let Some(line) = line.strip_prefix("do ") {
             let mut words = Words::of(alloc, line, 0)?;
-            match put_world_line(scheme, row.call, &resolve, &mut words, out) {
+            match put_world_line(scheme, row.call, resolve, &mut words, out) {
                 Ok(()) => {}
                 Err(bad) => return Err(Stop::at(bad, line)),
             }

@@ -1,13 +1,19 @@
-//! Scripts on names in a world: of futures, streams and resources, and of interfaces.
+//! Scripts on names in a world: of futures, streams and resources, of interfaces, and of exports.
+
+ghost use Rattle.std.specs.Prelude.{All, map};
+ghost use Rattle.wc_resolve.specs.Ranges.{IsKeyIn};
+ghost use Rattle.wc_resolve.specs.Views.{world_entry};
 
 use crate::names::contexts::{context_line, first_world, is_imported};
+use crate::names::exports_in_worlds::export_line;
 use crate::names::values::payload_line;
 use crate::worlds::bad::Bad;
 use crate::worlds::shown_names::{put_id, put_key, put_name};
 use crate::worlds::words::Words;
-use std::alloc::AllocError;
+use indexmap::IndexMap;
+use std::alloc::{AllocError, Global};
 use wc_names::NameMangling;
-use wc_resolve::{InterfaceId, Resolve, WorldKey};
+use wc_resolve::{InterfaceId, Resolve, WorldItem, WorldKey};
 
 fn put_found(out: &mut String, found: &Option<(WorldKey, InterfaceId)>) -> Result<(), AllocError> {
     match found {
@@ -22,9 +28,29 @@ fn put_found(out: &mut String, found: &Option<(WorldKey, InterfaceId)>) -> Resul
     }
 }
 
+/// The interface that a text is about, by one look-up among items, or by an index of them.
+fn find_interface<N: NameMangling>(
+    alloc: Global,
+    scheme: &N,
+    call: &str,
+    resolve: &Resolve,
+    items: &IndexMap<WorldKey, WorldItem>,
+    text: &str,
+) -> Result<Option<(WorldKey, InterfaceId)>, AllocError>
+    requires { All (λ x. IsKeyIn resolve.now x.0) (map world_entry items.now.entries) }
+{
+    if call == "module_to_interface" {
+        return scheme.module_to_interface(alloc, text, resolve, items);
+    }
+    scheme
+        .interface_names(alloc, resolve, items)?
+        .interface(alloc, text)
+}
+
 /// `imports TEXT` or `exports TEXT`.
 fn interface_line<N: NameMangling>(
     scheme: &N,
+    call: &str,
     resolve: &Resolve,
     words: &mut Words,
     out: &mut String,
@@ -36,9 +62,9 @@ fn interface_line<N: NameMangling>(
     };
     put_name(out, &text)?;
     let found = if imported {
-        scheme.module_to_interface(words.alloc, &text, resolve, &world.imports)?
+        find_interface(words.alloc, scheme, call, resolve, &world.imports, &text)?
     } else {
-        scheme.module_to_interface(words.alloc, &text, resolve, &world.exports)?
+        find_interface(words.alloc, scheme, call, resolve, &world.exports, &text)?
     };
     put_found(out, &found)?;
     Ok(())
@@ -52,10 +78,12 @@ pub(crate) fn put_world_line<N: NameMangling>(
     words: &mut Words,
     out: &mut String,
 ) -> Result<(), Bad> {
-    if call == "module_to_interface" {
-        interface_line(scheme, resolve, words, out)?;
+    if call == "module_to_interface" || call == "interface_names" {
+        interface_line(scheme, call, resolve, words, out)?;
     } else if call == "payload" {
         payload_line(resolve, words, out)?;
+    } else if call == "match_wit_export" || call == "match_wit_resource_dtor" {
+        export_line(scheme, call, resolve, words, out)?;
     } else {
         context_line(scheme, call, resolve, words, out)?;
     }

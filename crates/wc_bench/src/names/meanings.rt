@@ -10,10 +10,6 @@ use std::fmt::Debug;
 use wc_names::NameMangling;
 use wc_resolve::AbiVariant;
 
-fn put_flag(out: &mut String, word: &str, holds: bool) -> Result<(), AllocError> {
-    if holds { out.push_str(word) } else { Ok(()) }
-}
-
 /// A word, and what was found, if something was.
 fn put_found<T: Debug + Drop>(
     out: &mut String,
@@ -28,14 +24,22 @@ fn put_found<T: Debug + Drop>(
 
 /// The built-ins that have one name.
 fn put_plain<N: NameMangling>(scheme: &N, name: &str, out: &mut String) -> Result<(), AllocError> {
-    put_flag(out, " task_cancel", scheme.task_cancel(name))?;
-    put_flag(out, " backpressure_inc", scheme.backpressure_inc(name))?;
-    put_flag(out, " backpressure_dec", scheme.backpressure_dec(name))?;
-    put_flag(out, " waitable_set_new", scheme.waitable_set_new(name))?;
-    put_flag(out, " waitable_set_drop", scheme.waitable_set_drop(name))?;
-    put_flag(out, " waitable_join", scheme.waitable_join(name))?;
-    put_flag(out, " subtask_drop", scheme.subtask_drop(name))?;
-    put_flag(out, " error_context_drop", scheme.error_context_drop(name))
+    let flags = [
+        (" task_cancel", scheme.task_cancel(name)),
+        (" backpressure_inc", scheme.backpressure_inc(name)),
+        (" backpressure_dec", scheme.backpressure_dec(name)),
+        (" waitable_set_new", scheme.waitable_set_new(name)),
+        (" waitable_set_drop", scheme.waitable_set_drop(name)),
+        (" waitable_join", scheme.waitable_join(name)),
+        (" subtask_drop", scheme.subtask_drop(name)),
+        (" error_context_drop", scheme.error_context_drop(name)),
+    ];
+    for (word, holds) in flags {
+        if holds {
+            out.push_str(word)?;
+        }
+    }
+    Ok(())
 }
 
 /// The built-ins whose names say more.

@@ -101,7 +101,8 @@ pub(crate) fn put_copies<'a>(
 
 /// Whether the type is a future or a stream.
 fn is_async_value(resolve: &Resolve, id: TypeId) -> bool
-    ensures { IsTrue result → (function : List ℕ) → HasPayload resolve.now (typed id.0 function) }
+    ensures { IsTrue result
+        → (function : List ℕ) → HasPayload resolve.now (typed id.0 function) }
 {
     if !resolve.has_type(id) {
         return false;

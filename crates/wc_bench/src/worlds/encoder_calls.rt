@@ -2,8 +2,7 @@
 
 use crate::rows::Row;
 use crate::worlds::encoder_fields::{put_adapters, put_encoder, put_item, put_which};
-use crate::worlds::encoder_fixture::{encoder_of, library_item, main_or_adapter};
-use crate::worlds::fixture::fixture_of;
+use crate::worlds::encoder_fixture::{described_encoder, library_item, main_or_adapter};
 use crate::worlds::resolve_calls::{argument_words, put_answer};
 use crate::worlds::shown_worlds::put_world;
 use crate::worlds::stop::Stop;
@@ -62,24 +61,35 @@ fn put_encoded_world<'a>(encoder: &ComponentEncoder, out: &mut String) -> Result
     Ok(())
 }
 
+/// What a call asks of an encoder.
+fn put_of_encoder<'a>(
+    call: &str,
+    encoder: &ComponentEncoder,
+    out: &mut String,
+) -> Result<(), Stop<'a>> {
+    encoder.well_formedness();
+    if call == "encoder" {
+        put_encoder(out, encoder)?;
+    } else if call == "encoder_adapters" {
+        put_adapters(out, encoder)?;
+    } else if call == "encoder_world" {
+        put_encoded_world(encoder, out)?;
+    } else {
+        out.push_str("ok\n")?;
+    }
+    Ok(())
+}
+
 /// The answer of a call on the encoder that the input describes.
 fn answer_on_encoder<'a>(
     alloc: Global,
     row: &'a Row<'a>,
     out: &mut String,
 ) -> Result<(), Stop<'a>> {
-    let encoder = encoder_of(alloc, fixture_of(alloc, &row.input)?)?;
-    encoder.well_formedness();
-    if row.call == "encoder" {
-        put_encoder(out, &encoder)?;
-    } else if row.call == "encoder_adapters" {
-        put_adapters(out, &encoder)?;
-    } else if row.call == "encoder_world" {
-        put_encoded_world(&encoder, out)?;
-    } else {
-        out.push_str("ok\n")?;
+    match described_encoder(alloc, row) {
+        Ok(encoder) => put_of_encoder(row.call, &encoder, out),
+        Err(stop) => Err(stop),
     }
-    Ok(())
 }
 
 fn answered<'a>(alloc: Global, row: &'a Row<'a>, out: &mut String) -> Result<(), Stop<'a>> {

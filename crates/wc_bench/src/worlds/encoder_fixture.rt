@@ -1,11 +1,13 @@
 //! Encoders as lines, beside those of worlds: `module`, `encode`, `module-exports`, `adapter`, `task-hook` and the two
 //! flags.
 
+use crate::rows::Row;
 use crate::worlds::bad::Bad;
-use crate::worlds::fixture::{Fixture, once};
+use crate::worlds::fixture::{Fixture, fixture_of, once};
 use crate::worlds::members::world_key;
 use crate::worlds::stop::Stop;
 use crate::worlds::words::Words;
+use hex::FromHexError;
 use indexmap::{IndexMap, IndexSet};
 use std::alloc::Global;
 use std::borrow::CowSlice;
@@ -50,7 +52,11 @@ fn bytes_word(words: &mut Words) -> Result<Vec<u8>, Bad> {
         return Ok(Vec::new(words.alloc));
     }
     let text = words.name()?;
-    hex::decode(words.alloc, text.as_str()).map_err(|_| Bad::Line("no hex"))
+    match hex::decode(words.alloc, text.as_str()) {
+        Ok(bytes) => Ok(bytes),
+        Err(FromHexError::OutOfMemory) => Err(Bad::Memory),
+        Err(_) => Err(Bad::Line("no hex")),
+    }
 }
 
 /// `module [deduped] HEX`, after its first word. Of a deduped module the repeated imports are renamed first.
@@ -60,17 +66,14 @@ fn module_line(words: &mut Words, draft: &mut EncoderDraft) -> Result<(), Bad> {
         return Ok(());
     }
     let bytes = bytes_word(words)?;
-    let deduped = ModuleImportMap::new(words.alloc, CowSlice::Borrowed(bytes.as_slice()));
-    let Ok((module, map)) = deduped else {
-        return Err(Bad::Line("a module that dedupe refuses"));
-    };
+    let (module, map) = ModuleImportMap::new(words.alloc, CowSlice::Borrowed(bytes.as_slice()))?;
     draft.module = Vec::from_slice(words.alloc, module.as_slice())?;
     draft.module_import_map = map;
     Ok(())
 }
 
 /// Keys, up to the line's end.
-fn put_keys(words: &mut Words, keys: &mut IndexSet<WorldKey>) -> Result<(), Bad> {
+pub(crate) fn put_keys(words: &mut Words, keys: &mut IndexSet<WorldKey>) -> Result<(), Bad> {
     for _ in 0..words.len() {
         if words.is_done() {
             break;
@@ -248,4 +251,15 @@ pub(crate) fn encoder_of<'a>(
         task_hook: draft.task_hook,
     };
     Ok(ComponentEncoder::build(alloc, parts)?)
+}
+
+/// The encoder that a row's input describes.
+pub(crate) fn described_encoder<'a>(
+    alloc: Global,
+    row: &'a Row<'a>,
+) -> Result<ComponentEncoder, Stop<'a>> {
+    match fixture_of(alloc, &row.input) {
+        Ok(fixture) => encoder_of(alloc, fixture),
+        Err(stop) => Err(stop),
+    }
 }

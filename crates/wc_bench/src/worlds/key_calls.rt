@@ -9,7 +9,7 @@ use crate::worlds::words::Words;
 use std::alloc::AllocError;
 use std::hash::{DefaultHasher, Hash, Hasher};
 use wc_resolve::laws::keys_hash_alike;
-use wc_resolve::{PackageName, WorldKey};
+use wc_resolve::{Function, PackageName, WorldKey};
 
 fn hash_of(key: &WorldKey) -> u64 {
     let mut state = DefaultHasher::new();
@@ -42,12 +42,17 @@ fn keys_equal<'a>(words: &mut Words, out: &mut String) -> Result<(), Stop<'a>> {
     Ok(())
 }
 
+/// A name, on a line.
+fn put_line(out: &mut String, name: &str) -> Result<(), AllocError> {
+    put_name(out, name)?;
+    out.push('\n')
+}
+
 fn version_compat_track<'a>(words: &mut Words, out: &mut String) -> Result<(), Stop<'a>> {
     let text = words.name()?;
     let version = version_of(words.alloc, &text)?;
     let track = PackageName::version_compat_track(words.alloc, &version)?;
-    put_name(out, &track)?;
-    out.push('\n')?;
+    put_line(out, &track)?;
     Ok(())
 }
 
@@ -72,37 +77,55 @@ fn package_name_clone<'a>(words: &mut Words, out: &mut String) -> Result<(), Sto
 /// `legacy_core_export_name FUNC [of INTERFACE]`, the interface by its name.
 fn legacy_core_export_name<'a>(words: &mut Words, out: &mut String) -> Result<(), Stop<'a>> {
     let function = complete_function(words)?;
+    put_core_export_name(words, &function, out)
+}
+
+fn put_core_export_name<'a>(
+    words: &mut Words,
+    function: &Function,
+    out: &mut String,
+) -> Result<(), Stop<'a>> {
     let name = if words.take("of") {
         let interface = words.name()?;
         function.legacy_core_export_name(words.alloc, Some(interface.as_str()))?
     } else {
         function.legacy_core_export_name(words.alloc, None)?
     };
-    put_name(out, &name)?;
-    out.push('\n')?;
+    put_line(out, &name)?;
     Ok(())
 }
 
-/// False where the call is none of these.
+/// The calls on keys and versions.
+const ON_KEYS: [&str; 6] = [
+    "key_clone",
+    "keys_equal",
+    "version_compat_track",
+    "is_version_compat_track",
+    "package_name_clone",
+    "legacy_core_export_name",
+];
+
+pub(crate) fn is_on_keys(call: &str) -> bool {
+    ON_KEYS.iter().any(|name| *name == call)
+}
+
+/// The answer of a call on keys and versions.
 pub(crate) fn key_call<'a>(
     call: &str,
     words: &mut Words,
     out: &mut String,
-) -> Result<bool, Stop<'a>> {
+) -> Result<(), Stop<'a>> {
     if call == "key_clone" {
-        key_clone(words, out)?;
+        key_clone(words, out)
     } else if call == "keys_equal" {
-        keys_equal(words, out)?;
+        keys_equal(words, out)
     } else if call == "version_compat_track" {
-        version_compat_track(words, out)?;
+        version_compat_track(words, out)
     } else if call == "is_version_compat_track" {
-        is_version_compat_track(words, out)?;
+        is_version_compat_track(words, out)
     } else if call == "package_name_clone" {
-        package_name_clone(words, out)?;
-    } else if call == "legacy_core_export_name" {
-        legacy_core_export_name(words, out)?;
+        package_name_clone(words, out)
     } else {
-        return Ok(false);
+        legacy_core_export_name(words, out)
     }
-    Ok(true)
 }

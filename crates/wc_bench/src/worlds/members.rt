@@ -5,7 +5,7 @@ use crate::worlds::functions::function_under;
 use crate::worlds::types::type_id;
 use crate::worlds::words::Words;
 use semver::Version;
-use std::alloc::Global;
+use std::alloc::{AllocError, Global};
 use wc_resolve::{Handle, InterfaceId, PackageName, WorldItem, WorldKey};
 
 pub(crate) fn interface_id(words: &mut Words) -> Result<InterfaceId, Bad> {
@@ -51,9 +51,17 @@ pub(crate) fn world_entry(words: &mut Words) -> Result<(WorldKey, WorldItem), Ba
     Ok((key, item))
 }
 
-/// The version of a text. Where it can't be read, or memory runs out, the line is bad.
+fn of_version(error: semver::Error) -> Bad {
+    if error == semver::Error::from(AllocError) {
+        Bad::Memory
+    } else {
+        Bad::Line("no version")
+    }
+}
+
+/// The version of a text.
 pub(crate) fn version_of(alloc: Global, text: &str) -> Result<Version, Bad> {
-    Version::parse(alloc, text).map_err(|_| Bad::Line("no version"))
+    Version::parse(alloc, text).map_err(of_version)
 }
 
 fn optional_version(alloc: Global, text: Option<&str>) -> Result<Option<Version>, Bad> {

@@ -6,8 +6,8 @@ use crate::worlds::resolve_calls::{put_answer, put_found};
 use crate::worlds::shown_names::{put_id, put_name, put_optional_name, put_package_name};
 use crate::worlds::stop::Stop;
 use crate::worlds::words::Words;
-use std::alloc::AllocError;
-use wc_resolve::{InterfaceId, Resolve, TypeId, WorldItem, WorldKey};
+use std::alloc::{AllocError, Global};
+use wc_resolve::{Function, InterfaceId, Resolve, TypeId, WorldItem, WorldKey};
 
 /// A text, or `none`, on a line.
 fn put_text(out: &mut String, text: &Option<String>) -> Result<(), AllocError> {
@@ -135,11 +135,19 @@ fn find_futures_and_streams<'a>(
     out: &mut String,
 ) -> Result<(), Stop<'a>> {
     let function = complete_function(words)?;
-    if !resolve.has_function(&function) {
+    put_futures(words.alloc, resolve, &function, out)
+}
+
+fn put_futures<'a>(
+    alloc: Global,
+    resolve: &Resolve,
+    function: &Function,
+    out: &mut String,
+) -> Result<(), Stop<'a>> {
+    if !resolve.has_function(function) {
         return Err(Stop::Missing("a function that is not usable"));
     }
-    let found = function.find_futures_and_streams(words.alloc, resolve)?;
-    put_type_ids(out, &found)?;
+    put_type_ids(out, &function.find_futures_and_streams(alloc, resolve)?)?;
     Ok(())
 }
 
@@ -151,7 +159,16 @@ fn nth_future_or_stream<'a>(
 ) -> Result<(), Stop<'a>> {
     let n = words.number()?;
     let function = complete_function(words)?;
-    if !resolve.has_function(&function) {
+    put_nth(resolve, n, &function, out)
+}
+
+fn put_nth<'a>(
+    resolve: &Resolve,
+    n: u32,
+    function: &Function,
+    out: &mut String,
+) -> Result<(), Stop<'a>> {
+    if !resolve.has_function(function) {
         return Err(Stop::Missing("a function that is not usable"));
     }
     let found = function.nth_future_or_stream(resolve, n);

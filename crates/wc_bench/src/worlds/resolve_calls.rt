@@ -3,7 +3,7 @@
 use crate::rows::Row;
 use crate::worlds::fixture::fixture_of;
 use crate::worlds::functions::complete_function;
-use crate::worlds::key_calls::key_call;
+use crate::worlds::key_calls::{is_on_keys, key_call};
 use crate::worlds::live_calls::live_call;
 use crate::worlds::members::{handle, package_name};
 use crate::worlds::name_calls::{lookup_call, name_call};
@@ -15,7 +15,7 @@ use crate::worlds::stop::Stop;
 use crate::worlds::types::type_id;
 use crate::worlds::words::Words;
 use std::alloc::{AllocError, Global};
-use wc_resolve::{InterfaceId, PackageId, Resolve, ResolveFault, WorldId};
+use wc_resolve::{Function, InterfaceId, PackageId, Resolve, ResolveFault, WorldId};
 
 /// The words after a call, as a line.
 pub(crate) fn argument_words<'a>(alloc: Global, row: &Row<'_>) -> Result<Words, Stop<'a>> {
@@ -169,18 +169,24 @@ fn put_faults(out: &mut String) -> Result<(), AllocError> {
 }
 
 /// The calls that need no `Resolve`.
-fn lone_call<'a>(call: &str, words: &mut Words, out: &mut String) -> Result<bool, Stop<'a>> {
-    if call == "resolve_faults" {
-        put_faults(out)?;
-    } else if call == "handle_resource" {
+fn lone_call<'a>(call: &str, words: &mut Words, out: &mut String) -> Result<(), Stop<'a>> {
+    if is_on_keys(call) {
+        return key_call(call, words, out);
+    }
+    if call == "handle_resource" {
         put_found(out, 't', Some(handle(words)?.resource().0))?;
     } else if call == "function_clone" {
-        put_complete_function(out, &complete_function(words)?.clone(words.alloc)?)?;
-        out.push('\n')?;
+        put_copy(words.alloc, &complete_function(words)?, out)?;
     } else {
-        return Ok(false);
+        put_faults(out)?;
     }
-    Ok(true)
+    Ok(())
+}
+
+/// The copy of a function, on a line.
+fn put_copy(alloc: Global, function: &Function, out: &mut String) -> Result<(), AllocError> {
+    put_complete_function(out, &function.clone(alloc)?)?;
+    out.push('\n')
 }
 
 /// The calls on a `Resolve`.
@@ -211,20 +217,10 @@ fn is_on_resolve(call: &str) -> bool {
 }
 
 /// The calls that need no `Resolve`.
-const ALONE: [&str; 9] = [
-    "resolve_faults",
-    "handle_resource",
-    "function_clone",
-    "key_clone",
-    "keys_equal",
-    "version_compat_track",
-    "is_version_compat_track",
-    "package_name_clone",
-    "legacy_core_export_name",
-];
+const ALONE: [&str; 3] = ["resolve_faults", "handle_resource", "function_clone"];
 
 fn is_alone(call: &str) -> bool {
-    ALONE.iter().any(|name| *name == call)
+    is_on_keys(call) || ALONE.iter().any(|name| *name == call)
 }
 
 /// The answer of a call on the `Resolve` that the input describes.
@@ -235,24 +231,33 @@ fn answer_on_resolve<'a>(
     out: &mut String,
 ) -> Result<(), Stop<'a>> {
     let resolve = resolve_of(alloc, &row.input)?;
-    if resolve_call(row.call, &resolve, words, out)? || name_call(row.call, &resolve, words, out)? {
+    answer_by(&resolve, row, words, out)
+}
+
+fn answer_by<'a>(
+    resolve: &Resolve,
+    row: &'a Row<'a>,
+    words: &mut Words,
+    out: &mut String,
+) -> Result<(), Stop<'a>> {
+    if resolve_call(row.call, resolve, words, out)? || name_call(row.call, resolve, words, out)? {
         return Ok(());
     }
-    if lookup_call(row.call, &resolve, words, out)? {
+    if lookup_call(row.call, resolve, words, out)? {
         return Ok(());
     }
-    if signature_call(row.call, &resolve, words, out)? {
+    if signature_call(row.call, resolve, words, out)? {
         return Ok(());
     }
-    live_call(alloc, &resolve, &row.input, out)
+    live_call(words.alloc, resolve, &row.input, out)
 }
 
 fn answered<'a>(alloc: Global, row: &'a Row<'a>, out: &mut String) -> Result<(), Stop<'a>> {
     let mut words = argument_words(alloc, row)?;
     if is_on_resolve(row.call) {
         answer_on_resolve(alloc, row, &mut words, out)?;
-    } else if !lone_call(row.call, &mut words, out)? && !key_call(row.call, &mut words, out)? {
-        return Err(Stop::Missing("no call"));
+    } else {
+        lone_call(row.call, &mut words, out)?;
     }
     words.end()?;
     Ok(())

@@ -4,6 +4,7 @@ use crate::worlds::bad::Bad;
 use std::alloc::{AllocError, AllocFailed};
 use wc_encoder::EncoderFault;
 use wc_resolve::ResolveFault;
+use wc_write::WriteFault;
 
 /// Why a call has no other answer: memory ran out, a line can't be read, what is asked for is not there, or the
 /// fault of a call.
@@ -42,6 +43,12 @@ impl<'a> From<Bad> for Stop<'a> {
             Bad::Memory => Stop::Memory,
             Bad::Line(why) => Stop::Missing(why),
         }
+    }
+}
+
+impl<'a> From<WriteFault> for Stop<'a> {
+    fn from(fault: WriteFault) -> Stop<'a> {
+        Stop::from(Bad::from(fault))
     }
 }
 

@@ -201,6 +201,19 @@ impl Words {
         Ok(name)
     }
 
+    /// The words that are left, with a space between them.
+    pub(crate) fn rest(&mut self) -> Result<String, Bad> {
+        let mut text = String::new(self.alloc);
+        for word in self.words.iter().skip(self.at) {
+            if !text.is_empty() {
+                text.push(' ')?;
+            }
+            text.push_str(&word.text)?;
+        }
+        self.at = self.words.len();
+        Ok(text)
+    }
+
     /// The number after this letter, where the next word is such an id.
     pub(crate) fn take_id(&mut self, letter: char) -> Option<u32> {
         let id = self.peek()?.strip_prefix(letter)?.parse::<u32>().ok()?;

@@ -1,0 +1,23 @@
+//! An example of `wc_validate`.
+
+ghost use Rattle.std.specs.Prelude.{◌≡◌, IfOk, None};
+ghost use Rattle.wc_validate.specs.ImportMaps.{memory_in};
+ghost use Rattle.wc_validate.specs.Validated.{IsRecordOf, ModuleRecord, main_job};
+
+use std::alloc::Global;
+use wc_encoder::ComponentEncoder;
+use wc_read::MemoryType;
+use wc_validate::{ValidateFault, validate_module};
+
+/// The type of the memory that a module imports of the main module, if it imports it.
+pub(crate) fn imported_memory(
+    alloc: Global,
+    encoder: &ComponentEncoder,
+    bytes: &[u8],
+) -> Result<Option<MemoryType>, ValidateFault>
+    ensures { IfOk result (λ memory. (r : ModuleRecord)
+        × IsRecordOf (main_job encoder.now None) bytes.now r × (memory ≡ memory_in r.imports)) }
+{
+    let validated = validate_module(alloc, encoder, bytes, None)?;
+    Ok(validated.imports.imported_memory())
+}

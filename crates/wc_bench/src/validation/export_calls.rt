@@ -1,0 +1,211 @@
+//! What is recorded of a module's exports, and what is looked up in the record.
+
+use crate::rows::Row;
+use crate::validation::described_modules::{DescribedModule, described_of};
+use crate::worlds::bad::Bad;
+use crate::worlds::functions::complete_function;
+use crate::worlds::members::world_key;
+use crate::worlds::shown_names::put_name;
+use crate::worlds::stop::Stop;
+use crate::worlds::types::type_id;
+use crate::worlds::words::Words;
+use std::alloc::{AllocError, Global};
+use wc_encoder::ComponentEncoder;
+use wc_names::Export;
+use wc_validate::{ExportMap, ValidateFault, ValidatedModule, validate_module};
+
+/// `NAME: EXPORT`, for each export that is recorded.
+fn put_exports(exports: &ExportMap, out: &mut String) -> Result<(), AllocError> {
+    for (name, export) in exports.iter() {
+        put_name(out, name)?;
+        writeln!(out, ": {export:?}")?;
+    }
+    Ok(())
+}
+
+fn put_reallocs(exports: &ExportMap, out: &mut String) -> Result<(), AllocError> {
+    for name in exports.reallocs() {
+        out.push(' ')?;
+        put_name(out, name)?;
+    }
+    Ok(())
+}
+
+fn put_found(found: Option<&str>, out: &mut String) -> Result<(), AllocError> {
+    out.push(' ')?;
+    match found {
+        Some(name) => put_name(out, name),
+        None => out.push_str("none"),
+    }
+}
+
+fn put_memory(exports: &ExportMap, out: &mut String) -> Result<(), AllocError> {
+    match exports.memory() {
+        Some((name, ty)) => {
+            put_found(Some(name), out)?;
+            write!(out, " {ty:?}")
+        }
+        None => put_found(None, out),
+    }
+}
+
+/// What the exports of one kind are asked.
+fn put_of_kind(exports: &ExportMap, question: &str, out: &mut String) -> Result<(), Bad> {
+    match question {
+        "reallocs" => put_reallocs(exports, out)?,
+        "memory" => put_memory(exports, out)?,
+        "general_purpose_realloc" => put_found(exports.general_purpose_realloc(), out)?,
+        "import_realloc_fallback" => put_found(exports.import_realloc_fallback(), out)?,
+        "realloc_to_import_into_adapter" => {
+            put_found(exports.realloc_to_import_into_adapter(), out)?
+        }
+        "indirect_function_table" => put_found(exports.indirect_function_table(), out)?,
+        "wasm_task_hook" => put_found(exports.wasm_task_hook(), out)?,
+        "initialize" => put_found(exports.initialize(), out)?,
+        _ => return Err(Bad::Line("no question on exports")),
+    }
+    Ok(())
+}
+
+/// What is asked of a function, `KEY func NAME: FUNCTION`.
+fn put_of_function(
+    exports: &ExportMap,
+    question: &str,
+    words: &mut Words,
+    out: &mut String,
+) -> Result<(), Bad> {
+    let key = world_key(words)?;
+    let function = complete_function(words)?;
+    match question {
+        "post_return" => put_found(exports.post_return(&key, &function), out)?,
+        "callback" => put_found(exports.callback(&key, &function), out)?,
+        _ => write!(out, " {:?}", exports.abi(&key, &function))?,
+    }
+    Ok(())
+}
+
+/// What is asked of the functions of a key, or of an interface, that have a name.
+fn put_of_name(
+    exports: &ExportMap,
+    question: &str,
+    words: &mut Words,
+    out: &mut String,
+) -> Result<(), Bad> {
+    if question == "export_realloc_for" {
+        let key = world_key(words)?;
+        let name = words.name()?;
+        put_found(exports.export_realloc_for(&key, &name), out)?;
+    } else {
+        let name = words.name()?;
+        put_found(exports.import_realloc_for(None, &name), out)?;
+    }
+    Ok(())
+}
+
+/// The answer to a question: `resource_dtor ID`, `abi KEY func NAME: FUNCTION`, ...
+fn put_answer(exports: &ExportMap, words: &mut Words, out: &mut String) -> Result<(), Bad> {
+    let question = words.name()?;
+    match question.as_str() {
+        "resource_dtor" => {
+            let id = type_id(words)?;
+            put_found(exports.resource_dtor(id), out)?;
+        }
+        "post_return" | "callback" | "abi" => put_of_function(exports, &question, words, out)?,
+        "export_realloc_for" | "import_realloc_for" => {
+            put_of_name(exports, &question, words, out)?
+        }
+        _ => put_of_kind(exports, &question, out)?,
+    }
+    words.end()
+}
+
+/// The answers to the lines `do ask QUESTION`, each after its question.
+fn put_answers<'a>(
+    alloc: Global,
+    exports: &ExportMap,
+    input: &[&'a str],
+    out: &mut String,
+) -> Result<(), Stop<'a>> {
+    for line in input {
+        if let Some(question) = line.strip_prefix("do ask ") {
+            out.push_str(question)?;
+            out.push(':')?;
+            let mut words = Words::of(alloc, question, 0)?;
+            match put_answer(exports, &mut words, out) {
+                Ok(()) => out.push('\n')?,
+                Err(bad) => return Err(Stop::at(bad, line)),
+            }
+        }
+    }
+    Ok(())
+}
+
+/// What is recorded of the exports of the module that is described, and the answers to the questions.
+pub(crate) fn put_recorded<'a>(
+    alloc: Global,
+    encoder: &ComponentEncoder,
+    row: &'a Row<'a>,
+    out: &mut String,
+) -> Result<(), Stop<'a>> {
+    let bytes = described_of(alloc, &row.input)?.into_bytes(alloc)?;
+    encoder.well_formedness();
+    match validate_module(alloc, encoder, &bytes, None) {
+        Ok(validated) => {
+            put_exports(&validated.exports, out)?;
+            put_answers(alloc, &validated.exports, &row.input, out)
+        }
+        Err(fault) => {
+            writeln!(out, "fault {fault}")?;
+            Ok(())
+        }
+    }
+}
+
+/// The one export that is recorded, `none`, or why the module was refused.
+fn put_alone(
+    validated: &Result<ValidatedModule, ValidateFault>,
+    out: &mut String,
+) -> Result<(), AllocError> {
+    match validated {
+        Ok(validated) => match validated.exports.iter().next() {
+            Some((_, export)) => writeln!(out, "{export:?}"),
+            None => out.push_str("none\n"),
+        },
+        Err(fault) => writeln!(out, "fault {fault}"),
+    }
+}
+
+/// The export of a line, in a module of its own.
+fn classify_line(
+    encoder: &ComponentEncoder,
+    words: &mut Words,
+    out: &mut String,
+) -> Result<(), Bad> {
+    let alloc = words.alloc;
+    let mut described = DescribedModule::new(alloc);
+    described.add_export(words)?;
+    described.put_export_names(out)?;
+    let bytes = described.into_bytes(alloc)?;
+    encoder.well_formedness();
+    put_alone(&validate_module(alloc, encoder, &bytes, None), out)?;
+    Ok(())
+}
+
+/// Each line of a script, which begins with `do `.
+pub(crate) fn classify_exports<'a>(
+    alloc: Global,
+    encoder: &ComponentEncoder,
+    row: &'a Row<'a>,
+    out: &mut String,
+) -> Result<(), Stop<'a>> {
+    for line in &row.input {
+        if let Some(line) = line.strip_prefix("do ") {
+            let mut words = Words::of(alloc, line, 0)?;
+            match classify_line(encoder, &mut words, out) {
+                Ok(()) => {}
+                Err(bad) => return Err(Stop::at(bad, line)),
+            }
+        }
+    }
+    Ok(())
+}
