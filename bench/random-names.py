@@ -3,8 +3,8 @@
 
     random-names.py [COUNT] [SEED] | crates/wc_bench/out/wc_bench -
 
-Each name is asked of both schemes: on its own, in a world and in an interface, and as the name of a module. The same
-count and seed make the same rows. Nothing is expected of the answers but that each call returns.
+Each name is asked of both schemes: on its own, in a world and in an interface, and as the name of a module; and it is
+classified as an import, by name and by module. The same count and seed make the same rows. Nothing is expected of the answers but that each call returns.
 """
 import random
 import sys
@@ -55,6 +55,10 @@ in   export i2: interface i2
 
 NAMES_IN_A_ROW = 1000
 
+# Modules from which names are imported, of both schemes.
+MODULES = ["$root", "[export]$root", "env", "my:demo/host", "[export]a:b/c@1.2.3", "cm32p2", "cm32p2_ex_",
+           "cm32p2|my:demo/host", "cm32p2|_ex_a:b/c@1"]
+
 
 def random_name(source):
     """A name of a few pieces; now and then cut, doubled, or with random characters."""
@@ -79,7 +83,7 @@ def quoted(name):
 
 def row(number, call, scheme, lines, fixture=False):
     print("row %s %s %d" % (call, scheme, number))
-    print("call %s %s" % (call, scheme))
+    print("call %s" % call if call == "classify" else "call %s %s" % (call, scheme))
     if fixture:
         print("with world")
     for line in lines:
@@ -94,6 +98,8 @@ def main():
     print(WORLD)
     for number in range(0, count, NAMES_IN_A_ROW):
         names = [quoted(random_name(source)) for _ in range(min(NAMES_IN_A_ROW, count - number))]
+        lines = ["do %s %s i32 -> i32" % (source.choice(MODULES), name) for name in names]
+        row(number, "classify", "in modules", lines + ["do %s f ->" % name for name in names], True)
         for scheme in ("standard", "legacy hook"):
             row(number, "names", scheme, names)
             row(number, "function_names", scheme, names)
