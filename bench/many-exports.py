@@ -9,23 +9,7 @@ each export that is recorded. Beside it is a row of the same fixture with one ex
 """
 import sys
 
-FUNCTIONS = 10
-
-
-def fixture(interfaces):
-    print("fixture world")
-    for number in range(interfaces):
-        print("in interface i%d face of p%d" % (number, number))
-        for function in range(FUNCTIONS):
-            print("in   func f%d: (v: u32) -> u32" % function)
-    for number in range(interfaces):
-        print("in package p%d my:demo%d@1.2.%d" % (number, number, number))
-        print("in   interface face i%d" % number)
-    print("in world w0 foo")
-    for number in range(interfaces):
-        print("in   export i%d: interface i%d" % (number, number))
-    print("in module-exports " + " ".join("i%d" % number for number in range(interfaces)))
-    print()
+from many_interfaces import FUNCTIONS, fixture
 
 
 def row(exports, interfaces):
@@ -45,7 +29,9 @@ def row(exports, interfaces):
 def main():
     exports = int(sys.argv[1]) if len(sys.argv) > 1 else 50000
     interfaces = int(sys.argv[2]) if len(sys.argv) > 2 else 2000
-    fixture(interfaces)
+    fixture(interfaces, "export")
+    print("in module-exports " + " ".join("i%d" % number for number in range(interfaces)))
+    print()
     row(1, interfaces)
     row(exports, interfaces)
 

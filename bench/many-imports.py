@@ -9,22 +9,7 @@ no import. What the first takes longer than the second is the reading of its lin
 """
 import sys
 
-FUNCTIONS = 10
-
-
-def fixture(interfaces):
-    print("fixture world")
-    for number in range(interfaces):
-        print("in interface i%d face of p%d" % (number, number))
-        for function in range(FUNCTIONS):
-            print("in   func f%d: (v: u32) -> u32" % function)
-    for number in range(interfaces):
-        print("in package p%d my:demo%d@1.2.%d" % (number, number, number))
-        print("in   interface face i%d" % number)
-    print("in world w0 foo")
-    for number in range(interfaces):
-        print("in   import i%d: interface i%d" % (number, number))
-    print()
+from many_interfaces import FUNCTIONS, fixture
 
 
 def row(imports, interfaces):
@@ -42,7 +27,8 @@ def row(imports, interfaces):
 def main():
     imports = int(sys.argv[1]) if len(sys.argv) > 1 else 20000
     interfaces = int(sys.argv[2]) if len(sys.argv) > 2 else 2000
-    fixture(interfaces)
+    fixture(interfaces, "import")
+    print()
     row(0, interfaces)
     row(imports, interfaces)
 
