@@ -37,3 +37,5 @@ pub mod LocalCountLemmas
 pub mod BodiesLemmas
 pub mod DecodingLemmas
 pub mod RenumberingLemmas
+pub mod BodyOperatorsLemmas
+pub mod FrequentLemmas

@@ -19,4 +19,5 @@ pub mod Inits
 pub mod Globals
 pub mod InitTypes
 pub mod Nesting
+pub mod Frequent
 pub mod Bodies

@@ -67,6 +67,7 @@ impl<'a> Operators<'a> {
     /// # Errors
     ///
     /// Those of `read_body` for operators and their nesting. After a fault, what is left is not said.
+    #[inline(always)]
     pub fn next(&mut self, alloc: Global) -> Result<Option<Instr<'a>>, ReadFault>
         ensures found { IfOk result (λ i. operators_left self.old
             ≡ next_and_left (option_map instr_value i) (operators_left self.new)) }
@@ -75,6 +76,28 @@ impl<'a> Operators<'a> {
         ensures shorter { IfOk result (λ i.
             IfSome i (λ _. bytes_left self.new < bytes_left self.old)) }
         // Unless memory runs out, the operators of a body are read.
+        ensures refused { IfRefused result (operators_left self.old ≡ None) }
+        ensures no_component { IfErr result (λ f. f ≢ ReadFault.Component) }
+    {
+        match self.reader.frequent()? {
+            Some(operator) => {
+                if !step(&mut self.blocks, token_of(operator.opcode))? {
+                    return Err(ReadFault::BadNesting);
+                }
+                Ok(Some(operator))
+            }
+            None => self.next_of_any(alloc),
+        }
+    }
+
+    /// The same for operators of all shapes.
+    #[inline(never)]
+    fn next_of_any(&mut self, alloc: Global) -> Result<Option<Instr<'a>>, ReadFault>
+        ensures found { IfOk result (λ i. operators_left self.old
+            ≡ next_and_left (option_map instr_value i) (operators_left self.new)) }
+        ensures locals { locals_read self.new ≡ locals_read self.old }
+        ensures shorter { IfOk result (λ i.
+            IfSome i (λ _. bytes_left self.new < bytes_left self.old)) }
         ensures refused { IfRefused result (operators_left self.old ≡ None) }
         ensures no_component { IfErr result (λ f. f ≢ ReadFault.Component) }
     {

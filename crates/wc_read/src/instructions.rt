@@ -1,13 +1,16 @@
 //! The reading of operators.
 
-ghost use Rattle.std.specs.Prelude.{◌≡◌, [], ◌∷◌, ◌++◌, IfOk, IfErr};
+ghost use Rattle.std.specs.Prelude.{◌≡◌, [], ◌∷◌, ◌++◌, IfOk, IfErr, IsOkAnd, IsSomeAnd};
 ghost use Rattle.wc_read.specs.Reading.Bytes.{Gives, GivesWithoutMemory, appended_at, number_at, vector_at};
 ghost use Rattle.wc_read.specs.Operators.{immediates_value, instr_value, instr_values};
+ghost use Rattle.wc_read.specs.Reading.Frequent.{GivesFrequent};
 ghost use Rattle.wc_read.specs.Reading.Operators.{block_type_at, immediates_at, instr_at, instr_after, instr_of, mem_arg_at, opcode_at, ref_type_at};
 
 use crate::codes::{ATOMIC_PREFIX, EMPTY_BLOCK, MISC_PREFIX, MORE_BYTES, VECTOR_PREFIX};
 use crate::fault::ReadFault;
-use crate::operators::{BlockType, Form, Immediates, Index, Instr, MemArg, Opcode, form_of};
+use crate::operators::{
+    BlockType, Form, Immediates, Index, Instr, MemArg, Opcode, byte_form, form_of,
+};
 use crate::reader::Reader;
 use crate::types::ValType;
 use std::alloc::Global;
@@ -17,9 +20,7 @@ use std::alloc::Global;
 const NAMES_MEMORY: u32 = 64;
 
 impl<'a> Reader<'a> {
-    /// An operator, after those that were read. The shapes that most operators have are put one by one: one that
-    /// all of them join in is built part by part.
-    #[tactic(auto, unfolding(crate::specs::Reading::Operators::instr_at, crate::specs::Reading::Operators::immediates_at))]
+    /// An operator, after those that were read.
     pub fn push_operator(
         &mut self,
         alloc: Global,
@@ -28,37 +29,57 @@ impl<'a> Reader<'a> {
         ensures { Gives (λ _. instr_values operators.new.items) result self.new.rest.now
             (appended_at (instr_values operators.old.items) instr_at self.old.rest.now) }
     {
-        let opcode = self.opcode()?;
-        let Some(form) = form_of(opcode) else {
-            return Err(ReadFault::UnknownOperator);
-        };
-        match form {
-            Form::None => put(operators, opcode, Immediates::None),
-            Form::Index(kind) => {
-                let number = self.u32()?;
-                put(operators, opcode, Immediates::Index(Index { kind, number }))
-            }
-            Form::I32 => put(operators, opcode, Immediates::I32(self.i32()?)),
-            Form::MemArg => put(operators, opcode, Immediates::MemArg(self.mem_arg()?)),
-            Form::Block => put(operators, opcode, Immediates::Block(self.block_type()?)),
-            _ => self.push_rarer(alloc, operators, opcode, form),
+        match self.frequent()? {
+            Some(operator) => operators.push(operator)?,
+            None => self.push_rarer(alloc, operators)?,
         }
+        Ok(())
     }
 
-    /// An operator of any shape, by its code and its shape.
+    /// The same for operators of all shapes.
     #[inline(never)]
-    fn push_rarer(
-        &mut self,
-        alloc: Global,
-        operators: &mut Vec<Instr<'a>>,
-        opcode: Opcode,
-        form: Form,
-    ) -> Result<(), ReadFault>
+    fn push_rarer(&mut self, alloc: Global, operators: &mut Vec<Instr<'a>>) -> Result<(), ReadFault>
         ensures { Gives (λ _. instr_values operators.new.items) result self.new.rest.now
-            (appended_at (instr_values operators.old.items) (instr_after opcode form)
-            self.old.rest.now) }
+            (appended_at (instr_values operators.old.items) instr_at self.old.rest.now) }
     {
-        put(operators, opcode, self.immediates(alloc, form)?)
+        operators.push(self.operator(alloc)?)?;
+        Ok(())
+    }
+
+    /// An operator of a frequent shape, where one is next; else none, and nothing is read. Each shape is handed out by
+    /// itself: one that all of them join in is built part by part.
+    #[inline(always)]
+    pub fn frequent(&mut self) -> Result<Option<Instr<'a>>, ReadFault>
+        ensures { GivesFrequent result self.old.rest.now self.new.rest.now }
+    {
+        let Some((first, rest)) = self.rest.split_first() else {
+            return Ok(None);
+        };
+        let code = *first;
+        match byte_form(code) {
+            Some(Form::None) => {
+                self.rest = rest;
+                found(code, Immediates::None)
+            }
+            Some(Form::Index(kind)) => {
+                self.rest = rest;
+                let number = self.u32()?;
+                found(code, Immediates::Index(Index { kind, number }))
+            }
+            Some(Form::I32) => {
+                self.rest = rest;
+                found(code, Immediates::I32(self.i32()?))
+            }
+            Some(Form::MemArg) => {
+                self.rest = rest;
+                found(code, Immediates::MemArg(self.mem_arg()?))
+            }
+            Some(Form::Block) => {
+                self.rest = rest;
+                found(code, Immediates::Block(self.block_type()?))
+            }
+            _ => Ok(None),
+        }
     }
 
     /// An operator, by the operator table.
@@ -201,18 +222,12 @@ impl<'a> Reader<'a> {
     }
 }
 
-/// Puts an operator after others.
+/// An operator that has a code of one byte.
 #[inline(always)]
-fn put<'a>(
-    operators: &mut Vec<Instr<'a>>,
-    opcode: Opcode,
-    immediates: Immediates<'a>,
-) -> Result<(), ReadFault>
-    ensures found { IfOk result (λ _. instr_values operators.new.items ≡ instr_values
-        operators.old.items
-        ++ (instr_of opcode (immediates_value immediates.entry) ∷ [])) }
-    ensures refused { IfErr result (λ f. f ≡ ReadFault.Memory) }
+fn found<'a>(code: u8, immediates: Immediates<'a>) -> Result<Option<Instr<'a>>, ReadFault>
+    ensures { IsOkAnd result (λ i. IsSomeAnd i (λ i. instr_value i
+        ≡ instr_of (Opcode.Byte code) (immediates_value immediates.entry))) }
 {
-    operators.push(Instr { opcode, immediates })?;
-    Ok(())
+    let opcode = Opcode::Byte(code);
+    Ok(Some(Instr { opcode, immediates }))
 }

@@ -54,6 +54,7 @@ pub fn nests(alloc: Global, operators: &[Instr<'_>]) -> Result<bool, AllocError>
 
 /// Goes past a token, where it may occur inside the blocks that are open. For each of these the stack says
 /// whether an `else` may occur in it.
+#[inline(always)]
 pub fn step(blocks: &mut Vec<bool>, token: Token) -> Result<bool, AllocError>
     ensures { IfOk result (λ may.
         Steps may (step (reverse blocks.old.items) token) (reverse blocks.new.items)) }
@@ -62,6 +63,15 @@ pub fn step(blocks: &mut Vec<bool>, token: Token) -> Result<bool, AllocError>
     if matches!(token, Token::Plain) {
         return Ok(!blocks.is_empty());
     }
+    step_over(blocks, token)
+}
+
+/// The same for tokens of all kinds.
+#[inline(never)]
+fn step_over(blocks: &mut Vec<bool>, token: Token) -> Result<bool, AllocError>
+    ensures { IfOk result (λ may.
+        Steps may (step (reverse blocks.old.items) token) (reverse blocks.new.items)) }
+{
     let Some(&is_if) = blocks.last() else {
         return Ok(false);
     };

@@ -173,7 +173,7 @@ pub fn form_of(opcode: Opcode) -> Option<Form>
 /// to an entry each in a table of jumps.
 #[inline(always)]
 #[tactic(auto, unfolding(crate::specs::Operators::byte_form))]
-fn byte_form(code: u8) -> Option<Form>
+pub fn byte_form(code: u8) -> Option<Form>
     ensures { result ≡ byte_form code }
 {
     match code {
