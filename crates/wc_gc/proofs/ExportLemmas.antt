@@ -24,7 +24,7 @@ use Rattle.std.proofs.Math.Seq.{drop-cons}
 use Rattle.std.proofs.lemmas.List.Elements.{All-from_recursion}
 use Rattle.std.specs.Map.{lookup}
 use Rattle.std.specs.Prelude.{is_some}
-use Rattle.wc_gc.specs.KeptExports.{kept_exports, dropped_names, missing_name, is_exported, without, kept_from, export_entries, AreNamed, is_required, by_name}
+use Rattle.wc_gc.specs.KeptExports.{kept_exports, dropped_names, missing_name, is_exported, without, export_entries, AreNamed, is_required, by_name}
 
 -- swapping and mapping
 
@@ -114,6 +114,10 @@ still_named_or xs d all one (Some i) =
 pub still_named : (p : Bor (List ℕ) → Bool) (es : List Pair) → AreNamed es → AreNamed (swap_remove_entry p es)
 still_named p [] named = named
 still_named p (e ∷ es) named = still_named_or (e ∷ es) e named (All-head (λ (e : Pair). e.0.now ≡ e.1.name.now) e es named) (position p (keys_of (e ∷ es)))
+
+-- what is left of exports where those of other exports that are not required are taken out
+abbrev pub kept_from : List (List ℕ) → List ExportValue → List ExportValue → List ExportValue
+kept_from required others exports = fold without exports (dropped_names required others)
 
 -- one more export
 

@@ -14,7 +14,7 @@ use Rattle.wc_read.specs.declared.types.GlobalType.{GlobalType}
 use Rattle.wc_read.specs.declared.core_module.Module.{Module}
 use Rattle.wc_write.specs.BuiltValues.{def_seen, item_seen}
 use Rattle.wc_gc.specs.Decoded.{FuncCode, GlobalCode, ItemIndex, func_code, decoded_module, size_of}
-use Rattle.wc_gc.specs.Found.{allocation_state, found_in, has_name, is_named_at, is_realloc, is_realloc_at, stack_pointer}
+use Rattle.wc_gc.specs.Found.{allocation_state, found_in, has_name, is_empty_type_at, is_named_at, is_realloc, is_realloc_at, stack_pointer}
 use Rattle.wc_read.specs.declared.operators.Space.TheVariants.{Types, Funcs, Tables, Memories, Globals}
 use Rattle.wc_read.specs.declared.operators.Space.{Space}
 
@@ -78,19 +78,21 @@ realloc_seen view (local x) = refl
 
 -- what is found, by lists
 
-pub found_is : (a : Module) (live : ItemIndex → Bool) (stacks states reallocs tables memories : List ℕ)
+pub found_is : (a : Module) (live : ItemIndex → Bool) (stacks states reallocs tables memories empties : List ℕ)
     → stacks ≡ filter (λ n. live (Globals, n) && is_named_at (decoded_module a) stack_pointer n) (range_with_len 0 (length a.globals.items))
     → states ≡ filter (λ n. live (Globals, n) && is_named_at (decoded_module a) allocation_state n) (range_with_len 0 (length a.globals.items))
     → reallocs ≡ filter (λ n. live (Funcs, n) && is_realloc_at (decoded_module a) n) (range_with_len 0 (length a.funcs.items))
     → tables ≡ filter (λ n. live (Tables, n)) (range_with_len 0 (length a.tables.items))
     → memories ≡ filter (λ n. live (Memories, n)) (range_with_len 0 (length a.memories.items))
-    → record { stacks = stacks; states = states; reallocs = reallocs; tables = tables; memories = memories } ≡ found_in (decoded_module a) live
+    → empties ≡ filter (λ n. live (Types, n) && is_empty_type_at (decoded_module a) n) (range_with_len 0 (length a.types.items))
+    → record { stacks = stacks; states = states; reallocs = reallocs; tables = tables; memories = memories; empties = empties } ≡ found_in (decoded_module a) live
 unfolding found_in
-found_is a live stacks states reallocs tables memories s t r b m =
+found_is a live stacks states reallocs tables memories empties s t r b m y =
     let all = λ (space : Space) (p : ℕ → Bool). ap (λ (k : ℕ). filter p (range_with_len 0 k)) (sym (size_is a space)) in
     let s2 = s ∙ all Globals (λ n. live (Globals, n) && is_named_at (decoded_module a) stack_pointer n) in
     let t2 = t ∙ all Globals (λ n. live (Globals, n) && is_named_at (decoded_module a) allocation_state n) in
     let r2 = r ∙ all Funcs (λ n. live (Funcs, n) && is_realloc_at (decoded_module a) n) in
     let b2 = b ∙ all Tables (λ n. live (Tables, n)) in
     let m2 = m ∙ all Memories (λ n. live (Memories, n)) in
-    rw (s2, t2, r2, b2, m2) refl
+    let y2 = y ∙ all Types (λ n. live (Types, n) && is_empty_type_at (decoded_module a) n) in
+    rw (s2, t2, r2, b2, m2, y2) refl

@@ -1,5 +1,5 @@
 -- How many bits of words are set below one.
-use Rattle.std.proofs.Common.{◌≡◌, ℕ, zero, suc, ◌+◌, ◌*◌, ◌/◌, ◌%◌, ◌^◌, ◌<◌, ◌≤◌, List, [], ◌∷◌, ◌++◌, length, get_or, refl, sym, ◌∙◌, ap, Bool, false, cond, inl, inr, ◌-◌, arith, count_by, count_ones, pow_pos}
+use Rattle.std.proofs.Common.{◌≡◌, ℕ, zero, suc, ◌+◌, ◌*◌, ◌/◌, ◌%◌, ◌^◌, ◌<◌, ◌≤◌, List, [], ◌∷◌, ◌++◌, length, get_or, refl, sym, ◌∙◌, ap, Bool, true, false, cond, inl, inr, ◌-◌, arith, count_by, count_ones, pow_pos}
 use Rattle.std.specs.Prelude.{◌==◌, slice_index}
 use Rattle.std.specs.List.{range_with_len}
 use Rattle.std.specs.Int.{bit_at}
@@ -7,19 +7,20 @@ use Rattle.std.specs.Int.Count.{ones}
 use Rattle.std.proofs.lemmas.Nat.{ones_cat, mod-mul-add}
 use Rattle.std.proofs.Math.Nat.{pow-suc}
 use Rattle.std.proofs.lemmas.List.{get_or_past, get_or_append_left}
+use Rattle.std.proofs.lemmas.Bool.{false≢true}
 use Rattle.std.proofs.lemmas.Bool.Decides.{eqb_tells}
 use Rattle.std.proofs.lemmas.Nat.Bits.{bit_at-lt, bit_at-zero}
 use Rattle.std.proofs.lemmas.List.Sums.{sum_by-append, count_by-le-length}
 use Rattle.std.proofs.lemmas.List.FromFn.{length-range_with_len}
 use Rattle.wc_gc.specs.Bits.{bit_of}
-use Rattle.wc_gc.specs.Counts.{count_below}
+use Rattle.wc_gc.specs.Counts.{AreDisjoint, count_below}
 use Rattle.wc_gc.proofs.ReachLemmas.{get_or_any}
 
 pub range_more : (a n : ℕ) → range_with_len a (suc n) ≡ range_with_len a n ++ (a + n) ∷ []
 range_more a zero = let e : a ≡ a + 0 = omega arith in ap (λ k. k ∷ []) e
 range_more a (suc n) = ap (λ l. a ∷ l) (range_more (a + 1) n ∙ (let e : a + 1 + n ≡ a + suc n = omega arith in ap (λ k. range_with_len (a + 1) n ++ k ∷ []) e))
 
-one_more : (has : ℕ → Bool) (n : ℕ) → count_below has (suc n) ≡ count_below has n + cond (has n) 1 0
+pub one_more : (has : ℕ → Bool) (n : ℕ) → count_below has (suc n) ≡ count_below has n + cond (has n) 1 0
 one_more has n =
     let cut = ap (count_by has) (range_more 0 n) ∙ sum_by-append (λ (k : ℕ). cond (has k) 1 0) (range_with_len 0 n) ((0 + n) ∷ []) in
     let one : ℕ → ℕ = λ k. cond (has k) 1 0 in
@@ -28,6 +29,25 @@ one_more has n =
 
 pub few_below : (has : ℕ → Bool) (n : ℕ) → count_below has n ≤ n
 few_below has n = omega (arith, count_by-le-length has (range_with_len 0 n), length-range_with_len 0 n)
+
+pub more_below : (has : ℕ → Bool) (n k : ℕ) → count_below has n ≤ count_below has (n + k)
+more_below has n zero = omega (arith, ap (count_below has) (let e : n + 0 ≡ n = omega arith in e))
+more_below has n (suc k) =
+    let more = one_more has (n + k) in
+    let next = ap (count_below has) (let e : n + suc k ≡ suc (n + k) = omega arith in e) in
+    omega (arith, more_below has n k, more, next)
+
+-- of two sets that have no number in common
+
+one_of_two : (a b : Bool) → (a ≡ true → b ≡ false) → cond a 1 0 + cond b 1 0 ≤ 1
+one_of_two true true h = absurd (false≢true (sym (h refl)))
+one_of_two true false h = omega arith
+one_of_two false true h = omega arith
+one_of_two false false h = omega arith
+
+pub both_below : (p q : ℕ → Bool) → AreDisjoint p q → (n : ℕ) → count_below p n + count_below q n ≤ n
+both_below p q h zero = omega arith
+both_below p q h (suc n) = omega (arith, both_below p q h n, one_more p n, one_more q n, one_of_two (p n) (q n) (h n))
 
 bit_count : (b : ℕ) → b < 2 → count_ones b ≡ cond (b == 1) 1 0
 unfolding ones

@@ -1,8 +1,9 @@
 -- A body written under new indices, operator by operator.
-use Rattle.std.proofs.Common.{◌≡◌, ℕ, List, [], ◌∷◌, ◌++◌, refl, sym, ◌∙◌, ap, subst, true, Option, Some, None, append_assoc, append-nil}
+use Rattle.std.proofs.Common.{◌≡◌, ℕ, List, [], ◌∷◌, ◌++◌, refl, sym, ◌∙◌, ap, true, Option, Some, None, append_assoc, append-nil}
 use Rattle.std.specs.Prelude.{is_some}
 use Rattle.std.specs.List.{flat_map}
 use Rattle.std.specs.Option.{option_map}
+use Rattle.std.proofs.lemmas.Grind.{flat_map-append}
 use Rattle.wc_read.specs.Operators.{InstrValue}
 use Rattle.wc_read.specs.Bodies.{BodyValue}
 use Rattle.wc_read.specs.Decoding.{body_of}
@@ -12,50 +13,40 @@ use Rattle.wc_write.specs.Text.{vector_text}
 use Rattle.wc_write.specs.OperatorText.{instr_text}
 use Rattle.wc_write.specs.BodyText.{locals_text, body_text}
 use Rattle.wc_gc.specs.Image.{new_body, renumber_code}
+use Rattle.wc_gc.specs.NewBodies.{calls_of, text_left}
 
--- some operators of a body were written, and these are left
-pub record IsWritten (new : Renumbering) (body : Option BodyValue) (old out : List ℕ) (locals : List Locals) (left : Option (List InstrValue)) : Type 0 where
-  pub before : List InstrValue
-  pub split : body ≡ option_map (λ is. body_of locals (before ++ is)) left
-  pub written : out ≡ (old ++ vector_text locals_text locals) ++ flat_map instr_text (renumber_code new before)
+-- some operators were written, and these are left of all
+pub record IsWritten (new : Renumbering) (old : List ℕ) (all : Option (List InstrValue)) (out : List ℕ) (left : Option (List InstrValue)) : Type 0 where
   pub some : is_some left ≡ true
+  pub same : out ++ text_left new left ≡ old ++ text_left new all
 
-some_mapped : {A B : Type 0} (f : A → B) (o : Option A) → is_some (option_map f o) ≡ is_some o
-some_mapped f None = refl
-some_mapped f (Some x) = refl
+pub write_start : (new : Renumbering) (old : List ℕ) (all : Option (List InstrValue)) → is_some all ≡ true → IsWritten new old all old all
+write_start new old all some = record { some = some; same = refl }
 
-pub write_start : (new : Renumbering) (body : Option BodyValue) (old out : List ℕ) (locals : List Locals) (left : Option (List InstrValue)) → is_some body ≡ true → body ≡ option_map (body_of locals) left
-    → out ≡ old ++ vector_text locals_text locals → IsWritten new body old out locals left
-write_start new body old out locals left some is written = record {
-  before = [];
-  split = is;
-  written = written ∙ sym (append-nil (old ++ vector_text locals_text locals));
-  some = sym (some_mapped (body_of locals) left) ∙ (ap is_some (sym is) ∙ some);
+pub write_more : (new : Renumbering) (old : List ℕ) (all : Option (List InstrValue)) (out : List ℕ) (left : Option (List InstrValue)) (i : InstrValue) (after : Option (List InstrValue)) (out' : List ℕ)
+    → IsWritten new old all out left → left ≡ option_map (λ is. i ∷ is) after → out' ≡ out ++ instr_text (renumber_instr new i) → IsWritten new old all out' after
+write_more new old all out left i None out' w e more = let none = sym (ap is_some e) ∙ w.some in absurd cc
+write_more new old all out left i (Some is) out' w e more = record {
+  some = refl;
+  same =
+      ap (λ z. z ++ text_left new (Some is)) more ∙ (append_assoc out (instr_text (renumber_instr new i)) (text_left new (Some is))
+      ∙ (ap (λ o. out ++ text_left new o) (sym e) ∙ w.same));
 }
 
-code-append : (new : Renumbering) (is js : List InstrValue) → flat_map instr_text (renumber_code new (is ++ js)) ≡ flat_map instr_text (renumber_code new is) ++ flat_map instr_text (renumber_code new js)
-code-append new [] js = refl
-code-append new (i ∷ is) js = ap (λ z. instr_text (renumber_instr new i) ++ z) (code-append new is js) ∙ sym (append_assoc (instr_text (renumber_instr new i)) _ _)
+pub write_end : (new : Renumbering) (old : List ℕ) (all : Option (List InstrValue)) (out : List ℕ) (left : Option (List InstrValue)) → IsWritten new old all out left → left ≡ Some [] → out ≡ old ++ text_left new all
+write_end new old all out left w e = sym (append-nil out) ∙ (ap (λ o. out ++ text_left new o) (sym e) ∙ w.same)
 
-split_more : (locals : List Locals) (before : List InstrValue) (i : InstrValue) (left : Option (List InstrValue))
-    → option_map (λ is. body_of locals (before ++ is)) (option_map (λ is. i ∷ is) left) ≡ option_map (λ is. body_of locals ((before ++ i ∷ []) ++ is)) left
-split_more locals before i None = refl
-split_more locals before i (Some is) = ap (λ z. Some (body_of locals z)) (sym (append_assoc before (i ∷ []) is))
+-- a whole body, after a call
 
-pub write_more : (new : Renumbering) (body : Option BodyValue) (old out : List ℕ) (locals : List Locals) (left : Option (List InstrValue)) (i : InstrValue) (after : Option (List InstrValue)) (out' : List ℕ) (locals' : List Locals)
-    → IsWritten new body old out locals left → left ≡ option_map (λ is. i ∷ is) after → locals' ≡ locals → out' ≡ out ++ instr_text (renumber_instr new i) → IsWritten new body old out' locals' after
-write_more new body old out locals left i after out' locals' w e l more =
-    subst (λ z. IsWritten new body old out' z after) (sym l) (record {
-      before = w.before ++ i ∷ [];
-      split = w.split ∙ (ap (option_map (λ is. body_of locals (w.before ++ is))) e ∙ split_more locals w.before i after);
-      written = more ∙ (ap (λ z. z ++ instr_text (renumber_instr new i)) w.written
-          ∙ (append_assoc (old ++ vector_text locals_text locals) (flat_map instr_text (renumber_code new w.before)) (instr_text (renumber_instr new i))
-          ∙ ap (λ z. (old ++ vector_text locals_text locals) ++ z) (ap (λ z. flat_map instr_text (renumber_code new w.before) ++ z) (sym (append-nil (instr_text (renumber_instr new i)))) ∙ sym (code-append new w.before (i ∷ [])))));
-      some = sym (some_mapped (λ is. i ∷ is) after) ∙ (ap is_some (sym e) ∙ w.some);
-    })
-
-pub write_end : (new : Renumbering) (body : Option BodyValue) (old out : List ℕ) (locals : List Locals) (left : Option (List InstrValue)) → IsWritten new body old out locals left → left ≡ Some [] → out ≡ old ++ body_text (new_body new body)
+pub body_text_is : (new : Renumbering) (call : Option ℕ) (old a b out : List ℕ) (locals : List Locals) (body : Option BodyValue) (all : Option (List InstrValue)) → is_some body ≡ true → body ≡ option_map (body_of locals) all
+    → a ≡ old ++ vector_text locals_text locals → b ≡ a ++ flat_map instr_text (calls_of call) → out ≡ b ++ text_left new all
+    → out ≡ old ++ body_text (record { locals = (new_body new body).locals; operators = calls_of call ++ (new_body new body).operators })
 unfolding body_text
-write_end new body old out locals left w e =
-    let all : body ≡ Some (body_of locals w.before) = w.split ∙ (ap (option_map (λ is. body_of locals (w.before ++ is))) e ∙ ap (λ z. Some (body_of locals z)) (append-nil w.before)) in
-    w.written ∙ (append_assoc old (vector_text locals_text locals) (flat_map instr_text (renumber_code new w.before)) ∙ ap (λ z. old ++ body_text (new_body new z)) (sym all))
+body_text_is new call old a b out locals body None some is ea eb eo = let none = sym (ap is_some is) ∙ some in absurd cc
+body_text_is new call old a b out locals body (Some code) some is ea eb eo =
+    let l = vector_text locals_text locals in
+    let t = flat_map instr_text (calls_of call) in
+    let r = text_left new (Some code) in
+    let written = eo ∙ (ap (λ z. z ++ r) (eb ∙ ap (λ z. z ++ t) ea) ∙ (append_assoc (old ++ l) t r ∙ append_assoc old l (t ++ r))) in
+    let whole = ap (λ z. old ++ (l ++ z)) (sym (flat_map-append instr_text (calls_of call) (renumber_code new code))) in
+    written ∙ (whole ∙ ap (λ o. old ++ body_text (record { locals = (new_body new o).locals; operators = calls_of call ++ (new_body new o).operators })) (sym is))

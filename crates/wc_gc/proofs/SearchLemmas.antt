@@ -135,7 +135,8 @@ module _ {X : Type 0} where
     within = omega arith;
   }
 
-  longer : (names : X → List X) (x : X) (path : List X) (y z : X) → IsPath names x path y → Contains (names y) z → IsPath names x (path ++ z ∷ []) z
+  -- a path may go on
+  pub longer : (names : X → List X) (x : X) (path : List X) (y z : X) → IsPath names x path y → Contains (names y) z → IsPath names x (path ++ z ∷ []) z
   longer names x [] y z w c = (subst (λ v. Contains (names v) z) (sym w) c, refl)
   longer names x (v ∷ path) y z w c = (w.0, longer names v path y z w.1 c)
 

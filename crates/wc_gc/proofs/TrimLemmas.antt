@@ -1,6 +1,6 @@
 -- The causes of faults of trimming, and their order.
 use Rattle.std.proofs.Common.{◌≡◌, ℕ, suc, ◌<◌, ◌≤◌, ◌^◌, List, [], ◌∷◌, length, map, refl, sym, ◌∙◌, ap, subst, Bool, true, false, Option, Some, None, ◌⊎◌, inl, inr, arith}
-use Rattle.std.specs.Prelude.{IsTrue, MatchOption, IfSome, Result, Ok, Err, IfOk, IfErr, IsOk, IsErrOf}
+use Rattle.std.specs.Prelude.{IsTrue, MatchOption, IfSome, Result, Ok, Err, IfOk, IfErr, IsOk}
 use Rattle.std.specs.Map.{values_of}
 use Rattle.std.specs.Borrow.{Bor}
 use Rattle.std.proofs.Math.Path.{fun_ext}
@@ -15,24 +15,23 @@ use Rattle.wc_read.specs.declared.core_module.Module.{Module}
 use Rattle.wc_read.specs.declared.operators.Space.TheVariants.{Funcs}
 use Rattle.wc_read.proofs.ModulesLemmas.{modules_one}
 use Rattle.wc_write.specs.Values.{AreBytes}
-use Rattle.wc_write.specs.ModuleText.{BuiltValue, SizesFit, built_text}
-use Rattle.wc_write.specs.declared.fault.WriteFault.{WriteFault}
-use Rattle.wc_write.specs.declared.fault.WriteFault.TheVariants.{Memory as write_memory, TooLarge as write_too_large}
+use Rattle.wc_write.specs.ModuleText.{built_text}
 use Rattle.wc_write.proofs.ByteLemmas.{front_bytes}
 use Rattle.wc_write.proofs.ValueLemmas.{number_fits}
 use Rattle.wc_write.proofs.WritableModuleLemmas.{all_bytes, content_bytes}
-use Rattle.wc_gc.specs.Causes.{IsFoundCause, Tells}
+use Rattle.wc_gc.specs.Causes.{IsFoundCause, DecidesLive}
 use Rattle.wc_gc.specs.Decoded.{DecodedModule, ItemIndex, decode, decoded_module}
-use Rattle.wc_gc.specs.Faults.{of_write}
 use Rattle.wc_gc.specs.Fewness.{AreFewItems}
 use Rattle.wc_gc.specs.Found.{FoundValue, found_in}
-use Rattle.wc_gc.specs.Image.{image_of}
+use Rattle.wc_gc.specs.Edited.{edit}
+use Rattle.wc_gc.specs.EditedImage.{FitsBits, edited_image}
+use Rattle.wc_gc.specs.Parts.{SettingsValue}
 use Rattle.wc_gc.specs.KeptExports.{kept_exports, export_entries}
 use Rattle.wc_gc.specs.Liveness.{IsCause, IsFault, IsFaultOf, IsLivenessOf, Wanted, order_of}
 use Rattle.wc_gc.specs.Soundness.{is_sound_at}
 use Rattle.wc_gc.specs.Trimming.{IsLaterCause, IsLaterCauseIn, IsLaterFault, IsTrimCause, IsTrimFault, IsTrimFaultOf, IsTrimmed, IsTrimmedOf}
 use Rattle.wc_gc.specs.declared.fault.GcFault.{GcFault}
-use Rattle.wc_gc.specs.declared.fault.GcFault.TheVariants.{Memory, Read, MissingExport, UnsupportedSection, LiveBody, SeveralNamed, LiveTable, SeveralMemories, LocalMemory, NotYet, TooLarge}
+use Rattle.wc_gc.specs.declared.fault.GcFault.TheVariants.{Memory, Read, MissingExport, UnsupportedSection, LiveBody, SeveralNamed, LiveTable, SeveralMemories, LocalMemory, ReallocType, ReallocMemory, TooLarge}
 use Rattle.wc_gc.proofs.LivenessLemmas.{fault_of, no_cause_of}
 
 -- exports by their names
@@ -47,45 +46,54 @@ seen_answer items (Err f) vs seen h e = h
 
 -- causes of what is found, and the one after them
 
-found_small : (m : DecodedModule) (x : FoundValue) (f : GcFault) → IsFoundCause m x f → order_of f < 10
-found_small m x SeveralNamed c = omega arith
-found_small m x LiveTable c = omega arith
-found_small m x SeveralMemories c = omega arith
-found_small m x LocalMemory c = omega arith
-found_small m x NotYet c = omega arith
-found_small m x f c = absurd c
+found_small : (s : SettingsValue) (m : DecodedModule) (x : FoundValue) (f : GcFault) → IsFoundCause s m x f → order_of f < 11
+found_small s m x SeveralNamed c = omega arith
+found_small s m x LiveTable c = omega arith
+found_small s m x SeveralMemories c = omega arith
+found_small s m x LocalMemory c = omega arith
+found_small s m x ReallocType c = omega arith
+found_small s m x ReallocMemory c = omega arith
+found_small s m x f c = absurd c
 
-module _ (m : DecodedModule) (exports : List ExportValue) (live : ItemIndex → Bool) where
-  found_later : (f : GcFault) → order_of f < 10 → IsFoundCause m (found_in m live) f → IsLaterCause m exports live f
+module _ (s : SettingsValue) (m : DecodedModule) (exports : List ExportValue) (live : ItemIndex → Bool) where
+  found_later : (f : GcFault) → order_of f < 11 → IsFoundCause s m (found_in m live) f → IsLaterCause s m exports live f
   found_later TooLarge h c = absurd (omega arith)
   found_later f h c = c
 
-  later_found : (f : GcFault) → order_of f < 10 → IsLaterCause m exports live f → IsFoundCause m (found_in m live) f
+  later_found : (f : GcFault) → order_of f < 11 → IsLaterCause s m exports live f → IsFoundCause s m (found_in m live) f
   later_found TooLarge h c = absurd (omega arith)
   later_found f h c = c
 
   -- of what was found
 
-  pub found_fault : (x : FoundValue) → x ≡ found_in m live → (f : GcFault) → IsFoundCause m x f × ((g : GcFault) → order_of g < order_of f → ¬ (IsFoundCause m x g)) → IsLaterFault m exports live f
+  pub found_fault : (x : FoundValue) → x ≡ found_in m live → (f : GcFault) → IsFoundCause s m x f × ((g : GcFault) → order_of g < order_of f → ¬ (IsFoundCause s m x g)) → IsLaterFault s m exports live f
   found_fault x is f c =
-      let small = found_small m x f c.0 in
-      (found_later f small (subst (λ (z : FoundValue). IsFoundCause m z f) is c.0), λ g h k. c.1 g h (subst (λ (z : FoundValue). IsFoundCause m z g) (sym is) (later_found g (omega arith) k)))
+      let small = found_small s m x f c.0 in
+      (found_later f small (subst (λ (z : FoundValue). IsFoundCause s m z f) is c.0), λ g h k. c.1 g h (subst (λ (z : FoundValue). IsFoundCause s m z g) (sym is) (later_found g (omega arith) k)))
 
-  pub write_fault : {T : Type 0} (x : FoundValue) → x ≡ found_in m live → ((f : GcFault) → ¬ (IsFoundCause m x f)) → (w : WriteFault) (b : BuiltValue) → b ≡ image_of m exports live → (IsErrOf {T = T} (Err w) write_too_large → ¬ (SizesFit b))
-      → (of_write w ≡ Memory) ⊎ IsLaterFault m exports live (of_write w)
-  write_fault x is none write_memory b e h = inl refl
-  write_fault x is none write_too_large b e h = inr ((λ fits. h refl (subst SizesFit (sym e) fits)), (λ g small k. none g (subst (λ (z : FoundValue). IsFoundCause m z g) (sym is) (later_found g small k))))
+  large_fault : (x : FoundValue) → x ≡ found_in m live → ((f : GcFault) → ¬ (IsFoundCause s m x f)) → ¬ (FitsBits (edited_image (edit s m exports live))) → IsLaterFault s m exports live TooLarge
+  large_fault x is none large = (large, λ g small k. none g (subst (λ (z : FoundValue). IsFoundCause s m z g) (sym is) (later_found g small k)))
 
-  pub none_later : (x : FoundValue) → x ≡ found_in m live → ((f : GcFault) → ¬ (IsFoundCause m x f)) → (b : BuiltValue) → b ≡ image_of m exports live → SizesFit b → (f : GcFault) → ¬ (IsLaterCause m exports live f)
-  none_later x is none b e fits TooLarge c = c (subst SizesFit e fits)
-  none_later x is none b e fits f c = none f (subst (λ (z : FoundValue). IsFoundCause m z f) (sym is) c)
+  one_large : (x : FoundValue) → x ≡ found_in m live → ((f : GcFault) → ¬ (IsFoundCause s m x f)) → (f : GcFault) → (f ≡ Memory) ⊎ ((f ≡ TooLarge) × ¬ (FitsBits (edited_image (edit s m exports live)))) → (f ≡ Memory) ⊎ IsLaterFault s m exports live f
+  one_large x is none f (inl e) = inl e
+  one_large x is none f (inr k) = inr (subst (IsLaterFault s m exports live) (sym k.0) (large_fault x is none k.1))
 
-  later_large : (f : GcFault) → IsLaterCause m exports live f → 5 ≤ order_of f
+  pub text_fault : {T : Type 0} (x : FoundValue) → x ≡ found_in m live → ((f : GcFault) → ¬ (IsFoundCause s m x f)) → (r : Result T GcFault)
+      → IfErr r (λ f. (f ≡ Memory) ⊎ ((f ≡ TooLarge) × ¬ (FitsBits (edited_image (edit s m exports live))))) → IfErr r (λ f. (f ≡ Memory) ⊎ IsLaterFault s m exports live f)
+  text_fault x is none (Ok v) h = h
+  text_fault x is none (Err f) h = one_large x is none f h
+
+  pub none_later : (x : FoundValue) → x ≡ found_in m live → ((f : GcFault) → ¬ (IsFoundCause s m x f)) → FitsBits (edited_image (edit s m exports live)) → (f : GcFault) → ¬ (IsLaterCause s m exports live f)
+  none_later x is none fits TooLarge c = c fits
+  none_later x is none fits f c = none f (subst (λ (z : FoundValue). IsFoundCause s m z f) (sym is) c)
+
+  pub later_large : (f : GcFault) → IsLaterCause s m exports live f → 5 ≤ order_of f
   later_large SeveralNamed c = omega arith
   later_large LiveTable c = omega arith
   later_large SeveralMemories c = omega arith
   later_large LocalMemory c = omega arith
-  later_large NotYet c = omega arith
+  later_large ReallocType c = omega arith
+  later_large ReallocMemory c = omega arith
   later_large TooLarge c = omega arith
   later_large f c = absurd c
 
@@ -99,19 +107,19 @@ live_sound a required live turns l n h = by (is_sound_at (decode (module_value a
     by true e = refl
     by false e = absurd (l.sound ((Funcs, n), (l.is_live (Funcs, n)).0 h, e))
 
-module _ (a : Module) (required : List (List ℕ)) (live : ItemIndex → Bool) (turns : ℕ) (l : IsLivenessOf required (module_value a) live turns) where
-  pub trimmed_of : {T : Type 0} (items : T → List ℕ) (r : Result T GcFault) → IfOk r (λ v. items v ≡ built_text (image_of (decoded_module a) (kept_exports required (module_value a).exports) live))
-      → (IsOk r → (f : GcFault) → ¬ (IsLaterCause (decoded_module a) (kept_exports required (module_value a).exports) live f)) → IfOk r (λ v. IsTrimmedOf required (module_value a) (items v))
+module _ (s : SettingsValue) (a : Module) (required : List (List ℕ)) (live : ItemIndex → Bool) (turns : ℕ) (l : IsLivenessOf required (module_value a) live turns) where
+  pub trimmed_of : {T : Type 0} (items : T → List ℕ) (r : Result T GcFault) → IfOk r (λ v. items v ≡ built_text (edited_image (edit s (decoded_module a) (kept_exports required (module_value a).exports) live)))
+      → (IsOk r → (f : GcFault) → ¬ (IsLaterCause s (decoded_module a) (kept_exports required (module_value a).exports) live f)) → IfOk r (λ v. IsTrimmedOf s required (module_value a) (items v))
   unfolding decoded_module
-  trimmed_of items (Ok v) w none = record { live = live; tells = l.is_live; supported = l.supported; sound = l.sound; none = none refl; written = w }
+  trimmed_of items (Ok v) w none = record { live = live; decides = l.is_live; supported = l.supported; sound = l.sound; none = none refl; written = w }
   trimmed_of items (Err f) w none = w
 
-  one_fault : (f : GcFault) → (f ≡ Memory) ⊎ IsLaterFault (decoded_module a) (kept_exports required (module_value a).exports) live f → IsTrimFaultOf required (module_value a) f
+  one_fault : (f : GcFault) → (f ≡ Memory) ⊎ IsLaterFault s (decoded_module a) (kept_exports required (module_value a).exports) live f → IsTrimFaultOf s required (module_value a) f
   unfolding decoded_module
   one_fault f (inl e) = inl (subst (IsFaultOf required (module_value a)) (sym e) refl)
-  one_fault f (inr k) = inr (record { live = live; tells = l.is_live; supported = l.supported; sound = l.sound; fault = k })
+  one_fault f (inr k) = inr (record { live = live; decides = l.is_live; supported = l.supported; sound = l.sound; fault = k })
 
-  pub later_of : {T : Type 0} (r : Result T GcFault) → IfErr r (λ f. (f ≡ Memory) ⊎ IsLaterFault (decoded_module a) (kept_exports required (module_value a).exports) live f) → IfErr r (IsTrimFaultOf required (module_value a))
+  pub later_of : {T : Type 0} (r : Result T GcFault) → IfErr r (λ f. (f ≡ Memory) ⊎ IsLaterFault s (decoded_module a) (kept_exports required (module_value a).exports) live f) → IfErr r (IsTrimFaultOf s required (module_value a))
   later_of (Ok v) h = h
   later_of (Err f) h = one_fault f h
 
@@ -125,19 +133,19 @@ cause_small w UnsupportedSection c = omega arith
 cause_small w LiveBody c = omega arith
 cause_small w f c = absurd c.2
 
-pub fault_trims : (w : Wanted) (f : GcFault) → IsFault w f → IsTrimFault w f
-fault_trims w f (inl e) = inl e
-fault_trims w f (inr c) =
+pub fault_trims : (s : SettingsValue) (w : Wanted) (f : GcFault) → IsFault w f → IsTrimFault s w f
+fault_trims s w f (inl e) = inl e
+fault_trims s w f (inr c) =
     let small = cause_small w f c.0 in
     inr (
       inl c.0,
       λ g h k. elim k [
         | inl a ↦ c.1 g h a
-        | inr b ↦ (let large = later_large (decode b.0) (kept_exports w.required b.0.exports) b.1 g b.4 in absurd (omega (arith, small, h, large)))
+        | inr b ↦ (let large = later_large s (decode b.0) (kept_exports w.required b.0.exports) b.1 g b.4 in absurd (omega (arith, small, h, large)))
       ],
     )
 
--- a module has one test that tells what is live
+-- a module has one test that decides what is live
 
 bools : (a b : Bool) → (IsTrue a → IsTrue b) → (IsTrue b → IsTrue a) → a ≡ b
 bools true true f g = refl
@@ -145,37 +153,37 @@ bools true false f g = sym (f refl)
 bools false true f g = g refl
 bools false false f g = refl
 
-tests_one : (required : List (List ℕ)) (m : ModuleValue) (a b : ItemIndex → Bool) → Tells required m a → Tells required m b → a ≡ b
+tests_one : (required : List (List ℕ)) (m : ModuleValue) (a b : ItemIndex → Bool) → DecidesLive required m a → DecidesLive required m b → a ≡ b
 tests_one required m a b ta tb = fun_ext (λ x. bools (a x) (b x) (λ h. (tb x).1 ((ta x).0 h)) (λ h. (ta x).1 ((tb x).0 h)))
 
-module _ (w : Wanted) (m : ModuleValue) (s : SpellsModule w.bytes m) where
-  same_later : (live : ItemIndex → Bool) → Tells w.required m live → (f : GcFault) → IsLaterCauseIn w f → IsLaterCause (decode m) (kept_exports w.required m.exports) live f
-  same_later live tells f (m', live', s', tells', c) =
+module _ (settings : SettingsValue) (w : Wanted) (m : ModuleValue) (s : SpellsModule w.bytes m) where
+  same_later : (live : ItemIndex → Bool) → DecidesLive w.required m live → (f : GcFault) → IsLaterCauseIn settings w f → IsLaterCause settings (decode m) (kept_exports w.required m.exports) live f
+  same_later live decides f (m', live', s', decides', c) =
       let one : m' ≡ m = modules_one w.bytes m' m s' s in
-      let told = subst (λ (z : ModuleValue). Tells w.required z live') one tells' in
-      let cause = subst (λ (z : ModuleValue). IsLaterCause (decode z) (kept_exports w.required z.exports) live' f) one c in
-      subst (λ (z : ItemIndex → Bool). IsLaterCause (decode m) (kept_exports w.required m.exports) z f) (tests_one w.required m live' live told tells) cause
+      let decided = subst (λ (z : ModuleValue). DecidesLive w.required z live') one decides' in
+      let cause = subst (λ (z : ModuleValue). IsLaterCause settings (decode z) (kept_exports w.required z.exports) live' f) one c in
+      subst (λ (z : ItemIndex → Bool). IsLaterCause settings (decode m) (kept_exports w.required m.exports) z f) (tests_one w.required m live' live decided decides) cause
 
-  one_answer : (f : GcFault) → IsTrimFaultOf w.required m f → IsTrimFault w f
-  one_answer f (inl h) = fault_trims w f (fault_of w m s f h)
+  one_answer : (f : GcFault) → IsTrimFaultOf settings w.required m f → IsTrimFault settings w f
+  one_answer f (inl h) = fault_trims settings w f (fault_of w m s f h)
   one_answer f (inr k) = inr (
-    inr (m, k.live, s, k.tells, k.fault.0),
+    inr (m, k.live, s, k.decides, k.fault.0),
     λ g h c. elim c [
       | inl a ↦ no_cause_of w m s k.supported k.sound g a
-      | inr b ↦ k.fault.1 g h (same_later k.live k.tells g b)
+      | inr b ↦ k.fault.1 g h (same_later k.live k.decides g b)
     ],
   )
 
-  pub fault_answer : {T : Type 0} (r : Result T GcFault) → IfErr r (IsTrimFaultOf w.required m) → IfErr r (IsTrimFault w)
+  pub fault_answer : {T : Type 0} (r : Result T GcFault) → IfErr r (IsTrimFaultOf settings w.required m) → IfErr r (IsTrimFault settings w)
   fault_answer (Ok v) h = h
   fault_answer (Err f) h = one_answer f h
 
-  pub trimmed_answer : {T : Type 0} (items : T → List ℕ) (r : Result T GcFault) → IfOk r (λ v. IsTrimmedOf w.required m (items v)) → IfOk r (λ v. IsTrimmed w (items v))
-  trimmed_answer items (Ok v) h = record { value = m; live = h.live; spelled = s; tells = h.tells; written = h.written }
+  pub trimmed_answer : {T : Type 0} (items : T → List ℕ) (r : Result T GcFault) → IfOk r (λ v. IsTrimmedOf settings w.required m (items v)) → IfOk r (λ v. IsTrimmed settings w (items v))
+  trimmed_answer items (Ok v) h = record { value = m; live = h.live; spelled = s; decides = h.decides; written = h.written }
   trimmed_answer items (Err f) h = h
 
-  pub no_cause_answer : {T : Type 0} (items : T → List ℕ) (r : Result T GcFault) → IfOk r (λ v. IsTrimmedOf w.required m (items v)) → IsOk r → (f : GcFault) → ¬ (IsTrimCause w f)
-  no_cause_answer items (Ok v) h ok f c = elim c [ inl a ↦ no_cause_of w m s h.supported h.sound f a | inr b ↦ h.none f (same_later h.live h.tells f b) ]
+  pub no_cause_answer : {T : Type 0} (items : T → List ℕ) (r : Result T GcFault) → IfOk r (λ v. IsTrimmedOf settings w.required m (items v)) → IsOk r → (f : GcFault) → ¬ (IsTrimCause settings w f)
+  no_cause_answer items (Ok v) h ok f c = elim c [ inl a ↦ no_cause_of w m s h.supported h.sound f a | inr b ↦ h.none f (same_later h.live h.decides f b) ]
   no_cause_answer items (Err e) h ok f c = absurd cc
 
 -- each item of a module that was read has an index of 32 bits

@@ -1,16 +1,17 @@
 -- What is found among the items of an adapter that are kept: the globals and imports that its code for a stack and for
 -- memory goes by (build conventions of adapter modules).
-use Rattle.std.specs.Prelude.{ℕ, ◌==◌, List, Bool, true, false, ◌&&◌, ◌||◌, filter, codes}
-use Rattle.std.specs.List.{range_with_len, slice_get}
+use Rattle.std.specs.Prelude.{ℕ, ◌==◌, List, Bool, true, false, ◌&&◌, ◌||◌, filter, codes, length}
+use Rattle.std.specs.List.{range_with_len, slice_get, list_all}
 use Rattle.std.specs.Option.{option_map_or}
 use Rattle.std.specs.Map.{lookup}
 use Rattle.std.specs.Str.{bytes_eq}
+use Rattle.wc_read.specs.Types.{FuncTypeValue}
 use Rattle.wc_read.specs.Items.{DefValue, imported, local, MemoryValue}
 use Rattle.wc_read.specs.declared.types.ValType.{ValType}
 use Rattle.wc_read.specs.declared.types.ValType.TheVariants.{I32}
 use Rattle.wc_read.specs.declared.types.GlobalType.{GlobalType}
 use Rattle.wc_read.specs.declared.operators.Space.{Space}
-use Rattle.wc_read.specs.declared.operators.Space.TheVariants.{Funcs, Tables, Memories, Globals}
+use Rattle.wc_read.specs.declared.operators.Space.TheVariants.{Types, Funcs, Tables, Memories, Globals}
 use Rattle.wc_write.specs.BuiltValues.{is_defined}
 use Rattle.wc_gc.specs.Decoded.{DecodedModule, FuncCode, GlobalCode, ItemIndex, size_of}
 use Rattle.wc_gc.specs.declared.found.Found.{Found}
@@ -30,11 +31,18 @@ is_realloc (local x) = false
 abbrev pub is_realloc_at : DecodedModule → ℕ → Bool
 is_realloc_at m n = option_map_or (λ (f : FuncCode). is_realloc f.def) (slice_get m.funcs n) false
 
--- a mutable i32 that has a name
-
 abbrev pub is_i32 : ValType → Bool
 is_i32 I32 = true
 is_i32 t = false
+
+-- the type of a realloc: an old pointer, an old length, an alignment and a new length; a new pointer
+abbrev pub are_i32 : ℕ → List ValType → Bool
+are_i32 n ts = length ts == n && list_all is_i32 ts
+
+abbrev pub is_realloc_type : FuncTypeValue → Bool
+is_realloc_type t = are_i32 4 t.params && are_i32 1 t.results
+
+-- a mutable i32 that has a name
 
 abbrev pub is_mutable_i32 : GlobalType → Bool
 is_mutable_i32 t = t.mutable && is_i32 t.content_type
@@ -58,17 +66,30 @@ allocation_state = codes "allocation_state"
 abbrev pub is_own_memory_at : DecodedModule → ℕ → Bool
 is_own_memory_at m n = option_map_or (λ (t : MemoryValue). is_defined t) (slice_get m.memories n) false
 
+-- a function type without parameters and results
+
+abbrev pub is_empty : {A : Type 0} → List A → Bool
+is_empty xs = length xs == 0
+
+abbrev pub is_empty_type : FuncTypeValue → Bool
+is_empty_type t = is_empty t.params && is_empty t.results
+
+abbrev pub is_empty_type_at : DecodedModule → ℕ → Bool
+is_empty_type_at m n = option_map_or is_empty_type (slice_get m.types n) false
+
 -- the indices of a space that pass a test, in their order
 abbrev pub indices_where : DecodedModule → Space → (ℕ → Bool) → List ℕ
 indices_where m space test = filter test (range_with_len 0 (size_of m space))
 
--- of kept items: the stack pointers, the states of an allocation, the reallocs, the tables and the memories
+-- of kept items: the stack pointers, the states of an allocation, the reallocs, the tables, the memories, and the types
+-- without parameters and results
 pub record FoundValue : Type 0 where
   pub stacks : List ℕ
   pub states : List ℕ
   pub reallocs : List ℕ
   pub tables : List ℕ
   pub memories : List ℕ
+  pub empties : List ℕ
 
 unfoldable pub found_in : DecodedModule → (ItemIndex → Bool) → FoundValue
 found_in m kept = record {
@@ -77,6 +98,7 @@ found_in m kept = record {
   reallocs = indices_where m Funcs (λ n. kept (Funcs, n) && is_realloc_at m n);
   tables = indices_where m Tables (λ n. kept (Tables, n));
   memories = indices_where m Memories (λ n. kept (Memories, n));
+  empties = indices_where m Types (λ n. kept (Types, n) && is_empty_type_at m n);
 }
 
 abbrev pub found_value : Found → FoundValue
@@ -86,4 +108,5 @@ found_value f = record {
   reallocs = f.reallocs.items;
   tables = f.tables.items;
   memories = f.memories.items;
+  empties = f.empties.items;
 }

@@ -1,7 +1,6 @@
--- What trimming makes of a module: its kept items, in their order, with every index replaced by its rank.
+-- Kept items, and items under new indices.
 use Rattle.std.specs.Prelude.{ℕ, List, [], map, Bool, Option, filter, unwrap_or}
 use Rattle.std.specs.List.{range_with_len, filter_map, slice_get}
-use Rattle.std.specs.Option.{option_map}
 use Rattle.wc_read.specs.Exports.{ExportValue}
 use Rattle.wc_read.specs.Operators.{InstrValue}
 use Rattle.wc_read.specs.Bodies.{BodyValue}
@@ -11,7 +10,6 @@ use Rattle.wc_read.specs.declared.types.GlobalType.{GlobalType}
 use Rattle.wc_read.specs.declared.operators.Space.{Space}
 use Rattle.wc_read.specs.declared.operators.Space.TheVariants.{Types, Funcs, Tables, Memories, Globals}
 use Rattle.wc_write.specs.BuiltValues.{def_seen}
-use Rattle.wc_write.specs.ModuleText.{BuiltValue}
 use Rattle.wc_gc.specs.Counts.{count_below}
 use Rattle.wc_gc.specs.Decoded.{DecodedModule, FuncCode, GlobalCode, ItemIndex, size_of, space_of}
 
@@ -54,16 +52,3 @@ kept_items kept size items = filter_map (slice_get items) (filter kept (range_wi
 -- the kept items of a space
 abbrev pub kept_of : {A : Type 0} → DecodedModule → (ItemIndex → Bool) → Space → List A → List A
 kept_of m kept space items = kept_items (λ n. kept (space, n)) (size_of m space) items
-
--- the image of a module, with some of its exports
-unfoldable pub image_of : DecodedModule → List ExportValue → (ItemIndex → Bool) → BuiltValue
-image_of m exports kept = record {
-  types = kept_of m kept Types m.types;
-  funcs = map (new_func (rank kept)) (kept_of m kept Funcs m.funcs);
-  tables = kept_of m kept Tables m.tables;
-  memories = kept_of m kept Memories m.memories;
-  globals = map (new_global (rank kept)) (kept_of m kept Globals m.globals);
-  exports = map (new_export (rank kept)) exports;
-  start = option_map (rank kept Funcs) m.start;
-  producers = m.producers;
-}

@@ -42,7 +42,3 @@ by_name e = (e.name, e)
 
 abbrev pub AreNamed : List (Bor (List ℕ) × Export) → Type 0
 AreNamed es = All (λ e. e.0.now ≡ e.1.name.now) es
-
--- what is left of exports where those of other exports that are not required are taken out
-abbrev pub kept_from : List (List ℕ) → List ExportValue → List ExportValue → List ExportValue
-kept_from required others exports = fold without exports (dropped_names required others)

@@ -1,12 +1,20 @@
 -- Laws of trimming.
-use Rattle.std.specs.Prelude.{ℕ, ◌<◌, ◌^◌, List}
+use Rattle.std.specs.Prelude.{ℕ, ◌<◌, ◌≤◌, ◌^◌, List, IfSome, IsUtf8}
 use Rattle.wc_read.specs.Operators.{InstrValue}
 use Rattle.wc_read.specs.Bodies.{BodyValue}
 use Rattle.wc_read.specs.Renumbering.{Renumbering}
 use Rattle.wc_read.specs.declared.operators.Space.{Space}
-use Rattle.wc_write.specs.Values.{IsBody}
-use Rattle.wc_write.specs.BuiltValues.{IsInitialiser}
+use Rattle.wc_write.specs.Values.{AreBytes, IsBody}
+use Rattle.wc_write.specs.BuiltValues.{IsInitialiser, IsRead}
+use Rattle.wc_gc.specs.Decoded.{decode}
+use Rattle.wc_gc.specs.Edited.{edit}
+use Rattle.wc_gc.specs.EditedImage.{edited_image}
 use Rattle.wc_gc.specs.Image.{renumber_body, renumber_code}
+use Rattle.wc_gc.specs.Parts.{SettingsValue}
+use Rattle.wc_gc.specs.KeptExports.{kept_exports}
+use Rattle.wc_gc.specs.Liveness.{Wanted}
+use Rattle.wc_gc.specs.Trimming.{IsTrimCause, IsTrimmed}
+use Rattle.wc_gc.specs.declared.fault.GcFault.{GcFault}
 
 -- new indices of indices of 32 bits have 32 bits
 abbrev pub KeepsBits : Renumbering → Type 0
@@ -19,3 +27,16 @@ BodiesStaySpellable = (new : Renumbering) (b : BodyValue) → KeepsBits new → 
 -- so can an initialiser
 abbrev pub InitialisersStaySpellable : Type 0
 InitialisersStaySpellable = (new : Renumbering) (is : List InstrValue) → KeepsBits new → IsInitialiser is → IsInitialiser (renumber_code new is)
+
+-- a realloc's name is text, and pages have 2 ^ 16 bytes at most
+pub record AreSettings (s : SettingsValue) : Type 0 where
+  pub name_is_text : IfSome s.realloc IsUtf8
+  pub few_bytes : s.exponent ≤ 16
+
+-- what trimming answers is the text of an image: it spells the image and no other module; the same of its bodies and
+-- initialisers
+abbrev pub TrimmedIsRead : Type 0
+TrimmedIsRead = (s : SettingsValue) (w : Wanted) (text : List ℕ) → AreSettings s → AreBytes w.bytes →
+    (t : IsTrimmed s w text) →
+    ((f : GcFault) → ¬ (IsTrimCause s w f)) →
+    IsRead (edited_image (edit s (decode t.value) (kept_exports w.required t.value.exports) t.live))

@@ -9,6 +9,7 @@ pub mod Faults
 pub mod Liveness
 pub mod Found
 pub mod Fewness
+pub mod Parts
 pub mod Causes
 pub mod Bits
 pub mod Counts
@@ -16,5 +17,17 @@ pub mod Ranks
 pub mod Image
 pub mod NewIndices
 pub mod NewBodies
+pub mod Edits
 pub mod Trimming
+pub mod TrimmedText
 pub mod Laws
+pub mod AddedCode
+pub mod MachineOperators
+pub mod Machine
+pub mod AddedCodeRuns
+pub mod LazyCalls
+pub mod FuncGroups
+pub mod Edited
+pub mod EditedImage
+pub mod RankLaws
+pub mod Unfolding

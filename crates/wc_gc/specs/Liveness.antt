@@ -10,7 +10,7 @@ use Rattle.wc_gc.specs.KeptExports.{kept_exports, missing_name}
 use Rattle.wc_gc.specs.Reached.{IsReached}
 use Rattle.wc_gc.specs.Soundness.{is_sound_at}
 use Rattle.wc_gc.specs.declared.fault.GcFault.{GcFault}
-use Rattle.wc_gc.specs.declared.fault.GcFault.TheVariants.{Memory, Read, MissingExport, UnsupportedSection, LiveBody, SeveralNamed, LiveTable, SeveralMemories, LocalMemory, NotYet, TooLarge}
+use Rattle.wc_gc.specs.declared.fault.GcFault.TheVariants.{Memory, Read, MissingExport, UnsupportedSection, LiveBody, SeveralNamed, LiveTable, SeveralMemories, LocalMemory, ReallocType, ReallocMemory, TooLarge}
 
 -- n is how many things P holds of
 abbrev pub IsCount : {A : Type 0} → (A → Type 0) → ℕ → Type 0
@@ -88,8 +88,9 @@ order_of SeveralNamed = 5
 order_of LiveTable = 6
 order_of SeveralMemories = 7
 order_of LocalMemory = 8
-order_of NotYet = 9
-order_of TooLarge = 10
+order_of ReallocType = 9
+order_of ReallocMemory = 10
+order_of TooLarge = 11
 
 -- Memory at any time; another fault where its cause is so, and none before it
 abbrev pub IsFault : Wanted → GcFault → Type 0

@@ -1,54 +1,69 @@
 //! The image of an adapter: its live items under their new indices.
 
-ghost use Rattle.std.specs.Prelude.{◌≡◌, ◌<◌, ◌^◌, ℕ, length, map, true, All, IsTrue, IfOk};
-ghost use Rattle.std.specs.Option.{option_map};
+ghost use Rattle.std.specs.Prelude.{◌≡◌, ◌<◌, ◌^◌, ◌++◌, ℕ, length, map, true, IsTrue, IfOk, OnOk, Some};
+ghost use Rattle.std.specs.List.{slice_get};
 ghost use Rattle.wc_read.specs.Exports.{export_value};
 ghost use Rattle.wc_read.specs.Inits.{init_value};
 ghost use Rattle.wc_read.specs.Items.{item_value};
 ghost use Rattle.wc_read.specs.Types.{func_type_value};
 ghost use Rattle.wc_read.specs.declared.operators.Space.TheVariants.{Funcs};
 ghost use Rattle.wc_write.specs.ModuleText.{built_value_by};
-ghost use Rattle.wc_gc.specs.Decoded.{decoded_module, func_code, global_code};
+ghost use Rattle.wc_gc.specs.AddedCode.{empty_type, realloc_type};
+ghost use Rattle.wc_gc.specs.Decoded.{decoded_module, global_code};
+ghost use Rattle.wc_gc.specs.Edited.{added_types, only_if, types_added};
+ghost use Rattle.wc_gc.specs.EditedImage.{edited_image, edited_rank};
+ghost use Rattle.wc_gc.specs.Edits.{AreCoded, edited_of, found_of, funcs_added, funcs_of, imports_added, live_funcs, new_funcs, new_indices, settings_of, types_of, written_funcs};
 ghost use Rattle.wc_gc.specs.Fewness.{AreFewItems};
-ghost use Rattle.wc_gc.specs.Image.{image_of, kept_items, new_export, new_func, new_global};
+ghost use Rattle.wc_gc.specs.FuncGroups.{AreGroups};
+ghost use Rattle.wc_gc.specs.Image.{kept_items, new_export, new_global};
 ghost use Rattle.wc_gc.specs.LiveSets.{has_item};
-ghost use Rattle.wc_gc.specs.NewBodies.{body_written, is_coded};
-ghost use Rattle.wc_gc.specs.NewIndices.{AreRanks, new_of};
+ghost use Rattle.wc_gc.specs.NewBodies.{body_written};
+ghost use Rattle.wc_gc.specs.NewIndices.{new_of};
 ghost use Rattle.wc_gc.specs.Soundness.{is_sound_at};
 
+use crate::edit::{Edit, NewFunc};
+use crate::func_groups::FuncGroups;
 use crate::live::{LiveSet, LiveSets};
 use crate::live_items::exported_item;
+use crate::new_bodies::NewBody;
 use crate::new_indices::NewIndices;
-use crate::rewrite::{NewBody, new_init};
+use crate::parts::Parts;
+use crate::rewrite::new_init;
 use std::alloc::{AllocError, Global};
 use wc_read::{
-    Def, Export, Func, FuncType, Global as ModuleGlobal, GlobalType, Init, Item, Module, Space,
+    Def, Export, Func, FuncType, Global as ModuleGlobal, GlobalType, Init, Item, Module, ValType,
 };
 use wc_write::Built;
 
-/// The image of an adapter with some of its exports: its live items, in their order, under their new indices.
+/// The image of an adapter with some of its exports: its live items and what is added, in their order, under their new
+/// indices.
 pub fn image<'a, 'n, L: LiveSet>(
     alloc: Global,
     adapter: &Module<'a>,
     exports: &[Export<'a>],
     live: &LiveSets<L>,
-    new: &'n NewIndices,
+    groups: &FuncGroups<L>,
+    edit: Edit<'a, 'n>,
 ) -> Result<Built<'a, NewBody<'a, 'n>>, AllocError>
     requires few { AreFewItems adapter.now }
-    requires ranks { AreRanks (has_item L.has live.now) new.now }
+    requires groups { AreGroups L.has (settings_of edit) adapter.now.funcs.items
+        (L.has live.now.funcs) (map export_value exports.now) groups.now }
     requires sound { (n : ℕ) → IsTrue (L.has live.now.funcs n)
         → is_sound_at (decoded_module adapter.now) (Funcs, n) ≡ true }
-    ensures { IfOk result (λ b. built_value_by body_written b ≡ image_of
+    requires types { types_of edit ≡ length adapter.now.types.items }
+    requires funcs { funcs_of edit ≡ length adapter.now.funcs.items }
+    requires indices { new_indices edit ≡ edited_rank (edited_of edit
         (decoded_module adapter.now) (map export_value exports.now) (has_item L.has live.now)) }
+    ensures { IfOk result (λ b. built_value_by body_written b ≡ edited_image (edited_of edit.entry
+        (decoded_module adapter.now) (map export_value exports.now) (has_item L.has live.now))) }
 {
-    let types = kept_types(alloc, &live.types, &adapter.types)?;
-    let funcs = kept_items(alloc, &live.funcs, &adapter.funcs)?;
-    let funcs = new_funcs(alloc, &funcs, new)?;
+    let types = new_types(alloc, &live.types, &adapter.types, edit)?;
+    let funcs = new_funcs(alloc, &adapter.funcs, groups, edit)?;
     let tables = kept_items(alloc, &live.tables, &adapter.tables)?;
     let memories = kept_items(alloc, &live.memories, &adapter.memories)?;
     let globals = kept_items(alloc, &live.globals, &adapter.globals)?;
-    let globals = new_globals(alloc, &globals, new)?;
-    let exports = new_exports(alloc, exports, new)?;
+    let globals = new_globals(alloc, &globals, edit.new)?;
+    let exports = new_exports(alloc, exports, edit.new)?;
     Ok(Built {
         types,
         funcs,
@@ -56,9 +71,126 @@ pub fn image<'a, 'n, L: LiveSet>(
         memories,
         globals,
         exports,
-        start: new_start(adapter.start, new),
+        start: edit.start(),
         producers: adapter.producers,
     })
+}
+
+/// The function types: live ones, and those that are added.
+fn new_types<L: LiveSet>(
+    alloc: Global,
+    live: &L,
+    types: &[FuncType],
+    edit: Edit<'_, '_>,
+) -> Result<Vec<FuncType>, AllocError>
+    requires { length types.now < 2 ^ 32 }
+    ensures { IfOk result (λ v. map func_type_value v.items
+        ≡ kept_items (L.has live.now) (length types.now) (map func_type_value types.now)
+        ++ added_types edit.entry.parts (found_of edit.entry)) }
+{
+    let mut types = kept_types(alloc, live, types)?;
+    append_types(alloc, &mut types, edit.parts, edit.found.empties.is_empty())?;
+    Ok(types)
+}
+
+/// Appends the types that are added; one for the start function, if no empty type is live.
+fn append_types(
+    alloc: Global,
+    types: &mut Vec<FuncType>,
+    parts: Parts,
+    no_empty: bool,
+) -> Result<(), AllocError>
+    ensures { OnOk result (map func_type_value types.new.items
+        ≡ map func_type_value types.old.items ++ types_added parts no_empty) }
+{
+    append_if(types, parts.import_realloc, realloc_type(alloc)?)?;
+    append_if(types, parts.lazy, empty_type(alloc))?;
+    append_if(types, parts.growing, realloc_type(alloc)?)?;
+    append_if(types, parts.start && no_empty, empty_type(alloc))
+}
+
+/// Appends a type, if it is added.
+fn append_if(types: &mut Vec<FuncType>, added: bool, ty: FuncType) -> Result<(), AllocError>
+    ensures { OnOk result (map func_type_value types.new.items
+        ≡ map func_type_value types.old.items ++ only_if added (func_type_value ty)) }
+{
+    if !added {
+        return Ok(());
+    }
+    types.push(ty)?;
+    Ok(())
+}
+
+/// The type of a realloc.
+fn realloc_type(alloc: Global) -> Result<FuncType, AllocError>
+    ensures { IfOk result (λ t. func_type_value t ≡ realloc_type) }
+{
+    let params = Vec::from_slice(alloc, &[ValType::I32; 4])?;
+    let results = Vec::from_slice(alloc, &[ValType::I32])?;
+    Ok(FuncType::new(params, results))
+}
+
+/// The type of functions without parameters and results.
+fn empty_type(alloc: Global) -> FuncType
+    ensures { func_type_value result ≡ empty_type }
+{
+    FuncType::new(Vec::new(alloc), Vec::new(alloc))
+}
+
+/// The functions: live imports, the import that is added, live defined functions, those that are added.
+fn new_funcs<'a, 'n, L: LiveSet>(
+    alloc: Global,
+    funcs: &[Func<'a>],
+    groups: &FuncGroups<L>,
+    edit: Edit<'a, 'n>,
+) -> Result<Vec<NewFunc<'a, 'n>>, AllocError>
+    requires few { length funcs.now < 2 ^ 32 }
+    requires imports { AreCoded (L.has groups.now.imports) funcs.now }
+    requires defined { AreCoded (L.has groups.now.defined) funcs.now }
+    ensures { IfOk result (λ v. written_funcs v.items
+        ≡ live_funcs edit.entry (L.has groups.now.imports) (L.has groups.now.exported) funcs.now
+        ++ (new_funcs edit.entry (imports_added edit.entry)
+        ++ (live_funcs edit.entry (L.has groups.now.defined) (L.has groups.now.exported) funcs.now
+        ++ new_funcs edit.entry (funcs_added edit.entry)))) }
+{
+    let mut items = Vec::new(alloc);
+    append_funcs(&mut items, funcs, &groups.imports, &groups.exported, edit)?;
+    edit.append_import(&mut items)?;
+    append_funcs(&mut items, funcs, &groups.defined, &groups.exported, edit)?;
+    edit.append_added(&mut items)?;
+    Ok(items)
+}
+
+/// Appends the functions whose indices are in a set, in their order.
+fn append_funcs<'a, 'n, L: LiveSet>(
+    items: &mut Vec<NewFunc<'a, 'n>>,
+    funcs: &[Func<'a>],
+    kept: &L,
+    exported: &L,
+    edit: Edit<'a, 'n>,
+) -> Result<(), AllocError>
+    requires few { length funcs.now < 2 ^ 32 }
+    requires coded { AreCoded (L.has kept.now) funcs.now }
+    ensures { OnOk result (written_funcs items.new.items ≡ written_funcs items.old.items
+        ++ live_funcs edit.entry (L.has kept.now) (L.has exported.now) funcs.now) }
+{
+    for index in 0..funcs.len() {
+        if kept.contains(index as u32) {
+            let func = func_at(funcs, index);
+            let exported = exported.contains(index as u32);
+            items.push(edit.edited_func(&func, exported))?;
+        }
+    }
+    Ok(())
+}
+
+/// The function of an index.
+#[tactic(auto, using(crate::proofs::ImageLemmas::item_read))]
+fn func_at<'a>(funcs: &[Func<'a>], index: usize) -> Func<'a>
+    requires { index < length funcs.now }
+    ensures { slice_get funcs.now index ≡ Some result }
+{
+    funcs[index]
 }
 
 /// The items whose indices are in a set, in their order.
@@ -97,37 +229,6 @@ fn kept_types<L: LiveSet>(
         }
     }
     Ok(kept)
-}
-
-/// Functions under new indices.
-fn new_funcs<'a, 'n>(
-    alloc: Global,
-    funcs: &[Func<'a>],
-    new: &'n NewIndices,
-) -> Result<Vec<Item<'a, u32, NewBody<'a, 'n>>>, AllocError>
-    requires { All (λ f. is_coded (func_code f).def ≡ true) funcs.now }
-    ensures { IfOk result (λ v. map (item_value body_written) v.items
-        ≡ map (λ f. new_func (new_of new.now) (func_code f)) funcs.now) }
-{
-    let mut items = Vec::with_capacity(alloc, funcs.len())?;
-    for func in funcs {
-        items.push(new_func(func, new))?;
-    }
-    Ok(items)
-}
-
-/// A function under new indices.
-fn new_func<'a, 'n>(func: &Func<'a>, new: &'n NewIndices) -> Item<'a, u32, NewBody<'a, 'n>>
-    requires { is_coded (func_code func.now).def ≡ true }
-    ensures { item_value body_written result
-        ≡ new_func (new_of new.now) (func_code func.now) }
-{
-    let ty = new.of(Space::Types, func.ty);
-    let def = match func.def {
-        Def::Import(module, name) => Def::Import(module, name),
-        Def::Local(bytes) => Def::Local(NewBody { bytes, new }),
-    };
-    Item { ty, def }
 }
 
 /// Globals under new indices.
@@ -190,14 +291,4 @@ fn new_exports<'a>(
         })?;
     }
     Ok(items)
-}
-
-/// The start function under its new index.
-fn new_start(start: Option<u32>, new: &NewIndices) -> Option<u32>
-    ensures { result ≡ option_map (new_of new.now Funcs) start }
-{
-    match start {
-        Some(index) => Some(new.of(Space::Funcs, index)),
-        None => None,
-    }
 }

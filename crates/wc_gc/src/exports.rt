@@ -2,6 +2,8 @@
 
 ghost use Rattle.std.specs.Prelude.{◌≡◌, ◌≢◌, ◌⊎◌, map, AllPairs, None, Some, IfErr, IfOk, IsOk, String, string_bytes};
 ghost use Rattle.std.specs.Option.{option_map};
+ghost use Rattle.std.specs.Str.{bytes_eq};
+ghost use Rattle.indexmap.specs.IndexMap.{swap_remove_entry};
 ghost use Rattle.wc_read.specs.Exports.{export_value};
 ghost use Rattle.wc_gc.specs.KeptExports.{AreNamed, by_name, export_entries, export_names, kept_exports, missing_name};
 
@@ -76,6 +78,13 @@ pub fn drop_exports<'a>(
         if required.contains(export.name) {
             continue;
         }
-        kept.swap_remove(export.name);
+        take_out(kept, export.name);
     }
+}
+
+/// Takes out the export of a name; the last one takes its index.
+fn take_out<'a>(kept: &mut IndexMap<&'a str, Export<'a>>, name: &'a str)
+    ensures { kept.new.entries ≡ swap_remove_entry (λ k. bytes_eq name.now k.now) kept.old.entries }
+{
+    kept.swap_remove(name);
 }

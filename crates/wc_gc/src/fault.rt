@@ -39,10 +39,13 @@ pub enum GcFault {
     /// A live memory is the adapter's own.
     #[error("LocalMemory")]
     LocalMemory,
-    /// A stack pointer is live, or an import of the main module's realloc.
-    #[error("NotYet")]
-    NotYet,
-    /// A count or a size of the trimmed module has no encoding in 32 bits.
+    /// An imported realloc that becomes a growing realloc, or that lazy code calls, is of another type.
+    #[error("ReallocType")]
+    ReallocType,
+    /// A realloc grows memory, and no live memory is of 32 bits and has pages of the wanted size.
+    #[error("ReallocMemory")]
+    ReallocMemory,
+    /// A count or a size of the trimmed module is no number of 32 bits.
     #[error("TooLarge")]
     TooLarge,
 }

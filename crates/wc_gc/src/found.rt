@@ -1,21 +1,20 @@
 //! What is found among live items.
 
-ghost use Rattle.std.specs.Prelude.{◌≡◌, ◌&&◌, ◌≤◌, ◌<◌, ◌^◌, length, filter, IfOk, IfErr, IsOk};
-ghost use Rattle.std.specs.List.{list_any, range_with_len};
-ghost use Rattle.wc_gc.specs.Causes.{IsFoundCause};
-ghost use Rattle.wc_gc.specs.Liveness.{order_of};
+ghost use Rattle.std.specs.Prelude.{◌≡◌, ◌&&◌, ◌<◌, ◌^◌, length, filter, IfOk};
+ghost use Rattle.std.specs.List.{range_with_len};
 ghost use Rattle.wc_gc.specs.Decoded.{decoded_module};
-ghost use Rattle.wc_gc.specs.Found.{allocation_state, found_in, found_value, has_name, indices_where, is_mutable_i32, is_mutable_i32_at, is_named_at, is_own_memory_at, is_realloc, is_realloc_at, is_realloc_name, main_module, stack_pointer};
+ghost use Rattle.wc_gc.specs.Found.{allocation_state, found_in, found_value, has_name, indices_where, is_empty_type, is_empty_type_at, is_mutable_i32, is_mutable_i32_at, is_named_at, is_realloc, is_realloc_at, is_realloc_name, main_module, stack_pointer};
 ghost use Rattle.wc_gc.specs.LiveSets.{has_item};
 ghost use Rattle.wc_gc.specs.Fewness.{AreFewItems};
 ghost use Rattle.wc_read.specs.Items.{def_value};
+ghost use Rattle.wc_read.specs.Types.{func_type_value};
 
-use crate::fault::GcFault;
 use crate::live::{LiveSet, LiveSets};
 use std::alloc::{AllocError, Global};
-use wc_read::{Def, GlobalType, Module, ValType};
+use wc_read::{Def, FuncType, GlobalType, Module, ValType};
 
-const MAIN_MODULE: &str = "__main_module__";
+/// The name by which adapters import from the module that they are for.
+pub const MAIN_MODULE: &str = "__main_module__";
 
 const REALLOC: &str = "cabi_realloc";
 
@@ -38,6 +37,8 @@ pub struct Found {
     pub tables: Vec<u32>,
     /// All memories.
     pub memories: Vec<u32>,
+    /// Function types without parameters and results.
+    pub empties: Vec<u32>,
 }
 
 /// What is found among live items.
@@ -56,6 +57,7 @@ pub fn find_parts<L: LiveSet>(
         reallocs: live_reallocs(alloc, adapter, &live.funcs)?,
         tables: live_indices(alloc, &live.tables, adapter.tables.len())?,
         memories: live_indices(alloc, &live.memories, adapter.memories.len())?,
+        empties: live_empties(alloc, adapter, &live.types)?,
     })
 }
 
@@ -103,6 +105,39 @@ fn live_reallocs<L: LiveSet>(
         .collect(alloc)
 }
 
+/// The live function types without parameters and results.
+fn live_empties<L: LiveSet>(
+    alloc: Global,
+    adapter: &Module<'_>,
+    live: &L,
+) -> Result<Vec<u32>, AllocError>
+    requires { AreFewItems adapter.now }
+    ensures { IfOk result (λ v. v.items ≡ filter
+        (λ n. L.has live.now n && is_empty_type_at (decoded_module adapter.now) n)
+        (range_with_len 0 (length adapter.now.types.items))) }
+{
+    (0..adapter.types.len() as u32)
+        .filter(|index| live.contains(*index) && has_empty_type(adapter, *index))
+        .collect(alloc)
+}
+
+/// Whether an index is that of a function type without parameters and results.
+#[tactic(auto, unfolding(crate::specs::Decoded::decoded_module))]
+fn has_empty_type(adapter: &Module<'_>, index: u32) -> bool
+    ensures { result ≡ is_empty_type_at (decoded_module adapter.now) index }
+{
+    match adapter.types.get(index as usize) {
+        Some(ty) => is_empty_type(ty),
+        None => false,
+    }
+}
+
+fn is_empty_type(ty: &FuncType) -> bool
+    ensures { result ≡ is_empty_type (func_type_value ty.now) }
+{
+    ty.params().is_empty() && ty.results().is_empty()
+}
+
 /// Whether an index is that of a mutable global of type i32 that has a name.
 fn is_named(adapter: &Module<'_>, index: u32, name: &str) -> bool
     ensures { result ≡ is_named_at (decoded_module adapter.now) name.now index }
@@ -144,7 +179,8 @@ fn is_realloc(adapter: &Module<'_>, index: u32) -> bool
     }
 }
 
-fn imports_realloc(def: Def<'_, &[u8]>) -> bool
+/// Whether a function is an import of the main module's realloc.
+pub fn imports_realloc(def: Def<'_, &[u8]>) -> bool
     ensures { result ≡ is_realloc (def_value (λ b. b.now) def.entry) }
 {
     match def {
@@ -157,51 +193,4 @@ fn is_realloc_name(name: &str) -> bool
     ensures { result ≡ is_realloc_name name.now }
 {
     name == REALLOC || name == OLD_REALLOC
-}
-
-/// Whether an index is that of a memory of the adapter's own.
-#[tactic(auto, unfolding(crate::specs::Decoded::decoded_module))]
-fn is_own_memory(adapter: &Module<'_>, index: u32) -> bool
-    ensures { result ≡ is_own_memory_at (decoded_module adapter.now) index }
-{
-    match adapter.memories.get(index as usize) {
-        Some(memory) => matches!(&memory.def, Def::Local(_)),
-        None => false,
-    }
-}
-
-/// Checks what was found.
-pub fn check_parts(adapter: &Module<'_>, found: &Found) -> Result<(), GcFault>
-    ensures fault { IfErr result (λ f.
-        IsFoundCause (decoded_module adapter.now) (found_value found.now) f
-        × ((g : GcFault) → order_of g < order_of f
-        → ¬ (IsFoundCause (decoded_module adapter.now) (found_value found.now) g))) }
-    ensures none { IsOk result → (f : GcFault) →
-        ¬ (IsFoundCause (decoded_module adapter.now) (found_value found.now) f) }
-{
-    if found.stacks.len() > 1 || found.states.len() > 1 {
-        return Err(GcFault::SeveralNamed);
-    }
-    if !found.tables.is_empty() {
-        return Err(GcFault::LiveTable);
-    }
-    if found.memories.len() > 1 {
-        return Err(GcFault::SeveralMemories);
-    }
-    if has_own_memory(adapter, &found.memories) {
-        return Err(GcFault::LocalMemory);
-    }
-    if !found.stacks.is_empty() || !found.reallocs.is_empty() {
-        return Err(GcFault::NotYet);
-    }
-    Ok(())
-}
-
-/// Whether one of the memories is the adapter's own.
-fn has_own_memory(adapter: &Module<'_>, memories: &[u32]) -> bool
-    ensures { result ≡ list_any (is_own_memory_at (decoded_module adapter.now)) memories.now }
-{
-    memories
-        .iter()
-        .any(|memory| is_own_memory(adapter, *memory))
 }

@@ -1,9 +1,12 @@
 //! Laws of trimming, over its definitions.
 
-ghost use Rattle.wc_gc.specs.Laws.{BodiesStaySpellable, InitialisersStaySpellable, KeepsBits};
+ghost use Rattle.wc_gc.specs.Laws.{BodiesStaySpellable, InitialisersStaySpellable, KeepsBits, TrimmedIsRead};
 ghost use Rattle.std.specs.Prelude.{Bool};
 ghost use Rattle.wc_gc.specs.Decoded.{ItemIndex};
 ghost use Rattle.wc_gc.specs.Image.{rank};
+ghost use Rattle.wc_gc.specs.Edited.{EditedModule};
+ghost use Rattle.wc_gc.specs.Unfolding.{ImageUnfolds, RenumberedUnfolds};
+ghost use Rattle.wc_gc.specs.RankLaws.{RanksDiffer, RanksKeepOrder};
 
 /// A body that can be spelled, as `wc_write::laws::body_text_read` asks, can be spelled under new indices that have 32
 /// bits where the old ones have; so can an initialiser (WebAssembly core specification, 5.4).
@@ -15,4 +18,30 @@ pub fn code_stays_spellable()
 /// Ranks are such new indices.
 pub fn ranks_keep_bits()
     ensures { (kept : ItemIndex → Bool) → KeepsBits (rank kept) }
+{}
+
+/// No two items of a space, kept or added, have the same rank; ranks leave types, tables, memories and globals in their
+/// order, and of functions those that are imported and those that are defined.
+pub fn ranks_are_ordered()
+    ensures differ { (e : EditedModule) → RanksDiffer e }
+    ensures order { (e : EditedModule) → RanksKeepOrder e }
+{}
+
+/// What `run` answers with Ok is read back: it spells the image that it is the text of, and no other module; the text of
+/// each of the image's bodies and initialisers spells it and no other (`wc_write::laws::text_read`; WebAssembly core
+/// specification, 5.5).
+pub fn trimmed_read()
+    ensures { TrimmedIsRead }
+{}
+
+/// Where the kept items of a module are those of another under new indices, and name kept items alone, each of them
+/// unfolds in the other as in this one, at every depth: its entry, and in the place of each index the item named.
+pub fn renumbered_unfolds()
+    ensures { RenumberedUnfolds }
+{}
+
+/// Where what the image of an edited adapter has is there, is code and names such items alone, each kept or added item
+/// unfolds at its rank in the image as it does in the edited adapter, at every depth.
+pub fn image_unfolds()
+    ensures { ImageUnfolds }
 {}

@@ -1,7 +1,7 @@
-//! Trimming of adapter modules: an adapter cut to what its wanted exports reach, under new indices (`run`); the items
-//! that they reach (`liveness_counted`), and the sets that these are in (`LiveSet`, `LiveSets`, `BitVec`, `Ranks`). No
-//! code is added to an adapter yet: one with a live stack pointer, or a live import of the main module's realloc, is
-//! refused.
+//! Trimming of adapter modules: an adapter cut to what its wanted exports reach, under new indices, with imported
+//! reallocs replaced and code added that allocates a stack (`run`); that code alone (`realloc_via_memory_grow`,
+//! `allocate_stack_via_realloc`); the items that exports reach (`liveness_counted`), and the sets that these are in
+//! (`LiveSet`, `LiveSets`, `BitVec`, `Ranks`).
 //!
 //! An item is a type, function, table, memory or global. An export names an item, a function its type and what the
 //! operators of its body name, a global what its initialiser names. What is reached is the end of a list of items that
@@ -28,19 +28,30 @@
 //! ```
 #![tactic(auto)]
 
+mod added_code;
 mod assemble;
+mod causes;
+mod edit;
+mod edited_text;
 mod exports;
 mod fault;
 mod found;
+mod func_groups;
 pub mod laws;
 mod live;
 mod live_items;
+pub mod machine_laws;
+mod machine_operators;
+mod new_bodies;
 mod new_indices;
+mod parts;
 mod ranks;
 mod rewrite;
 mod search;
+mod settings;
 mod trim;
 
+pub use added_code::{allocate_stack_via_realloc, realloc_via_memory_grow};
 pub use fault::GcFault;
 pub use live::{BitVec, LiveSet, LiveSets};
 pub use live_items::{Liveness, liveness_counted};

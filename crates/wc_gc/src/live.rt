@@ -5,9 +5,9 @@ ghost use Rattle.wc_gc.specs.Decoded.{ItemIndex};
 ghost use Rattle.wc_gc.specs.Bits.{bit_of};
 ghost use Rattle.wc_gc.specs.Counts.{count_below};
 ghost use Rattle.wc_gc.specs.LiveSets.{Inserts, has_item};
-ghost use Rattle.wc_gc.specs.Ranks.{rank_of};
+ghost use Rattle.wc_gc.specs.Ranks.{has_number, rank_of};
 
-use crate::ranks::Ranks;
+use crate::ranks::{Ranks, has_bit};
 use std::alloc::{AllocError, Global};
 use wc_read::Space;
 
@@ -40,7 +40,8 @@ pub trait LiveSet: Sized + Drop {
     ///
     /// `AllocError`: an allocation failed.
     fn ranks(&self, alloc: Global) -> Result<Ranks, AllocError>
-        ensures { IfOk result (λ r. (x : ℕ) → rank_of r x ≡ count_below (has self.now) x) };
+        ensures same { IfOk result (λ r. (x : ℕ) → has_number r x ≡ has self.now x) }
+        ensures ranks { IfOk result (λ r. (x : ℕ) → rank_of r x ≡ count_below (has self.now) x) };
 }
 
 /// A set of numbers as bits, up to the largest that was put in.
@@ -64,10 +65,7 @@ impl LiveSet for BitVec {
     }
 
     fn contains(&self, x: u32) -> bool {
-        match self.words.get((x / 64) as usize) {
-            Some(word) => (*word >> (x % 64)) & 1 == 1,
-            None => false,
-        }
+        has_bit(&self.words, x)
     }
 
     fn ranks(&self, alloc: Global) -> Result<Ranks, AllocError> {

@@ -1,38 +1,116 @@
-//! The new indices of live items, and operators under them.
+//! The new indices of live items and of what is added, and operators under them.
 
-ghost use Rattle.std.specs.Prelude.{◌≡◌, IfOk};
+ghost use Rattle.std.specs.Prelude.{◌≡◌, ◌+◌, ◌<◌, ◌^◌, ◌↔◌, IsTrue, IsSome, IfSome, IfOk, None};
 ghost use Rattle.wc_read.specs.Operators.{immediates_value, instr_value};
 ghost use Rattle.wc_read.specs.Renumbering.{renumber_block, renumber_immediates, renumber_index, renumber_instr, renumber_mem_arg};
 ghost use Rattle.wc_gc.specs.LiveSets.{has_item};
-ghost use Rattle.wc_gc.specs.NewIndices.{AreRanks, new_of};
+ghost use Rattle.wc_read.specs.declared.operators.Space.TheVariants.{Funcs, Types};
+ghost use Rattle.wc_gc.specs.Counts.{AreDisjoint};
+ghost use Rattle.wc_gc.specs.Ranks.{has_number, rank_of};
 
+use crate::func_groups::FuncGroups;
 use crate::live::{LiveSet, LiveSets};
 use crate::ranks::Ranks;
 use std::alloc::{AllocError, Global};
 use wc_read::{BlockType, Immediates, Index, IndexKind, Instr, MemArg, Space};
 
-/// The new index of each live item: how many live items of its space come before it.
+/// How many live items are below each index. Functions are in two groups.
 #[derive(Debug, Drop)]
-pub struct NewIndices {
+pub struct SpaceRanks {
     types: Ranks,
-    funcs: Ranks,
+    imports: Ranks,
+    defined: Ranks,
     tables: Ranks,
     memories: Ranks,
     globals: Ranks,
 }
 
-impl NewIndices {
-    /// Those of the items in live sets.
-    #[tactic(auto, unfolding(crate::specs::NewIndices::new_of))]
-    pub fn new<L: LiveSet>(alloc: Global, live: &LiveSets<L>) -> Result<NewIndices, AllocError>
-        ensures { IfOk result (AreRanks (has_item L.has live.now)) }
+impl SpaceRanks {
+    ghost use Rattle.wc_gc.specs.NewIndices.{AreRanksOf};
+
+    /// Those of live items.
+    pub fn new<L: LiveSet>(
+        alloc: Global,
+        live: &LiveSets<L>,
+        groups: &FuncGroups<L>,
+    ) -> Result<SpaceRanks, AllocError>
+        ensures { IfOk result (AreRanksOf (has_item L.has live.now)
+            (L.has groups.now.imports) (L.has groups.now.defined)) }
     {
-        Ok(NewIndices {
+        Ok(SpaceRanks {
             types: live.types.ranks(alloc)?,
-            funcs: live.funcs.ranks(alloc)?,
+            imports: groups.imports.ranks(alloc)?,
+            defined: groups.defined.ranks(alloc)?,
             tables: live.tables.ranks(alloc)?,
             memories: live.memories.ranks(alloc)?,
             globals: live.globals.ranks(alloc)?,
+        })
+    }
+}
+
+/// How many types and functions an adapter has, and how many are added.
+#[derive(Clone, Copy, Debug)]
+pub struct Counts {
+    pub types: u32,
+    pub funcs: u32,
+    pub added_types: u32,
+    /// Functions that are added as imports.
+    pub added_imports: u32,
+    /// Functions that are added with code.
+    pub added_funcs: u32,
+}
+
+/// The new index of each live item: how many items come before it. Functions are in this order: live imports, those
+/// that are added, live defined functions, those that are added; types: live ones, those that are added. What is added
+/// has the indices after the adapter's own, imports first.
+#[derive(Debug, Drop)]
+pub struct NewIndices {
+    ranks: SpaceRanks,
+    counts: Counts,
+    /// How many types are live.
+    live_types: u32,
+    /// How many functions are live and imported.
+    live_imports: u32,
+    /// How many are live and defined.
+    live_defined: u32,
+    ghost types_counted: { live_types ≡ rank_of ranks.types counts.types },
+    ghost imports_counted: { live_imports ≡ rank_of ranks.imports counts.funcs },
+    ghost defined_counted: { live_defined ≡ rank_of ranks.defined counts.funcs },
+    ghost disjoint: { AreDisjoint (has_number ranks.imports) (has_number ranks.defined) },
+    ghost types_fit: { live_types + counts.added_types < 2 ^ 32 },
+    ghost funcs_fit: { live_imports + live_defined + (counts.added_imports + counts.added_funcs)
+        < 2 ^ 32 },
+}
+
+impl NewIndices {
+    ghost use Rattle.wc_gc.specs.NewIndices.{HasRoom, new_added_func, new_func_index, new_of, new_old_func, new_type};
+
+    /// Those of ranks; none, where there are 2^32 types or functions.
+    pub fn new(ranks: SpaceRanks, counts: Counts) -> Option<NewIndices>
+        requires { AreDisjoint (has_number ranks.imports) (has_number ranks.defined) }
+        ensures some { IfSome result (λ n. (n.ranks ≡ ranks) × (n.counts ≡ counts)) }
+        ensures none { result ≡ None → ¬ (HasRoom ranks counts) }
+        ensures fits { IsSome result → HasRoom ranks counts }
+    {
+        let live_types = ranks.types.rank(counts.types);
+        let live_imports = ranks.imports.rank(counts.funcs);
+        let live_defined = ranks.defined.rank(counts.funcs);
+        if !fits(live_types, 0, counts.added_types, 0)
+            || !fits(
+                live_imports,
+                live_defined,
+                counts.added_imports,
+                counts.added_funcs,
+            )
+        {
+            return None;
+        }
+        Some(NewIndices {
+            ranks,
+            counts,
+            live_types,
+            live_imports,
+            live_defined,
         })
     }
 
@@ -42,12 +120,62 @@ impl NewIndices {
         ensures { result ≡ new_of self.now space index }
     {
         match space {
-            Space::Types => self.types.rank(index),
-            Space::Funcs => self.funcs.rank(index),
-            Space::Tables => self.tables.rank(index),
-            Space::Memories => self.memories.rank(index),
-            Space::Globals => self.globals.rank(index),
+            Space::Types => self.ty(index),
+            Space::Funcs => self.func(index),
+            Space::Tables => self.ranks.tables.rank(index),
+            Space::Memories => self.ranks.memories.rank(index),
+            Space::Globals => self.ranks.globals.rank(index),
         }
+    }
+
+    fn ty(&self, index: u32) -> u32
+        ensures { result ≡ new_type self.now index }
+    {
+        if index < self.counts.types {
+            return self.ranks.types.rank(index);
+        }
+        self.added_type(index - self.counts.types)
+    }
+
+    /// The new index of a type that is added.
+    #[tactic(auto, using(crate::proofs::NewIndexLemmas::added_type_is))]
+    pub fn added_type(&self, position: u32) -> u32
+        requires { self.now.live_types + position < 2 ^ 32 }
+        ensures value { result ≡ self.now.live_types + position }
+        ensures index { result ≡ new_of self.now Types (self.now.counts.types + position) }
+    {
+        self.live_types + position
+    }
+
+    fn func(&self, index: u32) -> u32
+        ensures { result ≡ new_func_index self.now index }
+    {
+        if index < self.counts.funcs {
+            return self.old_func(index);
+        }
+        self.added_func(index - self.counts.funcs)
+    }
+
+    fn old_func(&self, index: u32) -> u32
+        requires { index < self.now.counts.funcs }
+        ensures { result ≡ new_old_func self.now index }
+    {
+        if self.ranks.imports.contains(index) {
+            return self.ranks.imports.rank(index);
+        }
+        self.live_imports + self.counts.added_imports + self.ranks.defined.rank(index)
+    }
+
+    /// The new index of a function that is added.
+    pub fn added_func(&self, position: u32) -> u32
+        requires { self.now.live_imports + self.now.live_defined + position < 2 ^ 32 }
+        ensures value { result ≡ new_added_func self.now position }
+        ensures index { result ≡ new_of self.now Funcs (self.now.counts.funcs + position) }
+    {
+        if position < self.counts.added_imports {
+            return self.live_imports + position;
+        }
+        self.live_imports + self.live_defined + position
     }
 
     /// An operator under the new indices.
@@ -110,4 +238,11 @@ impl NewIndices {
             offset: address.offset,
         }
     }
+}
+
+/// Whether four counts add up to a number of 32 bits.
+fn fits(a: u32, b: u32, c: u32, d: u32) -> bool
+    ensures { IsTrue result ↔ (a + b + (c + d) < 2 ^ 32) }
+{
+    u64::from(a) + u64::from(b) + (u64::from(c) + u64::from(d)) <= u64::from(u32::MAX)
 }

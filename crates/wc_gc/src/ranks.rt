@@ -22,7 +22,7 @@ pub struct Ranks {
 }
 
 impl Ranks {
-    ghost use Rattle.wc_gc.specs.Ranks.{rank_of};
+    ghost use Rattle.wc_gc.specs.Ranks.{has_number, rank_of};
 
     /// The ranks in the set of the bits of words.
     pub(crate) fn of_words(alloc: Global, words: &[u64]) -> Result<Ranks, AllocError>
@@ -43,6 +43,13 @@ impl Ranks {
         })
     }
 
+    /// Whether a number is in the set.
+    pub fn contains(&self, x: u32) -> bool
+        ensures { result ≡ has_number self.now x }
+    {
+        has_bit(&self.words, x)
+    }
+
     /// How many numbers of the set are below one.
     pub fn rank(&self, x: u32) -> u32
         ensures { result ≡ rank_of self.now x }
@@ -55,6 +62,16 @@ impl Ranks {
             }
             None => self.total as u32,
         }
+    }
+}
+
+/// Whether a bit of words is set.
+pub(crate) fn has_bit(words: &[u64], x: u32) -> bool
+    ensures { result ≡ bit_of words.now x }
+{
+    match words.get((x / 64) as usize) {
+        Some(word) => (*word >> (x % 64)) & 1 == 1,
+        None => false,
     }
 }
 

@@ -1,43 +1,107 @@
 //! Code under new indices.
 
-ghost use Rattle.std.specs.Prelude.{◌≡◌, is_some, true, IfOk, IfSome, ◌<◌};
+ghost use Rattle.std.specs.Prelude.{◌≡◌, ◌++◌, [], is_some, unwrap_or, true, IfOk, IfSome, OnOk, ◌<◌};
+ghost use Rattle.std.specs.List.{flat_map};
 ghost use Rattle.std.specs.Option.{option_map};
 ghost use Rattle.wc_read.specs.Operators.{instr_value, instr_values};
 ghost use Rattle.wc_read.specs.Inits.{init_value};
+ghost use Rattle.wc_read.specs.Renumbering.{Renumbering, renumber_instr};
 ghost use Rattle.wc_read.specs.Decoding.{body_in, body_of, bytes_left, init_in, locals_read, next_and_left, operators_left};
 ghost use Rattle.wc_write.specs.BodyText.{body_text};
 ghost use Rattle.wc_gc.specs.Image.{new_init, renumber_code};
+ghost use Rattle.wc_gc.specs.NewBodies.{calls_of, old_body_written, text_left};
 ghost use Rattle.wc_gc.specs.NewIndices.{new_of};
+ghost use Rattle.wc_gc.specs.AddedCode.{call};
+ghost use Rattle.wc_write.specs.OperatorText.{instr_text};
 
+use crate::new_bodies::OldBody;
 use crate::new_indices::NewIndices;
 use crate::search::init_of;
 use std::alloc::{AllocError, Global};
-use wc_read::{Init, Instr, Operators, ReadFault};
-use wc_write::{BodyText, append_locals, append_operator};
+use wc_read::{Immediates, Index, IndexKind, Init, Instr, Opcode, Operators, ReadFault, Space};
+use wc_write::{append_locals, append_operator};
 
-/// The body of a live function, to be written under new indices. Its operators are read and written one after another,
-/// and none of them is kept.
-#[derive(Drop)]
-pub struct NewBody<'a, 'n> {
-    /// Bytes that spell a body.
-    pub bytes: &'a [u8],
-    pub new: &'n NewIndices,
-    ghost is_code: { is_some (body_in bytes.now) ≡ true },
+/// The code of `call`.
+const CALL: u8 = 0x10;
+
+/// Appends a body of the adapter.
+pub fn append_old_body(out: &mut Vec<u8>, body: &OldBody<'_, '_>) -> Result<(), AllocError>
+    ensures { OnOk result (out.new.items
+        ≡ out.old.items ++ body_text (old_body_written body.now)) }
+{
+    let alloc = *out.allocator();
+    let mut operators = operators_of(alloc, body.bytes)?;
+    append_locals(out, operators.locals())?;
+    append_call(out, body.call)?;
+    append_operators(out, alloc, &mut operators, body.new)
 }
 
-impl<'a, 'n> BodyText for NewBody<'a, 'n> {
-    ghost use Rattle.wc_gc.specs.NewBodies.{body_written};
+/// Appends the operators that are left, under new indices.
+fn append_operators(
+    out: &mut Vec<u8>,
+    alloc: Global,
+    operators: &mut Operators<'_>,
+    new: &NewIndices,
+) -> Result<(), AllocError>
+    requires { is_some (operators_left operators.old) ≡ true }
+    ensures { OnOk result (out.new.items ≡ out.old.items
+        ++ text_left (new_of new.now) (operators_left operators.old)) }
+{
+    while let Some(operator) = next_of(operators, alloc)? {
+        append_renumbered(out, operator, new)?;
+    }
+    Ok(())
+}
 
-    ghost body = { body_written };
+/// Appends an operator under new indices.
+#[inline(always)]
+fn append_renumbered(
+    out: &mut Vec<u8>,
+    operator: Instr<'_>,
+    new: &NewIndices,
+) -> Result<(), AllocError>
+    ensures { OnOk result (out.new.items ≡ out.old.items
+        ++ instr_text (renumber_instr (new_of new.now) (instr_value operator.entry))) }
+{
+    if names_no_item(&operator) {
+        return append_operator(out, &operator);
+    }
+    append_operator(out, &new.operator(operator))
+}
 
-    fn put(&self, out: &mut Vec<u8>) -> Result<(), AllocError> {
-        let alloc = *out.allocator();
-        let mut operators = operators_of(alloc, self.bytes)?;
-        append_locals(out, operators.locals())?;
-        while let Some(operator) = next_of(&mut operators, alloc)? {
-            append_operator(out, &self.new.operator(operator))?;
-        }
-        Ok(())
+/// Whether an operator is one of the frequent ones that name no item, and so are the same under all indices.
+#[inline(always)]
+fn names_no_item(operator: &Instr<'_>) -> bool
+    ensures { result ≡ true → (new : Renumbering) →
+        renumber_instr new (instr_value operator.now) ≡ instr_value operator.now }
+{
+    match &operator.immediates {
+        Immediates::None | Immediates::I32(_) => true,
+        Immediates::Index(index) => !matches!(index.kind, IndexKind::In(_)),
+        _ => false,
+    }
+}
+
+/// Appends a call, where there is a function to be called.
+fn append_call(out: &mut Vec<u8>, call: Option<u32>) -> Result<(), AllocError>
+    ensures { OnOk result (out.new.items ≡ out.old.items ++ flat_map instr_text (calls_of call)) }
+{
+    match call {
+        Some(func) => append_operator(out, &call_of(func)),
+        None => Ok(()),
+    }
+}
+
+/// The call of a function.
+fn call_of<'a>(func: u32) -> Instr<'a>
+    ensures { instr_value result ≡ call func }
+{
+    Instr {
+        opcode: Opcode::Byte(CALL),
+        immediates: Immediates::Index(Index {
+            kind: IndexKind::In(Space::Funcs),
+            number: func,
+        }),
     }
 }
 

@@ -8,33 +8,52 @@ ghost use Rattle.wc_read.specs.declared.operators.Space.TheVariants.{Funcs};
 ghost use Rattle.wc_write.specs.ModuleText.{built_text};
 ghost use Rattle.wc_gc.specs.Decoded.{decoded_module};
 ghost use Rattle.wc_gc.specs.Fewness.{AreFewItems};
-ghost use Rattle.wc_gc.specs.Image.{image_of};
+ghost use Rattle.wc_gc.specs.Edited.{edit};
+ghost use Rattle.wc_gc.specs.EditedImage.{edited_image};
 ghost use Rattle.wc_gc.specs.KeptExports.{kept_exports};
+ghost use Rattle.wc_gc.specs.Laws.{AreSettings};
 ghost use Rattle.wc_gc.specs.Liveness.{names_of, wanted};
 ghost use Rattle.wc_gc.specs.LiveSets.{has_item};
+ghost use Rattle.wc_gc.specs.Parts.{settings, settings_value};
 ghost use Rattle.wc_gc.specs.Soundness.{is_sound_at};
+ghost use Rattle.wc_gc.specs.TrimmedText.{IsTrimmedRead};
 ghost use Rattle.wc_gc.specs.Trimming.{IsLaterCause, IsLaterFault, IsTrimCause, IsTrimFault, IsTrimFaultOf, IsTrimmed, IsTrimmedOf};
 
-use crate::assemble::image;
+use crate::causes::check_parts;
+use crate::edited_text::edited_text;
 use crate::exports::{drop_exports, exports_by_name};
 use crate::fault::GcFault;
-use crate::found::{check_parts, find_parts};
+use crate::found::find_parts;
 use crate::live::{BitVec, LiveSet, LiveSets};
 use crate::live_items::find_live_in;
-use crate::new_indices::NewIndices;
+use crate::settings::Settings;
 use indexmap::{IndexMap, IndexSet};
 use std::alloc::{AllocError, Global};
 use wc_read::{Export, Module, read_module};
 use wc_write::laws::slices_are_bytes;
-use wc_write::write_module_of;
 
 /// Trims an adapter: its wanted exports, and of its items those that they reach, in their order, each index replaced by
 /// the item's rank among these. Exports that are not wanted are taken out one after another, in their order; the last
 /// one takes the index of each. Bodies that are not reached are not read. Numbers are written as minimal LEB128, runs
 /// of locals and the content of producers as they were; names of globals and other custom sections are left out.
 ///
-/// So far no code is added to an adapter for its stack, and no import is replaced: the name of the main module's realloc
-/// and the exponent of its page size have no effect yet.
+/// A live import of `cabi_realloc` or `canonical_abi_realloc` from `__main_module__` takes the name
+/// `main_module_realloc`; without that name it becomes a function of the adapter that grows memory, as
+/// `realloc_via_memory_grow` writes it, after all imports.
+///
+/// Where a live mutable global of type i32 is named `__stack_pointer`, a stack is allocated by code that is added, as
+/// `allocate_stack_via_realloc` writes it:
+///
+/// - With `main_module_realloc` and no live realloc import, an import of it is added after the others of functions,
+///   called or not.
+/// - With `main_module_realloc` and another such global named `allocation_state`, each defined function that a wanted
+///   export names begins with a call of the code, which is added after all functions.
+/// - Otherwise, if a memory is live, the code is the start function, added last. A function that grows memory is added
+///   before it where no global has the state, or where there is neither `main_module_realloc` nor a live realloc import.
+/// - The code calls the function that is added to grow memory, else the last live realloc import, else the import that
+///   is added.
+/// - The types of what is added come after the live ones. The start function is of the last live type without parameters
+///   and results, if there is one.
 ///
 /// # Errors
 ///
@@ -48,9 +67,11 @@ use wc_write::write_module_of;
 /// - `LiveTable`: a table is reached.
 /// - `SeveralMemories`: two memories are reached.
 /// - `LocalMemory`: a memory that is reached is not imported.
-/// - `NotYet`: a stack pointer is reached, or an import of `cabi_realloc` or `canonical_abi_realloc` from
-///   `__main_module__`.
-/// - `TooLarge`: the content of a section would have 2^32 bytes or more.
+/// - `ReallocType`: an imported realloc that becomes a function of the adapter, or that is called first by exported
+///   functions, has another type than `i32 i32 i32 i32 -> i32`.
+/// - `ReallocMemory`: a function that grows memory is in the output, and no memory of 32 bits is reached whose pages
+///   have 2 to the power of `page_size_log2` bytes; 2^16 bytes where its type does not say.
+/// - `TooLarge`: there would be 2^32 types or functions, or the content of a section would have 2^32 bytes or more.
 /// - `Memory`: an allocation failed.
 pub fn run(
     alloc: Global,
@@ -62,16 +83,26 @@ pub fn run(
     requires some { required.now.keys ≢ [] }
     requires paged { page_size_log2 ≤ 16 }
     // What is answered is the text of the image.
-    ensures trimmed { IfOk result (λ v. IsTrimmed (wanted wasm.now required.now.keys) v.items) }
+    ensures trimmed { IfOk result (λ v. IsTrimmed
+        (settings main_module_realloc.entry page_size_log2)
+        (wanted wasm.now required.now.keys) v.items) }
     // A fault has its cause, and no fault before it has.
-    ensures fault { IfErr result (IsTrimFault (wanted wasm.now required.now.keys)) }
+    ensures fault { IfErr result (IsTrimFault (settings main_module_realloc.entry page_size_log2)
+        (wanted wasm.now required.now.keys)) }
     // Without a fault there is no cause.
-    ensures no_cause { IsOk result →
-        (f : GcFault) → ¬ (IsTrimCause (wanted wasm.now required.now.keys) f) }
+    ensures no_cause { IsOk result → (f : GcFault) →
+        ¬ (IsTrimCause (settings main_module_realloc.entry page_size_log2)
+        (wanted wasm.now required.now.keys) f) }
+    // What is answered spells the image, and no other module.
+    ensures read { IfOk result (λ v. IsTrimmedRead
+        (settings main_module_realloc.entry page_size_log2)
+        (wanted wasm.now required.now.keys) v.items) }
 {
-    let _realloc = main_module_realloc;
-    let _exponent = page_size_log2;
-    trim::<BitVec>(alloc, wasm, required)
+    let settings = Settings {
+        realloc: main_module_realloc,
+        page_size_log2,
+    };
+    trim::<BitVec>(alloc, wasm, required, settings)
 }
 
 /// The same with sets of any kind.
@@ -79,16 +110,22 @@ fn trim<L: LiveSet>(
     alloc: Global,
     wasm: &[u8],
     required: &IndexSet<String>,
+    settings: Settings<'_>,
 ) -> Result<Vec<u8>, GcFault>
-    ensures trimmed { IfOk result (λ v. IsTrimmed (wanted wasm.now required.now.keys) v.items) }
-    ensures fault { IfErr result (IsTrimFault (wanted wasm.now required.now.keys)) }
-    ensures no_cause { IsOk result →
-        (f : GcFault) → ¬ (IsTrimCause (wanted wasm.now required.now.keys) f) }
+    ensures trimmed { IfOk result (λ v. IsTrimmed (settings_value settings.entry)
+        (wanted wasm.now required.now.keys) v.items) }
+    ensures fault { IfErr result
+        (IsTrimFault (settings_value settings.entry) (wanted wasm.now required.now.keys)) }
+    ensures no_cause { IsOk result → (f : GcFault) → ¬ (IsTrimCause
+        (settings_value settings.entry) (wanted wasm.now required.now.keys) f) }
+    ensures read { IfOk result (λ v. IsTrimmedRead (settings_value settings.entry)
+        (wanted wasm.now required.now.keys) v.items) }
 {
+    settings_are_valid(settings);
     // So a vector has fewer than 2^32 items.
     slices_are_bytes(wasm);
     let adapter = read_module(alloc, wasm)?;
-    trim_module::<L>(alloc, &adapter, required)
+    trim_module::<L>(alloc, &adapter, required, settings)
 }
 
 /// Trims a module that was read.
@@ -96,16 +133,17 @@ fn trim_module<L: LiveSet>(
     alloc: Global,
     adapter: &Module<'_>,
     required: &IndexSet<String>,
+    settings: Settings<'_>,
 ) -> Result<Vec<u8>, GcFault>
     requires valid { IsModule (module_value adapter.now) }
     requires few { AreFewItems adapter.now }
-    ensures trimmed { IfOk result (λ v.
-        IsTrimmedOf (names_of required.now.keys) (module_value adapter.now) v.items) }
-    ensures fault { IfErr result
-        (IsTrimFaultOf (names_of required.now.keys) (module_value adapter.now)) }
+    ensures trimmed { IfOk result (λ v. IsTrimmedOf (settings_value settings.entry)
+        (names_of required.now.keys) (module_value adapter.now) v.items) }
+    ensures fault { IfErr result (IsTrimFaultOf (settings_value settings.entry)
+        (names_of required.now.keys) (module_value adapter.now)) }
 {
     let found = find_live_in::<L>(alloc, adapter, required)?;
-    cut(alloc, adapter, required, &found.live)
+    cut(alloc, adapter, required, &found.live, settings)
 }
 
 /// The text of the image of a module, where nothing that is live stops it.
@@ -114,29 +152,30 @@ fn cut<L: LiveSet>(
     adapter: &Module<'_>,
     required: &IndexSet<String>,
     live: &LiveSets<L>,
+    settings: Settings<'_>,
 ) -> Result<Vec<u8>, GcFault>
     requires valid { IsModule (module_value adapter.now) }
     requires few { AreFewItems adapter.now }
     requires sound { (n : ℕ) → IsTrue (L.has live.now.funcs n)
         → is_sound_at (decoded_module adapter.now) (Funcs, n) ≡ true }
     ensures written { IfOk result (λ v. v.items
-        ≡ built_text (image_of (decoded_module adapter.now)
+        ≡ built_text (edited_image (edit
+        (settings_value settings.entry) (decoded_module adapter.now)
         (kept_exports (names_of required.now.keys) (module_value adapter.now).exports)
-        (has_item L.has live.now))) }
-    ensures none { IsOk result → (f : GcFault) → ¬ (IsLaterCause (decoded_module adapter.now)
+        (has_item L.has live.now)))) }
+    ensures none { IsOk result → (f : GcFault) →
+        ¬ (IsLaterCause (settings_value settings.entry) (decoded_module adapter.now)
         (kept_exports (names_of required.now.keys) (module_value adapter.now).exports)
         (has_item L.has live.now) f) }
     ensures fault { IfErr result (λ f. (f ≡ GcFault.Memory)
-        ⊎ IsLaterFault (decoded_module adapter.now)
+        ⊎ IsLaterFault (settings_value settings.entry) (decoded_module adapter.now)
         (kept_exports (names_of required.now.keys) (module_value adapter.now).exports)
         (has_item L.has live.now) f) }
 {
     let found = find_parts(alloc, adapter, live)?;
-    check_parts(adapter, &found)?;
+    check_parts(adapter, settings, &found)?;
     let exports = exports_kept(alloc, adapter, required)?;
-    let new = NewIndices::new(alloc, live)?;
-    let built = image(alloc, adapter, &exports, live, &new)?;
-    Ok(write_module_of(alloc, &built)?)
+    edited_text(alloc, adapter, &exports, live, settings, &found)
 }
 
 /// The exports that are kept.
@@ -162,3 +201,8 @@ fn exports_of<'a>(
 {
     exports.values().copied().collect(alloc)
 }
+
+/// A realloc's name is text, and pages have 2^16 bytes at most. A call does nothing when it runs.
+fn settings_are_valid(settings: Settings<'_>)
+    ensures { AreSettings (settings_value settings.entry) }
+{}

@@ -3,8 +3,8 @@ use Rattle.std.specs.Prelude.{All, string_bytes}
 use Rattle.std.specs.Borrow.{Bor}
 use Rattle.wc_read.specs.Exports.{export_value}
 use Rattle.wc_read.specs.declared.exports.Export.{Export}
-use Rattle.wc_gc.specs.KeptExports.{kept_from, export_entries}
-use Rattle.wc_gc.proofs.ExportLemmas.{still_named, named_by_name, entries_by_name, turn_kept, turn_dropped}
+use Rattle.wc_gc.specs.KeptExports.{export_entries}
+use Rattle.wc_gc.proofs.ExportLemmas.{kept_from, still_named, named_by_name, entries_by_name, turn_kept, turn_dropped}
 use Rattle.wc_gc.proofs.exports.drop_exports.Goals as goal
 
 pub loop-export-init : goal.loop-export-init
@@ -25,7 +25,7 @@ pub loop-export-preserved : goal.loop-export-preserved
 loop-export-preserved c =
     let within : c.loop-export.export-index < length c.args.exports.now = omega arith in
     record {
-      named = subst (λ (z : List (Bor (List ℕ) × Export)). All (λ (e : Bor (List ℕ) × Export). e.0.now ≡ e.1.name.now) z) (sym c.swap_remove.ensures.entries) (still_named _ c.loop-export.kept.entries c.loop-export.invariant.named);
-      rest = turn_dropped c.args.required.now.keys c.args.exports.now c.loop-export.export-index _ c.loop-export.kept.entries c.swap_remove.new.self.entries _ within (sym c.contains.ensures ∙ c.if-contains.false) (λ k. refl)
-          c.loop-export.invariant.named c.swap_remove.ensures.entries c.loop-export.invariant.rest;
+      named = subst (λ (z : List (Bor (List ℕ) × Export)). All (λ (e : Bor (List ℕ) × Export). e.0.now ≡ e.1.name.now) z) (sym c.take_out.ensures) (still_named _ c.loop-export.kept.entries c.loop-export.invariant.named);
+      rest = turn_dropped c.args.required.now.keys c.args.exports.now c.loop-export.export-index _ c.loop-export.kept.entries c.take_out.new.kept.entries _ within (sym c.contains.ensures ∙ c.if-contains.false) (λ k. refl)
+          c.loop-export.invariant.named c.take_out.ensures c.loop-export.invariant.rest;
     }

@@ -1,7 +1,8 @@
 use Rattle.std.proofs.Common.{◌≡◌, map, drop}
 use Rattle.std.specs.Prelude.{string_bytes}
 use Rattle.wc_read.specs.Exports.{export_value}
-use Rattle.wc_gc.specs.KeptExports.{export_entries, kept_from, AreNamed}
+use Rattle.wc_gc.specs.KeptExports.{export_entries, AreNamed}
+use Rattle.wc_gc.proofs.ExportLemmas.{kept_from}
 use Rattle.wc_gc.proofs.exports.drop_exports.Given as goal
 
 abbrev pub invariant-loop-export : goal.invariant-loop-export

@@ -1,4 +1,5 @@
 use Rattle.wc_gc.specs.LiveSets.{has_item}
+use Rattle.wc_gc.specs.Parts.{settings_value}
 use Rattle.wc_gc.specs.Liveness.{names_of}
 use Rattle.wc_gc.proofs.TrimLemmas.{live_sound, trimmed_of, later_of}
 use Rattle.wc_gc.proofs.trim.trim_module.Goals as goal
@@ -9,8 +10,8 @@ cut-requires-clause-sound g c =
 
 pub returns-clause-trimmed : goal.returns-clause-trimmed
 returns-clause-trimmed g c =
-    trimmed_of c.args.adapter.now (names_of c.args.required.now.keys) (has_item g.L.LiveSet.has c.in_ok-found.found.live) c.in_ok-found.found.turns c.in_ok-found.ensures.live (λ v. v.items) c.cut.result c.cut.ensures.written c.cut.ensures.none
+    trimmed_of (settings_value c.args.settings) c.args.adapter.now (names_of c.args.required.now.keys) (has_item g.L.LiveSet.has c.in_ok-found.found.live) c.in_ok-found.found.turns c.in_ok-found.ensures.live (λ v. v.items) c.cut.result c.cut.ensures.written c.cut.ensures.none
 
 pub returns-clause-fault : goal.returns-clause-fault
 returns-clause-fault g c =
-    later_of c.args.adapter.now (names_of c.args.required.now.keys) (has_item g.L.LiveSet.has c.in_ok-found.found.live) c.in_ok-found.found.turns c.in_ok-found.ensures.live c.cut.result c.cut.ensures.fault
+    later_of (settings_value c.args.settings) c.args.adapter.now (names_of c.args.required.now.keys) (has_item g.L.LiveSet.has c.in_ok-found.found.live) c.in_ok-found.found.turns c.in_ok-found.ensures.live c.cut.result c.cut.ensures.fault

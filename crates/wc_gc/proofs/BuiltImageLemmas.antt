@@ -1,0 +1,278 @@
+-- The image of a module that was read can be spelled.
+use Rattle.std.proofs.Common.{◌≡◌, ◌≢◌, ℕ, ◌<◌, ◌^◌, List, [], length, map, refl, sym, ◌∙◌, ap, subst, Bool, true, Option, Some, arith}
+use Rattle.std.specs.Prelude.{All, AllPairs, IfSome, IsTrue, Contains}
+use Rattle.std.specs.List.{AllByRecursion, slice_get}
+use Rattle.std.specs.Option.{option_map, option_map_or}
+use Rattle.std.proofs.lemmas.Bool.{lt-ltb}
+use Rattle.std.proofs.lemmas.List.{length-map, map-id}
+use Rattle.std.proofs.lemmas.List.Elements.{All-append, All-map, All-weaker, All-contains, All-contains_itself, recursion_from_All}
+use Rattle.std.proofs.lemmas.Option.{slice_get-map, slice_get_within, IfSome_then}
+use Rattle.wc_read.specs.Bodies.{BodyValue}
+use Rattle.wc_read.specs.Types.{FuncTypeValue}
+use Rattle.wc_read.specs.Decoding.{body_in, init_in}
+use Rattle.wc_read.specs.Exports.{ExportValue}
+use Rattle.wc_read.specs.InitTypes.{AreTyped}
+use Rattle.wc_read.specs.Items.{ItemValue, FuncValue, GlobalValue, TableValue, MemoryValue}
+use Rattle.wc_read.specs.Modules.{ModuleValue, IsModule, IsStart, AreFew, count_of}
+use Rattle.wc_read.specs.Operators.{InstrValue}
+use Rattle.wc_read.specs.Renumbering.{Renumbering}
+use Rattle.wc_read.specs.declared.exports.ExportKind.{ExportKind}
+use Rattle.wc_read.specs.declared.exports.ExportKind.TheVariants.{Func as func_kind, Table as table_kind, Memory as memory_kind, Global as global_kind}
+use Rattle.wc_read.specs.declared.operators.Space.{Space}
+use Rattle.wc_read.specs.declared.operators.Space.TheVariants.{Types, Funcs, Tables, Memories, Globals}
+use Rattle.wc_read.specs.declared.types.GlobalType.{GlobalType}
+use Rattle.wc_read.specs.declared.types.ImportType.TheVariants.{Func, Table, Memory, Global}
+use Rattle.wc_write.specs.BodyText.{body_text}
+use Rattle.wc_write.specs.BuiltValues.{item_seen, written_module, IsExport, IsWritableMemory, IsInitialiser, HasInitialiser, HasImportsFirst, IsBuilt, IsWritable}
+use Rattle.wc_write.specs.ModuleText.{BuiltValue, built_imports, init_text}
+use Rattle.wc_write.specs.Spaces.{imports_of, defined_contents}
+use Rattle.wc_write.specs.Values.{IsU32, IsTable, IsImport, IsBody}
+use Rattle.wc_write.proofs.SpaceLemmas.{map_again}
+use Rattle.wc_gc.specs.Decoded.{ItemIndex, decode, exported_item, is_in, space_of}
+use Rattle.wc_gc.specs.Entries.{entry_at, entry_refs, func_entry, global_entry, no_entry, refs_in}
+use Rattle.wc_gc.specs.Image.{rank, kept_items, new_export}
+use Rattle.wc_gc.specs.Laws.{KeepsBits}
+use Rattle.wc_gc.specs.Soundness.{is_sound_at, is_sound_def, is_sound_entry}
+use Rattle.wc_gc.proofs.BuiltPartLemmas.{global_written, all_at, kept_imports, kept_imports_same, global_has_import, global_imported, contents_can, types_can, global_can, HasShortInit, kept_item_at}
+use Rattle.wc_gc.proofs.ImageLemmas.{all_kept, kept_mapped}
+use Rattle.wc_gc.proofs.InitTypeLemmas.{Follows}
+use Rattle.wc_gc.proofs.KeptExportLemmas.{names_of_pairs}
+use Rattle.wc_gc.proofs.KeptItemLemmas.{few_kept, kept_first, rank_below}
+use Rattle.wc_gc.proofs.LiveItemLemmas.{named_kept}
+use Rattle.wc_gc.proofs.SpelledItemLemmas.{HasImport, IfLocal, HaveItems}
+use Rattle.wc_gc.proofs.TypedGlobalLemmas.{CanMove, kept_typed, scope_after}
+use Rattle.wc_gc.proofs.WrittenGlobalLemmas.{def_moves}
+
+-- the kept items of a space
+abbrev pub kept_in : {A : Type 0} → (ItemIndex → Bool) → Space → List A → List A
+kept_in kept space xs = kept_items (λ n. kept (space, n)) (length xs) xs
+
+-- an image by the items that were read: its types, functions and start function are given, and what is kept besides has
+-- new indices
+abbrev pub image_with : ModuleValue → List ExportValue → (ItemIndex → Bool) → Renumbering → List FuncTypeValue → List (ItemValue ℕ BodyValue) → Option ℕ → BuiltValue
+image_with m exports kept new types funcs start = record {
+  types = types;
+  funcs = funcs;
+  tables = kept_in kept Tables m.tables;
+  memories = kept_in kept Memories m.memories;
+  globals = map (global_written new) (kept_in kept Globals m.globals);
+  exports = map (new_export new) exports;
+  start = start;
+  producers = m.producers;
+}
+
+pub kept_seen : {A B C : Type 0} (new : B → C) (view : A → B) (has : ℕ → Bool) (xs : List A) → map new (kept_items has (length (map view xs)) (map view xs)) ≡ map (λ x. new (view x)) (kept_items has (length xs) xs)
+kept_seen new view has xs =
+    ap (λ n. map new (kept_items has n (map view xs))) (length-map xs view) ∙ (ap (map new) (kept_mapped view has (length xs) xs) ∙ map_again new view (kept_items has (length xs) xs))
+
+-- what kept items name is kept, and so are the items of exports
+pub record AreKept (m : ModuleValue) (exports : List ExportValue) (kept : ItemIndex → Bool) : Type 0 where
+  pub named : (x y : ItemIndex) → IsTrue (kept x) → Contains (refs_in (decode m) x) y → IsTrue (kept y)
+  pub exported : (e : ExportValue) → Contains exports e → IsTrue (kept (exported_item e))
+
+-- kept functions have code
+abbrev pub AreSound : ModuleValue → (ItemIndex → Bool) → Type 0
+AreSound m kept = (n : ℕ) → IsTrue (kept (Funcs, n)) → is_sound_at (decode m) (Funcs, n) ≡ true
+
+-- new indices: those of functions are below a number of them, those of tables, memories and globals are ranks
+pub record AreNew (m : ModuleValue) (kept : ItemIndex → Bool) (new : Renumbering) (functions : ℕ) : Type 0 where
+  pub keeps : KeepsBits new
+  pub funcs : (n : ℕ) → n < length m.funcs → IsTrue (kept (Funcs, n)) → new Funcs n < functions
+  pub tables : (n : ℕ) → IsTrue (kept (Tables, n)) → new Tables n ≡ rank kept Tables n
+  pub memories : (n : ℕ) → IsTrue (kept (Memories, n)) → new Memories n ≡ rank kept Memories n
+  pub globals : (n : ℕ) → IsTrue (kept (Globals, n)) → new Globals n ≡ rank kept Globals n
+
+-- functions of an image that has these types
+pub record AreFuncs (types : List FuncTypeValue) (funcs : List (ItemValue ℕ BodyValue)) : Type 0 where
+  pub imports : All IsImport (imports_of Func funcs)
+  pub indices : All (λ f. IsU32 f.ty) funcs
+  pub typed : All (λ f. f.ty < length types) funcs
+  pub bodies : All (λ f. IfLocal IsBody f.def) funcs
+  pub ordered : HasImportsFirst funcs
+  pub few : length funcs < 2 ^ 32
+
+-- one that starts it: it has no parameters and no results
+pub record IsStartOf (types : List FuncTypeValue) (funcs : List (ItemValue ℕ BodyValue)) (index : ℕ) : Type 0 where
+  pub func : ItemValue ℕ BodyValue
+  pub ty : FuncTypeValue
+  pub is_func : slice_get funcs index ≡ Some func
+  pub is_type : slice_get types func.ty ≡ Some ty
+  pub no_params : ty.params ≡ []
+  pub no_results : ty.results ≡ []
+
+-- exports of a module that can be spelled
+pub record AreExports (m : ModuleValue) (exports : List ExportValue) : Type 0 where
+  pub can_be_spelled : All IsExport exports
+  pub there : All (λ e. e.index < count_of m e.kind) exports
+  pub distinct : AllPairs (λ x y. x.name ≢ y.name) exports
+
+func_at : (m : ModuleValue) (n : ℕ) (f : FuncValue) → slice_get m.funcs n ≡ Some f → entry_at (decode m) (Funcs, n) ≡ func_entry (item_seen body_in f)
+func_at m n f e = ap (λ o. option_map_or func_entry o no_entry) (slice_get-map (item_seen body_in) m.funcs n ∙ ap (option_map (item_seen body_in)) e)
+
+global_at : (m : ModuleValue) (n : ℕ) (g : GlobalValue) → slice_get m.globals n ≡ Some g → entry_at (decode m) (Globals, n) ≡ global_entry (item_seen init_in g)
+global_at m n g e = ap (λ o. option_map_or global_entry o no_entry) (slice_get-map (item_seen init_in) m.globals n ∙ ap (option_map (item_seen init_in)) e)
+
+module _ (m : ModuleValue) (kept : ItemIndex → Bool) where
+  abbrev May : ItemIndex → Type 0
+  May x = IsTrue (is_in (decode m) x) → IsTrue (kept x)
+
+  func_there : (n : ℕ) → n < length m.funcs → IsTrue (is_in (decode m) (Funcs, n))
+  func_there n h = let l = length-map m.funcs (item_seen body_in) in lt-ltb n (length (map (item_seen body_in) m.funcs)) (omega arith)
+
+  global_there : (n : ℕ) → n < length m.globals → IsTrue (is_in (decode m) (Globals, n))
+  global_there n h = let l = length-map m.globals (item_seen init_in) in lt-ltb n (length (map (item_seen init_in) m.globals)) (omega arith)
+
+  -- globals under new indices, in an image of so many functions
+  module _ (w : IsWritable m) (v : IsModule m) (named : (x y : ItemIndex) → IsTrue (kept x) → Contains (refs_in (decode m) x) y → IsTrue (kept y)) (new : Renumbering) (functions : ℕ) (are_new : AreNew m kept new functions) where
+    has_initialiser : (n : ℕ) (g : GlobalValue) → slice_get m.globals n ≡ Some g → HasInitialiser g.def
+    has_initialiser n g e = all_at (λ (g : GlobalValue). HasInitialiser g.def) m.globals n g (recursion_from_All (λ (g : GlobalValue). HasInitialiser g.def) m.globals w.initialisers) e
+
+    can_move : AllByRecursion HasShortInit (map (global_written new) (kept_in kept Globals m.globals)) → (n : ℕ) (g : GlobalValue) → kept (Globals, n) ≡ true → slice_get m.globals n ≡ Some g
+        → CanMove (length m.funcs) functions new (λ k. kept (Globals, k)) are_new.globals (λ g. item_seen init_text (global_written new g)) (λ g. refl) n g
+    can_move short n g h e done done' long moved typed =
+        let can = has_initialiser n g e in
+        let below = slice_get_within m.globals n g e in
+        let follows : Follows May (scope_after (length m.funcs) done) (scope_after functions done') new = record {
+          funcs = λ k may under. are_new.funcs k under (may (func_there k under));
+          globals = λ k t may at. moved k t (may (global_there k (let under = slice_get_within done k t at in omega (arith, below, long, under)))) at;
+        } in
+        let refs = subst (λ z. AllByRecursion May (entry_refs z)) (global_at m n g e) (named_kept (decode m) kept named (Globals, n) h) in
+        def_moves May (scope_after (length m.funcs) done) (scope_after functions done') new follows g.ty.content_type g.def can refs (global_can new are_new.keeps g.def can)
+        (kept_item_at HasShortInit (global_written new) (λ k. kept (Globals, k)) m.globals n g short h e) typed
+
+    pub globals_typed : AllByRecursion HasShortInit (map (global_written new) (kept_in kept Globals m.globals)) → AreTyped functions (map (item_seen init_text) (map (global_written new) (kept_in kept Globals m.globals)))
+    globals_typed short =
+        subst (AreTyped functions) (sym (map_again (item_seen init_text) (global_written new) (kept_in kept Globals m.globals)))
+        (kept_typed (length m.funcs) functions new (λ k. kept (Globals, k)) are_new.globals (λ g. item_seen init_text (global_written new g)) (λ g. refl) m.globals v.initialised (can_move short))
+
+-- an image whose functions can be spelled
+
+module _ (m : ModuleValue) (exports : List ExportValue) (kept : ItemIndex → Bool) (w : IsWritable m) (items : HaveItems m) (v : IsModule m) (k : AreKept m exports kept) (x : AreExports m exports)
+    (new : Renumbering) (types : List FuncTypeValue) (funcs : List (ItemValue ℕ BodyValue)) (start : Option ℕ) (are_new : AreNew m kept new (length funcs)) (f : AreFuncs types funcs) where
+  abbrev image : BuiltValue
+  image = image_with m exports kept new types funcs start
+
+  abbrev live : Space → ℕ → Bool
+  live space n = kept (space, n)
+
+  imports_can : All IsImport (built_imports image)
+  imports_can =
+      let memories = kept_imports_same Memory (live Memories) m.memories items.memories in
+      let tables = kept_imports_same Table (live Tables) m.tables items.tables in
+      let globals = kept_imports Global (global_written new) (live Globals) m.globals (λ n g h e. global_has_import new g (all_at (HasImport Global) m.globals n g items.globals e)) in
+      All-append IsImport (imports_of Memory image.memories) _ memories
+      (All-append IsImport (imports_of Table image.tables) _ tables (All-append IsImport (imports_of Global image.globals) _ globals f.imports))
+
+  global_can_be : (n : ℕ) (g : GlobalValue) → live Globals n ≡ true → slice_get m.globals n ≡ Some g → IfLocal IsInitialiser (global_written new g).def
+  global_can_be n g h e = global_can new are_new.keeps g.def (has_initialiser m kept w v k.named new (length funcs) are_new n g e)
+
+  initialisers_can : All IsInitialiser (defined_contents image.globals)
+  initialisers_can =
+      let ks = kept_in kept Globals m.globals in
+      let P : ItemValue GlobalType (List InstrValue) → Type 0 = λ g. IfLocal IsInitialiser g.def in
+      contents_can IsInitialiser image.globals
+      (recursion_from_All P image.globals (All-map P (global_written new) ks (all_kept (λ g. P (global_written new g)) (live Globals) m.globals global_can_be (length m.globals))))
+
+  -- what holds of all items of a space holds of those that are kept
+  same_kept : {A : Type 0} (P : A → Type 0) (space : Space) (xs : List A) → All P xs → AllByRecursion P (kept_in kept space xs)
+  same_kept P space xs all = recursion_from_All P (kept_in kept space xs) (all_kept P (live space) xs (λ n y h e. all_at P xs n y (recursion_from_All P xs all) e) (length xs))
+
+  same_first : {T C : Type 0} (space : Space) (xs : List (ItemValue T C)) → HasImportsFirst xs → HasImportsFirst (kept_in kept space xs)
+  same_first {T} {C} space xs h = subst HasImportsFirst (map-id (kept_in kept space xs)) (kept_first (λ (i : ItemValue T C). i) (λ i. refl) (live space) xs h)
+
+  -- exports
+
+  export_can : (e : ExportValue) → Contains exports e → IsExport (new_export new e)
+  export_can e c =
+      let can = All-contains IsExport exports e x.can_be_spelled c in
+      record { has_name = can.has_name; index_fits = are_new.keeps (space_of e.kind) e.index can.index_fits }
+
+  global_below : (n : ℕ) → n < length m.globals → IsTrue (kept (Globals, n)) → new Globals n < length (written_module image).globals
+  global_below n h is_live =
+      let same = are_new.globals n is_live in
+      let r = rank_below (live Globals) m.globals n h is_live in
+      let one = length-map (kept_in kept Globals m.globals) (global_written new) in
+      let two = length-map image.globals (item_seen init_text) in
+      omega (arith, same, r, one, two)
+
+  index_there : (kind : ExportKind) (n : ℕ) → n < count_of m kind → IsTrue (kept (space_of kind, n)) → new (space_of kind) n < count_of (written_module image) kind
+  index_there func_kind n h is_live = let all = length-map funcs (item_seen body_text) in let r = are_new.funcs n h is_live in omega (arith, all, r)
+  index_there table_kind n h is_live = rw (are_new.tables n is_live) (rank_below (live Tables) m.tables n h is_live)
+  index_there memory_kind n h is_live = rw (are_new.memories n is_live) (rank_below (live Memories) m.memories n h is_live)
+  index_there global_kind n h is_live = global_below n h is_live
+
+  export_there : (e : ExportValue) → Contains exports e → (new_export new e).index < count_of (written_module image) e.kind
+  export_there e c = index_there e.kind e.index (All-contains (λ e. e.index < count_of m e.kind) exports e x.there c) (k.exported e c)
+
+  each_export : (P : ExportValue → Type 0) → ((e : ExportValue) → Contains exports e → P (new_export new e)) → All P image.exports
+  each_export P each = All-map P (new_export new) exports (All-weaker (Contains exports) (λ e. P (new_export new e)) each exports (All-contains_itself exports))
+
+  names_distinct : AllPairs (λ a b. a ≢ b) (map (λ (e : ExportValue). e.name) image.exports)
+  names_distinct = subst (AllPairs (λ a b. a ≢ b)) (sym (map_again (λ (e : ExportValue). e.name) (new_export new) exports)) (names_of_pairs (λ (e : ExportValue). e.name) exports x.distinct)
+
+  few : AreFew (written_module image)
+  few = record {
+    funcs = (let all = length-map funcs (item_seen body_text) in omega (arith, all, f.few));
+    tables = omega (arith, few_kept (live Tables) m.tables, v.few.tables);
+    memories = omega (arith, few_kept (live Memories) m.memories, v.few.memories);
+    globals = (
+        let one = length-map (kept_in kept Globals m.globals) (global_written new) in
+        let two = length-map image.globals (item_seen init_text) in
+        omega (arith, one, two, few_kept (live Globals) m.globals, v.few.globals)
+        );
+  }
+
+  is_start : (n : ℕ) → IsStartOf types funcs n → IsStart (written_module image) n
+  is_start n s = record {
+    func = item_seen body_text s.func;
+    ty = s.ty;
+    is_func = slice_get-map (item_seen body_text) funcs n ∙ ap (option_map (item_seen body_text)) s.is_func;
+    is_type = s.is_type;
+    no_params = s.no_params;
+    no_results = s.no_results;
+  }
+
+  start_fits : (n : ℕ) → IsStartOf types funcs n → IsU32 n
+  start_fits n s = let below = slice_get_within funcs n s.func s.is_func in omega (arith, below, f.few)
+
+  valid : IfSome start (IsStartOf types funcs) → AllByRecursion HasShortInit image.globals → IsModule (written_module image)
+  valid starts short = record {
+    typed = All-map (λ (f : FuncValue). f.ty < length types) (item_seen body_text) funcs f.typed;
+    exported = each_export (λ e. e.index < count_of (written_module image) e.kind) export_there;
+    distinct = names_distinct;
+    started = IfSome_then start starts is_start;
+    initialised = rw (length-map funcs (item_seen body_text)) (globals_typed m kept w v k.named new (length funcs) are_new short);
+    few = few;
+  }
+
+  pub image_built : IfSome start (IsStartOf types funcs) → AllByRecursion HasShortInit image.globals → IsBuilt image
+  image_built starts short = record {
+    imports = imports_can;
+    func_types = types_can IsU32 funcs (recursion_from_All (λ (f : ItemValue ℕ BodyValue). IsU32 f.ty) funcs f.indices);
+    tables = types_can IsTable image.tables (same_kept (λ (t : TableValue). IsTable t.ty) Tables m.tables w.tables);
+    memories = types_can IsWritableMemory image.memories (same_kept (λ (t : MemoryValue). IsWritableMemory t.ty) Memories m.memories w.memories);
+    initialisers = initialisers_can;
+    exports = each_export IsExport export_can;
+    start = IfSome_then start starts start_fits;
+    bodies = contents_can IsBody funcs (recursion_from_All (λ (f : ItemValue ℕ BodyValue). IfLocal IsBody f.def) funcs f.bodies);
+    producers = w.producers;
+    funcs_ordered = f.ordered;
+    tables_ordered = same_first Tables m.tables w.tables_ordered;
+    memories_ordered = same_first Memories m.memories w.memories_ordered;
+    globals_ordered = kept_first (global_written new) (global_imported new) (live Globals) m.globals w.globals_ordered;
+    valid = valid starts short;
+  }
+
+-- functions that are kept: their types are, and they have code
+
+module _ (m : ModuleValue) (exports : List ExportValue) (kept : ItemIndex → Bool) (w : IsWritable m) (items : HaveItems m) (v : IsModule m) (k : AreKept m exports kept) (sound : AreSound m kept) where
+  pub func_typed : (n : ℕ) (f : FuncValue) → slice_get m.funcs n ≡ Some f → f.ty < length m.types
+  func_typed n f e = all_at (λ (f : FuncValue). f.ty < length m.types) m.funcs n f (recursion_from_All (λ (f : FuncValue). f.ty < length m.types) m.funcs v.typed) e
+
+  pub type_kept : (n : ℕ) (f : FuncValue) → kept (Funcs, n) ≡ true → slice_get m.funcs n ≡ Some f → rank kept Types f.ty < length (kept_in kept Types m.types)
+  type_kept n f h e =
+      let refs = subst (λ z. AllByRecursion (May m kept) (entry_refs z)) (func_at m n f e) (named_kept (decode m) kept k.named (Funcs, n) h) in
+      rank_below (λ n. kept (Types, n)) m.types f.ty (func_typed n f e) (refs.0 (lt-ltb f.ty (length m.types) (func_typed n f e)))
+
+  pub func_sound : (n : ℕ) (f : FuncValue) → kept (Funcs, n) ≡ true → slice_get m.funcs n ≡ Some f → is_sound_def (decode m) (item_seen body_in f).def ≡ true
+  func_sound n f h e = sym (ap (is_sound_entry (decode m)) (func_at m n f e)) ∙ sound n h

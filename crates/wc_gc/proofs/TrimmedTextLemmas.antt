@@ -1,0 +1,125 @@
+-- What trimming answers is read back as the image that it is the text of.
+use Rattle.std.proofs.Common.{◌++◌, ◌≡◌, ◌≢◌, ℕ, ◌<◌, ◌^◌, List, length, refl, sym, subst, Bool, true, false, Option, Some, None, inl, inr, arith}
+use Rattle.std.specs.Prelude.{IsTrue, IsSome, Result, Ok, Err, IfOk, IsOk}
+use Rattle.std.proofs.lemmas.Bool.{cases_lt}
+use Rattle.std.specs.Option.{option_map}
+use Rattle.wc_read.specs.Decoding.{init_in}
+use Rattle.wc_read.specs.Exports.{ExportValue}
+use Rattle.wc_read.specs.Modules.{ModuleValue, SpellsModule, count_of}
+use Rattle.wc_read.specs.declared.operators.Space.TheVariants.{Types, Funcs, Globals}
+use Rattle.wc_write.specs.Values.{AreBytes}
+use Rattle.wc_write.specs.ModuleText.{BuiltValue, SizeFits, SizesFit}
+use Rattle.wc_write.specs.BuiltValues.{item_seen, IsExport, IsRead}
+use Rattle.wc_write.proofs.ModuleTextLemmas.{module_read}
+use Rattle.wc_write.proofs.WritableModuleLemmas.{spelled_writable}
+use Rattle.wc_gc.specs.Causes.{DecidesLive}
+use Rattle.wc_gc.specs.Decoded.{ItemIndex, decode}
+use Rattle.wc_gc.specs.Edited.{added_types, edit, start_of}
+use Rattle.wc_gc.specs.EditedImage.{FitsBits, edited_image}
+use Rattle.wc_gc.specs.Found.{found_in}
+use Rattle.wc_gc.specs.Image.{new_global}
+use Rattle.wc_gc.specs.Laws.{AreSettings}
+use Rattle.wc_gc.specs.Parts.{SettingsValue, parts_of}
+use Rattle.wc_gc.specs.KeptExports.{kept_exports}
+use Rattle.wc_gc.specs.Liveness.{HasLiveBody, Wanted}
+use Rattle.wc_gc.specs.Soundness.{is_sound_at}
+use Rattle.wc_gc.specs.TrimmedText.{IsTrimmedRead}
+use Rattle.wc_gc.specs.Trimming.{IsTrimCause, IsTrimmed}
+use Rattle.wc_gc.specs.declared.fault.GcFault.{GcFault}
+use Rattle.wc_gc.specs.declared.fault.GcFault.TheVariants.{LiveBody, TooLarge}
+use Rattle.wc_gc.proofs.BuiltImageLemmas.{AreExports, AreKept, image_built, image_with, kept_in, kept_seen}
+use Rattle.wc_gc.proofs.BuiltPartLemmas.{short_inits}
+use Rattle.wc_gc.proofs.EditedFuncLemmas.{edited_funcs_can, edited_start, short_names}
+use Rattle.wc_gc.proofs.EditedIndexLemmas.{are_new, funcs_written, new}
+use Rattle.wc_gc.proofs.ExportLemmas.{all_kept}
+use Rattle.wc_gc.proofs.KeptExportLemmas.{pairs_kept, pairs_named}
+use Rattle.wc_gc.proofs.LiveItemLemmas.{live_named, live_root}
+use Rattle.wc_gc.proofs.SpelledItemLemmas.{have_items}
+
+no_start : (o : Option ℕ) → ¬ (IsSome o) → o ≡ None
+no_start None h = refl
+no_start (Some n) h = absurd (h refl)
+
+module _ (bytes : List ℕ) (required : List (List ℕ)) (m : ModuleValue) (live : ItemIndex → Bool) (all : AreBytes bytes) (s : SpellsModule bytes m) (decides : DecidesLive required m live) where
+  abbrev exports : List ExportValue
+  exports = kept_exports required m.exports
+
+  live_are_kept : AreKept m exports live
+  live_are_kept = record { named = live_named required m live decides; exported = live_root required m live decides }
+
+  kept_are_exports : AreExports m exports
+  kept_are_exports =
+      let w = spelled_writable bytes m all s in
+      let v = s.has_sections.valid in
+      let apart : (a b : ExportValue) → a.name ≢ b.name → b.name ≢ a.name = λ a b h e. h (sym e) in
+      record {
+        can_be_spelled = all_kept IsExport required m.exports w.exports;
+        there = all_kept (λ e. e.index < count_of m e.kind) required m.exports v.exported;
+        distinct = pairs_kept (λ a b. a.name ≢ b.name) apart required m.exports (pairs_named (λ (e : ExportValue). e.name) m.exports v.distinct);
+      }
+
+  live_sound : ¬ (HasLiveBody required m) → (n : ℕ) → IsTrue (live (Funcs, n)) → is_sound_at (decode m) (Funcs, n) ≡ true
+  live_sound none n h = by (is_sound_at (decode m) (Funcs, n)) refl
+    where
+      by : (b : Bool) → is_sound_at (decode m) (Funcs, n) ≡ b → b ≡ true
+      by true e = refl
+      by false e = absurd (none ((Funcs, n), (decides (Funcs, n)).0 h, e))
+
+  -- the image of the edited adapter
+  abbrev edited_value : SettingsValue → BuiltValue
+  edited_value set =
+      let p = parts_of set (found_in (decode m) live) in
+      let f = found_in (decode m) live in
+      image_with m exports live (new set m exports live p f) (kept_in live Types m.types ++ added_types p f) (funcs_written set m exports live p f)
+      (option_map (new set m exports live p f Funcs) (start_of (length (decode m).funcs) p))
+
+  edited_value_is : (set : SettingsValue) → edited_image (edit set (decode m) exports live) ≡ edited_value set
+  unfolding edited_image edit
+  edited_value_is set = rw (kept_seen (new_global (new set m exports live (parts_of set (found_in (decode m) live)) (found_in (decode m) live))) (item_seen init_in) (λ n. live (Globals, n)) m.globals) refl
+
+  pub edited_text_read : (set : SettingsValue) → AreSettings set → ¬ (HasLiveBody required m) → FitsBits (edited_image (edit set (decode m) exports live)) → IsRead (edited_image (edit set (decode m) exports live))
+  edited_text_read set are sound fits =
+      let is = edited_value_is set in
+      let fit = subst FitsBits is fits in
+      let f = found_in (decode m) live in
+      let p = parts_of set f in
+      let w = spelled_writable bytes m all s in
+      let items = have_items bytes m all s in
+      let v = s.has_sections.valid in
+      let b = edited_value set in
+      let funcs = edited_funcs_can set m exports live p are w items v live_are_kept (live_sound sound) fit.funcs fit.types (short_names b fit.sizes) in
+      let starts = edited_start set m exports live p are w items v live_are_kept (live_sound sound) fit.funcs in
+      let built = image_built m exports live w items v live_are_kept kept_are_exports (new set m exports live p f) (kept_in live Types m.types ++ added_types p f) (funcs_written set m exports live p f)
+      (option_map (new set m exports live p f Funcs) (start_of (length (decode m).funcs) p)) (are_new set m exports live p f fit.funcs) funcs starts (short_inits b fit.sizes) in
+      subst IsRead (sym is) (module_read b built fit.sizes)
+
+-- sizes that cannot be said not to fit fit
+
+size_fits : (content : Option (List ℕ)) → ¬ (¬ (SizeFits content)) → SizeFits content
+size_fits None h = tt
+size_fits (Some c) h = elim (cases_lt (length c) (2 ^ 32)) [ inl small ↦ small | inr large ↦ absurd (h (λ small. omega (arith, small, large))) ]
+
+sizes_fit : (b : BuiltValue) → ¬ (¬ (SizesFit b)) → SizesFit b
+sizes_fit b h k d below = size_fits _ (λ none. h (λ all. none (all k d below)))
+
+number_fits : (n : ℕ) → ¬ (¬ (n < 2 ^ 32)) → n < 2 ^ 32
+number_fits n h = elim (cases_lt n (2 ^ 32)) [ inl small ↦ small | inr large ↦ absurd (h (λ small. omega (arith, small, large))) ]
+
+bits_fit : (b : BuiltValue) → ¬ (¬ (FitsBits b)) → FitsBits b
+bits_fit b h = record {
+  types = number_fits (length b.types) (λ none. h (λ all. none all.types));
+  funcs = number_fits (length b.funcs) (λ none. h (λ all. none all.funcs));
+  sizes = sizes_fit b (λ none. h (λ all. none all.sizes));
+}
+
+pub trimmed_text_read : (s : SettingsValue) (w : Wanted) (text : List ℕ) → AreSettings s → AreBytes w.bytes → (t : IsTrimmed s w text) → ((f : GcFault) → ¬ (IsTrimCause s w f))
+    → IsRead (edited_image (edit s (decode t.value) (kept_exports w.required t.value.exports) t.live))
+trimmed_text_read s w text are all t none =
+    edited_text_read w.bytes w.required t.value t.live all t.spelled t.decides s are (λ h. none LiveBody (inl (t.value, t.spelled, h)))
+    (bits_fit (edited_image (edit s (decode t.value) (kept_exports w.required t.value.exports) t.live)) (λ h. none TooLarge (inr (t.value, t.live, t.spelled, t.decides, h))))
+
+-- so of what is answered
+pub read_answer : {T : Type 0} (items : T → List ℕ) (r : Result T GcFault) (s : SettingsValue) (w : Wanted) → AreSettings s → AreBytes w.bytes → IfOk r (λ v. IsTrimmed s w (items v)) → (IsOk r → (f : GcFault) → ¬ (IsTrimCause s w f))
+    → IfOk r (λ v. IsTrimmedRead s w (items v))
+read_answer items (Ok v) s w are all t none = record { trimmed = t; read = trimmed_text_read s w (items v) are all t (none refl) }
+read_answer items (Err f) s w are all t none = t

@@ -1,0 +1,8 @@
+use Rattle.std.proofs.Common.{◌≡◌, ℕ, ◌&&◌}
+use Rattle.std.specs.Prelude.{nat_lt}
+use Rattle.wc_gc.specs.FuncGroups.{has_func, is_in_group}
+use Rattle.wc_gc.specs.Parts.{settings_value}
+use Rattle.wc_gc.proofs.func_groups.group.Given as goal
+
+abbrev pub invariant-loop-index : goal.invariant-loop-index
+invariant-loop-index g l = (n : ℕ) → g.L.LiveSet.has l.set n ≡ (nat_lt n l.index && (g.L.LiveSet.has l.live n && has_func (is_in_group (settings_value l.settings) l.imported) l.funcs n))

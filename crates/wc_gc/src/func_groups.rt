@@ -1,0 +1,143 @@
+//! The live functions of an edited adapter: those that are imported, and those that are defined.
+
+ghost use Rattle.std.specs.Prelude.{◌≡◌, ◌<◌, ◌^◌, ℕ, ◌&&◌, ◌||◌, nat_eq, map, length, IfOk, OnOk};
+ghost use Rattle.wc_read.specs.Exports.{export_value};
+ghost use Rattle.wc_gc.specs.Decoded.{func_code};
+ghost use Rattle.wc_gc.specs.Edited.{is_exported_func, is_func};
+ghost use Rattle.wc_gc.specs.FuncGroups.{AreGroups, has_func, is_import_after, is_in_group};
+ghost use Rattle.wc_gc.specs.Parts.{settings_value};
+
+use crate::found::imports_realloc;
+use crate::live::LiveSet;
+use crate::settings::Settings;
+use std::alloc::{AllocError, Global};
+use wc_read::{Def, Export, ExportKind, Func};
+
+/// The live functions of an edited adapter, and those that exports name, by their old indices.
+#[derive(Debug, Drop)]
+pub struct FuncGroups<L> {
+    /// Those that are imported.
+    pub imports: L,
+    /// Those that are defined: imported reallocs that become growing reallocs among them.
+    pub defined: L,
+    /// Functions that an export names.
+    pub exported: L,
+}
+
+impl<L: LiveSet> FuncGroups<L> {
+    /// The groups of live functions.
+    pub fn new(
+        alloc: Global,
+        funcs: &[Func<'_>],
+        live: &L,
+        exports: &[Export<'_>],
+        settings: Settings<'_>,
+    ) -> Result<FuncGroups<L>, AllocError>
+        requires { length funcs.now < 2 ^ 32 }
+        ensures { IfOk result (AreGroups L.has (settings_value settings.entry)
+            funcs.now (L.has live.now) (map export_value exports.now)) }
+    {
+        Ok(FuncGroups {
+            imports: group(alloc, funcs, live, settings, true)?,
+            defined: group(alloc, funcs, live, settings, false)?,
+            exported: exported_funcs(alloc, exports)?,
+        })
+    }
+}
+
+/// The live functions that are imported after the edit, or those that are not.
+fn group<L: LiveSet>(
+    alloc: Global,
+    funcs: &[Func<'_>],
+    live: &L,
+    settings: Settings<'_>,
+    imported: bool,
+) -> Result<L, AllocError>
+    requires { length funcs.now < 2 ^ 32 }
+    ensures { IfOk result (λ r. (n : ℕ) → L.has r n ≡ (L.has live.now n
+        && has_func (is_in_group (settings_value settings.entry) imported) funcs.now n)) }
+{
+    let mut set = L::new(alloc);
+    for index in 0..funcs.len() {
+        let member = is_live_in_group(live, funcs, index as u32, settings, imported);
+        insert_if(&mut set, index as u32, member)?;
+    }
+    Ok(set)
+}
+
+/// Whether a function is live, and imported after the edit or not.
+fn is_live_in_group<L: LiveSet>(
+    live: &L,
+    funcs: &[Func<'_>],
+    index: u32,
+    settings: Settings<'_>,
+    imported: bool,
+) -> bool
+    ensures { result ≡ (L.has live.now index
+        && has_func (is_in_group (settings_value settings.entry) imported) funcs.now index) }
+{
+    live.contains(index) && has_func_in_group(funcs, index, settings, imported)
+}
+
+/// Whether the function of an index is imported after the edit, or whether it is not.
+fn has_func_in_group(funcs: &[Func<'_>], index: u32, settings: Settings<'_>, imported: bool) -> bool
+    ensures { result
+        ≡ has_func (is_in_group (settings_value settings.entry) imported) funcs.now index }
+{
+    match funcs.get(index as usize) {
+        Some(func) => is_in_group(func, settings, imported),
+        None => false,
+    }
+}
+
+/// The functions that exports name.
+fn exported_funcs<L: LiveSet>(alloc: Global, exports: &[Export<'_>]) -> Result<L, AllocError>
+    ensures { IfOk result (λ r. (n : ℕ) →
+        L.has r n ≡ is_exported_func (map export_value exports.now) n) }
+{
+    let mut funcs = L::new(alloc);
+    for export in exports {
+        insert_if(&mut funcs, export.index, is_func(export.kind))?;
+    }
+    Ok(funcs)
+}
+
+/// Puts an index in, if it is wanted.
+fn insert_if<L: LiveSet>(set: &mut L, index: u32, wanted: bool) -> Result<(), AllocError>
+    ensures { OnOk result ((n : ℕ) →
+        L.has set.new n ≡ (L.has set.old n || (wanted && nat_eq n index))) }
+{
+    if !wanted {
+        return Ok(());
+    }
+    set.insert(index)?;
+    Ok(())
+}
+
+fn is_func(kind: ExportKind) -> bool
+    ensures { result ≡ is_func kind }
+{
+    matches!(kind, ExportKind::Func)
+}
+
+/// Whether a function is imported after the edit, or whether it is not.
+fn is_in_group(func: &Func<'_>, settings: Settings<'_>, imported: bool) -> bool
+    ensures { result
+        ≡ is_in_group (settings_value settings.entry) imported (func_code func.now) }
+{
+    if imported {
+        stays_imported(func, settings)
+    } else {
+        !stays_imported(func, settings)
+    }
+}
+
+/// Whether a function is imported after the edit.
+fn stays_imported(func: &Func<'_>, settings: Settings<'_>) -> bool
+    ensures { result ≡ is_import_after (settings_value settings.entry) (func_code func.now) }
+{
+    match func.def {
+        Def::Import(_, _) => settings.realloc.is_some() || !imports_realloc(func.def),
+        Def::Local(_) => false,
+    }
+}

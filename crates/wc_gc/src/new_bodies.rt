@@ -1,0 +1,65 @@
+//! Bodies of functions that are to be written.
+
+ghost use Rattle.std.specs.Prelude.{◌≡◌, ◌≤◌, is_some, true};
+ghost use Rattle.wc_read.specs.Decoding.{body_in};
+
+use crate::added_code::{append_growing_body, append_stack_body};
+use crate::new_indices::NewIndices;
+use crate::rewrite::append_old_body;
+use std::alloc::AllocError;
+use wc_write::BodyText;
+
+/// The body of a function, to be written.
+#[derive(Clone, Copy)]
+pub enum NewBody<'a, 'n> {
+    /// That of a function of the adapter.
+    Old(OldBody<'a, 'n>),
+    /// A realloc that grows memory 0.
+    Growing(GrowingBody),
+    /// The allocation of a stack.
+    Stack(StackBody),
+}
+
+impl<'a, 'n> BodyText for NewBody<'a, 'n> {
+    ghost use Rattle.wc_gc.specs.NewBodies.{body_written};
+
+    ghost body = { body_written };
+
+    fn put(&self, out: &mut Vec<u8>) -> Result<(), AllocError> {
+        match self {
+            NewBody::Old(body) => append_old_body(out, body),
+            NewBody::Growing(body) => append_growing_body(out, body.page_size_log2),
+            NewBody::Stack(body) => append_stack_body(out, body.realloc, body.stack, body.state),
+        }
+    }
+}
+
+/// A realloc that grows memory 0, whose pages have 2 to the power of a number bytes.
+#[derive(Clone, Copy)]
+pub struct GrowingBody {
+    pub page_size_log2: u32,
+    ghost paged: { page_size_log2 ≤ 16 },
+}
+
+/// The allocation of a stack, by new indices.
+#[derive(Clone, Copy)]
+pub struct StackBody {
+    /// The realloc that is called.
+    pub realloc: u32,
+    /// The stack pointer.
+    pub stack: u32,
+    /// The state of the allocation.
+    pub state: Option<u32>,
+}
+
+/// The body of a live function of the adapter, to be written under new indices. Its operators are read and written one
+/// after another, and none of them is kept.
+#[derive(Clone, Copy)]
+pub struct OldBody<'a, 'n> {
+    /// Bytes that spell a body.
+    pub bytes: &'a [u8],
+    pub new: &'n NewIndices,
+    /// The new index of a function that is called first.
+    pub call: Option<u32>,
+    ghost is_code: { is_some (body_in bytes.now) ≡ true },
+}
