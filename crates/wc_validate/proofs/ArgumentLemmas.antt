@@ -27,7 +27,7 @@ new_at : {X : Type 0} (es : List (Text × X)) (e : Text × X) (k : Text) (v : X)
 new_at es e k v true h rest = absurd (let bad : ⊥ = cc h in bad)
 new_at es e k v false h rest = ap (λ z. e ∷ z) (rest h)
 
--- a text that is not there goes behind the others
+-- a text that is not there goes after the others
 pub text_added : {X : Type 0} (es : List (Text × X)) (k : Text) (v : X) → is_some (lookup (is_text k.now) es) ≡ false → insert_entry (λ x. is_text x.now) es k v ≡ es ++ (k, v) ∷ []
 text_added [] k v h = refl
 text_added (e ∷ es) k v h = new_at es e k v (is_text k.now e.0) h (text_added es k v)

@@ -54,7 +54,7 @@ entry_fault e keys x f v = fault_by e keys x f v
 pub recorded_nothing : (e : Setting) (keys : List KeyView) (x : CoreExport) (old : ExportRecord) → IsExportEntry e keys x None → IsExportRecorded e keys x old old
 recorded_nothing e keys x old h = (None, h, sym (append-nil old))
 
--- an export whose name is not recorded goes behind the others
+-- an export whose name is not recorded goes after the others
 pub recorded_new : (e : Setting) (keys : List KeyView) (x : CoreExport) (es new : List (String Global × Export)) (k : String Global) (y : Export) → new ≡ insert_entry string_eq es k y → string_bytes k ≡ x.name
     → lookup (bytes_eq x.name) (map export_entry es) ≡ None → IsExportEntry e keys x (Some (export_view y)) → IsExportRecorded e keys x (map export_entry es) (map export_entry new)
 recorded_new e keys x es new k y put key none h =

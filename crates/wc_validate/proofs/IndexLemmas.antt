@@ -21,7 +21,7 @@ pub first_by_append : {X Y : Type 0} (f : X → Option Y) (xs ys : List X) → f
 first_by_append f [] ys = refl
 first_by_append f (x ∷ xs) ys = ap (first_some (f x)) (first_by_append f xs ys) ∙ sym (first_some_assoc (f x) (first_by f xs) (first_by f ys))
 
--- with one more behind the others
+-- with one more after the others
 pub first_by_push : {X Y : Type 0} (f : X → Option Y) (xs : List X) (y : X) → first_by f (xs ++ y ∷ []) ≡ first_some (first_by f xs) (f y)
 first_by_push f xs y = first_by_append f xs (y ∷ []) ∙ ap (first_some (first_by f xs)) (first_some_none (f y))
 
@@ -34,7 +34,7 @@ lookup_push test [] k v = refl
 lookup_push test (e ∷ es) k v = lookup_at (test e.0) e.1 (lookup test (es ++ (k, v) ∷ [])) (lookup test es) (cond (test k) (Some v) None) (lookup_push test es k v)
 
 module _ {X : Type 0} (index entries : List (List ℕ × X)) (k : List ℕ) (v : X) (same : IsIndexOf index entries) where
-  -- a new name goes behind the others
+  -- a new name goes after the others
   pub index_more : IsIndexOf (index ++ (k, v) ∷ []) (entries ++ (k, v) ∷ [])
   index_more name = lookup_push (bytes_eq name) index k v ∙ (ap (λ z. first_some z (cond (bytes_eq name k) (Some v) None)) (same name) ∙ sym (lookup_push (bytes_eq name) entries k v))
 

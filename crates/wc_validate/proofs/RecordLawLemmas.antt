@@ -1,22 +1,27 @@
 -- What is recorded of a module are its imports, and what they name is there.
-use Rattle.std.proofs.Common.{◌≡◌, ℕ, Bool, true, false, cond, List, [], ◌∷◌, ◌++◌, map, Some, None, refl, sym, ap, subst, ◌∙◌}
+use Rattle.std.proofs.Common.{◌≡◌, ℕ, Bool, true, false, cond, List, [], ◌∷◌, ◌++◌, map, Option, Some, None, refl, sym, ap, subst, ◌∙◌}
 use Rattle.std.specs.List.{All, Contains, cons_option, filter_map, slice_get}
 use Rattle.std.specs.Str.{bytes_eq}
 use Rattle.std.proofs.lemmas.List.Elements.{All-append, All-cons, All-head, All-map, All-nil, All-tail}
 use Rattle.wc_read.specs.Imports.{ImportValue}
 use Rattle.wc_resolve.proofs.SearchLemmas.{contains_head, contains_tail}
-use Rattle.wc_resolve.specs.Views.{WorldView}
+use Rattle.wc_resolve.specs.Views.{KeyView, WorldView}
+use Rattle.wc_resolve.specs.World.{ResolveView}
 use Rattle.wc_encoder.specs.Adapters.{WhichView}
 use Rattle.wc_encoder.specs.EncoderParts.{EncoderView, IsWorldOf}
+use Rattle.wc_names.specs.Exports.{CoreExport, is_export}
+use Rattle.wc_names.specs.ExportViews.{ExportView}
 use Rattle.wc_names.specs.Imports.{Setting}
-use Rattle.wc_names.specs.Laws.{IsImportIn}
+use Rattle.wc_names.specs.Laws.{ExportsInRange, IsExportIn, IsImportIn}
 use Rattle.wc_names.specs.Views.{ImportView}
 use Rattle.wc_validate.specs.Entries.{Entry, single, whole, by_modules, entry_module, first_occurrences, instance_record, single_of, whole_of}
+use Rattle.wc_validate.specs.ExportMaps.{ExportRecord}
 use Rattle.wc_validate.specs.ImportMaps.{imports_in, singles_of}
 use Rattle.wc_validate.specs.Imports.{ImportSetting, AreEntries, IsEntry}
-use Rattle.wc_validate.specs.Laws.{EntriesInRange, IsRecordedImport, RecordsAreImports, RecordsInRange}
+use Rattle.wc_validate.specs.Laws.{EntriesInRange, IsRecordedImport, RecordedExportsInRange, RecordsAreImports, RecordsInRange}
+use Rattle.wc_validate.specs.RecordedExports.{AreExports, IsExportEntry, core_exports, entry_of}
 use Rattle.wc_validate.specs.Settings.{HasItsWorld}
-use Rattle.wc_validate.specs.Validated.{IsRecordOf, IsSettingFor, Job, ModuleRecord, encoder_setting}
+use Rattle.wc_validate.specs.Validated.{IsRecordOf, IsSettingFor, IsSettingOf, Job, ModuleRecord, encoder_setting}
 use Rattle.wc_validate.proofs.RecordLemmas.{same}
 
 -- a fact of single imports, of an entry
@@ -92,3 +97,28 @@ records_in e range j bytes r w at h world =
     let setting = subst (λ z. (is.0).setting ≡ encoder_setting e z) (some_same (sym has.1 ∙ world)) has.2 in
     let each = entries_all is.0 (OnSingle (λ m name v. IsImportIn e.resolve w v)) [] (h.value).imports is.2.0 (λ i x there is_entry. entry_there e w h.imports.0 world setting range i x is_entry) is.2.1 in
     subst (λ z. All (λ (x : List ℕ × (List ℕ × ImportView)). IsImportIn e.resolve w x.1.1) (imports_in z)) (sym is.2.2) (by_modules_all (λ m name v. IsImportIn e.resolve w v) is.2.0 each)
+
+-- what the exports are for that are recorded by a setting
+module _ (r : ResolveView) (range : ExportsInRange r) (s : Setting) (keys : List KeyView) (same : s.resolve ≡ r) (index : ℕ) (at : slice_get r.worlds index ≡ Some s.world) where
+  abbrev pub IsExportThere : List ℕ × ExportView → Type 0
+  IsExportThere x = IsExportIn r s.world x.1
+
+  export_there : (x : CoreExport) (o : Option ExportView) → IsExportEntry s keys x o → All IsExportThere (entry_of x.name o)
+  unfolding IsExportEntry
+  export_there x None h = All-nil IsExportThere
+  export_there x (Some v) h = All-cons IsExportThere (x.name, v) [] (range s keys x index (is_export v h.0) same at h.1) (All-nil IsExportThere)
+
+  exports_there : (xs : List CoreExport) (recorded : ExportRecord) → AreExports s keys xs recorded → All IsExportThere recorded
+  exports_there [] recorded h = subst (All IsExportThere) (sym h) (All-nil IsExportThere)
+  exports_there (x ∷ xs) recorded h =
+      subst (All IsExportThere) (sym h.4) (All-append IsExportThere (entry_of x.name h.0) h.1 (export_there x h.0 h.2) (exports_there xs h.1 h.3))
+
+pub exports_in : (e : EncoderView) → ExportsInRange e.resolve → RecordedExportsInRange e
+exports_in e range j bytes r w at h world =
+    let xs = h.exports in
+    let has : IsSettingOf e xs.0 = subst (λ z. IsSettingOf z xs.0) at xs.1 in
+    let setting = subst (λ z. xs.0 ≡ encoder_setting e z) (some_same (sym has.1 ∙ world)) has.2 in
+    let resolve : (xs.0).resolve ≡ e.resolve = ap (λ (z : Setting). z.resolve) setting in
+    let here : (xs.0).world ≡ w = ap (λ (z : Setting). z.world) setting in
+    subst (λ z. All (λ (x : List ℕ × ExportView). IsExportIn e.resolve z x.1) r.exports) here
+    (exports_there e.resolve range xs.0 j.keys resolve e.world (world ∙ ap Some (sym here)) (core_exports (h.value) (h.value).exports) r.exports xs.2)

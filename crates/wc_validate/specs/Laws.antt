@@ -1,13 +1,14 @@
 -- Laws of what is recorded of modules.
-use Rattle.std.specs.Prelude.{◌≡◌, ℕ, List, Option, Some, None, All, Contains}
+use Rattle.std.specs.Prelude.{◌≡◌, ℕ, List, Some, None, All, Contains}
 use Rattle.wc_read.specs.Imports.{ImportValue}
 use Rattle.wc_read.specs.Modules.{ModuleValue, SpellsModule}
 use Rattle.wc_read.specs.Types.{FuncTypeValue}
 use Rattle.wc_resolve.specs.Views.{WorldView}
 use Rattle.wc_resolve.specs.World.{ResolveView}
 use Rattle.wc_encoder.specs.EncoderParts.{EncoderView, IsWorldOf}
+use Rattle.wc_names.specs.ExportViews.{ExportView}
 use Rattle.wc_names.specs.Imports.{CoreImport, Classified, func_type}
-use Rattle.wc_names.specs.Laws.{IsImportIn}
+use Rattle.wc_names.specs.Laws.{IsExportIn, IsImportIn}
 use Rattle.wc_names.specs.Meanings.{means}
 use Rattle.wc_names.specs.Views.{ImportView}
 use Rattle.wc_validate.specs.Entries.{Entry, single}
@@ -52,3 +53,9 @@ abbrev pub RecordsInRange : EncoderView → Type 0
 RecordsInRange e =
     (j : Job) (bytes : List ℕ) (r : ModuleRecord) (w : WorldView) → j.encoder ≡ e → IsRecordOf j bytes r → IsWorldOf e w
     → All (λ (x : List ℕ × (List ℕ × ImportView)). IsImportIn e.resolve w x.1.1) (imports_in r.imports)
+
+-- what the recorded exports of a module are for is there, in the world of the encoder
+abbrev pub RecordedExportsInRange : EncoderView → Type 0
+RecordedExportsInRange e =
+    (j : Job) (bytes : List ℕ) (r : ModuleRecord) (w : WorldView) → j.encoder ≡ e → IsRecordOf j bytes r → IsWorldOf e w
+    → All (λ (x : List ℕ × ExportView). IsExportIn e.resolve w x.1) r.exports

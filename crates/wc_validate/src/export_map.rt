@@ -130,7 +130,7 @@ impl ExportMap {
     {
         match self.first_name(query) {
             Some(name) => Some(name),
-            None => self.first_name(Query::Realloc),
+            None => self.general_purpose_realloc(),
         }
     }
 
@@ -195,7 +195,7 @@ impl ExportMap {
         ensures { option_copied result
             ≡ own_or_general (first_name is_import_realloc self.now) self.now }
     {
-        self.own_or_general(Query::ImportRealloc)
+        self.import_realloc_fallback()
     }
 
     /// The name of the first realloc for adapters, else of the first for all purposes.

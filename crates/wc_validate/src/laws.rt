@@ -1,9 +1,9 @@
 //! Laws of what is recorded of modules: contracts of functions that do nothing when they run.
 
-ghost use Rattle.wc_validate.specs.Laws.{EntriesInRange, EntriesUnique, RecordsAreImports, RecordsInRange, RecordsUnique, SignaturesFixed};
+ghost use Rattle.wc_validate.specs.Laws.{EntriesInRange, EntriesUnique, RecordedExportsInRange, RecordsAreImports, RecordsInRange, RecordsUnique, SignaturesFixed};
 
 use wc_encoder::ComponentEncoder;
-use wc_names::laws::{exports_unique, meanings_in_range, meanings_unique};
+use wc_names::laws::{exports_in_range, exports_unique, meanings_in_range, meanings_unique};
 use wc_read::laws::modules_unique;
 use wc_resolve::Resolve;
 
@@ -54,4 +54,13 @@ pub fn records_in_range(encoder: &ComponentEncoder)
 {
     let metadata = encoder.metadata();
     meanings_in_range(&metadata.resolve);
+}
+
+/// What the recorded exports of a module are for is there (`wc_names::laws::exports_in_range`). It does nothing when it
+/// runs.
+pub fn recorded_exports_in_range(encoder: &ComponentEncoder)
+    ensures { RecordedExportsInRange encoder.now }
+{
+    let metadata = encoder.metadata();
+    exports_in_range(&metadata.resolve);
 }
