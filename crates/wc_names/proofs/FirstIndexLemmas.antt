@@ -17,7 +17,7 @@ lookup_at : {X : Type 0} (b : Bool) (x : X) (p q r : Option X) → p ≡ option_
 lookup_at true x p q r h = refl
 lookup_at false x p q r h = h
 
--- with one more behind the others
+-- with one more after the others
 lookup_push : {K X : Type 0} (test : K → Bool) (es : List (K × X)) (k : K) (v : X) → lookup test (es ++ (k, v) ∷ []) ≡ option_or (lookup test es) (cond (test k) (Some v) None)
 lookup_push test [] k v = refl
 lookup_push test (e ∷ es) k v = lookup_at (test e.0) e.1 (lookup test (es ++ (k, v) ∷ [])) (lookup test es) (cond (test k) (Some v) None) (lookup_push test es k v)

@@ -17,7 +17,7 @@ lacks_head c b bs lacks = lacks 0 (omega arith)
 pub lacks_tail : (c b : ℕ) (bs : List ℕ) → Lacks c (b ∷ bs) → Lacks c bs
 lacks_tail c b bs lacks i l = lacks (suc i) (omega arith)
 
--- texts that a comparison tells apart
+-- texts that a comparison distinguishes
 pub texts_differ : (a b : List ℕ) → false ≡ bytes_eq a b → a ≢ b
 texts_differ a b h e = let t : false ≡ true = h ∙ (bytes_eq-Decides a b).1 e in let bad : ⊥ = cc t in bad
 

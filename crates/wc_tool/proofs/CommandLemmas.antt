@@ -6,8 +6,8 @@ use Rattle.std.proofs.lemmas.Bool.{true≢false}
 use Rattle.std.specs.Prelude.{IfOk, IfErr, IsErr}
 use Rattle.wc_tool.specs.declared.command.Command.{Command}
 use Rattle.wc_tool.specs.Command.{CommandValue, command_value, dedupe, scan, trim, IsCommandLine, IsExecutable, IsPageOption, AreExports}
-use Rattle.wc_tool.specs.Words.{trim_parts, IsTrimOf, TrimParts}
-use Rattle.wc_tool.proofs.WordsLemmas.{trim_sound, trim_complete, some_same}
+use Rattle.wc_tool.specs.TrimArguments.{trim_parts, IsTrimOf, TrimParts}
+use Rattle.wc_tool.proofs.TrimArgumentsLemmas.{trim_sound, trim_complete, some_same}
 
 -- a list of two, by what was read of it
 pub two_items : {X : Type 0} (xs : List X) (a b : X) → 2 ≤ length xs → length xs < 3 → a ≡ get_or xs 0 a → b ≡ get_or xs 1 b → xs ≡ a ∷ b ∷ []
@@ -33,24 +33,24 @@ more_items (x ∷ y ∷ z ∷ xs) a b c low ha hb hc =
     let all : take (length (x ∷ y ∷ z ∷ xs) - 3) xs ≡ xs = take_all (length (x ∷ y ∷ z ∷ xs) - 3) xs (omega arith) in
     cc
 
--- whether the first of the arguments is this word
+-- whether the first of the arguments is this argument
 abbrev is_first : List ℕ → List (List ℕ) → Bool
-is_first word [] = false
-is_first word (x ∷ xs) = bytes_eq x word
+is_first argument [] = false
+is_first argument (x ∷ xs) = bytes_eq x argument
 
-abbrev trim_arguments : List ℕ → List ℕ → List (List ℕ) → List (List ℕ)
-trim_arguments source target words = codes "trim" ∷ source ∷ target ∷ words
+abbrev trim_line_of : List ℕ → List ℕ → List (List ℕ) → List (List ℕ)
+trim_line_of source target after_paths = codes "trim" ∷ source ∷ target ∷ after_paths
 
-line_of_parts : (source target : List ℕ) (words : List (List ℕ)) (parts : Option TrimParts) (c : CommandValue) → trim_parts words ≡ parts → IsTrimOf source target parts c → IsCommandLine (trim_arguments source target words) c
-line_of_parts source target words parts c at h =
-    rw h.4 (words, refl, trim_sound words h.0 h.1 h.2 (at ∙ h.3))
+line_of_parts : (source target : List ℕ) (after_paths : List (List ℕ)) (parts : Option TrimParts) (c : CommandValue) → trim_parts after_paths ≡ parts → IsTrimOf source target parts c → IsCommandLine (trim_line_of source target after_paths) c
+line_of_parts source target after_paths parts c at h =
+    rw h.4 (after_paths, refl, trim_sound after_paths h.0 h.1 h.2 (at ∙ h.3))
 
--- the parts of the words behind the paths, of any trim that they spell
-parts_of_line : (source target : List ℕ) (words : List (List ℕ)) (d : CommandValue) → IsCommandLine (trim_arguments source target words) d → IsTrimOf source target (trim_parts words) d
-parts_of_line source target words (dedupe s t) e = absurd (true≢false (ap (is_first (codes "trim")) e))
-parts_of_line source target words (scan s) e = absurd (true≢false (ap (is_first (codes "trim")) e))
-parts_of_line source target words (trim s t realloc page exports) (others, e, line) =
-    let same : words ≡ others = cc in
+-- the parts of the arguments after the paths, of any trim that they spell
+parts_of_line : (source target : List ℕ) (after_paths : List (List ℕ)) (d : CommandValue) → IsCommandLine (trim_line_of source target after_paths) d → IsTrimOf source target (trim_parts after_paths) d
+parts_of_line source target after_paths (dedupe s t) e = absurd (true≢false (ap (is_first (codes "trim")) e))
+parts_of_line source target after_paths (scan s) e = absurd (true≢false (ap (is_first (codes "trim")) e))
+parts_of_line source target after_paths (trim s t realloc page exports) (others, e, line) =
+    let same : after_paths ≡ others = cc in
     let from : source ≡ s = cc in
     let to : target ≡ t = cc in
     (realloc, page, exports, ap trim_parts same ∙ trim_complete others realloc page exports line, λ i. trim (sym from i) (sym to i) realloc page exports)
@@ -65,36 +65,36 @@ exports_some : (exports : List (List ℕ)) → AreExports exports → exports �
 exports_some [] h = absurd h
 exports_some (first ∷ others) h = λ e. absurd cc
 
-small_page : (page : ℕ) (words : List (List ℕ)) → IsPageOption page words → page ≤ 16
-small_page page words (inl h) = omega (arith, h.0)
-small_page page words (inr (inl h)) = omega (arith, h.0)
-small_page page words (inr (inr h)) = omega (arith, h.0)
+small_page : (page : ℕ) (after_paths : List (List ℕ)) → IsPageOption page after_paths → page ≤ 16
+small_page page after_paths (inl h) = omega (arith, h.0)
+small_page page after_paths (inr (inl h)) = omega (arith, h.0)
+small_page page after_paths (inr (inr h)) = omega (arith, h.0)
 
 executable : (arguments : List (List ℕ)) (c : CommandValue) → IsCommandLine arguments c → IsExecutable c
 executable arguments (dedupe s t) e = tt
 executable arguments (scan s) e = tt
-executable arguments (trim s t realloc page exports) (words, e, line) = (exports_some exports line.are_exports, small_page page line.paged line.is_page)
+executable arguments (trim s t realloc page exports) (after_paths, e, line) = (exports_some exports line.are_exports, small_page page line.paged line.is_page)
 
 -- what the arguments of a trim are, where its parts were found
 
-pub trim_line : {E : Type 0} (source target : List ℕ) (words arguments : List (List ℕ)) (r : Result Command E) → arguments ≡ trim_arguments source target words → IfOk r (λ c. IsTrimOf source target (trim_parts words) (command_value c)) → IfOk r (λ c. IsCommandLine arguments (command_value c))
-trim_line source target words arguments (Ok c) is h = rw is (line_of_parts source target words (trim_parts words) (command_value c) refl h)
-trim_line source target words arguments (Err e) is h = tt
+pub trim_line : {E : Type 0} (source target : List ℕ) (after_paths arguments : List (List ℕ)) (r : Result Command E) → arguments ≡ trim_line_of source target after_paths → IfOk r (λ c. IsTrimOf source target (trim_parts after_paths) (command_value c)) → IfOk r (λ c. IsCommandLine arguments (command_value c))
+trim_line source target after_paths arguments (Ok c) is h = rw is (line_of_parts source target after_paths (trim_parts after_paths) (command_value c) refl h)
+trim_line source target after_paths arguments (Err e) is h = tt
 
-pub trim_unique : {E : Type 0} (source target : List ℕ) (words arguments : List (List ℕ)) (r : Result Command E) → arguments ≡ trim_arguments source target words → IfOk r (λ c. IsTrimOf source target (trim_parts words) (command_value c)) → IfOk r (λ c. (d : CommandValue) → IsCommandLine arguments d → d ≡ command_value c)
-trim_unique source target words arguments (Ok c) is h = rw is (λ d line. one_trim source target (trim_parts words) (command_value c) d h (parts_of_line source target words d line))
-trim_unique source target words arguments (Err e) is h = tt
+pub trim_unique : {E : Type 0} (source target : List ℕ) (after_paths arguments : List (List ℕ)) (r : Result Command E) → arguments ≡ trim_line_of source target after_paths → IfOk r (λ c. IsTrimOf source target (trim_parts after_paths) (command_value c)) → IfOk r (λ c. (d : CommandValue) → IsCommandLine arguments d → d ≡ command_value c)
+trim_unique source target after_paths arguments (Ok c) is h = rw is (λ d line. one_trim source target (trim_parts after_paths) (command_value c) d h (parts_of_line source target after_paths d line))
+trim_unique source target after_paths arguments (Err e) is h = tt
 
-pub trim_executable : {E : Type 0} (source target : List ℕ) (words : List (List ℕ)) (r : Result Command E) → IfOk r (λ c. IsTrimOf source target (trim_parts words) (command_value c)) → IfOk r (λ c. IsExecutable (command_value c))
-trim_executable source target words (Ok c) h = executable (trim_arguments source target words) (command_value c) (line_of_parts source target words (trim_parts words) (command_value c) refl h)
-trim_executable source target words (Err e) h = tt
+pub trim_executable : {E : Type 0} (source target : List ℕ) (after_paths : List (List ℕ)) (r : Result Command E) → IfOk r (λ c. IsTrimOf source target (trim_parts after_paths) (command_value c)) → IfOk r (λ c. IsExecutable (command_value c))
+trim_executable source target after_paths (Ok c) h = executable (trim_line_of source target after_paths) (command_value c) (line_of_parts source target after_paths (trim_parts after_paths) (command_value c) refl h)
+trim_executable source target after_paths (Err e) h = tt
 
-no_trim : (source target : List ℕ) (words : List (List ℕ)) → trim_parts words ≡ None → (d : CommandValue) → ¬ (IsCommandLine (trim_arguments source target words) d)
-no_trim source target words none d line =
-    let found = parts_of_line source target words d line in
+no_trim : (source target : List ℕ) (after_paths : List (List ℕ)) → trim_parts after_paths ≡ None → (d : CommandValue) → ¬ (IsCommandLine (trim_line_of source target after_paths) d)
+no_trim source target after_paths none d line =
+    let found = parts_of_line source target after_paths d line in
     let both : None ≡ Some (found.0, found.1, found.2) = sym none ∙ found.3 in
     absurd cc
 
-pub trim_usage : {E : Type 0} (source target : List ℕ) (words arguments : List (List ℕ)) (r : Result Command E) → arguments ≡ trim_arguments source target words → (IsErr r → trim_parts words ≡ None) → IfErr r (λ e. (d : CommandValue) → ¬ (IsCommandLine arguments d))
-trim_usage source target words arguments (Ok c) is h = tt
-trim_usage source target words arguments (Err e) is h = rw is (no_trim source target words (h refl))
+pub trim_usage : {E : Type 0} (source target : List ℕ) (after_paths arguments : List (List ℕ)) (r : Result Command E) → arguments ≡ trim_line_of source target after_paths → (IsErr r → trim_parts after_paths ≡ None) → IfErr r (λ e. (d : CommandValue) → ¬ (IsCommandLine arguments d))
+trim_usage source target after_paths arguments (Ok c) is h = tt
+trim_usage source target after_paths arguments (Err e) is h = rw is (no_trim source target after_paths (h refl))

@@ -2,6 +2,7 @@
 use Rattle.std.proofs.Common.{◌≡◌, ◌≢◌, ℕ, List, [], ◌∷◌, map, string_bytes, String, Global, Option, Some, None, refl, ap, subst, rules}
 use Rattle.std.specs.Io.KnownBytes.{Appends}
 use Rattle.wc_dedupe.specs.Renaming.{RenameValue}
+use Rattle.wc_gc.specs.Parts.{SettingsValue}
 use Rattle.wc_gc.specs.Trimming.{IsTrimmed, IsTrimCause}
 use Rattle.wc_gc.specs.declared.fault.GcFault.{GcFault}
 use Rattle.wc_tool.specs.Exports.{first_occurrences, wanted_of}
@@ -17,10 +18,10 @@ appends_nothing None = search rules
 appends_nothing (Some xs) = search rules
 
 -- what was trimmed, with the exports counted once
-pub trim_along : (input bytes : List ℕ) (names exports : List (List ℕ)) → names ≡ first_occurrences exports → IsTrimmed (record { bytes = input; required = names }) bytes → ((f : GcFault) → ¬ (IsTrimCause (record { bytes = input; required = names }) f)) → IsTrim (wanted_of input exports) bytes
-trim_along input bytes names exports same done none = record {
-  trimmed = subst (λ (ns : List (List ℕ)). IsTrimmed (record { bytes = input; required = ns }) bytes) same done;
-  no_cause = subst (λ (ns : List (List ℕ)). (f : GcFault) → ¬ (IsTrimCause (record { bytes = input; required = ns }) f)) same none;
+pub trim_along : (s : SettingsValue) (input bytes : List ℕ) (names exports : List (List ℕ)) → names ≡ first_occurrences exports → IsTrimmed s (record { bytes = input; required = names }) bytes → ((f : GcFault) → ¬ (IsTrimCause s (record { bytes = input; required = names }) f)) → IsTrim s (wanted_of input exports) bytes
+trim_along s input bytes names exports same done none = record {
+  trimmed = subst (λ (ns : List (List ℕ)). IsTrimmed s (record { bytes = input; required = ns }) bytes) same done;
+  no_cause = subst (λ (ns : List (List ℕ)). (f : GcFault) → ¬ (IsTrimCause s (record { bytes = input; required = ns }) f)) same none;
 }
 
 -- where there is an export, its name is in the set

@@ -33,9 +33,9 @@ any_other name other (x ∷ names) apart =
       | inr differ ↦ rw differ (ap (λ b. bytes_eq other x || b) (any_other name other names apart))
     ]
 
--- a name put behind a first one and the others
-insert_behind : (name other : List ℕ) (names : List (List ℕ)) → insert_key bytes_eq (name ∷ filter (differs name) names) other ≡ name ∷ filter (differs name) (insert_key bytes_eq names other)
-insert_behind name other names =
+-- a name put after a first one and the others
+insert_after : (name other : List ℕ) (names : List (List ℕ)) → insert_key bytes_eq (name ∷ filter (differs name) names) other ≡ name ∷ filter (differs name) (insert_key bytes_eq names other)
+insert_after name other names =
     elim (cases_Bool (bytes_eq other name)) [
       | inl same ↦
           (let turned : bytes_eq name other ≡ true = bytes_eq-sym other name true same in
@@ -54,10 +54,10 @@ insert_behind name other names =
           ])
     ]
 
--- one more name behind others
+-- one more name after others
 first_more : (names : List (List ℕ)) (name : List ℕ) → first_occurrences (names ++ name ∷ []) ≡ insert_key bytes_eq (first_occurrences names) name
 first_more [] name = refl
-first_more (x ∷ names) name = ap (λ l. x ∷ filter (differs x) l) (first_more names name) ∙ sym (insert_behind x name (first_occurrences names))
+first_more (x ∷ names) name = ap (λ l. x ∷ filter (differs x) l) (first_more names name) ∙ sym (insert_after x name (first_occurrences names))
 
 abbrev same_text : String Global → String Global → Bool
 same_text a b = bytes_eq (string_bytes a) (string_bytes b)
@@ -73,7 +73,7 @@ text_more keys name =
       | inr new ↦ rw (sym (any_text keys name), new) (map-append string_bytes keys (name ∷ []))
     ]
 
--- the set after its name for one more word
-pub set_more : (keys : List (String Global)) (names : List (List ℕ)) (name : String Global) (word : List ℕ) → map string_bytes keys ≡ first_occurrences names → string_bytes name ≡ word → map string_bytes (insert_key same_text keys name) ≡ first_occurrences (names ++ word ∷ [])
-set_more keys names name word known same =
-    text_more keys name ∙ (ap (λ l. insert_key bytes_eq l (string_bytes name)) known ∙ (ap (insert_key bytes_eq (first_occurrences names)) same ∙ sym (first_more names word)))
+-- the set after its name for one more text
+pub set_more : (keys : List (String Global)) (names : List (List ℕ)) (name : String Global) (text : List ℕ) → map string_bytes keys ≡ first_occurrences names → string_bytes name ≡ text → map string_bytes (insert_key same_text keys name) ≡ first_occurrences (names ++ text ∷ [])
+set_more keys names name text known same =
+    text_more keys name ∙ (ap (λ l. insert_key bytes_eq l (string_bytes name)) known ∙ (ap (insert_key bytes_eq (first_occurrences names)) same ∙ sym (first_more names text)))

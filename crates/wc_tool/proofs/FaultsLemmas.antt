@@ -5,6 +5,7 @@ use Rattle.wc_read.specs.Sections.{IsComponent}
 use Rattle.wc_read.specs.Modules.{ModuleValue, SpellsModule}
 use Rattle.wc_read.specs.declared.fault.ReadFault.{ReadFault}
 use Rattle.wc_read.specs.declared.fault.ReadFault.TheVariants.{Memory as read_memory, Component}
+use Rattle.wc_gc.specs.Parts.{SettingsValue}
 use Rattle.wc_gc.specs.Trimming.{IsTrimFault}
 use Rattle.wc_gc.specs.declared.fault.GcFault.{GcFault}
 use Rattle.wc_gc.specs.declared.fault.GcFault.TheVariants.{Memory as gc_memory}
@@ -13,7 +14,7 @@ use Rattle.wc_tool.specs.declared.fault.ToolFault.TheVariants.{Memory, Dedupe, T
 use Rattle.wc_tool.specs.Exports.{first_occurrences, wanted_of}
 use Rattle.wc_tool.specs.Command.{scan, trim}
 use Rattle.wc_tool.specs.Faults.{of_read, of_trim}
-use Rattle.wc_tool.specs.Execution.{IsCause, IsTrimsCause}
+use Rattle.wc_tool.specs.Execution.{IsCause, IsTrimsCause, settings_of}
 
 -- a reader's fault is the cause of a scan's
 pub cause_of_read : {T : Type 0} (input : List ℕ) (f : ReadFault) → (f ≢ read_memory → (m : ModuleValue) → ¬ (SpellsModule input m)) → (IsErrOf {T = T} (Err f) Component ↔ IsComponent input) → (source : List ℕ) → IsCause (scan source) input (of_read f)
@@ -22,11 +23,11 @@ cause_of_read input f refused component source =
     (λ e. cc, (λ e. component.0 (ap Err e), λ h. let is = component.1 h in cc), refused (λ e. cc))
 
 -- a fault of trimming is the cause of a trim's, whose exports are counted once
-pub cause_of_trim : (input : List ℕ) (names exports : List (List ℕ)) (f : GcFault) → names ≡ first_occurrences exports → IsTrimFault (record { bytes = input; required = names }) f → IsTrimsCause (wanted_of input exports) (of_trim f)
-cause_of_trim input names exports gc_memory same h = tt
-cause_of_trim input names exports f same h = (λ e. cc, subst (λ (ns : List (List ℕ)). IsTrimFault (record { bytes = input; required = ns }) f) same h)
+pub cause_of_trim : (s : SettingsValue) (input : List ℕ) (names exports : List (List ℕ)) (f : GcFault) → names ≡ first_occurrences exports → IsTrimFault s (record { bytes = input; required = names }) f → IsTrimsCause s (wanted_of input exports) (of_trim f)
+cause_of_trim s input names exports gc_memory same h = tt
+cause_of_trim s input names exports f same h = (λ e. cc, subst (λ (ns : List (List ℕ)). IsTrimFault s (record { bytes = input; required = ns }) f) same h)
 
-pub cause_of_command : (input source target : List ℕ) (realloc : Option (List ℕ)) (page : ℕ) (exports : List (List ℕ)) (e : ToolFault) → IsTrimsCause (wanted_of input exports) e → IsCause (trim source target realloc page exports) input e
+pub cause_of_command : (input source target : List ℕ) (realloc : Option (List ℕ)) (page : ℕ) (exports : List (List ℕ)) (e : ToolFault) → IsTrimsCause (settings_of realloc page) (wanted_of input exports) e → IsCause (trim source target realloc page exports) input e
 cause_of_command input source target realloc page exports Memory h = tt
 cause_of_command input source target realloc page exports (Dedupe f) h = h
 cause_of_command input source target realloc page exports (Trim f) h = h

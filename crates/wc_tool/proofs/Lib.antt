@@ -1,4 +1,4 @@
-mod WordsLemmas
+mod TrimArgumentsLemmas
 mod CommandLemmas
 mod ExportsLemmas
 mod FaultsLemmas

@@ -16,36 +16,36 @@ command_value (Scan source) = scan source.now
 command_value (Trim source target realloc page exports) =
     trim source.now target.now (option_map (λ t. t.now) realloc) page (map string_bytes exports.now)
 
--- the words of the option that names the main module's realloc, where it is named
-abbrev pub realloc_words : Option (List ℕ) → List (List ℕ)
-realloc_words None = []
-realloc_words (Some name) = codes "--realloc" ∷ name ∷ []
+-- the arguments of the option that names the main module's realloc, where it is named
+abbrev pub realloc_arguments : Option (List ℕ) → List (List ℕ)
+realloc_arguments None = []
+realloc_arguments (Some name) = codes "--realloc" ∷ name ∷ []
 
--- the words of the option for the exponent of the page size, 0 or 16; none are for 16
+-- the arguments of the option for the exponent of the page size, 0 or 16; none are for 16
 abbrev pub IsPageOption : ℕ → List (List ℕ) → Type 0
-IsPageOption page words =
-    ((page ≡ 16) × (words ≡ []))
-    ⊎ ((page ≡ 0) × (words ≡ codes "--page" ∷ codes "0" ∷ []))
-    ⊎ ((page ≡ 16) × (words ≡ codes "--page" ∷ codes "16" ∷ []))
+IsPageOption page after_paths =
+    ((page ≡ 16) × (after_paths ≡ []))
+    ⊎ ((page ≡ 0) × (after_paths ≡ codes "--page" ∷ codes "0" ∷ []))
+    ⊎ ((page ≡ 16) × (after_paths ≡ codes "--page" ∷ codes "16" ∷ []))
 
--- one export at least; a word behind the options is no option
+-- one export at least; an argument after the options is no option
 abbrev pub AreExports : List (List ℕ) → Type 0
 AreExports [] = ⊥
 AreExports (first ∷ others) = (first ≢ codes "--realloc") × (first ≢ codes "--page")
 
--- the words behind the paths of a trim: its options in either order, and then its exports
-pub record IsTrimLine (words : List (List ℕ)) (realloc : Option (List ℕ)) (page : ℕ) (exports : List (List ℕ)) : Type 0 where
+-- the arguments after the paths of a trim: its options in either order, and then its exports
+pub record IsTrimLine (after_paths : List (List ℕ)) (realloc : Option (List ℕ)) (page : ℕ) (exports : List (List ℕ)) : Type 0 where
   pub paged : List (List ℕ)
   pub is_page : IsPageOption page paged
   pub are_exports : AreExports exports
-  pub joined : (words ≡ realloc_words realloc ++ (paged ++ exports)) ⊎ (words ≡ paged ++ (realloc_words realloc ++ exports))
+  pub joined : (after_paths ≡ realloc_arguments realloc ++ (paged ++ exports)) ⊎ (after_paths ≡ paged ++ (realloc_arguments realloc ++ exports))
 
 -- the arguments of a command, after the program's name
 abbrev pub IsCommandLine : List (List ℕ) → CommandValue → Type 0
 IsCommandLine arguments (dedupe source target) = arguments ≡ codes "dedupe" ∷ source ∷ target ∷ []
 IsCommandLine arguments (scan source) = arguments ≡ codes "scan" ∷ source ∷ []
 IsCommandLine arguments (trim source target realloc page exports) =
-    (words : List (List ℕ)) × (arguments ≡ codes "trim" ∷ source ∷ target ∷ words) × IsTrimLine words realloc page exports
+    (after_paths : List (List ℕ)) × (arguments ≡ codes "trim" ∷ source ∷ target ∷ after_paths) × IsTrimLine after_paths realloc page exports
 
 -- a trim has an export at least, and an exponent of 16 at most
 abbrev pub IsExecutable : CommandValue → Type 0

@@ -1,5 +1,5 @@
 pub mod Command
-pub mod Words
+pub mod TrimArguments
 pub mod Exports
 pub mod Lines
 pub mod Scan

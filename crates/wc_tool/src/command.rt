@@ -2,9 +2,9 @@
 
 ghost use Rattle.std.specs.Prelude.{◌≡◌, IfOk, IfErr, IsErr, None, map, string_bytes};
 ghost use Rattle.wc_tool.specs.Command.{CommandValue, command_value, IsCommandLine, IsExecutable};
-ghost use Rattle.wc_tool.specs.Words.{trim_parts, IsTrimOf};
+ghost use Rattle.wc_tool.specs.TrimArguments.{trim_parts, IsTrimOf};
 
-use crate::words::trim_words;
+use crate::trim_arguments::trim_arguments;
 
 /// What the program is asked to do.
 #[derive(Clone, Copy, Debug, PartialEq, Eq)]
@@ -64,8 +64,8 @@ pub struct Usage;
 /// The command of these arguments, the first of them the one after the program's name: `dedupe IN OUT`, `scan IN`, or
 /// `trim IN OUT [--realloc NAME] [--page 0|16] EXPORT...`. IN, OUT and NAME may be any strings. It does not allocate.
 ///
-/// Directly behind OUT the words `--realloc` and `--page` are options, in either order, each at most once. The page is
-/// 16 where it is not given. From the first other word on all words are exports, one at least.
+/// Directly after OUT the arguments `--realloc` and `--page` are options, in either order, each at most once. The page
+/// is 16 where it is not given. From the first other argument on all are exports, one at least.
 ///
 /// # Errors
 ///
@@ -88,29 +88,29 @@ pub fn parse(arguments: &[String]) -> Result<Command<'_>, Usage>
         [name, file] if name.as_str() == "scan" => Ok(Command::Scan {
             source: file.as_str(),
         }),
-        [name, source, target, words @ ..] if name.as_str() == "trim" => {
-            parse_trim(source.as_str(), target.as_str(), words)
+        [name, source, target, after_paths @ ..] if name.as_str() == "trim" => {
+            parse_trim(source.as_str(), target.as_str(), after_paths)
         }
         _ => Err(Usage),
     }
 }
 
-/// The trim from one file to another with these words behind their paths.
+/// The trim from one file to another with these arguments after their paths.
 fn parse_trim<'a>(
     source: &'a str,
     target: &'a str,
-    words: &'a [String],
+    after_paths: &'a [String],
 ) -> Result<Command<'a>, Usage>
     ensures parts { IfOk result (λ c. IsTrimOf source.now target.now
-        (trim_parts (map string_bytes words.now)) (command_value c)) }
-    ensures none { IsErr result → trim_parts (map string_bytes words.now) ≡ None }
+        (trim_parts (map string_bytes after_paths.now)) (command_value c)) }
+    ensures none { IsErr result → trim_parts (map string_bytes after_paths.now) ≡ None }
 {
-    let words = trim_words(words)?;
+    let parsed = trim_arguments(after_paths)?;
     Ok(Command::Trim {
         source,
         target,
-        realloc: words.realloc,
-        page: words.page,
-        exports: words.exports,
+        realloc: parsed.realloc,
+        page: parsed.page,
+        exports: parsed.exports,
     })
 }

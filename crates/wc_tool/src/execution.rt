@@ -10,6 +10,7 @@ ghost use Rattle.wc_dedupe.specs.Dedupe.{IsDeduped};
 ghost use Rattle.wc_gc.specs.Liveness.{names_of};
 ghost use Rattle.wc_gc.specs.declared.fault.GcFault.TheVariants.{Memory as gc_memory};
 ghost use Rattle.wc_tool.specs.Command.{dedupe, scan, command_value, IsExecutable};
+ghost use Rattle.wc_gc.specs.Parts.{settings};
 ghost use Rattle.wc_tool.specs.Exports.{first_occurrences, wanted_of};
 ghost use Rattle.wc_tool.specs.Lines.{lines_of};
 ghost use Rattle.wc_tool.specs.Scan.{scan_lines};
@@ -31,15 +32,13 @@ use wc_write::Sink;
 /// bytes of its output file, `None` for a scan.
 ///
 /// - A dedupe puts `MODULE: OLD -> NEW` for each renamed import; its bytes are those of `ModuleImportMap::new`.
-/// - A trim puts nothing; its bytes are those of `wc_gc::run`. A repeated export counts once. The name of the realloc and
-///   the page have no effect yet.
+/// - A trim puts nothing; its bytes are those of `wc_gc::run`. A repeated export counts once.
 /// - A scan puts `import MODULE NAME KIND` for each import, and then `export NAME KIND INDEX` for each export.
 ///
 /// # Errors
 ///
 /// - `Dedupe`: of a dedupe alone, the fault of `ModuleImportMap::new`.
-/// - `Trim`: of a trim alone, the fault of `wc_gc::run`; `NotYet` where a stack pointer is reached, or an import of the
-///   main module's realloc.
+/// - `Trim`: of a trim alone, the fault of `wc_gc::run`.
 /// - `Read`: of a scan alone, the bytes are no module. It carries `Component` exactly where they begin with a
 ///   component's header.
 /// - `Output`: a put failed. The sink is failed, and how much was written is left open.
@@ -129,10 +128,10 @@ fn trim(
 ) -> Result<Vec<u8>, ToolFault>
     requires some { exports.now ≢ [] }
     requires paged { page ≤ 16 }
-    ensures done { IfOk result (λ v.
-        IsTrim (wanted_of input.now (map string_bytes exports.now)) v.items) }
-    ensures fault { IfErr result
-        (IsTrimsCause (wanted_of input.now (map string_bytes exports.now))) }
+    ensures done { IfOk result (λ v. IsTrim (settings realloc.entry page)
+        (wanted_of input.now (map string_bytes exports.now)) v.items) }
+    ensures fault { IfErr result (IsTrimsCause (settings realloc.entry page)
+        (wanted_of input.now (map string_bytes exports.now))) }
 {
     let required = required_exports(alloc, exports)?;
     let bytes = run(alloc, input, &required, realloc, page)?;

@@ -42,7 +42,7 @@ mod lines;
 mod output;
 mod program;
 mod scan;
-mod words;
+mod trim_arguments;
 
 pub use command::{Command, Usage, parse};
 pub use execution::execute;

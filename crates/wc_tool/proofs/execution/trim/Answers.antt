@@ -1,6 +1,7 @@
 use Rattle.std.proofs.Common.{refl, map, string_bytes}
 use Rattle.std.proofs.lemmas.Result.{err_from_is_err_and}
 use Rattle.wc_gc.specs.Liveness.{names_of}
+use Rattle.wc_gc.specs.Parts.{settings}
 use Rattle.wc_tool.proofs.FaultsLemmas.{cause_of_trim}
 use Rattle.wc_tool.proofs.ExecutionLemmas.{trim_along, some_names}
 use Rattle.wc_tool.proofs.execution.trim.Goals as goal
@@ -11,8 +12,8 @@ run-requires-clause-some c = some_names c.in_ok-required.required.keys c.args.ex
 pub returns-in_err-bytes-clause-fault : goal.returns-in_err-bytes-clause-fault
 returns-in_err-bytes-clause-fault c =
     let p = err_from_is_err_and c.from_residual-in_err-bytes.result c.from_residual-in_err-bytes.ensures.1 in
-    rw (p.1, p.2) (cause_of_trim c.args.input.now (names_of c.in_ok-required.required.keys) (map string_bytes c.args.exports.now) c.in_err-bytes.field-0.0 c.in_ok-required.ensures c.in_err-bytes.ensures.fault)
+    rw (p.1, p.2) (cause_of_trim (settings c.args.realloc c.args.page) c.args.input.now (names_of c.in_ok-required.required.keys) (map string_bytes c.args.exports.now) c.in_err-bytes.field-0.0 c.in_ok-required.ensures c.in_err-bytes.ensures.fault)
 
 pub returns-clause-done : goal.returns-clause-done
 returns-clause-done c =
-    trim_along c.args.input.now c.in_ok-bytes.bytes.items (names_of c.in_ok-required.required.keys) (map string_bytes c.args.exports.now) c.in_ok-required.ensures c.in_ok-bytes.ensures.trimmed (c.in_ok-bytes.ensures.no_cause refl)
+    trim_along (settings c.args.realloc c.args.page) c.args.input.now c.in_ok-bytes.bytes.items (names_of c.in_ok-required.required.keys) (map string_bytes c.args.exports.now) c.in_ok-required.ensures c.in_ok-bytes.ensures.trimmed (c.in_ok-bytes.ensures.no_cause refl)

@@ -1,31 +1,31 @@
--- The words of a trim behind its paths, read forward.
+-- The arguments of a trim after its paths, read forward.
 use Rattle.std.specs.Prelude.{◌≡◌, ℕ, Bool, false, not, ◌||◌, cond, List, [], ◌∷◌, codes, Option, Some, None}
 use Rattle.std.specs.Option.{option_map}
 use Rattle.std.specs.Str.{bytes_eq}
 use Rattle.wc_tool.specs.Command.{CommandValue, trim}
 
--- the name behind `--realloc`, and the words that are left
+-- the name after `--realloc`, and the arguments that are left
 abbrev pub realloc_parts : List (List ℕ) → Option (List ℕ) × List (List ℕ)
 realloc_parts [] = (None, [])
-realloc_parts (word ∷ []) = (None, word ∷ [])
-realloc_parts (word ∷ name ∷ words) = cond (bytes_eq word (codes "--realloc")) (Some name, words) (None, word ∷ name ∷ words)
+realloc_parts (argument ∷ []) = (None, argument ∷ [])
+realloc_parts (argument ∷ name ∷ arguments) = cond (bytes_eq argument (codes "--realloc")) (Some name, arguments) (None, argument ∷ name ∷ arguments)
 
--- the exponent that a word spells
+-- the exponent that an argument spells
 abbrev pub page_of : List ℕ → Option ℕ
-page_of word = cond (bytes_eq word (codes "0")) (Some 0) (cond (bytes_eq word (codes "16")) (Some 16) None)
+page_of argument = cond (bytes_eq argument (codes "0")) (Some 0) (cond (bytes_eq argument (codes "16")) (Some 16) None)
 
--- the exponent behind `--page`, and the words that are left
+-- the exponent after `--page`, and the arguments that are left
 abbrev pub page_parts : List (List ℕ) → Option (ℕ × List (List ℕ))
 page_parts [] = Some (16, [])
-page_parts (word ∷ []) = Some (16, word ∷ [])
-page_parts (word ∷ exponent ∷ words) = cond (bytes_eq word (codes "--page")) (option_map (λ page. (page, words)) (page_of exponent)) (Some (16, word ∷ exponent ∷ words))
+page_parts (argument ∷ []) = Some (16, argument ∷ [])
+page_parts (argument ∷ exponent ∷ arguments) = cond (bytes_eq argument (codes "--page")) (option_map (λ page. (page, arguments)) (page_of exponent)) (Some (16, argument ∷ exponent ∷ arguments))
 
--- the name behind `--realloc` that was found before, or else is found here
+-- the name after `--realloc` that was found before, or else is found here
 abbrev pub either_realloc : Option (List ℕ) → List (List ℕ) → Option (List ℕ) × List (List ℕ)
-either_realloc (Some name) words = (Some name, words)
-either_realloc None words = realloc_parts words
+either_realloc (Some name) arguments = (Some name, arguments)
+either_realloc None arguments = realloc_parts arguments
 
--- whether the words are exports
+-- whether the arguments are exports
 abbrev pub are_exports : List (List ℕ) → Bool
 are_exports [] = false
 are_exports (first ∷ others) = not (bytes_eq first (codes "--realloc") || bytes_eq first (codes "--page"))
@@ -34,17 +34,17 @@ are_exports (first ∷ others) = not (bytes_eq first (codes "--realloc") || byte
 abbrev pub TrimParts : Type 0
 TrimParts = Option (List ℕ) × ℕ × List (List ℕ)
 
--- the parts, where the words behind the options are exports
+-- the parts, where the arguments after the options are exports
 abbrev pub checked_parts : ℕ → Option (List ℕ) × List (List ℕ) → Option TrimParts
 checked_parts page (name, exports) = cond (are_exports exports) (Some (name, page, exports)) None
 
-abbrev pub parts_behind : Option (List ℕ) → Option (ℕ × List (List ℕ)) → Option TrimParts
-parts_behind name None = None
-parts_behind name (Some (page, words)) = checked_parts page (either_realloc name words)
+abbrev pub parts_after : Option (List ℕ) → Option (ℕ × List (List ℕ)) → Option TrimParts
+parts_after name None = None
+parts_after name (Some (page, arguments)) = checked_parts page (either_realloc name arguments)
 
--- what the words say, where they are those of a trim
+-- what the arguments say, where they are those of a trim
 abbrev pub trim_parts : List (List ℕ) → Option TrimParts
-trim_parts words = parts_behind (realloc_parts words).0 (page_parts (realloc_parts words).1)
+trim_parts arguments = parts_after (realloc_parts arguments).0 (page_parts (realloc_parts arguments).1)
 
 -- the command is a trim between these files with these parts
 abbrev pub IsTrimOf : List ℕ → List ℕ → Option TrimParts → CommandValue → Type 0
