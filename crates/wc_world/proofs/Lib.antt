@@ -1,0 +1,10 @@
+pub mod ContentLemmas
+pub mod OptionLemmas
+pub mod UsedLemmas
+pub mod UsedWalkLemmas
+pub mod FoundLemmas
+pub mod SlotLemmas
+pub mod RequiredLemmas
+pub mod LoweringLemmas
+pub mod NameLemmas
+pub mod KeyedLemmas

@@ -1,0 +1,10 @@
+use Rattle.std.proofs.Common.{List}
+use Rattle.wc_names.specs.Views.{ImportView}
+use Rattle.wc_validate.specs.ImportMaps.{imports_in}
+use Rattle.wc_validate.specs.SingleImports.{imports_left}
+use Rattle.wc_world.specs.Required.{AreRequired}
+use Rattle.wc_world.proofs.RequiredLemmas.{ImportWalk}
+use Rattle.wc_world.proofs.required.add_module.Given as goal
+
+abbrev pub invariant-loop-module : goal.invariant-loop-module
+invariant-loop-module l = (passed : List ImportView) → AreRequired passed l.fn.required → ImportWalk (imports_in l.imports) (imports_left l._module-iterator) passed l.required

@@ -1,0 +1,10 @@
+pub mod Contents
+pub mod Options
+pub mod Used
+pub mod Views
+pub mod WorldViews
+pub mod Slots
+pub mod Lowered
+pub mod Required
+pub mod Adapters
+pub mod Live

@@ -1,0 +1,99 @@
+-- How the imports of a component's world are met.
+use Rattle.std.specs.Prelude.{◌≢◌, AllPairs, ℕ, ◌==◌, List, [], ◌∷◌, ◌++◌, Bool, true, false, not, ◌&&◌, ◌||◌, Option, Some, None, cond, codes, ◌<◌, length}
+use Rattle.std.specs.Int.RustNames.{bit_and}
+use Rattle.std.specs.List.{flat_map, list_any}
+use Rattle.std.specs.Option.{option_and_then, option_map_or}
+use Rattle.std.specs.Str.{bytes_eq}
+use Rattle.wc_resolve.specs.declared.functions.AbiVariant.{AbiVariant}
+use Rattle.wc_resolve.specs.declared.functions.AbiVariant.TheVariants.{GuestImport, GuestImportAsync}
+use Rattle.wc_resolve.specs.Views.{FunctionView, InterfaceView, ItemView, function_item, interface_item, type_item}
+use Rattle.wc_resolve.specs.WellFormed.{IsUsable, type_name}
+use Rattle.wc_resolve.specs.World.{ResolveView}
+use Rattle.wc_names.specs.Lookups.{resource_at}
+use Rattle.wc_names.specs.Views.{ImportView, imported_resource_drop, interface_func, world_func}
+use Rattle.wc_world.specs.Options.{OptionsOf, signature_of}
+use Rattle.wc_world.specs.Views.{LoweringKey, LoweringView, direct, indirect, resource_drop}
+
+-- two ways in which an imported function is called are the same
+abbrev pub same_call : AbiVariant → AbiVariant → Bool
+same_call GuestImport GuestImport = true
+same_call GuestImportAsync GuestImportAsync = true
+same_call a b = false
+
+-- an import is the function of a name, of an interface or of the world itself, called in this way
+abbrev pub is_import_of : Option ℕ → List ℕ → AbiVariant → ImportView → Bool
+is_import_of None name abi (world_func key f a) = bytes_eq name f && same_call abi a
+is_import_of (Some i) name abi (interface_func key j f a) = (i == j) && (bytes_eq name f && same_call abi a)
+is_import_of interface name abi import = false
+
+-- an import drops resources of a type
+abbrev pub is_drop_of : ℕ → ImportView → Bool
+is_drop_of t (imported_resource_drop key interface u) = t == u
+is_drop_of t import = false
+
+-- by what functions are lowered: a `Resolve`; the options of functions; what core modules import; and whether the main
+-- module imports its memory, which is then there before the main module is
+pub record Lowerer : Type 0 where
+  pub resolve : ResolveView
+  pub options : OptionsOf
+  pub imports : List ImportView
+  pub has_memory : Bool
+
+abbrev pub lowerer_of : ResolveView → OptionsOf → Bool → List ImportView → Lowerer
+lowerer_of r options has_memory imports = record { resolve = r; options = options; imports = imports; has_memory = has_memory }
+
+-- options with a memory or a realloc need the main module's memory
+abbrev pub needs_memory : ℕ → Bool
+needs_memory options = (bit_and options 1 == 1) || (bit_and options 2 == 2)
+
+abbrev pub lowered_with : Lowerer → FunctionView → AbiVariant → ℕ → LoweringView
+lowered_with l f abi options = cond (l.has_memory || not (needs_memory options)) (direct options) (indirect (signature_of l.resolve abi f) options)
+
+abbrev pub lowered_function : Lowerer → FunctionView → AbiVariant → LoweringView
+lowered_function l f abi = lowered_with l f abi (l.options l.resolve f abi)
+
+abbrev pub KeyedLowering : Type 0
+KeyedLowering = LoweringKey × LoweringView
+
+-- no two lowerings have one key
+abbrev pub AreKeysDistinct : List KeyedLowering → Type 0
+AreKeysDistinct lowerings = AllPairs (λ (x y : KeyedLowering). x.0 ≢ y.0) lowerings
+
+-- a function called in one way, if it is imported so
+abbrev pub called_lowering : Lowerer → Option ℕ → FunctionView → AbiVariant → List KeyedLowering
+called_lowering l interface f abi = cond (list_any (is_import_of interface f.name abi) l.imports) (((f.name, abi), lowered_function l f abi) ∷ []) []
+
+-- a function as it is imported: called synchronously, and then asynchronously
+abbrev pub function_lowerings : Lowerer → Option ℕ → FunctionView → List KeyedLowering
+function_lowerings l interface f = called_lowering l interface f GuestImport ++ called_lowering l interface f GuestImportAsync
+
+-- a resource by its name, if its drop is imported: `NAME_drop`
+abbrev pub drop_key : List ℕ → LoweringKey
+drop_key name = (name ++ codes "_drop", GuestImport)
+
+abbrev pub resource_lowerings : Lowerer → ℕ → List ℕ → List KeyedLowering
+resource_lowerings l t name = cond (list_any (is_drop_of t) l.imports) ((drop_key name, resource_drop t) ∷ []) []
+
+-- the name of a type whose kind is a resource
+abbrev pub resource_name : ResolveView → ℕ → Option (List ℕ)
+resource_name r t = option_and_then (λ (u : ℕ). type_name r u) (resource_at r t)
+
+abbrev pub type_lowerings : Lowerer → ℕ → List KeyedLowering
+type_lowerings l t = option_map_or (resource_lowerings l t) (resource_name l.resolve t) []
+
+-- of an interface: drops in the order of its types, and then its functions
+abbrev pub interface_lowerings : Lowerer → ℕ → InterfaceView → List KeyedLowering
+interface_lowerings l i v =
+    flat_map (λ (e : List ℕ × ℕ). type_lowerings l e.1) v.types ++ flat_map (λ (e : List ℕ × FunctionView). function_lowerings l (Some i) e.1) v.functions
+
+-- of the world itself: its functions and the drops of its resources, in its order
+abbrev pub item_lowerings : Lowerer → ItemView → List KeyedLowering
+item_lowerings l (interface_item i external) = []
+item_lowerings l (function_item f) = function_lowerings l None f
+item_lowerings l (type_item t) = type_lowerings l t
+
+-- a function of the world itself is usable, and a type is there
+abbrev pub IsLowerable : ResolveView → ItemView → Type 0
+IsLowerable r (interface_item i external) = Unit {0}
+IsLowerable r (function_item f) = IsUsable r f
+IsLowerable r (type_item t) = t < length r.types

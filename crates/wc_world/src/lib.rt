@@ -1,0 +1,30 @@
+//! The world of a component: what a component encoder has to know of modules before it encodes them. A
+//! `ComponentWorld` has what the main module, adapters and libraries import and export, how their imports are met, and
+//! which types these need.
+//!
+//! `ImportOptions` decides which canonical options (component model, Canonical ABI, "canonopt") lowered functions need,
+//! and `PlainOptions` decides it by what the functions pass.
+//!
+//! So far the parts of a `ComponentWorld` are made one by one, and there is no call that makes it: what is imported as
+//! sets, the lowerings of interfaces and of the world itself, the exported interfaces that are used, the types that
+//! single imports need, and what adapters are trimmed by.
+#![tactic(auto)]
+
+mod adapter;
+mod contents;
+mod fault;
+mod import_map;
+mod imported;
+mod live;
+mod lowering;
+mod options;
+mod required;
+mod trimming;
+mod used;
+mod world;
+
+pub use adapter::WorldAdapter;
+pub use fault::WorldFault;
+pub use imported::{ImportedInterface, Lowering};
+pub use options::{ImportOptions, PlainOptions, RequiredOptions};
+pub use world::ComponentWorld;

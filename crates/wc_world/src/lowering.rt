@@ -1,0 +1,268 @@
+//! The lowerings of functions, and the drops of resources, that core modules import.
+
+ghost use Rattle.std.specs.Prelude.{◌≡◌, ◌<◌, ◌++◌, All, IfOk, List, OnOk, Some, [], length, map, option_copied, slice_get};
+ghost use Rattle.std.specs.List.{flat_map};
+ghost use Rattle.std.specs.Option.{option_map, option_map_or};
+ghost use Rattle.wc_resolve.specs.Dependencies.{id_of_interface};
+ghost use Rattle.wc_resolve.specs.Views.{function_entry, function_view, item_view, type_entry, world_entry};
+ghost use Rattle.wc_resolve.specs.WellFormed.{IsUsable};
+ghost use Rattle.wc_names.specs.Views.{ImportView};
+ghost use Rattle.wc_world.specs.Lowered.{IsLowerable, called_lowering, function_lowerings, interface_lowerings, item_lowerings, lowered_function, lowerer_of, needs_memory, resource_name, type_lowerings};
+ghost use Rattle.wc_world.specs.Required.{AreRequired, import_abi};
+ghost use Rattle.wc_world.specs.WorldViews.{lowering_entry, lowering_view};
+
+use crate::imported::Lowering;
+use crate::options::{ImportOptions, RequiredOptions};
+use crate::required::Required;
+use bitflags::Flags;
+use indexmap::IndexMap;
+use std::alloc::{AllocError, Global};
+use wc_resolve::{
+    AbiVariant, Function, InterfaceId, Resolve, TypeDefKind, TypeId, WorldItem, WorldKey,
+};
+
+/// By what functions are lowered.
+pub(crate) struct Lowerings<'a, O: ImportOptions> {
+    pub(crate) resolve: &'a Resolve,
+    pub(crate) options: &'a O,
+    /// The functions and drops that are imported.
+    pub(crate) required: &'a Required,
+    /// Whether the main module imports its memory, which is then there before the main module is.
+    pub(crate) has_memory: bool,
+}
+
+/// A lowering, by its name and by how the function is called.
+pub(crate) type KeyedLowering = ((String, AbiVariant), Lowering);
+
+/// Whether options need the main module's memory.
+fn needs_memory(options: RequiredOptions) -> bool
+    ensures { result ≡ needs_memory options.0 }
+{
+    options.contains(RequiredOptions::MEMORY) || options.contains(RequiredOptions::REALLOC)
+}
+
+/// How a function is called that is imported asynchronously, or else synchronously.
+fn import_abi(is_async: bool) -> AbiVariant
+    ensures { result ≡ import_abi is_async }
+{
+    if is_async {
+        AbiVariant::GuestImportAsync
+    } else {
+        AbiVariant::GuestImport
+    }
+}
+
+/// The name of a type, if it is a resource and has one.
+fn resource_name(resolve: &Resolve, id: TypeId) -> Option<&str>
+    requires { id.0 < length resolve.now.types }
+    ensures { option_copied result ≡ resource_name resolve.now id.0 }
+{
+    let def = resolve.type_def(id);
+    match def.kind {
+        TypeDefKind::Resource => def.name.as_deref(),
+        _ => None,
+    }
+}
+
+/// A function, lowered to be called in this way.
+fn lower_function<O: ImportOptions>(
+    alloc: Global,
+    context: &Lowerings<'_, O>,
+    function: &Function,
+    abi: AbiVariant,
+) -> Result<Lowering, AllocError>
+    requires { IsUsable context.now.resolve.now (function_view function.now) }
+    ensures { (imports : List ImportView) → IfOk result (λ l. lowering_view l
+        ≡ lowered_function (lowerer_of context.now.resolve.now
+        (O.options_of context.now.options.now) context.now.has_memory imports)
+        (function_view function.now) abi) }
+{
+    let options = context
+        .options
+        .for_import(alloc, context.resolve, function, abi)?;
+    if context.has_memory || !needs_memory(options) {
+        return Ok(Lowering::Direct { options });
+    }
+    let sig = context.resolve.wasm_signature(alloc, abi, function)?;
+    Ok(Lowering::Indirect { sig, options })
+}
+
+/// Adds a function, if it is imported to be called in one way.
+fn push_call<O: ImportOptions>(
+    alloc: Global,
+    context: &Lowerings<'_, O>,
+    lowerings: &mut Vec<KeyedLowering>,
+    interface: Option<InterfaceId>,
+    function: &Function,
+    is_async: bool,
+) -> Result<(), AllocError>
+    requires { IsUsable context.now.resolve.now (function_view function.now) }
+    ensures { (imports : List ImportView) → AreRequired imports context.now.required.now
+        → OnOk result (map lowering_entry lowerings.new.items
+        ≡ map lowering_entry lowerings.old.items ++ called_lowering
+        (lowerer_of context.now.resolve.now (O.options_of context.now.options.now)
+        context.now.has_memory imports) (option_map id_of_interface interface)
+        (function_view function.now) (import_abi is_async)) }
+{
+    if !context
+        .required
+        .has_function(alloc, interface, &function.name, is_async)?
+    {
+        return Ok(());
+    }
+    let abi = import_abi(is_async);
+    let lowering = lower_function(alloc, context, function, abi)?;
+    let name = String::from_str(alloc, &function.name)?;
+    lowerings.push(((name, abi), lowering))?;
+    Ok(())
+}
+
+/// Adds a function as it is imported: called synchronously, and then asynchronously.
+pub(crate) fn push_function<O: ImportOptions>(
+    alloc: Global,
+    context: &Lowerings<'_, O>,
+    lowerings: &mut Vec<KeyedLowering>,
+    interface: Option<InterfaceId>,
+    function: &Function,
+) -> Result<(), AllocError>
+    requires { IsUsable context.now.resolve.now (function_view function.now) }
+    ensures { (imports : List ImportView) → AreRequired imports context.now.required.now
+        → OnOk result (map lowering_entry lowerings.new.items
+        ≡ map lowering_entry lowerings.old.items ++ function_lowerings
+        (lowerer_of context.now.resolve.now (O.options_of context.now.options.now)
+        context.now.has_memory imports) (option_map id_of_interface interface)
+        (function_view function.now)) }
+{
+    push_call(alloc, context, lowerings, interface, function, false)?;
+    push_call(alloc, context, lowerings, interface, function, true)
+}
+
+/// Adds a type, if it is a resource whose drop is imported.
+pub(crate) fn push_type<O: ImportOptions>(
+    alloc: Global,
+    context: &Lowerings<'_, O>,
+    lowerings: &mut Vec<KeyedLowering>,
+    id: TypeId,
+) -> Result<(), AllocError>
+    requires { id.0 < length context.now.resolve.now.types }
+    ensures { (imports : List ImportView) → AreRequired imports context.now.required.now
+        → OnOk result (map lowering_entry lowerings.new.items
+        ≡ map lowering_entry lowerings.old.items ++ type_lowerings
+        (lowerer_of context.now.resolve.now (O.options_of context.now.options.now)
+        context.now.has_memory imports) id.0) }
+{
+    let Some(name) = resource_name(context.resolve, id) else {
+        return Ok(());
+    };
+    if !context.required.has_drop(id) {
+        return Ok(());
+    }
+    let key = (format!(in alloc; "{name}_drop")?, AbiVariant::GuestImport);
+    lowerings.push((key, Lowering::ResourceDrop(id)))?;
+    Ok(())
+}
+
+/// Adds the types that are resources whose drops are imported, in their order.
+fn push_types<O: ImportOptions>(
+    alloc: Global,
+    context: &Lowerings<'_, O>,
+    lowerings: &mut Vec<KeyedLowering>,
+    types: &IndexMap<String, TypeId>,
+) -> Result<(), AllocError>
+    requires { All (λ e. e.1.0 < length context.now.resolve.now.types) types.now.entries }
+    ensures { (imports : List ImportView) → AreRequired imports context.now.required.now
+        → OnOk result (map lowering_entry lowerings.new.items
+        ≡ map lowering_entry lowerings.old.items ++ flat_map (λ e. type_lowerings
+        (lowerer_of context.now.resolve.now (O.options_of context.now.options.now)
+        context.now.has_memory imports) e.1) (map type_entry types.now.entries)) }
+{
+    for (_name, id) in types.iter() {
+        push_type(alloc, context, lowerings, *id)?;
+    }
+    Ok(())
+}
+
+/// Adds the functions of an interface as they are imported, in their order.
+fn push_functions<O: ImportOptions>(
+    alloc: Global,
+    context: &Lowerings<'_, O>,
+    lowerings: &mut Vec<KeyedLowering>,
+    interface: InterfaceId,
+    functions: &IndexMap<String, Function>,
+) -> Result<(), AllocError>
+    requires { All (λ e. IsUsable context.now.resolve.now (function_view e.1))
+        functions.now.entries }
+    ensures { (imports : List ImportView) → AreRequired imports context.now.required.now
+        → OnOk result (map lowering_entry lowerings.new.items
+        ≡ map lowering_entry lowerings.old.items ++ flat_map (λ e. function_lowerings
+        (lowerer_of context.now.resolve.now (O.options_of context.now.options.now)
+        context.now.has_memory imports) (Some interface.0) e.1)
+        (map function_entry functions.now.entries)) }
+{
+    for (_name, function) in functions.iter() {
+        push_function(alloc, context, lowerings, Some(interface), function)?;
+    }
+    Ok(())
+}
+
+/// Adds what is imported of an interface: drops in the order of its types, and then its functions.
+pub(crate) fn push_interface<O: ImportOptions>(
+    alloc: Global,
+    context: &Lowerings<'_, O>,
+    lowerings: &mut Vec<KeyedLowering>,
+    id: InterfaceId,
+) -> Result<(), AllocError>
+    requires { id.0 < length context.now.resolve.now.interfaces }
+    ensures { (imports : List ImportView) → AreRequired imports context.now.required.now
+        → OnOk result (map lowering_entry lowerings.new.items
+        ≡ map lowering_entry lowerings.old.items ++ option_map_or (interface_lowerings
+        (lowerer_of context.now.resolve.now (O.options_of context.now.options.now)
+        context.now.has_memory imports) id.0)
+        (slice_get context.now.resolve.now.interfaces id.0) []) }
+{
+    context.resolve.well_formedness();
+    let interface = context.resolve.interface(id);
+    push_types(alloc, context, lowerings, &interface.types)?;
+    push_functions(alloc, context, lowerings, id, &interface.functions)
+}
+
+/// Adds what is imported of an item of the world itself: a function, or the drop of a resource. An interface has
+/// lowerings of its own.
+fn push_item<O: ImportOptions>(
+    alloc: Global,
+    context: &Lowerings<'_, O>,
+    lowerings: &mut Vec<KeyedLowering>,
+    item: &WorldItem,
+) -> Result<(), AllocError>
+    requires { IsLowerable context.now.resolve.now (item_view item.now) }
+    ensures { (imports : List ImportView) → AreRequired imports context.now.required.now
+        → OnOk result (map lowering_entry lowerings.new.items
+        ≡ map lowering_entry lowerings.old.items ++ item_lowerings
+        (lowerer_of context.now.resolve.now (O.options_of context.now.options.now)
+        context.now.has_memory imports) (item_view item.now)) }
+{
+    match item {
+        WorldItem::Interface { .. } => Ok(()),
+        WorldItem::Function(function) => push_function(alloc, context, lowerings, None, function),
+        WorldItem::TypeItem { id } => push_type(alloc, context, lowerings, *id),
+    }
+}
+
+/// What is imported of the functions and types that the world itself imports, in its order.
+pub(crate) fn world_lowerings<O: ImportOptions>(
+    alloc: Global,
+    context: &Lowerings<'_, O>,
+    items: &IndexMap<WorldKey, WorldItem>,
+) -> Result<Vec<KeyedLowering>, AllocError>
+    requires { All (λ e. IsLowerable context.now.resolve.now (item_view e.1)) items.now.entries }
+    ensures { (imports : List ImportView) → AreRequired imports context.now.required.now
+        → IfOk result (λ found. map lowering_entry found.items ≡ flat_map (λ e. item_lowerings
+        (lowerer_of context.now.resolve.now (O.options_of context.now.options.now)
+        context.now.has_memory imports) e.1) (map world_entry items.now.entries)) }
+{
+    let mut lowerings = Vec::new(alloc);
+    for (_key, item) in items.iter() {
+        push_item(alloc, context, &mut lowerings, item)?;
+    }
+    Ok(lowerings)
+}

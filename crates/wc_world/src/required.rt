@@ -1,0 +1,204 @@
+//! Which functions and drops of resources core modules import.
+
+ghost use Rattle.std.specs.Prelude.{◌≡◌, ◌++◌, ◌∷◌, [], IfOk, List, OnOk, Some, map};
+ghost use Rattle.std.specs.List.{list_any};
+ghost use Rattle.std.specs.Option.{option_map};
+ghost use Rattle.wc_resolve.specs.Dependencies.{id_of_interface};
+ghost use Rattle.wc_resolve.specs.Roots.{id_index};
+ghost use Rattle.wc_resolve.specs.declared.functions.AbiVariant.{AbiVariant as Abi};
+ghost use Rattle.wc_names.specs.Views.{ImportView, import_view};
+ghost use Rattle.wc_validate.specs.ImportMaps.{imports_in};
+ghost use Rattle.wc_validate.specs.Validated.{module_record};
+ghost use Rattle.wc_world.specs.Lowered.{is_drop_of, is_import_of};
+ghost use Rattle.wc_world.specs.Slots.{all_imports, imports_of};
+ghost use Rattle.wc_world.specs.WorldViews.{adapter_entry};
+ghost use Rattle.wc_world.specs.Required.{AreCalled, AreRequired, IsCall, called_function, dropped_resource, import_abi};
+
+use crate::adapter::WorldAdapter;
+use indexmap::{IndexMap, IndexSet};
+use std::alloc::{AllocError, Global};
+use wc_names::Import;
+use wc_resolve::{AbiVariant, InterfaceId, TypeId};
+use wc_validate::{ImportMap, ValidatedModule};
+
+/// Names of functions, each with the interface that it is of; without one it is of the world.
+type FunctionNames = IndexSet<(Option<InterfaceId>, String)>;
+
+/// The functions that are called synchronously and asynchronously, and the resources that are dropped.
+#[derive(Drop)]
+pub(crate) struct Required {
+    functions: FunctionNames,
+    async_functions: FunctionNames,
+    drops: IndexSet<TypeId>,
+}
+
+/// Adds a function.
+fn add_name(
+    alloc: Global,
+    names: &mut FunctionNames,
+    interface: Option<InterfaceId>,
+    name: &str,
+) -> Result<(), AllocError>
+    ensures { (abi : Abi) (imports : List ImportView) (i : ImportView)
+        → IsCall abi (option_map id_of_interface interface, name.now) i
+        → AreCalled abi imports names.old.keys
+        → OnOk result (AreCalled abi (imports ++ i ∷ []) names.new.keys) }
+{
+    names.insert_full((interface, String::from_str(alloc, name)?))?;
+    Ok(())
+}
+
+/// Whether a function is among others.
+fn has_name(
+    alloc: Global,
+    names: &FunctionNames,
+    interface: Option<InterfaceId>,
+    name: &str,
+) -> Result<bool, AllocError>
+    ensures { (abi : Abi) (imports : List ImportView) → AreCalled abi imports names.now.keys
+        → IfOk result (λ b. b ≡ list_any
+        (is_import_of (option_map id_of_interface interface) name.now abi) imports) }
+{
+    let wanted = (interface, String::from_str(alloc, name)?);
+    Ok(names.contains(&wanted))
+}
+
+/// The function that an import is, and how it is called.
+fn called_function(import: &Import) -> Option<(Option<InterfaceId>, &str, AbiVariant)>
+    ensures { option_map
+        (λ c. ((option_map id_of_interface c.0, c.1.now), c.2)) result
+        ≡ called_function (import_view import.now) }
+{
+    match import {
+        Import::WorldFunc(_, name, abi) => Some((None, name.as_str(), *abi)),
+        Import::InterfaceFunc(_, id, name, abi) => Some((Some(*id), name.as_str(), *abi)),
+        _ => None,
+    }
+}
+
+/// The resource of which an import is the drop.
+fn dropped_resource(import: &Import) -> Option<TypeId>
+    ensures { option_map id_index result ≡ dropped_resource (import_view import.now) }
+{
+    match import {
+        Import::ImportedResourceDrop(_, _, id) => Some(*id),
+        _ => None,
+    }
+}
+
+impl Required {
+    /// No functions, and no drops.
+    fn new(alloc: Global) -> Required
+        ensures { AreRequired [] result }
+    {
+        Required {
+            functions: IndexSet::new(alloc),
+            async_functions: IndexSet::new(alloc),
+            drops: IndexSet::new(alloc),
+        }
+    }
+
+    /// Adds a function that is called in one way.
+    fn add_function(
+        &mut self,
+        alloc: Global,
+        interface: Option<InterfaceId>,
+        name: &str,
+        abi: AbiVariant,
+    ) -> Result<(), AllocError>
+        ensures { (imports : List ImportView) (i : ImportView)
+            → called_function i ≡ Some ((option_map id_of_interface interface, name.now), abi)
+            → AreRequired imports self.old
+            → OnOk result (AreRequired (imports ++ i ∷ []) self.new) }
+    {
+        match abi {
+            AbiVariant::GuestImport => add_name(alloc, &mut self.functions, interface, name),
+            AbiVariant::GuestImportAsync => {
+                add_name(alloc, &mut self.async_functions, interface, name)
+            }
+            AbiVariant::GuestExport => Ok(()),
+            AbiVariant::GuestExportAsync => Ok(()),
+            AbiVariant::GuestExportAsyncStackful => Ok(()),
+        }
+    }
+
+    /// Adds a resource that is dropped.
+    fn add_drop(&mut self, id: TypeId) -> Result<(), AllocError>
+        ensures { (imports : List ImportView) (i : ImportView) → dropped_resource i ≡ Some id.0
+            → AreRequired imports self.old
+            → OnOk result (AreRequired (imports ++ i ∷ []) self.new) }
+    {
+        self.drops.insert(id)?;
+        Ok(())
+    }
+
+    /// Adds what an import is.
+    fn add_import(&mut self, alloc: Global, import: &Import) -> Result<(), AllocError>
+        ensures { (imports : List ImportView) → AreRequired imports self.old
+            → OnOk result (AreRequired (imports ++ import_view import.now ∷ []) self.new) }
+    {
+        if let Some((interface, name, abi)) = called_function(import) {
+            return self.add_function(alloc, interface, name, abi);
+        }
+        if let Some(id) = dropped_resource(import) {
+            return self.add_drop(id);
+        }
+        Ok(())
+    }
+
+    /// Whether a function is imported, to be called synchronously or asynchronously.
+    pub(crate) fn has_function(
+        &self,
+        alloc: Global,
+        interface: Option<InterfaceId>,
+        name: &str,
+        is_async: bool,
+    ) -> Result<bool, AllocError>
+        ensures { (imports : List ImportView) → AreRequired imports self.now
+            → IfOk result (λ b. b ≡ list_any
+            (is_import_of (option_map id_of_interface interface) name.now (import_abi is_async))
+            imports) }
+    {
+        if is_async {
+            has_name(alloc, &self.async_functions, interface, name)
+        } else {
+            has_name(alloc, &self.functions, interface, name)
+        }
+    }
+
+    /// Whether the drop of a resource is imported.
+    pub(crate) fn has_drop(&self, id: TypeId) -> bool
+        ensures { (imports : List ImportView) → AreRequired imports self.now
+            → result ≡ list_any (is_drop_of id.0) imports }
+    {
+        self.drops.contains(&id)
+    }
+}
+
+/// Adds what the imports of a module are.
+fn add_module(alloc: Global, required: &mut Required, imports: &ImportMap) -> Result<(), AllocError>
+    ensures { (passed : List ImportView) → AreRequired passed required.old
+        → OnOk result (AreRequired (passed ++ imports_of (imports_in imports.now)) required.new) }
+{
+    for (_module, _name, import) in imports.imports() {
+        required.add_import(alloc, import)?;
+    }
+    Ok(())
+}
+
+/// The functions and drops that a main module and adapters import.
+pub(crate) fn required_by<'a>(
+    alloc: Global,
+    main: &ValidatedModule,
+    adapters: &IndexMap<&'a str, WorldAdapter<'a>>,
+) -> Result<Required, AllocError>
+    ensures { IfOk result (AreRequired (imports_of (all_imports (module_record main.now)
+        (map adapter_entry adapters.now.entries)))) }
+{
+    let mut required = Required::new(alloc);
+    add_module(alloc, &mut required, &main.imports)?;
+    for (_name, adapter) in adapters.iter() {
+        add_module(alloc, &mut required, &adapter.info.imports)?;
+    }
+    Ok(required)
+}
