@@ -5,7 +5,8 @@ use crate::rows::{Flaw, Paragraph, Row};
 use crate::validation::calls as validate_calls;
 use crate::worlds::{encoder_calls, resolve_calls};
 use crate::{
-    dedupe_calls, examples, gc_calls, law_calls, read_calls, sink_calls, tool_calls, write_calls,
+    dedupe_calls, examples, gc_calls, law_calls, machine_calls, machine_samples, read_calls,
+    sink_calls, tool_calls, write_calls,
 };
 use std::alloc::{AllocError, Global};
 
@@ -28,6 +29,9 @@ fn answer_on_bytes(alloc: Global, row: &Row<'_>, out: &mut String) -> Result<boo
         return Ok(true);
     }
     if dedupe_calls::answer(alloc, row, out)? || gc_calls::answer(alloc, row, out)? {
+        return Ok(true);
+    }
+    if machine_calls::answer(alloc, row, out)? || machine_samples::answer(alloc, row, out)? {
         return Ok(true);
     }
     tool_calls::answer(alloc, row, out)

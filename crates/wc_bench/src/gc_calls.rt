@@ -1,5 +1,7 @@
 //! Calls of `wc_gc`.
 
+ghost use Rattle.std.specs.Prelude.{IfSome, ◌≤◌};
+
 use crate::input::{Stop, answered, bad_row, bytes_of};
 use crate::rows::Row;
 use crate::values::put_bytes_lines;
@@ -18,6 +20,8 @@ fn answer_call(alloc: Global, row: &Row<'_>, out: &mut String) -> Result<bool, S
         answer_liveness(alloc, row, out)?;
     } else if row.call == "trim" {
         answer_trim(alloc, row, out)?;
+    } else if row.call == "trim_for" {
+        answer_trim_for(alloc, row, out)?;
     } else if row.call == "bit_vec" {
         answer_bit_vec(alloc, row, out)?;
     } else if row.call == "gc_faults" {
@@ -68,6 +72,34 @@ fn answer_trim(alloc: Global, row: &Row<'_>, out: &mut String) -> Result<(), Sto
     }
     put_trimmed(run(alloc, &bytes, &required, None, 16), out)?;
     Ok(())
+}
+
+/// `trim_for REALLOC PAGE NAME..`: the same for a main module that exports a realloc of this name, none by `-`, with an
+/// exponent of the page size.
+fn answer_trim_for(alloc: Global, row: &Row<'_>, out: &mut String) -> Result<(), Stop> {
+    let bytes = bytes_of(alloc, &row.input, out)?;
+    let required = names_from(alloc, row, 2)?;
+    let Some(page) = exponent_of(row) else {
+        return Err(bad_row(out, "no exponent", row.call));
+    };
+    if required.is_empty() {
+        return Err(bad_row(out, "no names", row.call));
+    }
+    put_trimmed(run(alloc, &bytes, &required, realloc_of(row), page), out)?;
+    Ok(())
+}
+
+fn realloc_of<'a>(row: &Row<'a>) -> Option<&'a str> {
+    let name = *row.arguments.first()?;
+    if name == "-" { None } else { Some(name) }
+}
+
+/// The exponent that is the second argument, 16 at most.
+fn exponent_of(row: &Row<'_>) -> Option<u32>
+    ensures { IfSome result (λ page. page ≤ 16) }
+{
+    let page = row.arguments.get(1)?.parse::<u32>().ok()?;
+    if page > 16 { None } else { Some(page) }
 }
 
 fn put_trimmed(trimmed: Result<Vec<u8>, GcFault>, out: &mut String) -> Result<(), AllocError> {
@@ -149,7 +181,8 @@ fn put_faults(alloc: Global, out: &mut String) -> Result<(), AllocError> {
         GcFault::LiveTable,
         GcFault::SeveralMemories,
         GcFault::LocalMemory,
-        GcFault::NotYet,
+        GcFault::ReallocType,
+        GcFault::ReallocMemory,
         GcFault::TooLarge,
     ];
     for fault in &faults {
