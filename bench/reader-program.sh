@@ -1,7 +1,7 @@
 #!/bin/sh
 # Builds, where it is not there or older than the crates, the program that reads modules for the other scripts and
-# writes them again, and prints its path. Its source stands here and not in crates/, where the merge gate would prove
-# it, in a repository of its own in bench/data/reader, with copies of the crates that it stands on.
+# writes them again, and prints its path. Its source is here and not in crates/, where the merge gate would prove
+# it, in a repository of its own in bench/data/reader, with copies of the crates that it uses.
 set -e
 top=$(CDPATH='' cd -P -- "$(dirname -- "$0")/.." && pwd -P)
 home=$top/bench/data/reader
@@ -37,7 +37,7 @@ for crate in wc_read wc_write; do
     done
 done
 cat >"$home/crates/reader/src/main.rt" <<'RATTLE'
-//! Reads modules: tells which of them are refused and which of their bodies, or reads one many times, or writes one
+//! Reads modules: prints which of them are refused and which of their bodies, or reads one many times, or writes one
 //! again.
 #![tactic(auto)]
 

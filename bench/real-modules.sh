@@ -12,7 +12,7 @@ need wasm-objdump wabt
 need python3 python3
 need /usr/lib/wasm32-wasi/libc.a wasi-libc
 need /usr/lib/wasm32-wasi/libc++.a libc++-dev-wasm32
-need /usr/lib/wasm32-wasi/libc++abi.a libc++abi-dev-wasm32
+need /usr/lib/wasm32-wasi/libc++abi.a libc++-dev-wasm32
 program=$("$top/bench/reader-program.sh")
 exec python3 - "$program" "$top/bench" <<'END_OF_PYTHON'
 import itertools
@@ -141,7 +141,7 @@ def unpack_archives():
             shutil.copy(f"{libraries}/{file}", f"{made}/libraries/{file}")
 
 
-def told(files):
+def printed(files):
     """What the program says of each file."""
     lines = []
     for at in range(0, len(files), 500):
@@ -168,7 +168,7 @@ link_objects()
 assemble_texts()
 unpack_archives()
 files = [f"{at}/{it}" for at, _, names in sorted(os.walk(made)) for it in sorted(names)]
-said = told(files)
+said = printed(files)
 parts, left_out, differ, invalid = {}, 0, 0, 0
 for file, words in zip(files, said):
     name = os.path.relpath(file, made)

@@ -21,7 +21,7 @@ import sys
 program, data = sys.argv[1:]
 made = f"{data}/real"
 FEATURES = [f"--enable-{it}" for it in "threads tail-call memory64 multi-memory extended-const relaxed-simd".split()]
-# the sections that are written: all with contents that are read, and one that tells producers
+# the sections that are written: all with contents that are read, and one of producers
 KEPT = {1, 2, 3, 4, 5, 6, 7, 8, 10}
 # those of elements, the count of data and data, which are not
 SEGMENTS = {9, 12, 11}
@@ -66,7 +66,7 @@ def kept_size(module):
 
 
 def place(id):
-    """Where a section of this id stands; custom sections are written last."""
+    """The position of a section of this id; custom sections are written last."""
     return ORDER.index(id) if id else len(ORDER)
 
 
@@ -75,8 +75,8 @@ def with_segments(text, module):
     made = sections(text)
     for id, bytes in sections(module):
         if id in SEGMENTS:
-            behind = (at for at, (other, _) in enumerate(made) if place(other) > place(id))
-            made.insert(next(behind, len(made)), (id, bytes))
+            after = (at for at, (other, _) in enumerate(made) if place(other) > place(id))
+            made.insert(next(after, len(made)), (id, bytes))
     return text[:8] + b"".join(bytes for _, bytes in made)
 
 
@@ -92,7 +92,7 @@ def names_segments(file):
 
 
 def accepted(to, text, file, module):
-    """How the text, which stands in the file `to`, is accepted, and what is wrong where it isn't."""
+    """How the text, which is in the file `to`, is accepted, and what is wrong where it isn't."""
     refused = validated(to)
     if not refused:
         return "as they are", None
