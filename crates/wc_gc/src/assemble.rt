@@ -54,7 +54,8 @@ pub fn image<'a, 'n, L: LiveSet>(
     requires funcs { funcs_of edit ≡ length adapter.now.funcs.items }
     requires indices { new_indices edit ≡ edited_rank (edited_of edit
         (decoded_module adapter.now) (map export_value exports.now) (has_item L.has live.now)) }
-    ensures { IfOk result (λ b. built_value_by body_written b ≡ edited_image (edited_of edit.entry
+    ensures { IfOk result (λ b. built_value_by body_written b
+        ≡ edited_image (edited_of edit.entry
         (decoded_module adapter.now) (map export_value exports.now) (has_item L.has live.now))) }
 {
     let types = new_types(alloc, &live.types, &adapter.types, edit)?;

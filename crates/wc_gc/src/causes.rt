@@ -76,7 +76,8 @@ fn is_own_memory(adapter: &Module<'_>, index: u32) -> bool
 /// The imported reallocs that have to be of a realloc's type: all, where they become growing reallocs, else the last,
 /// where lazy code calls it.
 fn called_reallocs<'a>(settings: Settings<'_>, found: &'a Found) -> &'a [u32]
-    ensures { result.now ≡ called_reallocs (settings_value settings.entry) (found_value found.now) }
+    ensures { result.now
+        ≡ called_reallocs (settings_value settings.entry) (found_value found.now) }
 {
     let reallocs = found.reallocs.as_slice();
     if settings.realloc.is_none() {

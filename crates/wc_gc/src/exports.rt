@@ -84,7 +84,8 @@ pub fn drop_exports<'a>(
 
 /// Takes out the export of a name; the last one takes its index.
 fn take_out<'a>(kept: &mut IndexMap<&'a str, Export<'a>>, name: &'a str)
-    ensures { kept.new.entries ≡ swap_remove_entry (λ k. bytes_eq name.now k.now) kept.old.entries }
+    ensures { kept.new.entries
+        ≡ swap_remove_entry (λ k. bytes_eq name.now k.now) kept.old.entries }
 {
     kept.swap_remove(name);
 }

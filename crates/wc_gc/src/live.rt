@@ -41,7 +41,8 @@ pub trait LiveSet: Sized + Drop {
     /// `AllocError`: an allocation failed.
     fn ranks(&self, alloc: Global) -> Result<Ranks, AllocError>
         ensures same { IfOk result (λ r. (x : ℕ) → has_number r x ≡ has self.now x) }
-        ensures ranks { IfOk result (λ r. (x : ℕ) → rank_of r x ≡ count_below (has self.now) x) };
+        ensures ranks { IfOk result (λ r. (x : ℕ)
+            → rank_of r x ≡ count_below (has self.now) x) };
 }
 
 /// A set of numbers as bits, up to the largest that was put in.
