@@ -8,7 +8,7 @@ use Rattle.wc_read.specs.Items.{ItemValue}
 use Rattle.wc_read.specs.Renumbering.{Renumbering, renumber_instr}
 use Rattle.wc_read.specs.declared.types.GlobalType.{GlobalType}
 use Rattle.wc_read.specs.declared.operators.Space.{Space}
-use Rattle.wc_read.specs.declared.operators.Space.TheVariants.{Types, Funcs, Tables, Memories, Globals}
+use Rattle.wc_read.specs.declared.operators.Space.TheVariants.{Types}
 use Rattle.wc_write.specs.BuiltValues.{def_seen}
 use Rattle.wc_gc.specs.Counts.{count_below}
 use Rattle.wc_gc.specs.Decoded.{DecodedModule, FuncCode, GlobalCode, ItemIndex, size_of, space_of}
