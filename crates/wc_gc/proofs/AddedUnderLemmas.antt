@@ -30,7 +30,7 @@ use Rattle.wc_gc.proofs.SpellableLemmas.{body_stays}
 -- bodies
 
 -- by whether pages have one byte
-abbrev growing_by : Bool → ℕ → ℕ → BodyValue
+abbrev pub growing_by : Bool → ℕ → ℕ → BodyValue
 growing_by b exponent memory = record {
   locals = record { count = 1; ty = I32 } ∷ [];
   operators =

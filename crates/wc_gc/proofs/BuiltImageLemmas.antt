@@ -106,10 +106,10 @@ pub record AreExports (m : ModuleValue) (exports : List ExportValue) : Type 0 wh
   pub there : All (λ e. e.index < count_of m e.kind) exports
   pub distinct : AllPairs (λ x y. x.name ≢ y.name) exports
 
-func_at : (m : ModuleValue) (n : ℕ) (f : FuncValue) → slice_get m.funcs n ≡ Some f → entry_at (decode m) (Funcs, n) ≡ func_entry (item_seen body_in f)
+pub func_at : (m : ModuleValue) (n : ℕ) (f : FuncValue) → slice_get m.funcs n ≡ Some f → entry_at (decode m) (Funcs, n) ≡ func_entry (item_seen body_in f)
 func_at m n f e = ap (λ o. option_map_or func_entry o no_entry) (slice_get-map (item_seen body_in) m.funcs n ∙ ap (option_map (item_seen body_in)) e)
 
-global_at : (m : ModuleValue) (n : ℕ) (g : GlobalValue) → slice_get m.globals n ≡ Some g → entry_at (decode m) (Globals, n) ≡ global_entry (item_seen init_in g)
+pub global_at : (m : ModuleValue) (n : ℕ) (g : GlobalValue) → slice_get m.globals n ≡ Some g → entry_at (decode m) (Globals, n) ≡ global_entry (item_seen init_in g)
 global_at m n g e = ap (λ o. option_map_or global_entry o no_entry) (slice_get-map (item_seen init_in) m.globals n ∙ ap (option_map (item_seen init_in)) e)
 
 module _ (m : ModuleValue) (kept : ItemIndex → Bool) where

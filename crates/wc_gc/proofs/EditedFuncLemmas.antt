@@ -104,11 +104,11 @@ funcs_from types gs few room all short first = record {
 
 -- what is added or not
 
-all_only : {A : Type 0} (P : A → Type 0) (b : Bool) (x : A) → (b ≡ true → P x) → AllByRecursion P (only_if b x)
+pub all_only : {A : Type 0} (P : A → Type 0) (b : Bool) (x : A) → (b ≡ true → P x) → AllByRecursion P (only_if b x)
 all_only P true x h = (h refl, tt)
 all_only P false x h = tt
 
-only_count : {A : Type 0} (b : Bool) (x : A) → length (only_if b x) ≡ one_if b
+pub only_count : {A : Type 0} (b : Bool) (x : A) → length (only_if b x) ≡ one_if b
 only_count true x = refl
 only_count false x = refl
 
@@ -148,11 +148,11 @@ last_func true false x y z = refl
 last_func false true x y z = refl
 last_func false false x y z = refl
 
-get_back : {A : Type 0} (xs ys : List A) (n : ℕ) → slice_get (xs ++ ys) (length xs + n) ≡ slice_get ys n
+pub get_back : {A : Type 0} (xs ys : List A) (n : ℕ) → slice_get (xs ++ ys) (length xs + n) ≡ slice_get ys n
 get_back [] ys n = ap (slice_get ys) (let e : 0 + n ≡ n = omega arith in e)
 get_back (x ∷ xs) ys n = ap (slice_get (x ∷ (xs ++ ys))) (let e : suc (length xs) + n ≡ suc (length xs + n) = omega arith in e) ∙ get_back xs ys n
 
-empty_is : {A : Type 0} (xs : List A) → is_empty xs ≡ true → xs ≡ []
+pub empty_is : {A : Type 0} (xs : List A) → is_empty xs ≡ true → xs ≡ []
 empty_is [] h = refl
 empty_is (x ∷ xs) h = absurd (let e = eqb-true (length (x ∷ xs)) 0 h in omega (arith, e))
 
@@ -161,7 +161,7 @@ utf8_or None h = IsUtf8-from_ascii [] (λ i. lit< tt)
 utf8_or (Some name) h = h
 
 -- a list without a last item is empty
-none_last : {A : Type 0} (xs : List A) → last_of xs ≡ None → is_empty xs ≡ true
+pub none_last : {A : Type 0} (xs : List A) → last_of xs ≡ None → is_empty xs ≡ true
 none_last [] e = refl
 none_last (x ∷ xs) e = let item = get_some (x ∷ xs) (length (x ∷ xs) - 1) (omega arith) in absurd (let bad : None ≡ Some item.0 = sym e ∙ item.1 in cc bad)
 

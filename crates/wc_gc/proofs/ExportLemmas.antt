@@ -247,7 +247,7 @@ all_without : (P : ExportValue → Type 0) (es : List ExportValue) (name : List 
 all_without P [] name all = all
 all_without P (e ∷ es) name all = all_or P (e ∷ es) e all (All-head P e es all) (position (λ (x : ExportValue). bytes_eq name x.name) (e ∷ es))
 
-all_fold : (P : ExportValue → Type 0) (es : List ExportValue) (names : List (List ℕ)) → All P es → All P (fold without es names)
+pub all_fold : (P : ExportValue → Type 0) (es : List ExportValue) (names : List (List ℕ)) → All P es → All P (fold without es names)
 all_fold P es [] all = all
 all_fold P es (n ∷ names) all = all_fold P (without es n) names (all_without P es n all)
 

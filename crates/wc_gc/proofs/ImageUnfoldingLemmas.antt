@@ -23,12 +23,12 @@ use Rattle.wc_gc.proofs.KeptItemLemmas.{get_some, kept_count, rank_at}
 use Rattle.wc_gc.proofs.RankLawLemmas.{IsOldType, IsAddedType, type_is, IsFunc, func_is}
 use Rattle.wc_gc.proofs.UnfoldingLemmas.{renumbered_unfolds}
 
-front_at : {A : Type 0} (xs ys : List A) (n : ℕ) (x : A) → slice_get xs n ≡ Some x → slice_get (xs ++ ys) n ≡ Some x
+pub front_at : {A : Type 0} (xs ys : List A) (n : ℕ) (x : A) → slice_get xs n ≡ Some x → slice_get (xs ++ ys) n ≡ Some x
 front_at [] ys n x h = absurd cc
 front_at (y ∷ xs) ys zero x h = h
 front_at (y ∷ xs) ys (suc n) x h = front_at xs ys n x h
 
-back_at : {A : Type 0} (xs ys : List A) (n : ℕ) → slice_get (xs ++ ys) (length xs + n) ≡ slice_get ys n
+pub back_at : {A : Type 0} (xs ys : List A) (n : ℕ) → slice_get (xs ++ ys) (length xs + n) ≡ slice_get ys n
 back_at [] ys n = ap (slice_get ys) (let e : 0 + n ≡ n = omega arith in e)
 back_at (x ∷ xs) ys n = ap (slice_get (x ∷ (xs ++ ys))) (let e : suc (length xs) + n ≡ suc (length xs + n) = omega arith in e) ∙ back_at xs ys n
 

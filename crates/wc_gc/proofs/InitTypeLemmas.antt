@@ -39,24 +39,24 @@ abbrev pub NamesOnly : (ItemIndex → Type 0) → InstrValue → Type 0
 NamesOnly may i = AllByRecursion may (instr_refs i) × IsInstr i
 
 -- which codes name a function and a global
-func_code : (b : ℕ) → constant_byte b ≡ Some Func → b ≡ 0xd2
+pub func_code : (b : ℕ) → constant_byte b ≡ Some Func → b ≡ 0xd2
 unfolding constant_byte
 func_code b h = grind (arith, nat_tests)
 
-global_code : (b : ℕ) → constant_byte b ≡ Some Global → b ≡ 0x23
+pub global_code : (b : ℕ) → constant_byte b ≡ Some Global → b ≡ 0x23
 unfolding constant_byte
 global_code b h = grind (arith, nat_tests)
 
-func_form : (b : ℕ) → b ≡ 0xd2 → byte_form b ≡ Some (form_index (In Funcs))
+pub func_form : (b : ℕ) → b ≡ 0xd2 → byte_form b ≡ Some (form_index (In Funcs))
 unfolding byte_form
 func_form b e = rw e refl
 
-global_form : (b : ℕ) → b ≡ 0x23 → byte_form b ≡ Some (form_index (In Globals))
+pub global_form : (b : ℕ) → b ≡ 0x23 → byte_form b ≡ Some (form_index (In Globals))
 unfolding byte_form
 global_form b e = rw e refl
 
 -- the immediates of a code that names an index
-named_by : (code : Opcode) (v : ImmediatesValue) (i : IsInstr (record { opcode = code; immediates = v })) (kind : IndexKind) → form_of code ≡ Some (form_index kind)
+pub named_by : (code : Opcode) (v : ImmediatesValue) (i : IsInstr (record { opcode = code; immediates = v })) (kind : IndexKind) → form_of code ≡ Some (form_index kind)
     → (n : ℕ) × (v ≡ WithIndex (index_of kind n))
 named_by code v i kind e =
     let same : i.form ≡ form_index kind = some_same i.form (form_index kind) (sym i.in_table ∙ e) in

@@ -18,15 +18,15 @@ module _ {A : Type 0} (R : A → A → Type 0) (flip : (x y : A) → R x y → R
     abbrev after : List A
     after = set xs i (get_or xs Last d)
 
-    at_other : (k : ℕ) (e : A) → k < Last → k ≢ i → get_or (swap_remove xs i d) k e ≡ get_or xs k e
+    pub at_other : (k : ℕ) (e : A) → k < Last → k ≢ i → get_or (swap_remove xs i d) k e ≡ get_or xs k e
     at_other k e h other = get_or-take Last after k e h ∙ get_or-set_other xs i k (get_or xs Last d) e other
 
-    at_hole : (k : ℕ) (e : A) → k < Last → k ≡ i → get_or (swap_remove xs i d) k e ≡ get_or xs Last e
+    pub at_hole : (k : ℕ) (e : A) → k < Last → k ≡ i → get_or (swap_remove xs i d) k e ≡ get_or xs Last e
     at_hole k e h same =
         get_or-take Last after k e h
         ∙ (ap (λ j. get_or after j e) same ∙ (get_or-set_same xs i (get_or xs Last d) e (let s : i ≡ k = sym same in omega arith) ∙ get_or_any xs Last d e (omega arith)))
 
-    few_after : length (swap_remove xs i d) ≡ Last
+    pub few_after : length (swap_remove xs i d) ≡ Last
     few_after = length-take-le Last after (let l = length-set xs i (get_or xs Last d) in omega (arith, l))
 
     two_of : (k l : ℕ) (e : A) → k < l → l < Last → (k ≡ i) ⊎ (k ≢ i) → (l ≡ i) ⊎ (l ≢ i) → R (get_or (swap_remove xs i d) k e) (get_or (swap_remove xs i d) l e)
@@ -51,7 +51,7 @@ module _ {A : Type 0} (R : A → A → Type 0) (flip : (x y : A) → R x y → R
   pairs_or xs d pairs (Some i) = pairs_removed xs i d pairs
 
 module _ (R : ExportValue → ExportValue → Type 0) (flip : (x y : ExportValue) → R x y → R y x) where
-  pairs_without : (es : List ExportValue) (name : List ℕ) → AllPairs R es → AllPairs R (without es name)
+  pub pairs_without : (es : List ExportValue) (name : List ℕ) → AllPairs R es → AllPairs R (without es name)
   pairs_without [] name pairs = pairs
   pairs_without (e ∷ es) name pairs = pairs_or R flip (e ∷ es) e pairs (position (λ (x : ExportValue). bytes_eq name x.name) (e ∷ es))
 

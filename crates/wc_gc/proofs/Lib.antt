@@ -9,6 +9,9 @@ pub mod InitTypeLemmas
 pub mod TypedGlobalLemmas
 pub mod SpelledItemLemmas
 pub mod KeptExportLemmas
+pub mod ChainLemmas
+pub mod UntouchedLemmas
+pub mod UntouchedLiveLemmas
 pub mod LiveItemLemmas
 pub mod WrittenGlobalLemmas
 pub mod BuiltPartLemmas
@@ -36,3 +39,12 @@ pub mod LazyCallLemmas
 pub mod RankLawLemmas
 pub mod UnfoldingLemmas
 pub mod ImageUnfoldingLemmas
+pub mod ImportOriginLemmas
+pub mod RequiredExportLemmas
+pub mod RestrictedExportLemmas
+pub mod RestrictedImportLemmas
+pub mod RestrictedFuncLemmas
+pub mod RestrictionLemmas
+pub mod InitRefLemmas
+pub mod WholeAddedLemmas
+pub mod WholeLemmas

@@ -18,7 +18,7 @@ use Rattle.wc_gc.proofs.SearchLemmas.{longer}
 pub reached_more : {X : Type 0} (names : X → List X) (roots : List X) (y z : X) → IsReachedFrom names roots y → Contains (names y) z → IsReachedFrom names roots z
 reached_more names roots y z r c = (r.0, r.1, r.2 ++ z ∷ [], longer names r.0 r.2 y z r.3 c)
 
-contains_mapped : {A B : Type 0} (f : A → B) (xs : List A) (x : A) → Contains xs x → Contains (map f xs) (f x)
+pub contains_mapped : {A B : Type 0} (f : A → B) (xs : List A) (x : A) → Contains xs x → Contains (map f xs) (f x)
 contains_mapped f xs x c = (c.0, (let l = length-map xs f in omega (arith, l, c.1)), get_or-map f xs c.0 x (f x) c.1 ∙ ap f c.2)
 
 module _ (required : List (List ℕ)) (m : ModuleValue) (live : ItemIndex → Bool) (decides : DecidesLive required m live) where
@@ -35,7 +35,7 @@ named_more : {A : Type 0} (p : A → Bool) (P : A → Type 0) (x : A) (xs : List
 named_more p P x xs rest true e h = ((λ k. h x (Contains-append_left (x ∷ []) (filter p xs) x (Contains-push [] x))), rest (λ y c. h y (Contains-append_right (x ∷ []) (filter p xs) y c)))
 named_more p P x xs rest false e h = ((λ k. absurd (false≢true (sym e ∙ k))), rest h)
 
-each_named : {A : Type 0} (p : A → Bool) (P : A → Type 0) (xs : List A) → ((y : A) → Contains (filter p xs) y → P y) → AllByRecursion (λ y. IsTrue (p y) → P y) xs
+pub each_named : {A : Type 0} (p : A → Bool) (P : A → Type 0) (xs : List A) → ((y : A) → Contains (filter p xs) y → P y) → AllByRecursion (λ y. IsTrue (p y) → P y) xs
 each_named p P [] h = tt
 each_named p P (x ∷ xs) h = named_more p P x xs (each_named p P xs) (p x) refl h
 

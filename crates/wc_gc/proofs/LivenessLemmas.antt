@@ -43,7 +43,7 @@ size_is m Table = refl
 size_is m MemoryKind = refl
 size_is m GlobalKind = sym (length_map _ m.globals)
 
-export_there : (m : ModuleValue) (e : ExportValue) → e.index < count_of m e.kind → IsTrue (is_in (decode m) (exported_item e))
+pub export_there : (m : ModuleValue) (e : ExportValue) → e.index < count_of m e.kind → IsTrue (is_in (decode m) (exported_item e))
 export_there m e h = ap (nat_lt e.index) (sym (size_is m e.kind)) ∙ lt-ltb e.index (count_of m e.kind) h
 
 pub roots_there : (a : Module) (required : List (List ℕ)) (roots : List ItemIndex) → IsModule (module_value a) → roots ≡ map exported_item (kept_exports required (module_value a).exports)

@@ -105,7 +105,7 @@ sound_at m roots has found next over s x r =
 
 -- what is reached is there
 
-there_from : (m : DecodedModule) (x : ItemIndex) (path : List ItemIndex) (y : ItemIndex) → IsTrue (is_in m x) → IsPath (refs_in m) x path y → IsTrue (is_in m y)
+pub there_from : (m : DecodedModule) (x : ItemIndex) (path : List ItemIndex) (y : ItemIndex) → IsTrue (is_in m x) → IsPath (refs_in m) x path y → IsTrue (is_in m y)
 there_from m x [] y h w = subst (λ (z : ItemIndex). IsTrue (is_in m z)) w h
 there_from m x (z ∷ path) y h w = there_from m z path y (All-contains (λ (v : ItemIndex). is_in m v ≡ true) (refs_in m x) z (filter_passes (is_in m) (entry_refs (entry_at m x))) w.0) w.1
 

@@ -1,6 +1,6 @@
 -- What trimming answers is read back as the image that it is the text of.
 use Rattle.std.proofs.Common.{◌++◌, ◌≡◌, ◌≢◌, ℕ, ◌<◌, ◌^◌, List, length, refl, sym, subst, Bool, true, false, Option, Some, None, inl, inr, arith}
-use Rattle.std.specs.Prelude.{IsTrue, IsSome, Result, Ok, Err, IfOk, IsOk}
+use Rattle.std.specs.Prelude.{IsTrue, IsSome}
 use Rattle.std.proofs.lemmas.Bool.{cases_lt}
 use Rattle.std.specs.Option.{option_map}
 use Rattle.wc_read.specs.Decoding.{init_in}
@@ -23,7 +23,6 @@ use Rattle.wc_gc.specs.Parts.{SettingsValue, parts_of}
 use Rattle.wc_gc.specs.KeptExports.{kept_exports}
 use Rattle.wc_gc.specs.Liveness.{HasLiveBody, Wanted}
 use Rattle.wc_gc.specs.Soundness.{is_sound_at}
-use Rattle.wc_gc.specs.TrimmedText.{IsTrimmedRead}
 use Rattle.wc_gc.specs.Trimming.{IsTrimCause, IsTrimmed}
 use Rattle.wc_gc.specs.declared.fault.GcFault.{GcFault}
 use Rattle.wc_gc.specs.declared.fault.GcFault.TheVariants.{LiveBody, TooLarge}
@@ -44,10 +43,10 @@ module _ (bytes : List ℕ) (required : List (List ℕ)) (m : ModuleValue) (live
   abbrev exports : List ExportValue
   exports = kept_exports required m.exports
 
-  live_are_kept : AreKept m exports live
+  pub live_are_kept : AreKept m exports live
   live_are_kept = record { named = live_named required m live decides; exported = live_root required m live decides }
 
-  kept_are_exports : AreExports m exports
+  pub kept_are_exports : AreExports m exports
   kept_are_exports =
       let w = spelled_writable bytes m all s in
       let v = s.has_sections.valid in
@@ -58,7 +57,7 @@ module _ (bytes : List ℕ) (required : List (List ℕ)) (m : ModuleValue) (live
         distinct = pairs_kept (λ a b. a.name ≢ b.name) apart required m.exports (pairs_named (λ (e : ExportValue). e.name) m.exports v.distinct);
       }
 
-  live_sound : ¬ (HasLiveBody required m) → (n : ℕ) → IsTrue (live (Funcs, n)) → is_sound_at (decode m) (Funcs, n) ≡ true
+  pub live_sound : ¬ (HasLiveBody required m) → (n : ℕ) → IsTrue (live (Funcs, n)) → is_sound_at (decode m) (Funcs, n) ≡ true
   live_sound none n h = by (is_sound_at (decode m) (Funcs, n)) refl
     where
       by : (b : Bool) → is_sound_at (decode m) (Funcs, n) ≡ b → b ≡ true
@@ -66,14 +65,14 @@ module _ (bytes : List ℕ) (required : List (List ℕ)) (m : ModuleValue) (live
       by false e = absurd (none ((Funcs, n), (decides (Funcs, n)).0 h, e))
 
   -- the image of the edited adapter
-  abbrev edited_value : SettingsValue → BuiltValue
+  abbrev pub edited_value : SettingsValue → BuiltValue
   edited_value set =
       let p = parts_of set (found_in (decode m) live) in
       let f = found_in (decode m) live in
       image_with m exports live (new set m exports live p f) (kept_in live Types m.types ++ added_types p f) (funcs_written set m exports live p f)
       (option_map (new set m exports live p f Funcs) (start_of (length (decode m).funcs) p))
 
-  edited_value_is : (set : SettingsValue) → edited_image (edit set (decode m) exports live) ≡ edited_value set
+  pub edited_value_is : (set : SettingsValue) → edited_image (edit set (decode m) exports live) ≡ edited_value set
   unfolding edited_image edit
   edited_value_is set = rw (kept_seen (new_global (new set m exports live (parts_of set (found_in (decode m) live)) (found_in (decode m) live))) (item_seen init_in) (λ n. live (Globals, n)) m.globals) refl
 
@@ -117,9 +116,3 @@ pub trimmed_text_read : (s : SettingsValue) (w : Wanted) (text : List ℕ) → A
 trimmed_text_read s w text are all t none =
     edited_text_read w.bytes w.required t.value t.live all t.spelled t.decides s are (λ h. none LiveBody (inl (t.value, t.spelled, h)))
     (bits_fit (edited_image (edit s (decode t.value) (kept_exports w.required t.value.exports) t.live)) (λ h. none TooLarge (inr (t.value, t.live, t.spelled, t.decides, h))))
-
--- so of what is answered
-pub read_answer : {T : Type 0} (items : T → List ℕ) (r : Result T GcFault) (s : SettingsValue) (w : Wanted) → AreSettings s → AreBytes w.bytes → IfOk r (λ v. IsTrimmed s w (items v)) → (IsOk r → (f : GcFault) → ¬ (IsTrimCause s w f))
-    → IfOk r (λ v. IsTrimmedRead s w (items v))
-read_answer items (Ok v) s w are all t none = record { trimmed = t; read = trimmed_text_read s w (items v) are all t (none refl) }
-read_answer items (Err f) s w are all t none = t

@@ -7,6 +7,7 @@ pub mod Searches
 pub mod Soundness
 pub mod Faults
 pub mod Liveness
+pub mod Chains
 pub mod Found
 pub mod Fewness
 pub mod Parts
@@ -28,6 +29,8 @@ pub mod AddedCodeRuns
 pub mod LazyCalls
 pub mod FuncGroups
 pub mod Edited
+pub mod Untouched
 pub mod EditedImage
 pub mod RankLaws
 pub mod Unfolding
+pub mod Restriction

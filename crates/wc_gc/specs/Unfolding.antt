@@ -5,13 +5,20 @@ use Rattle.wc_read.specs.Renumbering.{Renumbering, renumber_item}
 use Rattle.wc_write.specs.BuiltValues.{def_seen, item_seen}
 use Rattle.wc_write.specs.ModuleText.{BuiltValue}
 use Rattle.wc_read.specs.Items.{DefValue, imported, local}
-use Rattle.wc_gc.specs.Edited.{EditedModule}
+use Rattle.wc_write.specs.Values.{AreBytes}
+use Rattle.wc_gc.specs.Edited.{EditedModule, edit}
 use Rattle.wc_gc.specs.EditedImage.{edited_image, edited_rank}
 use Rattle.wc_gc.specs.RankLaws.{is_in_image}
 use Rattle.wc_read.specs.declared.operators.Space.TheVariants.{Types}
-use Rattle.wc_gc.specs.Decoded.{DecodedModule, FuncCode, GlobalCode, ItemIndex, size_of}
+use Rattle.wc_gc.specs.Decoded.{DecodedModule, FuncCode, GlobalCode, ItemIndex, decode, size_of}
 use Rattle.wc_gc.specs.Entries.{Entry, no_entry, type_entry, func_entry, table_entry, memory_entry, global_entry, entry_at, entry_refs}
 use Rattle.wc_gc.specs.Image.{renumber_body, renumber_code}
+use Rattle.wc_gc.specs.KeptExports.{kept_exports}
+use Rattle.wc_gc.specs.Laws.{AreSettings}
+use Rattle.wc_gc.specs.Liveness.{Wanted}
+use Rattle.wc_gc.specs.Parts.{SettingsValue}
+use Rattle.wc_gc.specs.Trimming.{IsTrimCause, IsTrimmed}
+use Rattle.wc_gc.specs.declared.fault.GcFault.{GcFault}
 
 -- an entry under new indices
 
@@ -104,6 +111,27 @@ pub record IsWhole (e : EditedModule) : Type 0 where
   pub closed : (x y : ItemIndex) → IsTrue (in_image e x) → Contains (entry_refs (entry_at (whole_of e) x)) y →
       IsTrue (in_image e y)
 
+-- each kept or added item of an edited adapter is in the image what it is in the edited adapter, to every depth
+abbrev pub UnfoldsInImage : EditedModule → Type 0
+UnfoldsInImage e = UnfoldsAs (built_module (edited_image e)) (whole_of e) (edited_rank e) (in_image e)
+
 abbrev pub ImageUnfolds : Type 0
-ImageUnfolds = (e : EditedModule) → IsWhole e →
-    UnfoldsAs (built_module (edited_image e)) (whole_of e) (edited_rank e) (in_image e)
+ImageUnfolds = (e : EditedModule) → IsWhole e → UnfoldsInImage e
+
+-- the adapter that was trimmed, edited
+abbrev pub edited_from : (s : SettingsValue) (w : Wanted) (text : List ℕ) → IsTrimmed s w text → EditedModule
+edited_from s w text t = edit s (decode t.value) (kept_exports w.required t.value.exports) t.live
+
+-- what the image of a trimmed adapter has is there and is code, and names what the image has alone
+abbrev pub TrimmedIsWhole : Type 0
+TrimmedIsWhole = (s : SettingsValue) (w : Wanted) (text : List ℕ) → AreSettings s → AreBytes w.bytes →
+    (t : IsTrimmed s w text) →
+    ((f : GcFault) → ¬ (IsTrimCause s w f)) →
+    IsWhole (edited_from s w text t)
+
+-- so it is in the image what it is in the edited adapter
+abbrev pub TrimmedUnfolds : Type 0
+TrimmedUnfolds = (s : SettingsValue) (w : Wanted) (text : List ℕ) → AreSettings s → AreBytes w.bytes →
+    (t : IsTrimmed s w text) →
+    ((f : GcFault) → ¬ (IsTrimCause s w f)) →
+    UnfoldsInImage (edited_from s w text t)

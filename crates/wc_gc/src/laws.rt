@@ -5,7 +5,7 @@ ghost use Rattle.std.specs.Prelude.{Bool};
 ghost use Rattle.wc_gc.specs.Decoded.{ItemIndex};
 ghost use Rattle.wc_gc.specs.Image.{rank};
 ghost use Rattle.wc_gc.specs.Edited.{EditedModule};
-ghost use Rattle.wc_gc.specs.Unfolding.{ImageUnfolds, RenumberedUnfolds};
+ghost use Rattle.wc_gc.specs.Unfolding.{ImageUnfolds, RenumberedUnfolds, TrimmedIsWhole, TrimmedUnfolds};
 ghost use Rattle.wc_gc.specs.RankLaws.{RanksDiffer, RanksKeepOrder};
 
 /// A body that can be spelled, as `wc_write::laws::body_text_read` asks, can be spelled under new indices that have 32
@@ -44,4 +44,11 @@ pub fn renumbered_unfolds()
 /// unfolds at its rank in the image as it does in the edited adapter, at every depth.
 pub fn image_unfolds()
     ensures { ImageUnfolds }
+{}
+
+/// What the image of an adapter that `run` trims has is there, is code and names such items alone. So each kept or added
+/// item unfolds in the image as it does in the edited adapter, at every depth.
+pub fn trimmed_unfolds()
+    ensures whole { TrimmedIsWhole }
+    ensures unfolds { TrimmedUnfolds }
 {}

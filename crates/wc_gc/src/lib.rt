@@ -46,10 +46,12 @@ mod new_bodies;
 mod new_indices;
 mod parts;
 mod ranks;
+pub mod restriction_laws;
 mod rewrite;
 mod search;
 mod settings;
 mod trim;
+pub mod untouched_laws;
 
 pub use added_code::{allocate_stack_via_realloc, realloc_via_memory_grow};
 pub use fault::GcFault;

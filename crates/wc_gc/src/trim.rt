@@ -93,7 +93,8 @@ pub fn run(
     ensures no_cause { IsOk result → (f : GcFault) →
         ¬ (IsTrimCause (settings main_module_realloc.entry page_size_log2)
         (wanted wasm.now required.now.keys) f) }
-    // What is answered spells the image, and no other module.
+    // What is answered spells the image, and no other module. What is kept or added unfolds in it as in the edited
+    // adapter.
     ensures read { IfOk result (λ v. IsTrimmedRead
         (settings main_module_realloc.entry page_size_log2)
         (wanted wasm.now required.now.keys) v.items) }

@@ -4,7 +4,7 @@ use Rattle.wc_gc.specs.Liveness.{wanted}
 use Rattle.wc_gc.specs.Parts.{settings_value}
 use Rattle.wc_gc.proofs.LivenessLemmas.{read_fault}
 use Rattle.wc_gc.proofs.TrimLemmas.{fault_trims, few_items, fault_answer, trimmed_answer, no_cause_answer}
-use Rattle.wc_gc.proofs.TrimmedTextLemmas.{read_answer}
+use Rattle.wc_gc.proofs.WholeLemmas.{read_answer}
 use Rattle.wc_gc.proofs.trim.trim.Goals as goal
 
 pub returns-in_err-adapter-clause-fault : goal.returns-in_err-adapter-clause-fault

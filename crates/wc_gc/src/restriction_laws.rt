@@ -1,0 +1,12 @@
+//! A law of what a trimmed adapter imports and exports, beside the adapter itself.
+
+ghost use Rattle.wc_gc.specs.Restriction.{TrimmedIsRestriction};
+
+/// Of the module that the bytes of a trimmed adapter spell, each import is an import of the adapter, of the same module,
+/// name and type, or else a function that the main module exports as its realloc. No two are the same import of the
+/// adapter, and these are all imports that its kept exports reach but reallocs.
+///
+/// Each of its exports is an export of the adapter of the same name, kind and type, and these are the required ones.
+pub fn trimmed_restricts()
+    ensures { TrimmedIsRestriction }
+{}
