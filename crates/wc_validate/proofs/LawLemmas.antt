@@ -31,14 +31,14 @@ some_same e = cc e
 abbrev core_by : List ℕ → List ℕ → ExternType → CoreImport
 core_by from name ty = record { from = from; name = name; ty = ty }
 
-one_core : (s : ImportSetting) (i : ImportValue) (a b : CoreImport) → IsCoreImport s i a → IsCoreImport s i b → a ≡ b
+pub one_core : (s : ImportSetting) (i : ImportValue) (a b : CoreImport) → IsCoreImport s i a → IsCoreImport s i b → a ≡ b
 one_core s i a b p q =
     ap (λ z. core_by z a.name a.ty) (p.0 ∙ sym q.0) ∙ (ap (λ z. core_by b.from z a.ty) (p.1 ∙ sym q.1) ∙ ap (λ z. core_by b.from b.name z) (some_same (sym p.2 ∙ q.2)))
 
-same_import : {v u : ImportView} {p q : Option FuncTypeValue} → means v p ≡ means u q → v ≡ u
+pub same_import : {v u : ImportView} {p q : Option FuncTypeValue} → means v p ≡ means u q → v ≡ u
 same_import e = cc e
 
-same_signature : {v u : ImportView} {p q : Option FuncTypeValue} → means v p ≡ means u q → p ≡ q
+pub same_signature : {v u : ImportView} {p q : Option FuncTypeValue} → means v p ≡ means u q → p ≡ q
 same_signature e = cc e
 
 none_some : {X : Type 0} (o : Option X) (x : X) → o ≡ None → o ≡ Some x → ⊥
@@ -72,7 +72,7 @@ module _ (r : ResolveView) (unique : MeaningsUnique r) where
 abbrev setting_by : Setting → Option LibraryView → Option (List RenameValue) → List FuncTypeValue → ImportSetting
 setting_by e l n t = record { setting = e; library = l; renames = n; types = t }
 
-one_setting : (e : EncoderView) (p q : Setting) → IsSettingOf e p → IsSettingOf e q → p ≡ q
+pub one_setting : (e : EncoderView) (p q : Setting) → IsSettingOf e p → IsSettingOf e q → p ≡ q
 one_setting e p q a b = a.2 ∙ (ap (encoder_setting e) (some_same (sym a.1 ∙ b.1)) ∙ sym b.2)
 
 settings_same : (e : EncoderView) (renames : Option (List RenameValue)) (library : Option LibraryView) (types : List FuncTypeValue) (s t : ImportSetting) → IsSettingFor e renames library types s → IsSettingFor e renames library types t → s ≡ t
@@ -82,7 +82,7 @@ settings_same e renames library types s t p q =
     ∙ (ap (λ z. setting_by t.setting t.library z s.types) (p.has_renames ∙ sym q.has_renames) ∙ ap (λ z. setting_by t.setting t.library t.renames z) (p.has_types ∙ sym q.has_types)))
 
 -- the exports of a module
-entries_alike : (s : Setting) (keys : List KeyView) (x : CoreExport) (o p : Option ExportView) → ExportsUnique → IsExportEntry s keys x o → IsExportEntry s keys x p → o ≡ p
+pub entries_alike : (s : Setting) (keys : List KeyView) (x : CoreExport) (o p : Option ExportView) → ExportsUnique → IsExportEntry s keys x o → IsExportEntry s keys x p → o ≡ p
 unfolding IsExportEntry
 entries_alike s keys x None None unique a b = refl
 entries_alike s keys x None (Some w) unique a b = absurd (a (is_export w b.0) b.1)

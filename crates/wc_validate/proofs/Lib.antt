@@ -28,3 +28,12 @@ pub mod ExportRecordLemmas
 pub mod ExportedItemLemmas
 pub mod RequirementLemmas
 pub mod ExportedFunctionLemmas
+pub mod ContainedLemmas
+pub mod ApartLemmas
+pub mod SingleEntryLemmas
+pub mod SoundPairLemmas
+pub mod RestrictedImportLemmas
+pub mod RestrictedExportLemmas
+pub mod RestrictedRecordLemmas
+pub mod RestrictionLemmas
+pub mod MemoryTypeLemmas

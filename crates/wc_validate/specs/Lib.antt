@@ -18,6 +18,8 @@ pub mod ImportMaps
 pub mod Required
 pub mod Validated
 pub mod Laws
+pub mod Restriction
+pub mod MemoryTypes
 pub mod SingleImports
 pub mod ExportMaps
 pub mod SingleExports
