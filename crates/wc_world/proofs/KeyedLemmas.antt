@@ -1,53 +1,77 @@
--- Lowerings put into a map one after another.
-use Rattle.std.proofs.Common.{◌≡◌, ◌≢◌, List, [], ◌∷◌, ◌++◌, Bool, true, false, ◌&&◌, map, String, string_bytes, refl, sym, ap, ◌∙◌, subst, append_assoc}
+-- Lowerings and entries put into a map one after another.
+use Rattle.std.proofs.Common.{◌≡◌, ◌≢◌, ℕ, List, [], ◌∷◌, ◌++◌, Bool, true, false, ◌&&◌, Option, Some, None, All, AllPairs, map, String, string_bytes, refl, sym, ap, ◌∙◌, subst, append_assoc}
 use Rattle.std.specs.Prelude.{if◌then◌else◌}
-use Rattle.std.specs.List.{Contains}
+use Rattle.std.specs.Option.{option_eq, option_map}
 use Rattle.std.specs.String.{string_eq}
 use Rattle.std.specs.declared.alloc.Global.{Global}
+use Rattle.std.proofs.lemmas.List.{map-append}
+use Rattle.std.proofs.lemmas.List.Elements.{All-head, All-tail}
 use Rattle.indexmap.specs.IndexMap.{insert_entry}
 use Rattle.wc_resolve.specs.declared.functions.AbiVariant.{AbiVariant}
 use Rattle.wc_resolve.specs.declared.functions.AbiVariant.TheVariants.{GuestImport, GuestExport, GuestImportAsync, GuestExportAsync, GuestExportAsyncStackful}
 use Rattle.wc_resolve.specs.contracts.functions.AbiVariantPartialEq.TheImpl.{eq-value as abi_eq}
 use Rattle.wc_resolve.proofs.KeyLemmas.{texts_law}
-use Rattle.wc_resolve.proofs.SearchLemmas.{contains_head, contains_tail}
 use Rattle.wc_encoder.proofs.PairLemmas.{pairs_head, pairs_tail}
-use Rattle.wc_world.proofs.UsedWalkLemmas.{all_has}
+use Rattle.wc_world.specs.declared.imported.ImportedInterface.{ImportedInterface}
 use Rattle.wc_world.specs.declared.imported.Lowering.{Lowering}
-use Rattle.wc_world.specs.Lowered.{AreKeysDistinct, KeyedLowering}
+use Rattle.wc_world.specs.Lowered.{AreEntriesDistinct, AreKeysDistinct, KeyedLowering}
 use Rattle.wc_world.specs.Views.{LoweringKey}
-use Rattle.wc_world.specs.WorldViews.{lowering_entry}
+use Rattle.wc_world.specs.WorldViews.{imported_entry, imported_view, lowering_entry, lowering_view}
+use Rattle.wc_world.proofs.PairListLemmas.{pairs_front}
 
 abbrev pub RawLowering : Type 0
 RawLowering = (String Global × AbiVariant) × Lowering
 
-contains_in : (es rest : List RawLowering) (x : RawLowering) → Contains (map lowering_entry (es ++ x ∷ rest)) (lowering_entry x)
-contains_in [] rest x = contains_head (map lowering_entry rest) (lowering_entry x)
-contains_in (e ∷ es) rest x = contains_tail (lowering_entry e) (map lowering_entry (es ++ x ∷ rest)) (lowering_entry x) (contains_in es rest x)
+abbrev pub RawImport : Type 0
+RawImport = Option (String Global) × ImportedInterface
+
+-- an entry whose key no other has goes last
+module _ {K V A B : Type 0} (key : K → A) (value : V → B) (eq : K → K → Bool) (law : (a b : K) → eq a b ≡ true → key a ≡ key b) (x : K × V) where
+  abbrev view : K × V → A × B
+  view e = (key e.0, value e.1)
+
+  abbrev Apart : A × B → A × B → Type 0
+  Apart a b = a.0 ≢ b.0
+
+  at_last : (P : A × B → Type 0) (es : List (K × V)) → All P (map view (es ++ x ∷ [])) → P (view x)
+  at_last P [] h = All-head P (view x) [] h
+  at_last P (e ∷ es) h = at_last P es (All-tail P (view e) (map view (es ++ x ∷ [])) h)
+
+  at : (e : K × V) (es : List (K × V)) (b : Bool) → (b ≡ true → ⊥) → insert_entry eq es x.0 x.1 ≡ es ++ x ∷ [] → (if b then (e.0, x.1) ∷ es else e ∷ insert_entry eq es x.0 x.1) ≡ e ∷ (es ++ x ∷ [])
+  at e es true never later = absurd (never refl)
+  at e es false never later = ap (λ z. e ∷ z) later
+
+  pub put_last : (es : List (K × V)) → AllPairs Apart (map view (es ++ x ∷ [])) → insert_entry eq es x.0 x.1 ≡ es ++ x ∷ []
+  put_last [] h = refl
+  put_last (e ∷ es) h =
+      at e es (eq x.0 e.0) (λ same. at_last (Apart (view e)) es (pairs_head Apart (view e) (map view (es ++ x ∷ [])) h) (sym (law x.0 e.0 same)))
+      (put_last es (pairs_tail Apart (view e) (map view (es ++ x ∷ [])) h))
+
+-- lowerings
 
 -- a test that says only of equal keys that they are equal
 abbrev pub SaysEqual : (String Global × AbiVariant → String Global × AbiVariant → Bool) → Type 0
 SaysEqual eq = (a b : String Global × AbiVariant) → eq a b ≡ true → ◌≡◌ {A = LoweringKey} (string_bytes a.0, a.1) (string_bytes b.0, b.1)
 
-module _ (eq : String Global × AbiVariant → String Global × AbiVariant → Bool) (law : SaysEqual eq) (x : RawLowering) (rest : List RawLowering) where
-  differs : (e : RawLowering) (es : List RawLowering) → AreKeysDistinct (map lowering_entry (e ∷ (es ++ x ∷ rest))) → eq x.0 e.0 ≡ true → ⊥
-  differs e es h same =
-      all_has (λ (y : KeyedLowering). (lowering_entry e).0 ≢ y.0) (map lowering_entry (es ++ x ∷ rest)) (lowering_entry x)
-      (pairs_head (λ (a b : KeyedLowering). a.0 ≢ b.0) (lowering_entry e) (map lowering_entry (es ++ x ∷ rest)) h) (contains_in es rest x) (sym (law x.0 e.0 same))
-
-  at : (e : RawLowering) (es : List RawLowering) (b : Bool) → (b ≡ true → ⊥) → insert_entry eq es x.0 x.1 ≡ es ++ x ∷ [] → (if b then (e.0, x.1) ∷ es else e ∷ insert_entry eq es x.0 x.1) ≡ e ∷ (es ++ x ∷ [])
-  at e es true never later = absurd (never refl)
-  at e es false never later = ap (λ z. e ∷ z) later
-
-  pub put_last : (es : List RawLowering) → AreKeysDistinct (map lowering_entry (es ++ x ∷ rest)) → insert_entry eq es x.0 x.1 ≡ es ++ x ∷ []
-  put_last [] h = refl
-  put_last (e ∷ es) h =
-      at e es (eq x.0 e.0) (differs e es h) (put_last es (pairs_tail (λ (a b : KeyedLowering). a.0 ≢ b.0) (lowering_entry e) (map lowering_entry (es ++ x ∷ rest)) h))
-
 pub put_next : (eq : String Global × AbiVariant → String Global × AbiVariant → Bool) → SaysEqual eq → (all left rest old new : List RawLowering) (x : RawLowering) → AreKeysDistinct (map lowering_entry all) → left ≡ x ∷ rest → new ≡ insert_entry eq old x.0 x.1 → old ++ left ≡ all → new ++ rest ≡ all
 put_next eq law all left rest old new x distinct is put same =
-    let split : old ++ x ∷ rest ≡ all = ap (λ z. old ++ z) (sym is) ∙ same in
-    let more : new ≡ old ++ x ∷ [] = put ∙ put_last eq law x rest old (subst (λ z. AreKeysDistinct (map lowering_entry z)) (sym split) distinct) in
-    ap (λ z. z ++ rest) more ∙ (append_assoc old (x ∷ []) rest ∙ split)
+    let split : (old ++ x ∷ []) ++ rest ≡ all = append_assoc old (x ∷ []) rest ∙ (ap (λ z. old ++ z) (sym is) ∙ same) in
+    let apart : AreKeysDistinct (map lowering_entry (old ++ x ∷ [])) =
+    pairs_front (λ (a b : KeyedLowering). a.0 ≢ b.0) (map lowering_entry (old ++ x ∷ [])) (map lowering_entry rest)
+    (subst AreKeysDistinct (sym (ap (map lowering_entry) split) ∙ map-append lowering_entry (old ++ x ∷ []) rest) distinct) in
+    ap (λ z. z ++ rest) (put ∙ put_last (λ (k : String Global × AbiVariant). (string_bytes k.0, k.1)) lowering_view eq law x old apart) ∙ split
+
+-- names of imported interfaces
+names_law : (a b : Option (String Global)) → option_eq string_eq a b ≡ true → option_map string_bytes a ≡ option_map string_bytes b
+names_law None None h = refl
+names_law None (Some b) h = absurd (let bad : ⊥ = cc h in bad)
+names_law (Some a) None h = absurd (let bad : ⊥ = cc h in bad)
+names_law (Some a) (Some b) h = ap (λ (n : List ℕ). Some n) ((texts_law a b).0 h)
+
+pub entry_put : (old new : List RawImport) (x : RawImport) → new ≡ insert_entry (option_eq string_eq) old x.0 x.1 → AreEntriesDistinct (map imported_entry old ++ imported_entry x ∷ []) → map imported_entry new ≡ map imported_entry old ++ imported_entry x ∷ []
+entry_put old new x put distinct =
+    let pushed : map imported_entry (old ++ x ∷ []) ≡ map imported_entry old ++ imported_entry x ∷ [] = map-append imported_entry old (x ∷ []) in
+    ap (map imported_entry) (put ∙ put_last (option_map string_bytes) imported_view (option_eq string_eq) names_law x old (subst AreEntriesDistinct (sym pushed) distinct)) ∙ pushed
 
 abi_law : (a b : AbiVariant) → abi_eq.it a b ≡ true → a ≡ b
 abi_law GuestImport GuestImport h = refl

@@ -8,3 +8,14 @@ pub mod RequiredLemmas
 pub mod LoweringLemmas
 pub mod NameLemmas
 pub mod KeyedLemmas
+pub mod LiveLemmas
+pub mod LiveWalkLemmas
+pub mod OwnerLemmas
+pub mod PairListLemmas
+pub mod LoweringKeyLemmas
+pub mod ImportEntryLemmas
+pub mod NeededLemmas
+pub mod FaultLemmas
+pub mod AdapterLemmas
+pub mod WorldLemmas
+pub mod RestrictedLemmas

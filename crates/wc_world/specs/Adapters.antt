@@ -1,5 +1,5 @@
 -- Which adapters a component has, and what each is trimmed by.
-use Rattle.std.specs.Prelude.{◌≡◌, String, string_bytes, ℕ, ◌^◌, ◌-◌, List, [], ◌++◌, map, min, Bool, true, false, ◌||◌, Option, None, is_some, cond, nat_lt, if◌then◌else◌}
+use Rattle.std.specs.Prelude.{◌≡◌, ◌≢◌, String, string_bytes, ℕ, ◌^◌, ◌-◌, List, [], ◌++◌, map, filter, min, Bool, true, false, ◌||◌, Option, None, is_some, cond, nat_lt, if◌then◌else◌}
 use Rattle.std.specs.List.{list_any}
 use Rattle.std.specs.Option.{option_and_then, option_map_or}
 use Rattle.std.specs.Str.{bytes_eq}
@@ -11,12 +11,22 @@ use Rattle.wc_read.specs.Types.{FuncTypeValue}
 use Rattle.wc_resolve.specs.Views.{ItemView, KeyView, function_item, interface_item, type_item}
 use Rattle.wc_resolve.specs.World.{ResolveView}
 use Rattle.wc_encoder.specs.Adapters.{AdapterView}
+use Rattle.wc_encoder.specs.EncoderParts.{EncoderView, world_exports}
 use Rattle.wc_encoder.specs.Entries.{Entries}
 use Rattle.wc_names.specs.ExportViews.{ExportView}
 use Rattle.wc_names.specs.Lookups.{item_under}
 use Rattle.wc_validate.specs.Entries.{first_occurrences}
 use Rattle.wc_validate.specs.ExportMaps.{ExportRecord, first_name, first_that, is_adapter_realloc, is_memory, memory_of, own_or_general}
+use Rattle.wc_validate.specs.ImportMaps.{required_in}
 use Rattle.wc_validate.specs.Requirements.{functions_of}
+use Rattle.wc_validate.specs.Validated.{Job, ModuleRecord, adapter_job}
+
+-- an adapter or a library under its name
+abbrev pub NamedAdapter : Type 0
+NamedAdapter = List ℕ × AdapterView
+
+abbrev pub HasOtherName : List ℕ → NamedAdapter → Type 0
+HasOtherName name x = x.0 ≢ name
 
 abbrev pub is_some_of : {X : Type 0} → List X → Bool
 is_some_of [] = false
@@ -34,6 +44,17 @@ exports_function r exports key = option_map_or (has_function r) (item_under expo
 -- an adapter is needed: it is a library, or functions are imported from it, or it has to export one
 abbrev pub is_needed : ResolveView → Entries → AdapterView → List (List ℕ × FuncTypeValue) → Bool
 is_needed r exports a required = is_some a.library_info || (is_some_of required || list_any (exports_function r exports) a.required_exports)
+
+-- the adapters and libraries that a component has, by what its main module imports
+abbrev pub is_kept : EncoderView → ModuleRecord → NamedAdapter → Bool
+is_kept e main x = is_needed e.resolve (world_exports e) x.1 (required_in main.imports x.0)
+
+abbrev pub kept_adapters : EncoderView → ModuleRecord → List NamedAdapter
+kept_adapters e main = filter (is_kept e main) e.adapters
+
+-- what an adapter is validated for, before it is trimmed and after
+abbrev pub job_of : EncoderView → ModuleRecord → NamedAdapter → Job
+job_of e main x = adapter_job e x.1.library_info x.1.required_exports (required_in main.imports x.0)
 
 -- the exports that are wanted of an adapter: what the main module imports, and what the first validation records
 abbrev pub required_names : List (List ℕ × FuncTypeValue) → ExportRecord → List (List ℕ)

@@ -8,3 +8,7 @@ pub mod Lowered
 pub mod Required
 pub mod Adapters
 pub mod Live
+pub mod World
+pub mod Causes
+pub mod Given
+pub mod Restricted

@@ -1,18 +1,26 @@
 -- How the imports of a component's world are met.
-use Rattle.std.specs.Prelude.{◌≢◌, AllPairs, ℕ, ◌==◌, List, [], ◌∷◌, ◌++◌, Bool, true, false, not, ◌&&◌, ◌||◌, Option, Some, None, cond, codes, ◌<◌, length}
+use Rattle.std.specs.Prelude.{◌≢◌, AllPairs, ℕ, ◌==◌, List, [], ◌∷◌, ◌++◌, Bool, true, false, not, ◌&&◌, ◌||◌, Option, Some, None, is_some, cond, slice_get, codes, ◌<◌, length}
 use Rattle.std.specs.Int.RustNames.{bit_and}
-use Rattle.std.specs.List.{flat_map, list_any}
-use Rattle.std.specs.Option.{option_and_then, option_map_or}
+use Rattle.std.specs.List.{filter_map, flat_map, list_any}
+use Rattle.std.specs.Option.{IsSome, option_and_then, option_map_or}
 use Rattle.std.specs.Str.{bytes_eq}
+use Rattle.semver.specs.Identifiers.{parts_text}
 use Rattle.wc_resolve.specs.declared.functions.AbiVariant.{AbiVariant}
 use Rattle.wc_resolve.specs.declared.functions.AbiVariant.TheVariants.{GuestImport, GuestImportAsync}
-use Rattle.wc_resolve.specs.Views.{FunctionView, InterfaceView, ItemView, function_item, interface_item, type_item}
+use Rattle.wc_resolve.specs.Queries.{external_id, implemented, key_text}
+use Rattle.wc_resolve.specs.Ranges.{IsItemIn, IsKeyIn}
+use Rattle.wc_resolve.specs.Views.{FunctionView, InterfaceView, ItemView, KeyView, function_item, interface_item, type_item}
 use Rattle.wc_resolve.specs.WellFormed.{IsUsable, type_name}
 use Rattle.wc_resolve.specs.World.{ResolveView}
+use Rattle.wc_encoder.specs.EncoderParts.{EncoderView, world_imports}
+use Rattle.wc_encoder.specs.Entries.{Entries}
 use Rattle.wc_names.specs.Lookups.{resource_at}
 use Rattle.wc_names.specs.Views.{ImportView, imported_resource_drop, interface_func, world_func}
+use Rattle.wc_validate.specs.ImportMaps.{memory_in}
+use Rattle.wc_validate.specs.Validated.{ModuleRecord}
 use Rattle.wc_world.specs.Options.{OptionsOf, signature_of}
-use Rattle.wc_world.specs.Views.{LoweringKey, LoweringView, direct, indirect, resource_drop}
+use Rattle.wc_world.specs.Slots.{all_imports, imports_of}
+use Rattle.wc_world.specs.Views.{ImportMapView, ImportedView, LoweringKey, LoweringView, NamedWorldAdapter, direct, indirect, resource_drop}
 
 -- two ways in which an imported function is called are the same
 abbrev pub same_call : AbiVariant → AbiVariant → Bool
@@ -97,3 +105,59 @@ abbrev pub IsLowerable : ResolveView → ItemView → Type 0
 IsLowerable r (interface_item i external) = Unit {0}
 IsLowerable r (function_item f) = IsUsable r f
 IsLowerable r (type_item t) = t < length r.types
+
+abbrev pub own_lowerings : Lowerer → Entries → List KeyedLowering
+own_lowerings l imports = flat_map (λ (x : KeyView × ItemView). item_lowerings l x.1) imports
+
+-- an import is there, and has a name
+pub record IsImportable (r : ResolveView) (x : KeyView × ItemView) : Type 0 where
+  pub key_in : IsKeyIn r x.0
+  pub named : IsSome (key_text parts_text r x.0)
+  pub item_in : IsItemIn r x.1
+  pub lowerable : IsLowerable r x.1
+
+abbrev pub ImportEntry : Type 0
+ImportEntry = Option (List ℕ) × ImportedView
+
+-- no two entries have one name
+abbrev pub AreEntriesDistinct : ImportMapView → Type 0
+AreEntriesDistinct entries = AllPairs (λ (x y : ImportEntry). x.0 ≢ y.0) entries
+
+-- the world itself under no name
+abbrev pub own_entry : Lowerer → Entries → ImportEntry
+own_entry l imports = (None, record { lowerings = own_lowerings l imports; interface = None; implements = None; external_id = None })
+
+-- an interface under its name
+abbrev pub interface_entry : Lowerer → KeyView × ItemView → Option ImportEntry
+interface_entry l (key, interface_item i external) = Some (
+  key_text parts_text l.resolve key,
+  record {
+    lowerings = option_map_or (interface_lowerings l i) (slice_get l.resolve.interfaces i) [];
+    interface = Some i;
+    implements = implemented l.resolve key (interface_item i external);
+    external_id = external_id (interface_item i external);
+  },
+)
+interface_entry l (key, item) = None
+
+-- in the order of the imports of the world that are left: an entry for each interface, and one for all its functions and
+-- types at the place of the first of these
+abbrev pub entries_from : Lowerer → Entries → Entries → ImportMapView
+entries_from l all [] = []
+entries_from l all (x ∷ rest) = option_map_or (λ entry. entry ∷ entries_from l all rest) (interface_entry l x) (own_entry l all ∷ filter_map (interface_entry l) rest)
+
+-- for all imports of a world
+abbrev pub all_entries : Lowerer → Entries → ImportMapView
+all_entries l imports = entries_from l imports imports
+
+abbrev pub lowerer : EncoderView → OptionsOf → ModuleRecord → List NamedWorldAdapter → Lowerer
+lowerer e options main adapters = record {
+  resolve = e.resolve;
+  options = options;
+  imports = imports_of (all_imports main adapters);
+  has_memory = is_some (memory_in main.imports);
+}
+
+-- how the imports of an encoder's world are met
+abbrev pub lowered : EncoderView → OptionsOf → ModuleRecord → List NamedWorldAdapter → ImportMapView
+lowered e options main adapters = all_entries (lowerer e options main adapters) (world_imports e)

@@ -1,22 +1,31 @@
 //! How the imports of a world are met.
 
-ghost use Rattle.std.specs.Prelude.{◌≡◌, ◌<◌, [], All, IfOk, List, None, Some, length, map, slice_get};
-ghost use Rattle.std.specs.List.{flat_map};
-ghost use Rattle.std.specs.Option.{option_map_or};
+ghost use Rattle.std.specs.Prelude.{◌≡◌, ◌<◌, ◌++◌, ◌∷◌, [], All, IfOk, List, None, OnOk, Some, length, map, slice_get};
+ghost use Rattle.std.specs.Option.{option_map, option_map_or};
+ghost use Rattle.wc_resolve.specs.Dependencies.{id_of_interface};
 ghost use Rattle.wc_resolve.specs.Queries.{external_id, implemented};
 ghost use Rattle.wc_resolve.specs.Ranges.{IsItemIn};
 ghost use Rattle.wc_resolve.specs.Views.{item_view, key_view, world_entry};
+ghost use Rattle.wc_encoder.specs.Distinct.{item_interface};
 ghost use Rattle.wc_names.specs.Views.{ImportView};
-ghost use Rattle.wc_world.specs.Lowered.{AreKeysDistinct, IsLowerable, interface_lowerings, item_lowerings, lowerer_of};
+ghost use Rattle.wc_validate.specs.Validated.{module_record};
+ghost use Rattle.wc_world.specs.Lowered.{AreEntriesDistinct, AreKeysDistinct, ImportEntry, IsImportable, IsLowerable, all_entries, interface_entry, interface_lowerings, lowered, lowerer_of, own_entry, own_lowerings};
 ghost use Rattle.wc_world.specs.Required.{AreRequired};
-ghost use Rattle.wc_world.specs.WorldViews.{imported_view, lowering_entry};
+ghost use Rattle.wc_world.specs.WorldViews.{adapter_entry, import_map_view, imported_entry, imported_view, lowering_entry};
 
+use crate::adapter::WorldAdapter;
 use crate::imported::{ImportedInterface, Lowering};
-use crate::lowering::{KeyedLowering, Lowerings, push_interface, world_lowerings};
+use crate::lowering::{KeyedLowering, Lowerings, distinct_keys, push_interface, world_lowerings};
 use crate::options::ImportOptions;
+use crate::required::required_by;
 use indexmap::IndexMap;
 use std::alloc::{AllocError, Global};
+use wc_encoder::ComponentEncoder;
 use wc_resolve::{AbiVariant, InterfaceId, WorldItem, WorldKey};
+use wc_validate::ValidatedModule;
+
+/// What is imported, by its name; `None` for the world itself.
+type ImportEntries = IndexMap<Option<String>, ImportedInterface>;
 
 /// Lowerings by their keys, in order.
 pub(crate) fn by_keys(
@@ -44,9 +53,6 @@ pub(crate) fn imported_interface<O: ImportOptions>(
     requires there { id.0 < length context.now.resolve.now.interfaces }
     requires item { IsItemIn context.now.resolve.now (item_view item.now) }
     ensures lowerings { (imports : List ImportView) → AreRequired imports context.now.required.now
-        → AreKeysDistinct (option_map_or (interface_lowerings (lowerer_of
-        context.now.resolve.now (O.options_of context.now.options.now) context.now.has_memory
-        imports) id.0) (slice_get context.now.resolve.now.interfaces id.0) [])
         → IfOk result (λ i. (imported_view i).lowerings ≡ option_map_or (interface_lowerings
         (lowerer_of context.now.resolve.now (O.options_of context.now.options.now)
         context.now.has_memory imports) id.0)
@@ -57,6 +63,7 @@ pub(crate) fn imported_interface<O: ImportOptions>(
     ensures external { IfOk result (λ i. (imported_view i).external_id
         ≡ external_id (item_view item.now)) }
 {
+    distinct_keys(context.resolve, id);
     let mut found = Vec::new(alloc);
     push_interface(alloc, context, &mut found, id)?;
     let external_id = context.resolve.external_id_value(alloc, key, item)?;
@@ -77,12 +84,12 @@ pub(crate) fn imported_world<O: ImportOptions>(
 ) -> Result<ImportedInterface, AllocError>
     requires { All (λ e. IsLowerable context.now.resolve.now (item_view e.1)) items.now.entries }
     ensures lowerings { (imports : List ImportView) → AreRequired imports context.now.required.now
-        → AreKeysDistinct (flat_map (λ e. item_lowerings (lowerer_of context.now.resolve.now
-        (O.options_of context.now.options.now) context.now.has_memory imports) e.1)
+        → AreKeysDistinct (own_lowerings (lowerer_of context.now.resolve.now
+        (O.options_of context.now.options.now) context.now.has_memory imports)
         (map world_entry items.now.entries))
-        → IfOk result (λ i. (imported_view i).lowerings ≡ flat_map (λ e. item_lowerings
-        (lowerer_of context.now.resolve.now (O.options_of context.now.options.now)
-        context.now.has_memory imports) e.1) (map world_entry items.now.entries)) }
+        → IfOk result (λ i. (imported_view i).lowerings ≡ own_lowerings (lowerer_of
+        context.now.resolve.now (O.options_of context.now.options.now) context.now.has_memory
+        imports) (map world_entry items.now.entries)) }
     ensures interface { IfOk result (λ i. (imported_view i).interface ≡ None) }
     ensures implements { IfOk result (λ i. (imported_view i).implements ≡ None) }
     ensures external { IfOk result (λ i. (imported_view i).external_id ≡ None) }
@@ -95,4 +102,135 @@ pub(crate) fn imported_world<O: ImportOptions>(
         implements: None,
         external_id: None,
     })
+}
+
+/// Adds an entry whose name no other has.
+fn put_entry(
+    entries: &mut ImportEntries,
+    name: Option<String>,
+    imported: ImportedInterface,
+) -> Result<(), AllocError>
+    ensures { AreEntriesDistinct
+        (map imported_entry entries.old.entries ++ imported_entry (name, imported) ∷ [])
+        → OnOk result (map imported_entry entries.new.entries
+        ≡ map imported_entry entries.old.entries ++ imported_entry (name, imported) ∷ []) }
+{
+    entries.insert(name, imported)?;
+    Ok(())
+}
+
+/// The interface that an item is.
+fn interface_of(item: &WorldItem) -> Option<InterfaceId>
+    ensures { option_map id_of_interface result ≡ item_interface (item_view item.now) }
+{
+    match item {
+        WorldItem::Interface { id, .. } => Some(*id),
+        WorldItem::Function(_) | WorldItem::TypeItem { .. } => None,
+    }
+}
+
+/// Adds what is imported of an interface, under its name.
+fn add_interface<O: ImportOptions>(
+    alloc: Global,
+    context: &Lowerings<'_, O>,
+    entries: &mut ImportEntries,
+    key: &WorldKey,
+    item: &WorldItem,
+    id: InterfaceId,
+) -> Result<(), AllocError>
+    requires item { IsImportable context.now.resolve.now (key_view key.now, item_view item.now) }
+    requires interface { item_interface (item_view item.now) ≡ Some id.0 }
+    ensures { (imports : List ImportView) → AreRequired imports context.now.required.now
+        → (e : ImportEntry) → interface_entry (lowerer_of context.now.resolve.now
+        (O.options_of context.now.options.now) context.now.has_memory imports)
+        (key_view key.now, item_view item.now) ≡ Some e
+        → AreEntriesDistinct (map imported_entry entries.old.entries ++ e ∷ [])
+        → OnOk result (map imported_entry entries.new.entries
+        ≡ map imported_entry entries.old.entries ++ e ∷ []) }
+{
+    let name = context.resolve.name_world_key(alloc, key)?;
+    let imported = imported_interface(alloc, context, key, item, id)?;
+    put_entry(entries, Some(name), imported)
+}
+
+/// Adds what is imported of the world itself.
+fn add_own<O: ImportOptions>(
+    alloc: Global,
+    context: &Lowerings<'_, O>,
+    entries: &mut ImportEntries,
+    items: &IndexMap<WorldKey, WorldItem>,
+) -> Result<(), AllocError>
+    requires { All (λ e. IsLowerable context.now.resolve.now (item_view e.1)) items.now.entries }
+    ensures { (imports : List ImportView) → AreRequired imports context.now.required.now
+        → AreKeysDistinct (own_lowerings (lowerer_of context.now.resolve.now
+        (O.options_of context.now.options.now) context.now.has_memory imports)
+        (map world_entry items.now.entries))
+        → AreEntriesDistinct (map imported_entry entries.old.entries ++ own_entry (lowerer_of
+        context.now.resolve.now (O.options_of context.now.options.now) context.now.has_memory
+        imports) (map world_entry items.now.entries) ∷ [])
+        → OnOk result (map imported_entry entries.new.entries
+        ≡ map imported_entry entries.old.entries ++ own_entry (lowerer_of
+        context.now.resolve.now (O.options_of context.now.options.now) context.now.has_memory
+        imports) (map world_entry items.now.entries) ∷ []) }
+{
+    let imported = imported_world(alloc, context, items)?;
+    put_entry(entries, None, imported)
+}
+
+/// How what a world imports is met: an entry for each interface under its name, and one under `None` for all its
+/// functions and types, at the place of the first of these.
+fn import_entries<O: ImportOptions>(
+    alloc: Global,
+    context: &Lowerings<'_, O>,
+    items: &IndexMap<WorldKey, WorldItem>,
+) -> Result<ImportEntries, AllocError>
+    requires { All (λ e. IsImportable context.now.resolve.now (world_entry e)) items.now.entries }
+    ensures { (imports : List ImportView) → AreRequired imports context.now.required.now
+        → AreKeysDistinct (own_lowerings (lowerer_of context.now.resolve.now
+        (O.options_of context.now.options.now) context.now.has_memory imports)
+        (map world_entry items.now.entries))
+        → AreEntriesDistinct (all_entries (lowerer_of context.now.resolve.now
+        (O.options_of context.now.options.now) context.now.has_memory imports)
+        (map world_entry items.now.entries))
+        → IfOk result (λ m. import_map_view m ≡ all_entries (lowerer_of
+        context.now.resolve.now (O.options_of context.now.options.now) context.now.has_memory
+        imports) (map world_entry items.now.entries)) }
+{
+    let mut entries = IndexMap::new(alloc);
+    let mut has_own = false;
+    for (key, item) in items.iter() {
+        if let Some(id) = interface_of(item) {
+            add_interface(alloc, context, &mut entries, key, item, id)?;
+        } else if !has_own {
+            add_own(alloc, context, &mut entries, items)?;
+            has_own = true;
+        }
+    }
+    Ok(entries)
+}
+
+/// How the imports of an encoder's world are met, by what its main module and its adapters import.
+pub(crate) fn import_map_of<'a, O: ImportOptions>(
+    alloc: Global,
+    encoder: &ComponentEncoder,
+    options: &O,
+    main: &ValidatedModule,
+    adapters: &IndexMap<&'a str, WorldAdapter<'a>>,
+) -> Result<ImportEntries, AllocError>
+    ensures { IfOk result (λ m. import_map_view m ≡ lowered encoder.now
+        (O.options_of options.now) (module_record main.now)
+        (map adapter_entry adapters.now.entries)) }
+{
+    encoder.well_formedness();
+    let metadata = encoder.metadata();
+    let resolve = &metadata.resolve;
+    resolve.well_formedness();
+    let required = required_by(alloc, main, adapters)?;
+    let context = Lowerings {
+        resolve,
+        options,
+        required: &required,
+        has_memory: main.imports.imported_memory().is_some(),
+    };
+    import_entries(alloc, &context, &resolve.world(metadata.world).imports)
 }

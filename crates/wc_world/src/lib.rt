@@ -5,12 +5,11 @@
 //! `ImportOptions` decides which canonical options (component model, Canonical ABI, "canonopt") lowered functions need,
 //! and `PlainOptions` decides it by what the functions pass.
 //!
-//! So far the parts of a `ComponentWorld` are made one by one, and there is no call that makes it: what is imported as
-//! sets, the lowerings of interfaces and of the world itself, the exported interfaces that are used, the types that
-//! single imports need, and what adapters are trimmed by.
+//! `ComponentWorld::new` makes it of an encoder (`wc_encoder::ComponentEncoder`).
 #![tactic(auto)]
 
 mod adapter;
+mod adapters;
 mod contents;
 mod fault;
 mod import_map;
@@ -19,6 +18,7 @@ mod live;
 mod lowering;
 mod options;
 mod required;
+mod restricted;
 mod trimming;
 mod used;
 mod world;

@@ -1,27 +1,36 @@
 //! The types that the imports and exports of a component's world need.
 
-ghost use Rattle.std.specs.Prelude.{◌≡◌, ◌<◌, [], IfSome, OnOk, length};
-ghost use Rattle.std.specs.Option.{option_map, option_map_or};
+ghost use Rattle.std.specs.Prelude.{◌≡◌, ◌<◌, ◌++◌, ◌∷◌, [], ℕ, All, Contains, IfOk, IfSome, List, OnOk, Some, false, filter, length, map};
+ghost use Rattle.std.specs.Option.{option_map, option_map_or, option_to_list};
 ghost use Rattle.wc_resolve.specs.Dependencies.{id_of_interface, interface_owning};
 ghost use Rattle.wc_resolve.specs.Live.{AddsListings};
 ghost use Rattle.wc_resolve.specs.Ranges.{IsFunctionIn, IsItemIn, IsTypeIn};
 ghost use Rattle.wc_resolve.specs.Roots.{function_roots, id_index, item_roots, type_roots};
-ghost use Rattle.wc_resolve.specs.Views.{function_view, item_view, key_view};
+ghost use Rattle.wc_resolve.specs.Views.{function_view, item_view, key_view, world_view};
+ghost use Rattle.wc_resolve.specs.World.{ResolveView};
+ghost use Rattle.wc_encoder.specs.Dependencies.{AreItemsIn};
 ghost use Rattle.wc_encoder.specs.Entries.{entries_of};
-ghost use Rattle.wc_names.specs.Lookups.{item_under, under_name};
+ghost use Rattle.wc_names.specs.Lookups.{as_type, item_under, under_name};
+ghost use Rattle.wc_names.specs.Laws.{IsImportIn};
 ghost use Rattle.wc_names.specs.Payloads.{HasPayload};
 ghost use Rattle.wc_names.specs.Views.{ImportView, async_value, import_view, payload_type_view, payload_view};
 ghost use Rattle.wc_validate.specs.Requirements.{functions_of};
-ghost use Rattle.wc_world.specs.Live.{builtin_roots, import_payload, import_resource, is_from_elsewhere, is_used, payload_roots};
+ghost use Rattle.wc_validate.specs.Validated.{module_record};
+ghost use Rattle.wc_world.specs.Contents.{is_in};
+ghost use Rattle.wc_world.specs.Live.{AreImportsIn, AreImportsOf, AreListed, AreLive, AreRootsIn, adapter_roots, builtin_roots, by_owner, elsewhere_from, export_roots, exports_roots, import_payload, import_resource, import_roots, imported_types, is_from_elsewhere, is_used, live_from, module_roots, payload_roots, world_roots};
 ghost use Rattle.wc_world.specs.Used.{used_view};
+ghost use Rattle.wc_world.specs.WorldViews.{adapter_entry, live_view};
 
-use indexmap::IndexMap;
-use std::alloc::AllocError;
+use crate::adapter::WorldAdapter;
+use indexmap::{IndexMap, IndexSet};
+use std::alloc::{AllocError, Global};
 use std::collections::{HashMap, HashSet};
+use wc_encoder::ComponentEncoder;
 use wc_names::{Import, PayloadInfo, PayloadType};
 use wc_resolve::{
-    Function, InterfaceId, LiveTypes, Resolve, TypeId, TypeOwner, WorldItem, WorldKey,
+    Function, InterfaceId, LiveTypes, Resolve, TypeId, TypeOwner, World, WorldItem, WorldKey,
 };
+use wc_validate::{ImportMap, ValidatedModule};
 
 /// The interface that owns a type.
 fn interface_owning(resolve: &Resolve, ty: TypeId) -> Option<InterfaceId>
@@ -185,4 +194,291 @@ pub(crate) fn add_function(
         Some(function) => live.add_func(resolve, function),
         None => Ok(()),
     }
+}
+
+/// Adds the types of what an import is.
+fn add_import(
+    resolve: &Resolve,
+    world: &World,
+    import: &Import,
+    live: &mut LiveTypes,
+) -> Result<(), AllocError>
+    requires { IsImportIn resolve.now (world_view world.now) (import_view import.now) }
+    ensures { OnOk result (AddsListings resolve.now live.old live.new
+        (import_roots resolve.now (world_view world.now).imports (import_view import.now))) }
+{
+    match import {
+        Import::WorldFunc(key, _, _) => add_item(resolve, &world.imports, key, live),
+        Import::InterfaceFunc(_, id, name, _) => add_function(resolve, *id, name, live),
+        Import::ExportedTaskReturn(_, _, function) => add_result(resolve, function, live),
+        _ => add_builtin(resolve, import, live),
+    }
+}
+
+/// Adds what a world imports, if it is a type.
+fn add_type_item(
+    resolve: &Resolve,
+    item: &WorldItem,
+    live: &mut LiveTypes,
+) -> Result<(), AllocError>
+    requires { IsItemIn resolve.now (item_view item.now) }
+    ensures { OnOk result (AddsListings resolve.now live.old live.new
+        (option_to_list (as_type (item_view item.now)))) }
+{
+    match item {
+        WorldItem::TypeItem { id } => live.add_type_id(resolve, *id),
+        WorldItem::Interface { .. } => Ok(()),
+        WorldItem::Function(_) => Ok(()),
+    }
+}
+
+/// Adds the types that a world imports.
+fn add_world_types(
+    resolve: &Resolve,
+    imports: &IndexMap<WorldKey, WorldItem>,
+    live: &mut LiveTypes,
+) -> Result<(), AllocError>
+    requires { AreItemsIn resolve.now (entries_of imports.now) }
+    ensures { OnOk result (AddsListings resolve.now live.old live.new
+        (imported_types (entries_of imports.now))) }
+{
+    for (_key, item) in imports.iter() {
+        add_type_item(resolve, item, live)?;
+    }
+    Ok(())
+}
+
+/// Adds the types of a module: those that the world imports, and then those of its imports.
+fn add_module(
+    resolve: &Resolve,
+    world: &World,
+    imports: &ImportMap,
+    live: &mut LiveTypes,
+) -> Result<(), AllocError>
+    requires items { AreItemsIn resolve.now (world_view world.now).imports }
+    requires imports { AreImportsIn resolve.now (world_view world.now) imports.now }
+    ensures { OnOk result (AddsListings resolve.now live.old live.new
+        (module_roots resolve.now (world_view world.now).imports imports.now)) }
+{
+    add_world_types(resolve, &world.imports, live)?;
+    for (_module, _name, import) in imports.imports() {
+        add_import(resolve, world, import, live)?;
+    }
+    Ok(())
+}
+
+/// Adds the types of adapters.
+fn add_adapters<'a>(
+    resolve: &Resolve,
+    world: &World,
+    adapters: &IndexMap<&'a str, WorldAdapter<'a>>,
+    live: &mut LiveTypes,
+) -> Result<(), AllocError>
+    requires items { AreItemsIn resolve.now (world_view world.now).imports }
+    requires imports { All (λ a. AreImportsIn resolve.now (world_view world.now) a.1.info.imports)
+        (map adapter_entry adapters.now.entries) }
+    ensures { OnOk result (AddsListings resolve.now live.old live.new
+        (adapter_roots resolve.now (world_view world.now).imports
+        (map adapter_entry adapters.now.entries))) }
+{
+    for (_name, adapter) in adapters.iter() {
+        add_module(resolve, world, &adapter.info.imports, live)?;
+    }
+    Ok(())
+}
+
+/// Adds a type, if it is from elsewhere.
+fn add_if_elsewhere(
+    resolve: &Resolve,
+    used: &HashMap<InterfaceId, HashSet<InterfaceId>>,
+    id: InterfaceId,
+    ty: TypeId,
+    live: &mut LiveTypes,
+) -> Result<(), AllocError>
+    requires { ty.0 < length resolve.now.types }
+    ensures { OnOk result (AddsListings resolve.now live.old live.new
+        (filter (is_from_elsewhere resolve.now (used_view used.now) id.0) (ty.0 ∷ []))) }
+{
+    if is_from_elsewhere(resolve, used, id, ty) {
+        return live.add_type_id(resolve, ty);
+    }
+    Ok(())
+}
+
+/// Adds those of some types that are from elsewhere.
+fn add_from_elsewhere(
+    resolve: &Resolve,
+    used: &HashMap<InterfaceId, HashSet<InterfaceId>>,
+    id: InterfaceId,
+    types: &LiveTypes,
+    live: &mut LiveTypes,
+) -> Result<(), AllocError>
+    requires { (t : ℕ) → Contains types.now t → t < length resolve.now.types }
+    ensures { OnOk result (AddsListings resolve.now live.old live.new
+        (filter (is_from_elsewhere resolve.now (used_view used.now) id.0) types.now)) }
+{
+    for ty in types.iter() {
+        add_if_elsewhere(resolve, used, id, ty, live)?;
+    }
+    Ok(())
+}
+
+/// Adds the live types of an exported interface that are from elsewhere.
+fn add_interface(
+    alloc: Global,
+    resolve: &Resolve,
+    used: &HashMap<InterfaceId, HashSet<InterfaceId>>,
+    id: InterfaceId,
+    item: &WorldItem,
+    live: &mut LiveTypes,
+) -> Result<(), AllocError>
+    requires { IsItemIn resolve.now (item_view item.now) }
+    ensures { OnOk result (AddsListings resolve.now live.old live.new
+        (elsewhere_from resolve.now (used_view used.now) id.0
+        (item_roots resolve.now (item_view item.now)))) }
+{
+    resolve.well_formedness();
+    let mut types = LiveTypes::new(alloc);
+    types.add_world_item(resolve, item)?;
+    add_from_elsewhere(resolve, used, id, &types, live)
+}
+
+/// Adds the types of an export.
+fn add_export(
+    alloc: Global,
+    resolve: &Resolve,
+    used: &HashMap<InterfaceId, HashSet<InterfaceId>>,
+    item: &WorldItem,
+    live: &mut LiveTypes,
+) -> Result<(), AllocError>
+    requires { IsItemIn resolve.now (item_view item.now) }
+    ensures { OnOk result (AddsListings resolve.now live.old live.new
+        (export_roots resolve.now (used_view used.now) (item_view item.now))) }
+{
+    match item {
+        WorldItem::Interface { id, .. } => add_interface(alloc, resolve, used, *id, item, live),
+        WorldItem::Function(_) => live.add_world_item(resolve, item),
+        WorldItem::TypeItem { .. } => live.add_world_item(resolve, item),
+    }
+}
+
+/// Adds the types of exports.
+fn add_exports(
+    alloc: Global,
+    resolve: &Resolve,
+    used: &HashMap<InterfaceId, HashSet<InterfaceId>>,
+    exports: &IndexMap<WorldKey, WorldItem>,
+    live: &mut LiveTypes,
+) -> Result<(), AllocError>
+    requires { AreItemsIn resolve.now (entries_of exports.now) }
+    ensures { OnOk result (AddsListings resolve.now live.old live.new
+        (exports_roots resolve.now (used_view used.now) (entries_of exports.now))) }
+{
+    for (_key, item) in exports.iter() {
+        add_export(alloc, resolve, used, item, live)?;
+    }
+    Ok(())
+}
+
+/// The live types of a world: those of the main module, of adapters, and of exports.
+fn live_types<'a>(
+    alloc: Global,
+    resolve: &Resolve,
+    world: &World,
+    used: &HashMap<InterfaceId, HashSet<InterfaceId>>,
+    main: &ValidatedModule,
+    adapters: &IndexMap<&'a str, WorldAdapter<'a>>,
+) -> Result<LiveTypes, AllocError>
+    requires { AreRootsIn resolve.now (world_view world.now) (module_record main.now)
+        (map adapter_entry adapters.now.entries) }
+    ensures live { IfOk result (λ live. live ≡ live_from resolve.now (world_roots resolve.now
+        (used_view used.now) (world_view world.now).imports (world_view world.now).exports
+        (module_record main.now) (map adapter_entry adapters.now.entries))) }
+    ensures listed { IfOk result (AreListed resolve.now) }
+{
+    resolve.well_formedness();
+    let mut live = LiveTypes::new(alloc);
+    add_module(resolve, world, &main.imports, &mut live)?;
+    add_adapters(resolve, world, adapters, &mut live)?;
+    add_exports(alloc, resolve, used, &world.exports, &mut live)?;
+    Ok(live)
+}
+
+/// Adds a type to the group of its owner, which is new if it is not there.
+fn add_to_owner(
+    alloc: Global,
+    groups: &mut IndexMap<InterfaceId, IndexSet<TypeId>>,
+    owner: InterfaceId,
+    ty: TypeId,
+) -> Result<(), AllocError>
+    ensures { (r : ResolveView) (passed : List ℕ) → interface_owning r ty.0 ≡ Some owner.0
+        → is_in passed ty.0 ≡ false → live_view groups.old ≡ by_owner r passed
+        → OnOk result (live_view groups.new ≡ by_owner r (passed ++ ty.0 ∷ [])) }
+{
+    if let Some(group) = groups.get_mut(&owner) {
+        group.insert(ty)?;
+        return Ok(());
+    }
+    let mut group = IndexSet::new(alloc);
+    group.insert(ty)?;
+    groups.insert(owner, group)?;
+    Ok(())
+}
+
+/// Adds a type to the group of the interface that owns it, if one does.
+fn add_owned(
+    alloc: Global,
+    resolve: &Resolve,
+    groups: &mut IndexMap<InterfaceId, IndexSet<TypeId>>,
+    ty: TypeId,
+) -> Result<(), AllocError>
+    requires { ty.0 < length resolve.now.types }
+    ensures { (passed : List ℕ) → is_in passed ty.0 ≡ false
+        → live_view groups.old ≡ by_owner resolve.now passed
+        → OnOk result (live_view groups.new ≡ by_owner resolve.now (passed ++ ty.0 ∷ [])) }
+{
+    match interface_owning(resolve, ty) {
+        Some(owner) => add_to_owner(alloc, groups, owner, ty),
+        None => Ok(()),
+    }
+}
+
+/// Types by the interfaces that own them, each in the order of its first type.
+fn by_owner(
+    alloc: Global,
+    resolve: &Resolve,
+    live: &LiveTypes,
+) -> Result<IndexMap<InterfaceId, IndexSet<TypeId>>, AllocError>
+    requires { AreListed resolve.now live.now }
+    ensures { IfOk result (λ groups. live_view groups ≡ by_owner resolve.now live.now) }
+{
+    let mut groups = IndexMap::new(alloc);
+    for ty in live.iter() {
+        add_owned(alloc, resolve, &mut groups, ty)?;
+    }
+    Ok(groups)
+}
+
+/// The live types of an encoder's world: those of the main module, of adapters, and of exports, by the interfaces that
+/// own them.
+pub(crate) fn live_type_imports<'a>(
+    alloc: Global,
+    encoder: &ComponentEncoder,
+    used: &HashMap<InterfaceId, HashSet<InterfaceId>>,
+    main: &ValidatedModule,
+    adapters: &IndexMap<&'a str, WorldAdapter<'a>>,
+) -> Result<IndexMap<InterfaceId, IndexSet<TypeId>>, AllocError>
+    requires main { AreImportsOf encoder.now (module_record main.now) }
+    requires adapters { All (λ a. AreImportsOf encoder.now a.1.info)
+        (map adapter_entry adapters.now.entries) }
+    ensures { IfOk result (λ groups. AreLive encoder.now (used_view used.now)
+        (module_record main.now) (map adapter_entry adapters.now.entries) (live_view groups)) }
+{
+    encoder.well_formedness();
+    let metadata = encoder.metadata();
+    let resolve = &metadata.resolve;
+    resolve.well_formedness();
+    let world = resolve.world(metadata.world);
+    let live = live_types(alloc, resolve, world, used, main, adapters)?;
+    by_owner(alloc, resolve, &live)
 }

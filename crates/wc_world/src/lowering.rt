@@ -7,7 +7,7 @@ ghost use Rattle.wc_resolve.specs.Dependencies.{id_of_interface};
 ghost use Rattle.wc_resolve.specs.Views.{function_entry, function_view, item_view, type_entry, world_entry};
 ghost use Rattle.wc_resolve.specs.WellFormed.{IsUsable};
 ghost use Rattle.wc_names.specs.Views.{ImportView};
-ghost use Rattle.wc_world.specs.Lowered.{IsLowerable, called_lowering, function_lowerings, interface_lowerings, item_lowerings, lowered_function, lowerer_of, needs_memory, resource_name, type_lowerings};
+ghost use Rattle.wc_world.specs.Lowered.{AreKeysDistinct, IsLowerable, Lowerer, called_lowering, function_lowerings, interface_lowerings, item_lowerings, lowered_function, lowerer_of, needs_memory, resource_name, type_lowerings};
 ghost use Rattle.wc_world.specs.Required.{AreRequired, import_abi};
 ghost use Rattle.wc_world.specs.WorldViews.{lowering_entry, lowering_view};
 
@@ -22,6 +22,7 @@ use wc_resolve::{
 };
 
 /// By what functions are lowered.
+#[derive(Drop)]
 pub(crate) struct Lowerings<'a, O: ImportOptions> {
     pub(crate) resolve: &'a Resolve,
     pub(crate) options: &'a O,
@@ -203,6 +204,18 @@ fn push_functions<O: ImportOptions>(
         push_function(alloc, context, lowerings, Some(interface), function)?;
     }
     Ok(())
+}
+
+/// That what is imported of an interface has distinct keys, for proofs. It does nothing when it runs.
+pub(crate) fn distinct_keys(resolve: &Resolve, id: InterfaceId)
+    requires { id.0 < length resolve.now.interfaces }
+    ensures { (l : Lowerer) → l.resolve ≡ resolve.now → AreKeysDistinct (option_map_or
+        (interface_lowerings l id.0) (slice_get resolve.now.interfaces id.0) []) }
+{
+    resolve.well_formedness();
+    let interface = resolve.interface(id);
+    let _ = interface.types.len();
+    let _ = interface.functions.len();
 }
 
 /// Adds what is imported of an interface: drops in the order of its types, and then its functions.

@@ -1,20 +1,31 @@
 //! The world of a component.
 
-ghost use Rattle.std.specs.Prelude.{◌≡◌, ◌↔◌, IsTrue, map};
+ghost use Rattle.std.specs.Prelude.{◌≡◌, ◌↔◌, ◌⊎◌, IfErr, IfOk, IsTrue, map};
 ghost use Rattle.std.specs.List.{list_any};
 ghost use Rattle.wc_names.specs.Views.{import_view};
 ghost use Rattle.wc_validate.specs.ImportMaps.{imports_in};
+ghost use Rattle.wc_validate.specs.Validated.{IsRecordOf, main_job, module_record};
+ghost use Rattle.wc_world.specs.Causes.{IsCause, IsMemory};
 ghost use Rattle.wc_world.specs.Slots.{IsSlot1Used, uses_slot_1};
+ghost use Rattle.wc_world.specs.World.{AreAdapters, IsWorldOf};
 ghost use Rattle.wc_world.specs.WorldViews.{adapter_entry, world_view};
 
 use crate::adapter::WorldAdapter;
+use crate::adapters::adapters_of;
+use crate::fault::WorldFault;
+use crate::import_map::import_map_of;
 use crate::imported::ImportedInterface;
+use crate::live::live_type_imports;
+use crate::options::ImportOptions;
+use crate::used::exports_used;
 use indexmap::{IndexMap, IndexSet};
+use std::alloc::{AllocError, Global};
 use std::collections::{HashMap, HashSet};
 use wc_encoder::ComponentEncoder;
 use wc_names::Import;
 use wc_resolve::{InterfaceId, TypeId};
-use wc_validate::{ImportMap, ValidatedModule};
+use wc_validate::laws::records_in_range;
+use wc_validate::{ImportMap, ValidatedModule, validate_module};
 
 /// What a component encoder has to know of modules before it encodes them: what the main module and the adapters
 /// import and export, how their imports are met, and which types they need.
@@ -72,7 +83,83 @@ fn adapter_uses_slot_1<'a>(adapters: &IndexMap<&'a str, WorldAdapter<'a>>) -> bo
     false
 }
 
+/// What the main module of an encoder imports and exports.
+fn main_record(alloc: Global, encoder: &ComponentEncoder) -> Result<ValidatedModule, WorldFault>
+    ensures recorded { IfOk result (λ v. IsRecordOf (main_job encoder.now
+        encoder.now.module_import_map) encoder.now.module_bytes (module_record v)) }
+    ensures fault { IfErr result (λ f. IsMemory f ⊎ IsCause encoder.now f) }
+{
+    match validate_module(
+        alloc,
+        encoder,
+        encoder.module(),
+        encoder.module_import_map(),
+    ) {
+        Ok(info) => Ok(info),
+        Err(fault) => Err(WorldFault::Main(fault)),
+    }
+}
+
+/// The world of a component that has this main module and these adapters.
+fn world_with<'a, O: ImportOptions>(
+    alloc: Global,
+    encoder: &'a ComponentEncoder,
+    options: &O,
+    info: ValidatedModule,
+    adapters: IndexMap<&'a str, WorldAdapter<'a>>,
+) -> Result<ComponentWorld<'a>, AllocError>
+    requires recorded { IsRecordOf (main_job encoder.now encoder.now.module_import_map)
+        encoder.now.module_bytes (module_record info) }
+    requires made { AreAdapters encoder.now (module_record info)
+        (map adapter_entry adapters.entries) }
+    ensures { IfOk result (λ w. IsWorldOf (O.options_of options.now) encoder.now (world_view w)) }
+{
+    let import_map = import_map_of(alloc, encoder, options, &info, &adapters)?;
+    let exports_used = exports_used(alloc, encoder)?;
+    // So what the imports name is there.
+    records_in_range(encoder);
+    let live_type_imports = live_type_imports(alloc, encoder, &exports_used, &info, &adapters)?;
+    Ok(ComponentWorld {
+        encoder,
+        info,
+        adapters,
+        import_map,
+        live_type_imports,
+        exports_used,
+    })
+}
+
 impl<'a> ComponentWorld<'a> {
+    /// The world of a component, made of what an encoder has: its main module is validated; of its adapters those that
+    /// the main module imports functions from, or that have to export functions, are validated, trimmed to what is
+    /// wanted of them, and validated again; libraries are validated alone, and their bytes borrowed. Adapters that are
+    /// not needed are not read. `options` says which canonical options lowered functions need.
+    ///
+    /// # Errors
+    ///
+    /// The main module is before adapters, and these are in their order. `Memory` may come in place of any, also as a
+    /// fault that another one carries.
+    ///
+    /// - `Main`: the main module is not valid (`wc_validate::validate_module`).
+    /// - `Adapter`: an adapter, or a library, is not (`wc_validate::validate_adapter_module`).
+    /// - `Trim`: an adapter can't be trimmed (`wc_gc::run`).
+    /// - `Minimized`: an adapter is not valid once it is trimmed.
+    /// - `PageSize`: the memory that an adapter, or a library, imports has other pages than the main module's memory.
+    /// - `Memory`: an allocation failed.
+    pub fn new<O: ImportOptions>(
+        alloc: Global,
+        encoder: &'a ComponentEncoder,
+        options: &O,
+    ) -> Result<ComponentWorld<'a>, WorldFault>
+        ensures world { IfOk result (λ w.
+            IsWorldOf (O.options_of options.now) encoder.now (world_view w)) }
+        ensures fault { IfErr result (λ f. IsMemory f ⊎ IsCause encoder.now f) }
+    {
+        let info = main_record(alloc, encoder)?;
+        let adapters = adapters_of(alloc, encoder, &info)?;
+        Ok(world_with(alloc, encoder, options, info, adapters)?)
+    }
+
     /// Whether tasks can use slot 1 of their context (component model, "canon context.get"): whether the main module
     /// or an adapter imports what starts a thread, or reads or writes that slot.
     pub fn can_use_context_slot_1(&self) -> bool

@@ -1,0 +1,184 @@
+-- Adapters and libraries gone through, and those that are kept.
+use Rattle.std.proofs.Common.{◌≡◌, ◌≢◌, ◌⊎◌, ℕ, List, [], ◌∷◌, ◌++◌, Bool, true, false, cond, map, filter, All, String, string_bytes, string_eq, true≢false, refl, sym, ap, ◌∙◌, subst, append_assoc, append-nil, inl, inr}
+use Rattle.std.specs.Prelude.{if◌then◌else◌}
+use Rattle.std.specs.Borrow.{Bor}
+use Rattle.std.specs.List.{AllByRecursion, AllZip, IsDistinct}
+use Rattle.std.specs.Map.{keys_of}
+use Rattle.std.specs.declared.alloc.Global.{Global}
+use Rattle.std.specs.Str.{bytes_eq}
+use Rattle.std.proofs.lemmas.List.{map-append}
+use Rattle.std.proofs.lemmas.List.Elements.{All-from_recursion, filter-append, recursion_from_All}
+use Rattle.std.proofs.lemmas.Slice.Eq.{bytes_eq-Decides}
+use Rattle.indexmap.specs.IndexMap.{insert_entry}
+use Rattle.wc_read.specs.Types.{FuncTypeValue}
+use Rattle.wc_resolve.specs.World.{ResolveView}
+use Rattle.wc_resolve.proofs.KeyLemmas.{texts_law}
+use Rattle.wc_encoder.specs.declared.adapters.Adapter.{Adapter}
+use Rattle.wc_encoder.specs.Adapters.{adapter_entry as given_entry}
+use Rattle.wc_encoder.specs.EncoderParts.{EncoderView, world_exports}
+use Rattle.wc_encoder.specs.Entries.{Entries}
+use Rattle.wc_validate.specs.ImportMaps.{required_in}
+use Rattle.wc_validate.specs.Validated.{IsCause as IsModuleCause, IsRecordOf, ModuleRecord, main_job}
+use Rattle.wc_validate.specs.declared.fault.ValidateFault.{ValidateFault}
+use Rattle.wc_world.specs.Adapters.{HasOtherName, NamedAdapter, is_kept, is_needed, kept_adapters}
+use Rattle.wc_world.specs.Causes.{IsCause, IsFaultOf, IsFirstFault, IsKeptFault, IsMemory, IsSound}
+use Rattle.wc_world.specs.Views.{NamedWorldAdapter}
+use Rattle.wc_world.specs.World.{AreMade, IsAdapterOf}
+use Rattle.wc_world.specs.WorldViews.{adapter_entry}
+use Rattle.wc_world.specs.declared.adapter.WorldAdapter.{WorldAdapter}
+use Rattle.wc_world.specs.declared.fault.WorldFault.{WorldFault}
+use Rattle.wc_world.specs.declared.fault.WorldFault.TheVariants.{Main}
+use Rattle.wc_world.proofs.FaultLemmas.{refused_or_memory}
+
+zip_push : {A B : Type 0} (R : A → B → Type 0) (xs : List A) (ys : List B) (x : A) (y : B) → AllZip R xs ys → R x y → AllZip R (xs ++ x ∷ []) (ys ++ y ∷ [])
+zip_push R [] [] x y h r = (r, tt)
+zip_push R [] (b ∷ ys) x y h r = absurd h
+zip_push R (a ∷ xs) [] x y h r = absurd h
+zip_push R (a ∷ xs) (b ∷ ys) x y h r = (h.0, zip_push R xs ys x y h.1 r)
+
+-- what holds of all holds of those that pass a test
+kept_cond : {X : Type 0} (P : X → Type 0) (b : Bool) (x : X) (xs : List X) → P x → AllByRecursion P xs → AllByRecursion P (cond b (x ∷ xs) xs)
+kept_cond P true x xs p h = (p, h)
+kept_cond P false x xs p h = h
+
+kept_all : {X : Type 0} (P : X → Type 0) (test : X → Bool) (xs : List X) → AllByRecursion P xs → AllByRecursion P (filter test xs)
+kept_all P test [] h = tt
+kept_all P test (x ∷ xs) h = kept_cond P (test x) x (filter test xs) h.0 (kept_all P test xs h.1)
+
+-- one more, which passes the test or does not
+kept_push : {X : Type 0} (test : X → Bool) (xs : List X) (x : X) (b : Bool) → test x ≡ b → filter test (xs ++ x ∷ []) ≡ filter test xs ++ cond b (x ∷ []) []
+kept_push test xs x b is = filter-append test xs (x ∷ []) ∙ ap (λ z. filter test xs ++ cond z (x ∷ []) []) is
+
+kept_cut : {X : Type 0} (test : X → Bool) (xs : List X) (x : X) (rest : List X) → test x ≡ true → filter test (xs ++ x ∷ rest) ≡ filter test xs ++ x ∷ filter test rest
+kept_cut test xs x rest is = filter-append test xs (x ∷ rest) ∙ ap (λ z. filter test xs ++ cond z (x ∷ filter test rest) (filter test rest)) is
+
+module _ (e : EncoderView) (main : ModuleRecord) where
+  all_sound : (xs : List NamedAdapter) (ys : List NamedWorldAdapter) → AllZip (IsAdapterOf e main) xs ys → AllByRecursion (IsSound e main) xs
+  all_sound [] ys h = tt
+  all_sound (x ∷ xs) [] h = absurd h
+  all_sound (x ∷ xs) (y ∷ ys) h = ((y, h.0), all_sound xs ys h.1)
+
+  other_names : (name : List ℕ) (xs : List NamedAdapter) (ys : List NamedWorldAdapter) → AllByRecursion (HasOtherName name) xs → AllZip (IsAdapterOf e main) xs ys → AllByRecursion (λ (y : NamedWorldAdapter). y.0 ≢ name) ys
+  other_names name [] [] others h = tt
+  other_names name [] (y ∷ ys) others h = absurd h
+  other_names name (x ∷ xs) [] others h = absurd h
+  other_names name (x ∷ xs) (y ∷ ys) others h = ((λ same. others.0 (sym h.0.named ∙ same)), other_names name xs ys others.1 h.1)
+
+-- a new name goes last
+abbrev pub RawAdapter : Type 0
+RawAdapter = Bor (List ℕ) × WorldAdapter
+
+put_at : (old e : RawAdapter) (es : List RawAdapter) (b : Bool) → (b ≡ true → ⊥) → insert_entry (λ (a c : Bor (List ℕ)). bytes_eq a.now c.now) es e.0 e.1 ≡ es ++ e ∷ []
+    → (if b then (old.0, e.1) ∷ es else old ∷ insert_entry (λ (a c : Bor (List ℕ)). bytes_eq a.now c.now) es e.0 e.1) ≡ old ∷ (es ++ e ∷ [])
+put_at old e es true never later = absurd (never refl)
+put_at old e es false never later = ap (λ z. old ∷ z) later
+
+put_last : (es : List RawAdapter) (e : RawAdapter) → AllByRecursion (λ (y : NamedWorldAdapter). y.0 ≢ e.0.now) (map adapter_entry es) → insert_entry (λ (a c : Bor (List ℕ)). bytes_eq a.now c.now) es e.0 e.1 ≡ es ++ e ∷ []
+put_last [] e others = refl
+put_last (old ∷ es) e others = put_at old e es (bytes_eq e.0.now old.0.now) (λ same. others.0 (sym ((bytes_eq-Decides e.0.now old.0.now).0 same))) (put_last es e others.1)
+
+module _ (e : EncoderView) (main : ModuleRecord) (x : NamedAdapter) (passed : List NamedAdapter) where
+  -- an adapter that is not kept
+  pub passed_over : (ys : List NamedWorldAdapter) → is_kept e main x ≡ false → AreMade e main passed ys → AreMade e main (passed ++ x ∷ []) ys
+  passed_over ys not_kept h = subst (λ z. AllZip (IsAdapterOf e main) z ys) (sym (kept_push (is_kept e main) passed x false not_kept ∙ append-nil (filter (is_kept e main) passed))) h
+
+  -- one that is
+  pub made_last : (old new : List RawAdapter) (key : Bor (List ℕ)) (a : WorldAdapter) → is_kept e main x ≡ true → key.now ≡ x.0 → new ≡ insert_entry (λ (a c : Bor (List ℕ)). bytes_eq a.now c.now) old key a
+      → IsAdapterOf e main x (adapter_entry (key, a)) → All (HasOtherName x.0) passed → AreMade e main passed (map adapter_entry old) → AreMade e main (passed ++ x ∷ []) (map adapter_entry new)
+  made_last old new key a kept is put made others h =
+      let apart : AllByRecursion (λ (y : NamedWorldAdapter). y.0 ≢ key.now) (map adapter_entry old) =
+      subst (λ n. AllByRecursion (λ (y : NamedWorldAdapter). y.0 ≢ n) (map adapter_entry old)) (sym is)
+      (other_names e main x.0 (filter (is_kept e main) passed) (map adapter_entry old) (kept_all (HasOtherName x.0) (is_kept e main) passed (recursion_from_All (HasOtherName x.0) passed others)) h) in
+      let more : map adapter_entry new ≡ map adapter_entry old ++ adapter_entry (key, a) ∷ [] = ap (map adapter_entry) (put ∙ put_last old (key, a) apart) ∙ map-append adapter_entry old ((key, a) ∷ []) in
+      subst (λ z. AreMade e main (passed ++ x ∷ []) z) (sym more)
+      (subst (λ z. AllZip (IsAdapterOf e main) z (map adapter_entry old ++ adapter_entry (key, a) ∷ [])) (sym (kept_push (is_kept e main) passed x true kept))
+      (zip_push (IsAdapterOf e main) (filter (is_kept e main) passed) (map adapter_entry old) x (adapter_entry (key, a)) h made))
+
+-- names of a map are distinct
+abbrev pub RawGiven : Type 0
+RawGiven = String Global × Adapter
+
+test_in : (test : String Global → Bool) (front rest : List RawGiven) (x : RawGiven) → AllByRecursion (λ y. test y ≡ false) (keys_of (front ++ x ∷ rest)) → test x.0 ≡ false
+test_in test [] rest x h = h.0
+test_in test (p ∷ front) rest x h = test_in test front rest x h.1
+
+others_before : (front rest : List RawGiven) (x : RawGiven) → IsDistinct string_eq (keys_of (front ++ x ∷ rest)) → AllByRecursion (HasOtherName (string_bytes x.0)) (map given_entry front)
+unfolding IsDistinct
+others_before [] rest x h = tt
+others_before (p ∷ front) rest x h = (
+  (λ same. true≢false (sym ((texts_law p.0 x.0).1 same) ∙ test_in (string_eq p.0) front rest x h.0)),
+  others_before front rest x h.1,
+)
+
+-- adapters that are gone through, and those that are left
+pub record AdaptersWalk (e : EncoderView) (main : ModuleRecord) (left : List RawGiven) (ys : List NamedWorldAdapter) : Type 0 where
+  pub front : List RawGiven
+  pub split : map given_entry (front ++ left) ≡ e.adapters
+  pub distinct : IsDistinct string_eq (keys_of (front ++ left))
+  pub made : AreMade e main (map given_entry front) ys
+
+module _ (e : EncoderView) (main : ModuleRecord) (left : List RawGiven) where
+  pub walk_start : (all : List RawGiven) (ys : List NamedWorldAdapter) → left ≡ all → map given_entry all ≡ e.adapters → IsDistinct string_eq (keys_of all) → ys ≡ [] → AdaptersWalk e main left ys
+  walk_start all ys is are distinct none = record {
+    front = [];
+    split = ap (map given_entry) is ∙ are;
+    distinct = subst (λ z. IsDistinct string_eq (keys_of z)) (sym is) distinct;
+    made = subst (AreMade e main []) (sym none) tt;
+  }
+
+  pub walk_next : (rest : List RawGiven) (x : RawGiven) (old new : List NamedWorldAdapter) → left ≡ x ∷ rest
+      → ((passed : List NamedAdapter) → All (HasOtherName (string_bytes x.0)) passed → AreMade e main passed old → AreMade e main (passed ++ given_entry x ∷ []) new)
+      → AdaptersWalk e main left old → AdaptersWalk e main rest new
+  walk_next rest x old new is put w =
+      let same : w.front ++ left ≡ (w.front ++ x ∷ []) ++ rest = ap (λ z. w.front ++ z) is ∙ sym (append_assoc w.front (x ∷ []) rest) in
+      record {
+        front = w.front ++ x ∷ [];
+        split = ap (map given_entry) (sym same) ∙ w.split;
+        distinct = subst (λ z. IsDistinct string_eq (keys_of z)) same w.distinct;
+        made = subst (λ z. AreMade e main z new) (sym (map-append given_entry w.front (x ∷ [])))
+            (put (map given_entry w.front) (All-from_recursion (HasOtherName (string_bytes x.0)) (map given_entry w.front) (others_before w.front rest x (subst (λ z. IsDistinct string_eq (keys_of (w.front ++ z))) is w.distinct))) w.made);
+      }
+
+  pub walk_end : (ys : List NamedWorldAdapter) → left ≡ [] → AdaptersWalk e main left ys → AreMade e main e.adapters ys
+  walk_end ys none w = subst (λ z. AreMade e main z ys) (ap (map given_entry) (sym (append-nil w.front) ∙ ap (λ z. w.front ++ z) (sym none)) ∙ w.split) w.made
+
+  pub walk_fault : (rest : List RawGiven) (x : RawGiven) (ys : List NamedWorldAdapter) (f : WorldFault) → left ≡ x ∷ rest → IsKeptFault e main (given_entry x) f → AdaptersWalk e main left ys → IsFirstFault e main (kept_adapters e main) f
+  walk_fault rest x ys f is h w =
+      let cut : e.adapters ≡ map given_entry w.front ++ given_entry x ∷ map given_entry rest = sym w.split ∙ (ap (λ z. map given_entry (w.front ++ z)) is ∙ map-append given_entry w.front (x ∷ rest)) in
+      record {
+        front = filter (is_kept e main) (map given_entry w.front);
+        adapter = given_entry x;
+        back = filter (is_kept e main) (map given_entry rest);
+        cut = ap (filter (is_kept e main)) cut ∙ kept_cut (is_kept e main) (map given_entry w.front) (given_entry x) (map given_entry rest) h.0;
+        sound = All-from_recursion (IsSound e main) (filter (is_kept e main) (map given_entry w.front)) (all_sound e main (filter (is_kept e main) (map given_entry w.front)) ys w.made);
+        fault = h.1;
+      }
+
+-- what is required of an adapter decides whether it is kept
+pub kept_by : (e : EncoderView) (main : ModuleRecord) (x : NamedAdapter) (r : ResolveView) (exports : Entries) (required : List (List ℕ × FuncTypeValue)) → r ≡ e.resolve → world_exports e ≡ exports → required ≡ required_in main.imports x.0
+    → is_kept e main x ≡ is_needed r exports x.1 required
+kept_by e main x r exports required same are is =
+    ap (λ z. is_needed e.resolve (world_exports e) x.1 z) (sym is) ∙ (ap (λ z. is_needed e.resolve z x.1 required) are ∙ ap (λ z. is_needed z exports x.1 required) (sym same))
+
+pub kept_or_memory : (e : EncoderView) (main : ModuleRecord) (x : NamedAdapter) (f : WorldFault) → is_kept e main x ≡ true → IsMemory f ⊎ IsFaultOf e main x f → IsMemory f ⊎ IsKeptFault e main x f
+kept_or_memory e main x f kept (inl memory) = inl memory
+kept_or_memory e main x f kept (inr fault) = inr (kept, fault)
+
+-- the fault of the adapters has its cause, the main module being valid
+pub adapters_cause : (e : EncoderView) (main : ModuleRecord) (f : WorldFault) → IsRecordOf (main_job e e.module_import_map) e.module_bytes main → IsFirstFault e main (kept_adapters e main) f → IsCause e f
+adapters_cause e main (Main v) h first = absurd first.fault
+adapters_cause e main f h first = record { main = main; recorded = h; first = first }
+
+pub first_or_memory : (e : EncoderView) (main : ModuleRecord) (f : WorldFault) → IsRecordOf (main_job e e.module_import_map) e.module_bytes main → IsMemory f ⊎ IsFirstFault e main (kept_adapters e main) f → IsMemory f ⊎ IsCause e f
+first_or_memory e main f h (inl memory) = inl memory
+first_or_memory e main f h (inr first) = inr (adapters_cause e main f h first)
+
+-- the main module is refused
+pub main_refused : (e : EncoderView) (f : ValidateFault) → IsModuleCause (main_job e e.module_import_map) e.module_bytes f → IsMemory (Main f) ⊎ IsCause e (Main f)
+main_refused e f h = refused_or_memory (main_job e e.module_import_map) e.module_bytes f h
+
+-- of an adapter that the walk has come to, under the name that was read
+pub first_by_walk : (e : EncoderView) (main : ModuleRecord) (left rest : List RawGiven) (x : RawGiven) (ys : List NamedWorldAdapter) (f : WorldFault) (name : List ℕ) → left ≡ x ∷ rest → name ≡ string_bytes x.0
+    → IsMemory f ⊎ IsKeptFault e main (name, (given_entry x).1) f → AdaptersWalk e main left ys → IsMemory f ⊎ IsFirstFault e main (kept_adapters e main) f
+first_by_walk e main left rest x ys f name is same (inl memory) w = inl memory
+first_by_walk e main left rest x ys f name is same (inr fault) w = inr (walk_fault e main left rest x ys f is (subst (λ n. IsKeptFault e main (n, (given_entry x).1) f) same fault) w)

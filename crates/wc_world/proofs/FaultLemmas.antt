@@ -1,0 +1,170 @@
+-- Faults of adapters, by what refused them.
+use Rattle.std.proofs.Common.{◌≡◌, ◌≢◌, ◌≤◌, ◌⊎◌, ℕ, min, arith, List, [], Option, Some, None, Result, Ok, Err, IfErr, IfOk, String, string_bytes, refl, sym, ap, ◌∙◌, subst, inl, inr}
+use Rattle.std.specs.Borrow.{Bor}
+use Rattle.std.specs.Option.{option_copied, option_map, option_map_or}
+use Rattle.std.specs.Result.{IsErrAnd}
+use Rattle.std.specs.declared.alloc.Global.{Global}
+use Rattle.wc_read.specs.declared.types.MemoryType.{MemoryType}
+use Rattle.wc_read.specs.Limits.{page_exponent}
+use Rattle.wc_encoder.specs.declared.adapters.LibraryInfo.{LibraryInfo}
+use Rattle.wc_encoder.specs.Adapters.{LibraryView, library_view}
+use Rattle.wc_gc.specs.Liveness.{Wanted, names_of, wanted}
+use Rattle.wc_gc.specs.Parts.{SettingsValue, settings}
+use Rattle.wc_gc.specs.TrimmedText.{IsTrimmedRead}
+use Rattle.wc_gc.specs.Laws.{AreSettings}
+use Rattle.wc_gc.specs.Trimming.{IsTrimCause, IsTrimFault}
+use Rattle.wc_write.specs.Values.{AreBytes}
+use Rattle.wc_gc.specs.declared.fault.GcFault.{GcFault}
+use Rattle.wc_gc.specs.declared.fault.GcFault.TheVariants as trim
+use Rattle.wc_validate.specs.ImportMaps.{memory_in}
+use Rattle.wc_validate.specs.Validated.{IsCause as IsModuleCause, IsRecordOf, Job, ModuleRecord, adapter_job}
+use Rattle.wc_validate.specs.declared.fault.ValidateFault.{ValidateFault}
+use Rattle.wc_validate.specs.declared.fault.ValidateFault.TheVariants as validate
+use Rattle.wc_world.specs.Adapters.{job_of, main_page_size, main_realloc, page_size, required_names, trim_exponent}
+use Rattle.wc_world.specs.Causes.{IsNamed, IsRefused}
+use Rattle.wc_world.specs.Given.{IsGivenFault, IsGivenMade, IsGivenRecord, IsGivenText, IsNeeded, main_of, named_adapter, required_of}
+use Rattle.wc_world.specs.Restricted.{RefusedAsCollision}
+use Rattle.wc_world.specs.Views.{WorldAdapterView}
+use Rattle.wc_world.specs.World.{IsMade, settings_of, wanted_of}
+use Rattle.wc_world.specs.declared.adapters.Given.{Given}
+use Rattle.wc_world.specs.declared.fault.WorldFault.{WorldFault}
+use Rattle.wc_world.specs.declared.fault.WorldFault.TheVariants.{Memory, Adapter, Trim, Minimized, PageSize}
+use Rattle.wc_world.proofs.NeededLemmas.{needed_some}
+use Rattle.wc_world.proofs.RestrictedLemmas.{trimmed_for}
+
+-- a fault that is passed on
+pub passed_on : {T E : Type 0} (P : E → Type 0) (r : Result T E) (f : E) → IsErrAnd r (λ e. e ≡ f) → P f → IfErr r P
+passed_on P (Ok x) f h p = tt
+passed_on P (Err e) f h p = subst P (sym h) p
+
+-- a fault that carries another one
+pub named_fault : (make : String Global → WorldFault) (name : List ℕ) (P : WorldFault → Type 0) (f : WorldFault) → P Memory → ((s : String Global) → string_bytes s ≡ name → P (make s)) → IsNamed make name f → P f
+named_fault make name P f at_memory at_name (inl is) = subst P (sym is) at_memory
+named_fault make name P f at_memory at_name (inr (s, named, is)) = subst P (sym is) (at_name s named)
+
+pub refused_or_memory : (j : Job) (bytes : List ℕ) (f : ValidateFault) → IsModuleCause j bytes f → (f ≡ validate.Memory) ⊎ IsRefused j bytes f
+refused_or_memory j bytes validate.Memory h = inl refl
+refused_or_memory j bytes f h = inr ((λ is. let bad : ⊥ = cc is in bad), h)
+
+untrimmed_or_memory : (s : SettingsValue) (w : Wanted) (f : GcFault) → IsTrimFault s w f → (f ≡ trim.Memory) ⊎ ((f ≢ trim.Memory) × IsTrimFault s w f)
+untrimmed_or_memory s w trim.Memory h = inl refl
+untrimmed_or_memory s w f h = inr ((λ is. let bad : ⊥ = cc is in bad), h)
+
+-- what a library is handed, as it is seen
+pub seen_library : (o : Option (Bor LibraryInfo)) (p : Option LibraryInfo) → option_copied o ≡ p → option_map (λ (l : Bor LibraryInfo). library_view l.now) o ≡ option_map library_view p
+seen_library None p is = ap (option_map library_view) is
+seen_library (Some l) p is = ap (option_map library_view) is
+
+pub exponent_small : (o : Option MemoryType) (n : ℕ) → n ≡ trim_exponent o → n ≤ 16
+exponent_small o n is = let e : n ≡ min (option_map_or (λ (t : MemoryType). page_exponent t.page_size_log2) o 16) 16 = is in omega (arith, e)
+
+pub ok_mapped : {T E : Type 0} (P Q : T → Type 0) (r : Result T E) → ((v : T) → P v → Q v) → IfOk r P → IfOk r Q
+ok_mapped P Q (Ok v) f h = f v h
+ok_mapped P Q (Err e) f h = tt
+
+-- what a module is validated for in an adapter's place
+module _ (g : Given) (needed : IsNeeded g) (library : Option LibraryView) (own : library ≡ (named_adapter g).1.library_info) where
+  job : Job
+  job = job_of g.encoder.now (main_of g) (named_adapter g)
+
+  own_job : adapter_job g.encoder.now library (named_adapter g).1.required_exports (required_of g) ≡ job
+  unfolding job
+  own_job =
+      ap (λ l. adapter_job g.encoder.now l (named_adapter g).1.required_exports (required_of g)) own
+      ∙ ap (λ r. adapter_job g.encoder.now (named_adapter g).1.library_info (named_adapter g).1.required_exports r) needed.required
+
+  pub recorded_given : (bytes other : List ℕ) (r : ModuleRecord) → bytes ≡ other → IsRecordOf (adapter_job g.encoder.now library (named_adapter g).1.required_exports (required_of g)) bytes r → IsGivenRecord g other r
+  unfolding job
+  recorded_given bytes other r is h = subst (λ b. IsGivenRecord g b r) is (subst (λ j. IsRecordOf j bytes r) own_job h)
+
+  refused_given : (bytes other : List ℕ) (f : ValidateFault) → bytes ≡ other → IsModuleCause (adapter_job g.encoder.now library (named_adapter g).1.required_exports (required_of g)) bytes f → (f ≡ validate.Memory) ⊎ IsRefused job other f
+  refused_given bytes other f is h =
+      refused_or_memory job other f (subst (λ b. IsModuleCause job b f) is (subst (λ j. IsModuleCause j bytes f) own_job h))
+
+  -- a module that is refused as it was given, and one that is refused once it is trimmed
+  pub adapter_refused : (bytes : List ℕ) (v : ValidateFault) (f : WorldFault) → bytes ≡ g.adapter.now.wasm.items → IsModuleCause (adapter_job g.encoder.now library (named_adapter g).1.required_exports (required_of g)) bytes v
+      → IsNamed (λ s. Adapter s v) g.name.now f → IsGivenFault g f
+  unfolding job
+  adapter_refused bytes v f is h named =
+      named_fault (λ s. Adapter s v) g.name.now (IsGivenFault g) f (inl tt)
+      (λ s same. elim (refused_given bytes g.adapter.now.wasm.items v is h) [ inl memory ↦ inl memory | inr refused ↦ inr (same, refused) ]) named
+
+  pub minimized_refused : (bytes : List ℕ) (v : ValidateFault) (f : WorldFault) (first : ModuleRecord) → RefusedAsCollision g.encoder.now → IsGivenText g first bytes
+      → IsModuleCause (adapter_job g.encoder.now library (named_adapter g).1.required_exports (required_of g)) bytes v → IsNamed (λ s. Minimized s v) g.name.now f → IsGivenFault g f
+  unfolding job
+  minimized_refused bytes v f first law trim h named =
+      named_fault (λ s. Minimized s v) g.name.now (IsGivenFault g) f (inl tt)
+      (λ s same. elim (refused_given bytes bytes v refl h) [
+        | inl memory ↦ inl memory
+        | inr refused ↦ inr (
+          same,
+          record {
+            first = first;
+            text = bytes;
+            trims = trim.no_library;
+            original = trim.original;
+            trimmed = trim.trimmed;
+            refused = refused;
+            collides = law job (settings_of g.encoder.now (main_of g) first) (wanted_of (main_of g) (named_adapter g) first) bytes first v trim refused.0 refused.1;
+          },
+        )
+      ]) named
+
+-- to what it is trimmed
+module _ (g : Given) (needed : IsNeeded g) (first : ModuleRecord) (realloc : Option (Bor (List ℕ))) (exponent : ℕ) (bytes : List ℕ) (names : List (String Global))
+    (is_realloc : option_map (λ (name : Bor (List ℕ)). name.now) realloc ≡ main_realloc g.encoder.now.realloc_via_memory_grow g.main.now.exports) (is_exponent : exponent ≡ trim_exponent (memory_in first.imports))
+    (is_bytes : bytes ≡ g.adapter.now.wasm.items) (is_names : names_of names ≡ required_names (required_of g) first.exports) where
+  settings_by : Option (List ℕ) → ℕ → SettingsValue
+  settings_by r n = record { realloc = r; exponent = n }
+
+  wanted_by : List ℕ → List (List ℕ) → Wanted
+  wanted_by b ns = record { bytes = b; required = ns }
+
+  own_settings : settings realloc exponent ≡ settings_of g.encoder.now (main_of g) first
+  unfolding settings_by
+  own_settings = ap (λ r. settings_by r exponent) is_realloc ∙ ap (settings_by (main_realloc g.encoder.now.realloc_via_memory_grow g.main.now.exports)) is_exponent
+
+  own_wanted : wanted bytes names ≡ wanted_of (main_of g) (named_adapter g) first
+  unfolding wanted_by
+  own_wanted =
+      ap (λ b. wanted_by b (names_of names)) is_bytes
+      ∙ ap (wanted_by g.adapter.now.wasm.items) (is_names ∙ ap (λ r. required_names r first.exports) needed.required)
+
+  -- what is said of settings and of what is wanted, in these words
+  in_own_words : (P : SettingsValue → Wanted → Type 0) → P (settings realloc exponent) (wanted bytes names) → P (settings_of g.encoder.now (main_of g) first) (wanted_of (main_of g) (named_adapter g) first)
+  in_own_words P h = subst (λ w. P (settings_of g.encoder.now (main_of g) first) w) own_wanted (subst (λ s. P s (wanted bytes names)) own_settings h)
+
+  pub text_given : (text : List ℕ) → (named_adapter g).1.library_info ≡ None → IsGivenRecord g g.adapter.now.wasm.items first → AreSettings (settings realloc exponent) → AreBytes bytes
+      → IsTrimmedRead (settings realloc exponent) (wanted bytes names) text → ((f : GcFault) → ¬ (IsTrimCause (settings realloc exponent) (wanted bytes names) f)) → IsGivenText g first text
+  text_given text none original valid are h no_cause =
+      trimmed_for g.encoder.now (main_of g) (named_adapter g) first text none (subst AreSettings own_settings valid) (subst AreBytes is_bytes are) original
+      (in_own_words (λ s w. IsTrimmedRead s w text) h) (λ f. in_own_words (λ s w. ¬ (IsTrimCause s w f)) (no_cause f))
+
+  untrimmed_given : (f : GcFault) → IsTrimFault (settings realloc exponent) (wanted bytes names) f → IsTrimFault (settings_of g.encoder.now (main_of g) first) (wanted_of (main_of g) (named_adapter g) first) f
+  untrimmed_given f h = in_own_words (λ s w. IsTrimFault s w f) h
+
+  pub trim_refused : (v : GcFault) (f : WorldFault) → (named_adapter g).1.library_info ≡ None → IsGivenRecord g g.adapter.now.wasm.items first → IsTrimFault (settings realloc exponent) (wanted bytes names) v → IsNamed (λ s. Trim s v) g.name.now f → IsGivenFault g f
+  trim_refused v f none original h named =
+      named_fault (λ s. Trim s v) g.name.now (IsGivenFault g) f (inl tt)
+      (λ s same. elim (untrimmed_or_memory (settings_of g.encoder.now (main_of g) first) (wanted_of (main_of g) (named_adapter g) first) v (untrimmed_given v h)) [
+        | inl memory ↦ inl memory
+        | inr stopped ↦ inr (same, record { first = first; trims = none; original = original; stopped = stopped.1; no_memory = stopped.0 })
+      ]) named
+
+  -- a name is wanted of it
+  pub some_given : (named_adapter g).1.library_info ≡ None → IsGivenRecord g g.adapter.now.wasm.items first → names ≢ []
+  some_given none original is =
+      needed_some g.encoder.now (main_of g) (named_adapter g) g.adapter.now.wasm.items first none needed.kept original
+      (sym (is_names ∙ ap (λ r. required_names r first.exports) needed.required) ∙ ap names_of is)
+
+-- its pages are others
+pub page_fault : (g : Given) (info : ModuleRecord) (s : String Global) (memory : MemoryType) (own mains : ℕ) → string_bytes s ≡ g.name.now → memory_in info.imports ≡ Some memory → own ≡ page_size memory → mains ≡ main_page_size g.main.now.exports → own ≢ mains
+    → (a : WorldAdapterView) → a.info ≡ info → IsGivenMade g a → IsGivenFault g (PageSize s own mains)
+page_fault g info s memory own mains named imported is_own is_main differ a is made =
+    inr (named, record { adapter = a; memory = memory; made = made; imported = subst (λ (z : ModuleRecord). memory_in z.imports ≡ Some memory) (sym is) imported; is_own = is_own; is_main = is_main; differ = differ })
+
+-- a library is what it was given as
+pub library_made : (g : Given) (library : LibraryInfo) (a : WorldAdapterView) → g.adapter.now.library_info ≡ Some library → a.wasm ≡ g.adapter.now.wasm.items → IsGivenRecord g g.adapter.now.wasm.items a.info → IsGivenMade g a
+library_made g library a is given recorded =
+    subst (λ o. IsMade g.encoder.now (main_of g) (named_adapter g) a (option_map library_view o)) (sym is)
+    (record { given = given; recorded = subst (λ b. IsGivenRecord g b a.info) (sym given) recorded })

@@ -1,0 +1,59 @@
+-- What trimming leaves of an adapter's imports and exports, as they are recorded; and why the trimmed adapter may still
+-- be refused.
+use Rattle.std.specs.Prelude.{◌≡◌, ◌≢◌, ℕ, List, None}
+use Rattle.wc_read.specs.Modules.{ModuleValue, SpellsModule}
+use Rattle.wc_write.specs.Values.{AreBytes}
+use Rattle.wc_encoder.specs.EncoderParts.{EncoderView}
+use Rattle.wc_gc.specs.Laws.{AreSettings}
+use Rattle.wc_gc.specs.Liveness.{Wanted}
+use Rattle.wc_gc.specs.Parts.{SettingsValue}
+use Rattle.wc_gc.specs.Restriction.{IsRestriction}
+use Rattle.wc_gc.specs.TrimmedText.{IsTrimmedRead}
+use Rattle.wc_gc.specs.Trimming.{IsTrimCause}
+use Rattle.wc_gc.specs.declared.fault.GcFault.{GcFault}
+use Rattle.wc_validate.specs.Restriction.{AreNeeded, HasCollision, IsRestrictedRecord}
+use Rattle.wc_validate.specs.Validated.{IsCause, IsRecordOf, Job, ModuleRecord}
+use Rattle.wc_validate.specs.declared.fault.ValidateFault.{ValidateFault}
+use Rattle.wc_validate.specs.declared.fault.ValidateFault.TheVariants.{DuplicateImport, Memory}
+
+-- the record of a trimmed adapter is that of the adapter, restricted: to the imports that its wanted exports reach, but
+-- reallocs; besides these the main module's realloc is imported
+pub record IsRestrictedTrim (s : SettingsValue) (w : Wanted) (text : List ℕ) (first last : ModuleRecord) : Type 0 where
+  pub adapter : ModuleValue
+  pub trimmed : ModuleValue
+  pub spells_adapter : SpellsModule w.bytes adapter
+  pub spells_trimmed : SpellsModule text trimmed
+  pub restriction : IsRestriction s.realloc w.required adapter trimmed
+  pub records : IsRestrictedRecord first last restriction.origins trimmed.imports
+
+-- a trimmed adapter is refused since it imports one name of the main module twice
+pub record IsCollision (text : List ℕ) (f : ValidateFault) : Type 0 where
+  pub duplicate : f ≡ DuplicateImport
+  pub trimmed : ModuleValue
+  pub spelled : SpellsModule text trimmed
+  pub collides : HasCollision trimmed
+
+-- an adapter, no library, that is valid for a job, and its text trimmed without a fault; the exports that are recorded and
+-- those that the job requires are wanted
+pub record IsTrimFor (e : EncoderView) (j : Job) (s : SettingsValue) (w : Wanted) (text : List ℕ) (first : ModuleRecord) : Type 0 where
+  pub encoder : j.encoder ≡ e
+  pub no_library : j.library ≡ None
+  pub no_renames : j.renames ≡ None
+  pub settings : AreSettings s
+  pub bytes : AreBytes w.bytes
+  pub original : IsRecordOf j w.bytes first
+  pub trimmed : IsTrimmedRead s w text
+  pub no_cause : (f : GcFault) → ¬ (IsTrimCause s w f)
+  pub needed : AreNeeded j first w.required
+
+-- the record of a trimmed adapter is that of the adapter, restricted
+abbrev pub TrimmedIsRestricted : EncoderView → Type 0
+TrimmedIsRestricted e =
+    (j : Job) (s : SettingsValue) (w : Wanted) (text : List ℕ) (first last : ModuleRecord)
+    → IsTrimFor e j s w text first → IsRecordOf j text last → IsRestrictedTrim s w text first last
+
+-- where it is refused for the same job, that is for a second import of one name of the main module
+abbrev pub RefusedAsCollision : EncoderView → Type 0
+RefusedAsCollision e =
+    (j : Job) (s : SettingsValue) (w : Wanted) (text : List ℕ) (first : ModuleRecord) (f : ValidateFault)
+    → IsTrimFor e j s w text first → f ≢ Memory → IsCause j text f → IsCollision text f

@@ -1,0 +1,31 @@
+//! Laws of what trimming leaves of an adapter's imports and exports: contracts of functions that do nothing when they
+//! run.
+
+ghost use Rattle.std.specs.Prelude.{◌≤◌};
+ghost use Rattle.wc_gc.specs.Laws.{AreSettings};
+ghost use Rattle.wc_gc.specs.Parts.{settings};
+ghost use Rattle.wc_world.specs.Restricted.{RefusedAsCollision, TrimmedIsRestricted};
+
+use wc_encoder::ComponentEncoder;
+use wc_gc::restriction_laws::trimmed_restricts;
+use wc_read::laws::modules_unique;
+use wc_validate::restriction_laws::{restrictions_recorded, restrictions_valid};
+
+/// What is recorded of a trimmed adapter is, of what is recorded of the adapter, what its wanted exports reach, besides
+/// the main module's realloc. It is refused only where it imports one name of the main module twice. It does nothing
+/// when it runs.
+pub(crate) fn trimmed_is_restricted(encoder: &ComponentEncoder)
+    ensures restricted { TrimmedIsRestricted encoder.now }
+    ensures collides { RefusedAsCollision encoder.now }
+{
+    trimmed_restricts();
+    modules_unique();
+    restrictions_valid(encoder);
+    restrictions_recorded(encoder);
+}
+
+/// A realloc's name is text, and pages have 2^16 bytes at most. It does nothing when it runs.
+pub(crate) fn settings_are_valid(realloc: Option<&str>, page_size_log2: u32)
+    requires { page_size_log2 ≤ 16 }
+    ensures { AreSettings (settings realloc.entry page_size_log2) }
+{}
