@@ -1,12 +1,13 @@
 //! A row's answer, from the library whose call it names.
 
+use crate::component::calls as component_calls;
 use crate::names::calls as name_calls;
 use crate::rows::{Flaw, Paragraph, Row};
 use crate::validation::calls as validate_calls;
 use crate::worlds::{encoder_calls, resolve_calls};
 use crate::{
     dedupe_calls, examples, gc_calls, law_calls, machine_calls, machine_samples, read_calls,
-    sink_calls, tool_calls, write_calls,
+    sink_calls, tool_calls, unfolding, write_calls,
 };
 use std::alloc::{AllocError, Global};
 
@@ -34,10 +35,13 @@ fn answer_on_bytes(alloc: Global, row: &Row<'_>, out: &mut String) -> Result<boo
     if machine_calls::answer(alloc, row, out)? || machine_samples::answer(alloc, row, out)? {
         return Ok(true);
     }
+    if unfolding::answer(alloc, row, out)? {
+        return Ok(true);
+    }
     tool_calls::answer(alloc, row, out)
 }
 
-/// The calls on worlds, encoders, names and validated modules. False where the call is none.
+/// The calls on worlds, encoders, names, validated modules and components. False where the call is none.
 fn answer_on_worlds(alloc: Global, row: &Row<'_>, out: &mut String) -> Result<bool, AllocError> {
     if resolve_calls::answer(alloc, row, out)? || encoder_calls::answer(alloc, row, out)? {
         return Ok(true);
@@ -45,7 +49,10 @@ fn answer_on_worlds(alloc: Global, row: &Row<'_>, out: &mut String) -> Result<bo
     if name_calls::answer(alloc, row, out)? {
         return Ok(true);
     }
-    validate_calls::answer(alloc, row, out)
+    if validate_calls::answer(alloc, row, out)? {
+        return Ok(true);
+    }
+    component_calls::answer(alloc, row, out)
 }
 
 /// The laws, sinks and examples. False where the call is none.

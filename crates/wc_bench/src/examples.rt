@@ -8,6 +8,7 @@ mod read;
 mod resolve;
 mod tool;
 mod validate;
+mod world;
 mod write;
 
 use crate::gc_calls::names_from;
@@ -50,12 +51,12 @@ fn answer_call(alloc: Global, row: &Row<'_>, out: &mut String) -> Result<bool, S
     Ok(true)
 }
 
-/// The examples of trimming and validation.
+/// The examples of trimming, validation and worlds of components.
 fn answer_on_module(alloc: Global, row: &Row<'_>, out: &mut String) -> Result<(), Stop> {
     if argument(row, 0) == "reaches_memory" {
         answer_reaches_memory(alloc, row, out)
-    } else if argument(row, 0) == "imported_memory" {
-        answer_imported_memory(alloc, row, out)
+    } else if is_on_encoder(argument(row, 0)) {
+        answer_on_encoder(alloc, row, out)
     } else {
         Err(bad_row(out, "no example", argument(row, 0)))
     }
@@ -202,14 +203,31 @@ fn answer_reaches_memory(alloc: Global, row: &Row<'_>, out: &mut String) -> Resu
     Ok(())
 }
 
-/// `example imported_memory`: for an encoder of a world that imports and exports nothing.
-fn answer_imported_memory(alloc: Global, row: &Row<'_>, out: &mut String) -> Result<(), Stop> {
+fn is_on_encoder(example: &str) -> bool {
+    example == "imported_memory" || example == "can_use_slot_1"
+}
+
+/// The examples on an encoder of a world that imports and exports nothing.
+fn answer_on_encoder(alloc: Global, row: &Row<'_>, out: &mut String) -> Result<(), Stop> {
     let module = bytes_of(alloc, &row.input, out)?;
     match empty_encoder(alloc, module) {
-        Ok(encoder) => put_imported_memory(alloc, &encoder, out)?,
+        Ok(encoder) => put_on_encoder(alloc, argument(row, 0), &encoder, out)?,
         Err(fault) => writeln!(out, "fault {fault}")?,
     }
     Ok(())
+}
+
+fn put_on_encoder(
+    alloc: Global,
+    example: &str,
+    encoder: &ComponentEncoder,
+    out: &mut String,
+) -> Result<(), AllocError> {
+    if example == "imported_memory" {
+        put_imported_memory(alloc, encoder, out)
+    } else {
+        put_can_use_slot_1(alloc, encoder, out)
+    }
 }
 
 /// An encoder of a main module without adapters, for a world that imports and exports nothing.
@@ -227,6 +245,17 @@ fn put_imported_memory(
 ) -> Result<(), AllocError> {
     match validate::imported_memory(alloc, encoder, encoder.module()) {
         Ok(memory) => writeln!(out, "{memory:?}"),
+        Err(fault) => writeln!(out, "fault {fault}"),
+    }
+}
+
+fn put_can_use_slot_1(
+    alloc: Global,
+    encoder: &ComponentEncoder,
+    out: &mut String,
+) -> Result<(), AllocError> {
+    match world::can_use_slot_1(alloc, encoder) {
+        Ok(answer) => writeln!(out, "{answer}"),
         Err(fault) => writeln!(out, "fault {fault}"),
     }
 }

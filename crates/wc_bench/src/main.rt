@@ -3,6 +3,7 @@
 
 mod answers;
 mod built;
+mod component;
 mod dedupe_calls;
 mod examples;
 mod gc_calls;
@@ -20,6 +21,7 @@ mod read_calls;
 mod rows;
 mod sink_calls;
 mod tool_calls;
+mod unfolding;
 mod validation;
 mod values;
 mod worlds;

@@ -6,7 +6,7 @@ use wc_read::{
     BlockType, Body, Form, Immediates, Index, IndexKind, Init, Instr, MemArg, Opcode, Refs, Space,
 };
 
-fn space_word(space: Space) -> &'static str {
+pub(crate) fn space_word(space: Space) -> &'static str {
     match space {
         Space::Types => "type",
         Space::Funcs => "func",
@@ -47,7 +47,7 @@ fn put_block_type(out: &mut String, ty: &BlockType) -> Result<(), AllocError> {
     }
 }
 
-fn put_index(out: &mut String, index: &Index) -> Result<(), AllocError> {
+pub(crate) fn put_index(out: &mut String, index: &Index) -> Result<(), AllocError> {
     let kind = kind_name(index.kind);
     let number = index.number;
     write!(out, " {kind} {number}")
@@ -69,7 +69,10 @@ fn put_address(out: &mut String, address: &MemArg) -> Result<(), AllocError> {
 }
 
 /// What comes after an operator's code, with a space at the front.
-fn put_immediates(out: &mut String, immediates: &Immediates<'_>) -> Result<(), AllocError> {
+pub(crate) fn put_immediates(
+    out: &mut String,
+    immediates: &Immediates<'_>,
+) -> Result<(), AllocError> {
     match immediates {
         Immediates::None => Ok(()),
         Immediates::Block(ty) => put_block_type(out, ty),

@@ -15,7 +15,7 @@ use wc_names::Export;
 use wc_validate::{ExportMap, ValidateFault, ValidatedModule, validate_module};
 
 /// `NAME: EXPORT`, for each export that is recorded.
-fn put_exports(exports: &ExportMap, out: &mut String) -> Result<(), AllocError> {
+pub(crate) fn put_exports(exports: &ExportMap, out: &mut String) -> Result<(), AllocError> {
     for (name, export) in exports.iter() {
         put_name(out, name)?;
         writeln!(out, ": {export:?}")?;

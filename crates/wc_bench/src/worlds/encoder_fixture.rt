@@ -44,28 +44,51 @@ impl EncoderDraft {
             task_hook: String::new(alloc),
         }
     }
-}
 
-/// Bytes in one word of hex, or none: `-`.
-fn bytes_word(words: &mut Words) -> Result<Vec<u8>, Bad> {
-    if words.take("-") {
-        return Ok(Vec::new(words.alloc));
-    }
-    let text = words.name()?;
-    match hex::decode(words.alloc, text.as_str()) {
-        Ok(bytes) => Ok(bytes),
-        Err(FromHexError::OutOfMemory) => Err(Bad::Memory),
-        Err(_) => Err(Bad::Line("no hex")),
+    /// Sets the main module.
+    pub(crate) fn set_module(&mut self, bytes: Vec<u8>) {
+        self.module = bytes;
     }
 }
 
-/// `module [deduped] HEX`, after its first word. Of a deduped module the repeated imports are renamed first.
-fn module_line(words: &mut Words, draft: &mut EncoderDraft) -> Result<(), Bad> {
-    if !words.take("deduped") {
-        draft.module = bytes_word(words)?;
+/// Appends the bytes of a word: hex, or a text in quotes.
+fn put_bytes(words: &mut Words, bytes: &mut Vec<u8>) -> Result<(), Bad> {
+    let is_text = words.peek().is_none();
+    let word = words.name()?;
+    if is_text {
+        bytes.extend_from_slice(word.as_bytes())?;
         return Ok(());
     }
-    let bytes = bytes_word(words)?;
+    match hex::decode(words.alloc, word.as_str()) {
+        Ok(decoded) => bytes.extend_from_slice(&decoded)?,
+        Err(FromHexError::OutOfMemory) => return Err(Bad::Memory),
+        Err(_) => return Err(Bad::Line("no hex")),
+    }
+    Ok(())
+}
+
+/// Appends the bytes of the words up to the line's end; none: `-`.
+fn put_all_bytes(words: &mut Words, bytes: &mut Vec<u8>) -> Result<(), Bad> {
+    if words.take("-") {
+        return Ok(());
+    }
+    for _ in 0..words.len() {
+        if words.is_done() {
+            break;
+        }
+        put_bytes(words, bytes)?;
+    }
+    Ok(())
+}
+
+/// `module [deduped] BYTES`, after its first word. Of a deduped module the repeated imports are renamed first.
+fn module_line(words: &mut Words, draft: &mut EncoderDraft) -> Result<(), Bad> {
+    if !words.take("deduped") {
+        draft.module = Vec::new(words.alloc);
+        return put_all_bytes(words, &mut draft.module);
+    }
+    let mut bytes = Vec::new(words.alloc);
+    put_all_bytes(words, &mut bytes)?;
     let (module, map) = ModuleImportMap::new(words.alloc, CowSlice::Borrowed(bytes.as_slice()))?;
     draft.module = Vec::from_slice(words.alloc, module.as_slice())?;
     draft.module_import_map = map;
@@ -84,10 +107,11 @@ pub(crate) fn put_keys(words: &mut Words, keys: &mut IndexSet<WorldKey>) -> Resu
     Ok(())
 }
 
-/// `adapter NAME HEX`, after its first word.
+/// `adapter NAME BYTES`, after its first word.
 fn adapter_line(words: &mut Words, draft: &mut EncoderDraft) -> Result<(), Bad> {
     let name = words.name()?;
-    let wasm = bytes_word(words)?;
+    let mut wasm = Vec::new(words.alloc);
+    put_all_bytes(words, &mut wasm)?;
     let adapter = Adapter {
         wasm,
         required_exports: IndexSet::new(words.alloc),
@@ -186,8 +210,11 @@ fn item_line(words: &mut Words, info: &mut LibraryInfo) -> Result<(), Bad> {
     }
 }
 
-/// `exports KEY ..`, `library [after-shims]`, `argument ..` or `item ..`.
+/// `bytes BYTES`, `exports KEY ..`, `library [after-shims]`, `argument ..` or `item ..`.
 fn adapter_member(words: &mut Words, adapter: &mut Adapter) -> Result<(), Bad> {
+    if words.take("bytes") {
+        return put_all_bytes(words, &mut adapter.wasm);
+    }
     if words.take("exports") {
         return put_keys(words, &mut adapter.required_exports);
     }
@@ -208,6 +235,12 @@ fn adapter_member(words: &mut Words, adapter: &mut Adapter) -> Result<(), Bad> {
             item_line(words, info)
         }
     }
+}
+
+/// `bytes BYTES`: more bytes of the main module.
+pub(crate) fn module_member(words: &mut Words, draft: &mut EncoderDraft) -> Result<(), Bad> {
+    words.expect("bytes", "no bytes")?;
+    put_all_bytes(words, &mut draft.module)
 }
 
 /// A line of an adapter, which begins with a space.

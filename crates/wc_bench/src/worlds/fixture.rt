@@ -2,7 +2,7 @@
 //! of an encoder; one that begins with a space adds a member to what was defined last.
 
 use crate::worlds::bad::Bad;
-use crate::worlds::encoder_fixture::{EncoderDraft, draft_line, draft_member};
+use crate::worlds::encoder_fixture::{EncoderDraft, draft_line, draft_member, module_member};
 use crate::worlds::functions::function_under;
 use crate::worlds::kinds::type_kind;
 use crate::worlds::members::{interface_id, package_name, world_entry};
@@ -20,6 +20,7 @@ enum Open {
     Interface,
     Package,
     World,
+    Module,
     Adapter,
 }
 
@@ -209,6 +210,9 @@ impl Fixture {
             self.open = Open::World;
             return world_line(words, &mut self.parts);
         }
+        if words.is_at("module") {
+            self.open = Open::Module;
+        }
         if words.is_at("adapter") {
             self.open = Open::Adapter;
         }
@@ -232,8 +236,14 @@ impl Fixture {
                 Some(world) => world_member(words, world),
                 None => Err(missing),
             },
+            Open::Module => module_member(words, &mut self.draft),
             Open::Adapter => draft_member(words, &mut self.draft),
         }
+    }
+
+    /// Sets the main module.
+    pub(crate) fn set_module(&mut self, bytes: Vec<u8>) {
+        self.draft.set_module(bytes);
     }
 
     /// The parts of a `Resolve`, and those of an encoder.

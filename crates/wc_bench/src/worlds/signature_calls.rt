@@ -19,7 +19,7 @@ const VARIANTS: [(&str, AbiVariant); 5] = [
     ),
 ];
 
-fn abi_variant(words: &mut Words) -> Result<AbiVariant, Bad> {
+pub(crate) fn abi_variant(words: &mut Words) -> Result<AbiVariant, Bad> {
     for (word, abi) in VARIANTS {
         if words.take(word) {
             return Ok(abi);

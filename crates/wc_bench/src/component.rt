@@ -1,0 +1,4 @@
+//! Rows on the worlds of components.
+
+pub(crate) mod calls;
+pub(crate) mod shown;

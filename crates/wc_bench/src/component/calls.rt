@@ -1,0 +1,154 @@
+//! The calls of `wc_world`.
+
+use crate::component::shown::put_part;
+use crate::rows::Row;
+use crate::validation::described_modules::described_of;
+use crate::worlds::encoder_fixture::encoder_of;
+use crate::worlds::fixture::{Fixture, fixture_of};
+use crate::worlds::functions::complete_function;
+use crate::worlds::resolve_calls::{argument_words, resolve_of};
+use crate::worlds::signature_calls::abi_variant;
+use crate::worlds::stop::Stop;
+use crate::worlds::words::Words;
+use bitflags::Flags;
+use std::alloc::{AllocError, Global};
+use wc_encoder::ComponentEncoder;
+use wc_gc::GcFault;
+use wc_resolve::Resolve;
+use wc_validate::ValidateFault;
+use wc_world::{ComponentWorld, ImportOptions, PlainOptions, WorldFault};
+
+/// A fault, and the bytes in pages that it carries.
+fn put_fault(fault: &WorldFault, out: &mut String) -> Result<(), AllocError> {
+    writeln!(out, "fault {fault}")?;
+    match fault {
+        WorldFault::PageSize(_, own, main) => writeln!(out, "pages {own} {main}"),
+        _ => Ok(()),
+    }
+}
+
+/// The parts of a component's world that are asked for, or why it has none.
+fn put_world(
+    alloc: Global,
+    world: &Result<ComponentWorld<'_>, WorldFault>,
+    parts: &[&str],
+    out: &mut String,
+) -> Result<(), AllocError> {
+    match world {
+        Ok(world) => {
+            for part in parts {
+                put_part(alloc, world, part, out)?;
+            }
+            Ok(())
+        }
+        Err(fault) => put_fault(fault, out),
+    }
+}
+
+/// `component_world PART..`, by plain options.
+fn component_world(
+    alloc: Global,
+    encoder: &ComponentEncoder,
+    parts: &[&str],
+    out: &mut String,
+) -> Result<(), AllocError> {
+    let options = PlainOptions::new(alloc, &encoder.metadata().resolve)?;
+    let world = ComponentWorld::new(alloc, encoder, &options);
+    put_world(alloc, &world, parts, out)
+}
+
+/// Where the input has a script, the main module is the one that its lines describe.
+fn set_main<'a>(alloc: Global, input: &[&'a str], fixture: &mut Fixture) -> Result<(), Stop<'a>> {
+    if input.iter().any(|line| line.starts_with("do ")) {
+        fixture.set_module(described_of(alloc, input)?.into_bytes(alloc)?);
+    }
+    Ok(())
+}
+
+/// The encoder that the input describes.
+fn described_encoder<'a>(alloc: Global, input: &[&'a str]) -> Result<ComponentEncoder, Stop<'a>> {
+    let mut fixture = fixture_of(alloc, input)?;
+    set_main(alloc, input, &mut fixture)?;
+    encoder_of(alloc, fixture)
+}
+
+/// `plain_options ABI func NAME: FUNCTION`: the bits of the options that the function needs.
+fn plain_options<'a>(
+    resolve: &Resolve,
+    words: &mut Words,
+    out: &mut String,
+) -> Result<(), Stop<'a>> {
+    let abi = abi_variant(words)?;
+    let function = complete_function(words)?;
+    words.end()?;
+    if !resolve.has_function(&function) {
+        return Err(Stop::Missing("a function that is not usable"));
+    }
+    let options = PlainOptions::new(words.alloc, resolve)?;
+    let required = options.for_import(words.alloc, resolve, &function, abi)?;
+    let bits = required.bits();
+    writeln!(out, "{bits}")?;
+    Ok(())
+}
+
+/// The faults of the adapter `old`, by their numbers.
+fn adapter_fault(alloc: Global, number: u32) -> Result<WorldFault, AllocError> {
+    let name = String::from_str(alloc, "old")?;
+    Ok(match number {
+        0 => WorldFault::Adapter(name, ValidateFault::NotAFunction),
+        1 => WorldFault::Trim(name, GcFault::LiveBody),
+        2 => WorldFault::Minimized(name, ValidateFault::DuplicateImport),
+        _ => WorldFault::PageSize(name, 1, 65536),
+    })
+}
+
+/// The text of each fault, in the order of `WorldFault`.
+fn put_faults(alloc: Global, out: &mut String) -> Result<(), AllocError> {
+    for fault in &[
+        WorldFault::Memory,
+        WorldFault::Main(ValidateFault::NotAModule),
+    ] {
+        writeln!(out, "{fault}")?;
+    }
+    for number in 0..4 {
+        let fault = adapter_fault(alloc, number)?;
+        writeln!(out, "{fault}")?;
+    }
+    Ok(())
+}
+
+fn answered<'a>(alloc: Global, row: &'a Row<'a>, out: &mut String) -> Result<(), Stop<'a>> {
+    if row.call == "world_faults" {
+        put_faults(alloc, out)?;
+        return Ok(());
+    }
+    if row.call == "plain_options" {
+        let resolve = resolve_of(alloc, &row.input)?;
+        return plain_options(&resolve, &mut argument_words(alloc, row)?, out);
+    }
+    match described_encoder(alloc, &row.input) {
+        Ok(encoder) => component_world(alloc, &encoder, &row.arguments, out)?,
+        Err(stop) => return Err(stop),
+    }
+    Ok(())
+}
+
+/// The calls of `wc_world`.
+const OWN: [&str; 3] = ["component_world", "plain_options", "world_faults"];
+
+fn is_own(call: &str) -> bool {
+    OWN.iter().any(|name| *name == call)
+}
+
+/// The answer of a call of `wc_world`. False where the call is none.
+pub(crate) fn answer(alloc: Global, row: &Row<'_>, out: &mut String) -> Result<bool, AllocError> {
+    if !is_own(row.call) {
+        return Ok(false);
+    }
+    let mut lines = String::new(alloc);
+    match answered(alloc, row, &mut lines) {
+        Ok(()) => out.push_str(&lines)?,
+        Err(stop) => stop.put(out)?,
+    }
+    Ok(true)
+}
