@@ -28,8 +28,8 @@ settings_of e main first = record {
   exponent = trim_exponent (memory_in first.imports);
 }
 
--- an adapter that is trimmed: it is valid, its bytes are trimmed, and these are valid; what is recorded of them is what is
--- recorded of the adapter, restricted
+-- an adapter that is trimmed: it is valid, its bytes are trimmed, so that each item unfolds as before, and these are valid;
+-- what is recorded of them is what is recorded of the adapter, restricted
 pub record IsTrimmedAdapter (e : EncoderView) (main : ModuleRecord) (x : NamedAdapter) (w : WorldAdapterView) : Type 0 where
   pub first : ModuleRecord
   pub original : IsRecordOf (job_of e main x) x.1.wasm first
@@ -66,8 +66,9 @@ abbrev pub AreAdapters : EncoderView → ModuleRecord → List NamedWorldAdapter
 AreAdapters e main ys = AreMade e main e.adapters ys
 
 -- The imports and exports of the main module are recorded. The adapters are those that are kept: of each one that is
--- trimmed the bytes spell its edited original, cut to what its required exports reach and renamed by rank, and the
--- imports and exports of these bytes are recorded. Lowerings, exports used and live types are what the definitions give.
+-- trimmed the bytes spell its edited original, cut to what its required exports reach and renamed by rank, each export
+-- unfolds in them as in the edited original, and the imports and exports of these bytes are recorded. Lowerings, exports
+-- used and live types are what the definitions give.
 pub record IsWorldOf (options : OptionsOf) (e : EncoderView) (w : ComponentWorldView) : Type 0 where
   pub encoder : w.encoder ≡ e
   pub main : IsRecordOf (main_job e e.module_import_map) e.module_bytes w.info

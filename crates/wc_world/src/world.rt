@@ -143,7 +143,7 @@ impl<'a> ComponentWorld<'a> {
     /// - `Main`: the main module is not valid (`wc_validate::validate_module`).
     /// - `Adapter`: an adapter, or a library, is not (`wc_validate::validate_adapter_module`).
     /// - `Trim`: an adapter can't be trimmed (`wc_gc::run`).
-    /// - `Minimized`: an adapter is not valid once it is trimmed.
+    /// - `Minimized`: an adapter is not valid once it is trimmed: it imports one name of `__main_module__` twice.
     /// - `PageSize`: the memory that an adapter, or a library, imports has other pages than the main module's memory.
     /// - `Memory`: an allocation failed.
     pub fn new<O: ImportOptions>(
