@@ -57,15 +57,15 @@ unless : (b : Bool) → (b ≡ true → ⊥) → b ≡ false
 unless true h = absurd (h refl)
 unless false h = refl
 
-abbrev Apart : ExportValue → ExportValue → Type 0
-Apart x y = x.name ≢ y.name
+abbrev Differ : ExportValue → ExportValue → Type 0
+Differ x y = x.name ≢ y.name
 
-apart_back : (x y : ExportValue) → Apart x y → Apart y x
-apart_back x y h e = h (sym e)
+differ_back : (x y : ExportValue) → Differ x y → Differ y x
+differ_back x y h e = h (sym e)
 
 -- exports of distinct names
 
-module _ (es : List ExportValue) (pairs : AllPairs Apart es) where
+module _ (es : List ExportValue) (pairs : AllPairs Differ es) where
   abbrev Last : ℕ
   Last = length es - 1
 
@@ -73,7 +73,7 @@ module _ (es : List ExportValue) (pairs : AllPairs Apart es) where
   differ_at i j d h k other =
       elim (cases_lt i j) [
         | inl less ↦ pairs i j d less k
-        | inr more ↦ apart_back (get_or es j d) (get_or es i d) (pairs j i d (lower more) h)
+        | inr more ↦ differ_back (get_or es j d) (get_or es i d) (pairs j i d (lower more) h)
       ]
     where
       lower : j ≤ i → j < i
@@ -86,21 +86,21 @@ module _ (es : List ExportValue) (pairs : AllPairs Apart es) where
       elim (eqb_tells c.0 i) [
         | inl a ↦
             let same : c.0 ≡ i = a.1 in
-            (Last, omega (arith, h), (λ q. omega (arith, q, same, few)), sym (at_hole Apart apart_back es i d pairs c.0 e few same) ∙ c.2)
-        | inr b ↦ (c.0, omega (arith, few), b.1, sym (at_other Apart apart_back es i d pairs c.0 e few b.1) ∙ c.2)
+            (Last, omega (arith, h), (λ q. omega (arith, q, same, few)), sym (at_hole Differ differ_back es i d pairs c.0 e few same) ∙ c.2)
+        | inr b ↦ (c.0, omega (arith, few), b.1, sym (at_other Differ differ_back es i d pairs c.0 e few b.1) ∙ c.2)
       ]
     where
       few : c.0 < Last
-      few = let l = few_after Apart apart_back es i d pairs in let b = c.1 in omega (arith, l, b)
+      few = let l = few_after Differ differ_back es i d pairs in let b = c.1 in omega (arith, l, b)
 
   in_removed_back : (i j : ℕ) (d e : ExportValue) → i < length es → j < length es → j ≢ i → get_or es j e ≡ e → Contains (swap_remove es i d) e
   in_removed_back i j d e h k other is =
       elim (cases_lt j Last) [
-        | inl less ↦ (j, (let l = few_after Apart apart_back es i d pairs in omega (arith, l, less)), at_other Apart apart_back es i d pairs j e less other ∙ is)
+        | inl less ↦ (j, (let l = few_after Differ differ_back es i d pairs in omega (arith, l, less)), at_other Differ differ_back es i d pairs j e less other ∙ is)
         | inr more ↦
             let last : j ≡ Last = omega (arith, more, k) in
             let less : i < Last = lower last in
-            (i, (let l = few_after Apart apart_back es i d pairs in omega (arith, l, less)), at_hole Apart apart_back es i d pairs i e less refl ∙ (ap (λ n. get_or es n e) (sym last) ∙ is))
+            (i, (let l = few_after Differ differ_back es i d pairs in omega (arith, l, less)), at_hole Differ differ_back es i d pairs i e less refl ∙ (ap (λ n. get_or es n e) (sym last) ∙ is))
       ]
     where
       lower : j ≡ Last → i < Last
@@ -139,14 +139,14 @@ module _ (es : List ExportValue) (pairs : AllPairs Apart es) where
     removed_by x true h = taken x (ltb-true first (length es) h)
     removed_by x false h = none_taken (ltb-false first (length es) h)
 
-in_without : (es : List ExportValue) (pairs : AllPairs Apart es) (name : List ℕ) (e : ExportValue) → Contains (without es name) e ↔ (Contains es e × (bytes_eq name e.name ≡ false))
+in_without : (es : List ExportValue) (pairs : AllPairs Differ es) (name : List ℕ) (e : ExportValue) → Contains (without es name) e ↔ (Contains es e × (bytes_eq name e.name ≡ false))
 in_without [] pairs name e = ((λ c. absurd (let b = c.1 in omega (arith, b))), λ c. c.0)
 in_without (x ∷ xs) pairs name e = removed_by (x ∷ xs) pairs name e x (nat_lt (position_or_len (λ (y : ExportValue). bytes_eq name y.name) (x ∷ xs)) (length (x ∷ xs))) refl
 
-in_fold : (names : List (List ℕ)) (es : List ExportValue) (pairs : AllPairs Apart es) (e : ExportValue) → Contains (fold without es names) e ↔ (Contains es e × (list_any (λ n. bytes_eq n e.name) names ≡ false))
+in_fold : (names : List (List ℕ)) (es : List ExportValue) (pairs : AllPairs Differ es) (e : ExportValue) → Contains (fold without es names) e ↔ (Contains es e × (list_any (λ n. bytes_eq n e.name) names ≡ false))
 in_fold [] es pairs e = ((λ c. (c, refl)), λ c. c.0)
 in_fold (n ∷ names) es pairs e =
-    let rest = in_fold names (without es n) (pairs_without Apart apart_back es n pairs) e in
+    let rest = in_fold names (without es n) (pairs_without Differ differ_back es n pairs) e in
     let one = in_without es pairs n e in
     let any = list_any (λ k. bytes_eq k e.name) names in (
       (λ c. let r = rest.0 c in let o = one.0 r.0 in (o.0, ap (λ b. b || any) o.1 ∙ r.1)),

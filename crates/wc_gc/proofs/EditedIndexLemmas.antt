@@ -105,13 +105,13 @@ module _ (s : SettingsValue) (m : ModuleValue) (exports : List ExportValue) (liv
   not_both true false h = absurd cc
   not_both false b h = refl
 
-  apart : (l : Bool) (o : Option FuncCode) → (l && option_map_or (λ (f : FuncCode). is_imported f) o false) ≡ true → (l && option_map_or (λ (f : FuncCode). is_defined f) o false) ≡ false
-  apart true None h = refl
-  apart false None h = refl
-  apart l (Some g) h = not_both l (is_imported g) h
+  never_both : (l : Bool) (o : Option FuncCode) → (l && option_map_or (λ (f : FuncCode). is_imported f) o false) ≡ true → (l && option_map_or (λ (f : FuncCode). is_defined f) o false) ≡ false
+  never_both true None h = refl
+  never_both false None h = refl
+  never_both l (Some g) h = not_both l (is_imported g) h
 
   disjoint : AreDisjoint (is_kept_import edited) (is_kept_defined edited)
-  disjoint n h = apart (live (Funcs, n)) (slice_get olds n) h
+  disjoint n h = never_both (live (Funcs, n)) (slice_get olds n) h
 
   one_of : (b : Bool) → (true && b ≡ true) ⊎ (true && not b ≡ true)
   one_of true = inl refl

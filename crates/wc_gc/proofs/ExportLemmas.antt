@@ -188,9 +188,9 @@ name_at es i =
     ap (λ (v : ExportValue). v.name) (get-map export_value es i no_export)
     ∙ get-map (λ (e : ExportValue). e.name) (map export_value es) i (export_value no_export)
 
-apart_from : (es rest : List Export) (x : Export) → ((k : ℕ) → k < length es → (get_or (es ++ rest) k no_export).name.now ≢ x.name.now) → AllByRecursion (λ (e : Export). e.name.now ≢ x.name.now) es
-apart_from [] rest x h = tt
-apart_from (e ∷ es) rest x h = (h 0 (omega arith), apart_from es rest x (λ k lt. h (suc k) (omega arith)))
+differ_from : (es rest : List Export) (x : Export) → ((k : ℕ) → k < length es → (get_or (es ++ rest) k no_export).name.now ≢ x.name.now) → AllByRecursion (λ (e : Export). e.name.now ≢ x.name.now) es
+differ_from [] rest x h = tt
+differ_from (e ∷ es) rest x h = (h 0 (omega arith), differ_from es rest x (λ k lt. h (suc k) (omega arith)))
 
 pub inserted : (eq : Bor (List ℕ) → Bor (List ℕ) → Bool) → ((a b : Bor (List ℕ)) → eq a b ≡ bytes_eq a.now b.now) → (es : List Export) (i : ℕ) → i < length es
     → AllPairs (λ x y. x ≢ y) (map (λ (e : ExportValue). e.name) (map export_value es)) → (entries after : List Pair) → entries ≡ map by_name (take i es)
@@ -198,7 +198,7 @@ pub inserted : (eq : Bor (List ℕ) → Bor (List ℕ) → Bool) → ((a b : Bor
 inserted eq h es i lt pairs entries after was is =
     is ∙ (ap (λ (z : List Pair). insert_entry eq z (get_or es i no_export).name (get_or es i no_export)) was
     ∙ (insert_more eq h (take i es) (get_or es i no_export)
-    (apart_from (take i es) (drop i es) (get_or es i no_export) (λ k below same.
+    (differ_from (take i es) (drop i es) (get_or es i no_export) (λ k below same.
     let here : k < i = (let l = length-take-le i es (omega arith) in omega (arith, below)) in
     pairs k i [] here (rw (length_map (λ (e : ExportValue). e.name) (map export_value es), length_map export_value es) lt)
     (sym (name_at es k) ∙ (ap (λ (z : List Export). (get_or z k no_export).name.now) (sym (take-append-drop i es)) ∙ (same ∙ name_at es i)))))

@@ -100,11 +100,11 @@ module _ (e : EditedModule) (w : IsWhole e) where
       let count = kept_count (is_kept_import e) olds in
       let long = length-map kept_imports nf in
       let split : n ≡ length olds + (n - length olds) = omega (arith, past) in
-      let place : edited_rank e Funcs n ≡ length (map nf kept_imports) + (n - length olds) = let q = x.new in omega (arith, q, count, long) in
+      let position : edited_rank e Funcs n ≡ length (map nf kept_imports) + (n - length olds) = let q = x.new in omega (arith, q, count, long) in
       record {
         func = f.0;
         old = back_of olds (e.imports ++ e.funcs) n (n - length olds) f.0 split (front_at e.imports e.funcs (n - length olds) f.0 f.1);
-        new = back_of (map nf kept_imports) (map nf e.imports ++ (map nf kept_defined ++ map nf e.funcs)) (edited_rank e Funcs n) (n - length olds) (nf f.0) place
+        new = back_of (map nf kept_imports) (map nf e.imports ++ (map nf kept_defined ++ map nf e.funcs)) (edited_rank e Funcs n) (n - length olds) (nf f.0) position
             (front_at (map nf e.imports) (map nf kept_defined ++ map nf e.funcs) (n - length olds) (nf f.0) (mapped_at nf e.imports (n - length olds) f.0 f.1));
       }
   func_at n (inl b) (inr (inl x)) h =
@@ -113,11 +113,11 @@ module _ (e : EditedModule) (w : IsWhole e) where
       let long = length-map kept_imports nf in
       let wide = length-map e.imports nf in
       let k = count_below (is_kept_defined e) n in
-      let place : edited_rank e Funcs n ≡ length (map nf kept_imports) + (length (map nf e.imports) + k) = let q = x.new in omega (arith, q, count, long, wide) in
+      let position : edited_rank e Funcs n ≡ length (map nf kept_imports) + (length (map nf e.imports) + k) = let q = x.new in omega (arith, q, count, long, wide) in
       record {
         func = f.0;
         old = front_at olds (e.imports ++ e.funcs) n f.0 f.1;
-        new = back_of (map nf kept_imports) (map nf e.imports ++ (map nf kept_defined ++ map nf e.funcs)) (edited_rank e Funcs n) (length (map nf e.imports) + k) (nf f.0) place
+        new = back_of (map nf kept_imports) (map nf e.imports ++ (map nf kept_defined ++ map nf e.funcs)) (edited_rank e Funcs n) (length (map nf e.imports) + k) (nf f.0) position
             (back_of (map nf e.imports) (map nf kept_defined ++ map nf e.funcs) (length (map nf e.imports) + k) k (nf f.0) refl
             (front_at (map nf kept_defined) (map nf e.funcs) k (nf f.0) (mapped_at nf kept_defined k f.0 (rank_at (is_kept_defined e) olds n f.0 f.1 x.kept))));
       }
@@ -136,11 +136,11 @@ module _ (e : EditedModule) (w : IsWhole e) where
       let wide = length-map e.imports nf in
       let far = length-map kept_defined nf in
       let split : n ≡ length olds + (length e.imports + j) = omega (arith, past, many) in
-      let place : edited_rank e Funcs n ≡ length (map nf kept_imports) + (length (map nf e.imports) + (length (map nf kept_defined) + j)) = let q = x.new in omega (arith, q, count, count2, long, wide, far, past, many) in
+      let position : edited_rank e Funcs n ≡ length (map nf kept_imports) + (length (map nf e.imports) + (length (map nf kept_defined) + j)) = let q = x.new in omega (arith, q, count, count2, long, wide, far, past, many) in
       record {
         func = f.0;
         old = back_of olds (e.imports ++ e.funcs) n (length e.imports + j) f.0 split (back_of e.imports e.funcs (length e.imports + j) j f.0 refl f.1);
-        new = back_of (map nf kept_imports) (map nf e.imports ++ (map nf kept_defined ++ map nf e.funcs)) (edited_rank e Funcs n) (length (map nf e.imports) + (length (map nf kept_defined) + j)) (nf f.0) place
+        new = back_of (map nf kept_imports) (map nf e.imports ++ (map nf kept_defined ++ map nf e.funcs)) (edited_rank e Funcs n) (length (map nf e.imports) + (length (map nf kept_defined) + j)) (nf f.0) position
             (back_of (map nf e.imports) (map nf kept_defined ++ map nf e.funcs) (length (map nf e.imports) + (length (map nf kept_defined) + j)) (length (map nf kept_defined) + j) (nf f.0) refl
             (back_of (map nf kept_defined) (map nf e.funcs) (length (map nf kept_defined) + j) j (nf f.0) refl (mapped_at nf e.funcs j f.0 f.1)));
       }
@@ -182,9 +182,9 @@ module _ (e : EditedModule) (w : IsWhole e) where
       let t = get_some e.types (n - length e.value.types) few in
       let count = kept_count (λ k. e.kept (Types, k)) e.value.types in
       let split : n ≡ length e.value.types + (n - length e.value.types) = omega (arith, past) in
-      let place : edited_rank e Types n ≡ length kept_types + (n - length e.value.types) = let q = x.new in omega (arith, q, count) in
+      let position : edited_rank e Types n ≡ length kept_types + (n - length e.value.types) = let q = x.new in omega (arith, q, count) in
       plain type_entry (kept_types ++ e.types) (e.value.types ++ e.types) (edited_rank e Types n) n t.0
-      (back_of kept_types e.types (edited_rank e Types n) (n - length e.value.types) t.0 place t.1)
+      (back_of kept_types e.types (edited_rank e Types n) (n - length e.value.types) t.0 position t.1)
       (back_of e.value.types e.types n (n - length e.value.types) t.0 split t.1)
 
   none_changed_type : (o : Option FuncTypeValue) → renumber_entry (edited_rank e) (option_map_or type_entry o no_entry) ≡ option_map_or type_entry o no_entry

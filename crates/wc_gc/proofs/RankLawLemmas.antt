@@ -152,13 +152,13 @@ module _ (e : EditedModule) where
   not_both true false h = refl
   not_both false b h = refl
 
-  apart : (l : Bool) (o : Option FuncCode) → (l && option_map_or (λ (f : FuncCode). is_defined f) o false) ≡ true → (l && option_map_or (λ (f : FuncCode). is_imported f) o false) ≡ false
-  apart true None h = refl
-  apart false None h = refl
-  apart l (Some g) h = not_both l (is_imported g) h
+  never_both : (l : Bool) (o : Option FuncCode) → (l && option_map_or (λ (f : FuncCode). is_defined f) o false) ≡ true → (l && option_map_or (λ (f : FuncCode). is_imported f) o false) ≡ false
+  never_both true None h = refl
+  never_both false None h = refl
+  never_both l (Some g) h = not_both l (is_imported g) h
 
   no_import : (n : ℕ) → is_kept_defined e n ≡ true → is_kept_import e n ≡ false
-  no_import n d = apart (e.kept (Funcs, n)) (slice_get e.value.funcs n) d
+  no_import n d = never_both (e.kept (Funcs, n)) (slice_get e.value.funcs n) d
 
   -- what is kept of the functions is there
   there : (l : Bool) (p : FuncCode → Bool) (n : ℕ) (o : Option FuncCode) → slice_get e.value.funcs n ≡ o → (l && option_map_or p o false) ≡ true → n < olds

@@ -50,11 +50,11 @@ module _ (bytes : List ℕ) (required : List (List ℕ)) (m : ModuleValue) (live
   kept_are_exports =
       let w = spelled_writable bytes m all s in
       let v = s.has_sections.valid in
-      let apart : (a b : ExportValue) → a.name ≢ b.name → b.name ≢ a.name = λ a b h e. h (sym e) in
+      let differ_back : (a b : ExportValue) → a.name ≢ b.name → b.name ≢ a.name = λ a b h e. h (sym e) in
       record {
         can_be_spelled = all_kept IsExport required m.exports w.exports;
         there = all_kept (λ e. e.index < count_of m e.kind) required m.exports v.exported;
-        distinct = pairs_kept (λ a b. a.name ≢ b.name) apart required m.exports (pairs_named (λ (e : ExportValue). e.name) m.exports v.distinct);
+        distinct = pairs_kept (λ a b. a.name ≢ b.name) differ_back required m.exports (pairs_named (λ (e : ExportValue). e.name) m.exports v.distinct);
       }
 
   pub live_sound : ¬ (HasLiveBody required m) → (n : ℕ) → IsTrue (live (Funcs, n)) → is_sound_at (decode m) (Funcs, n) ≡ true

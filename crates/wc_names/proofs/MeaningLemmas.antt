@@ -25,7 +25,7 @@ use Rattle.wc_names.proofs.AsyncValueLemmas.{name_unique, not_async_lower}
 use Rattle.wc_names.proofs.InterfaceIdLemmas.{id_unique}
 use Rattle.wc_names.proofs.MemberLemmas.{member_unique}
 use Rattle.wc_names.proofs.NumberTextLemmas.{no_unit, number_unique}
-use Rattle.wc_names.proofs.PrefixLemmas.{no_clash_apart}
+use Rattle.wc_names.proofs.PrefixLemmas.{no_clash_differ}
 use Rattle.wc_names.proofs.SearchLemmas.{first_unique}
 
 -- what is found is one
@@ -137,7 +137,7 @@ environment_text_unique get_stack_pointer get_stack_pointer name x y = refl
 environment_text_unique set_stack_pointer set_stack_pointer name x y = refl
 environment_text_unique get_tls_base get_tls_base name x y = refl
 environment_text_unique set_tls_base set_tls_base name x y = refl
-environment_text_unique f g name x y = absurd (no_clash_apart (environment_row f).text (environment_row g).text [] [] refl (ap (λ (z : List ℕ). z ++ []) (sym x ∙ y)))
+environment_text_unique f g name x y = absurd (no_clash_differ (environment_row f).text (environment_row g).text [] [] refl (ap (λ (z : List ℕ). z ++ []) (sym x ∙ y)))
 
 environment_unique : (name : List ℕ) (ty : FuncTypeValue) (i j : ImportView) → IsEnvironmentImport name ty i → IsEnvironmentImport name ty j → i ≡ j
 environment_unique name ty i j x y =

@@ -15,10 +15,10 @@ clash_step c d cs ds x y false is no_clash rest e =
     let t : true ≡ false = sym (eq-eqb c d same) ∙ is in let bad : ⊥ = cc t in bad
 
 -- texts that don't clash begin no text together
-pub no_clash_apart : (p q x y : List ℕ) → clash p q ≡ false → p ++ x ≡ q ++ y → ⊥
-no_clash_apart [] q x y no_clash e = let bad : ⊥ = cc no_clash in bad
-no_clash_apart (c ∷ cs) [] x y no_clash e = let bad : ⊥ = cc no_clash in bad
-no_clash_apart (c ∷ cs) (d ∷ ds) x y no_clash e = clash_step c d cs ds x y (nat_eq c d) refl no_clash (no_clash_apart cs ds x y) e
+pub no_clash_differ : (p q x y : List ℕ) → clash p q ≡ false → p ++ x ≡ q ++ y → ⊥
+no_clash_differ [] q x y no_clash e = let bad : ⊥ = cc no_clash in bad
+no_clash_differ (c ∷ cs) [] x y no_clash e = let bad : ⊥ = cc no_clash in bad
+no_clash_differ (c ∷ cs) (d ∷ ds) x y no_clash e = clash_step c d cs ds x y (nat_eq c d) refl no_clash (no_clash_differ cs ds x y) e
 
 -- a text clashes with none of a list
 abbrev pub clashes_none : List ℕ → List (List ℕ) → Bool
@@ -46,8 +46,8 @@ pub prefix_free_unique : (ps : List (List ℕ)) (i j : ℕ) (p q x y : List ℕ)
 prefix_free_unique [] i j p q x y free at also e = absurd (let bad : ⊥ = cc at in bad)
 prefix_free_unique (r ∷ rs) zero zero p q x y free at also e = refl
 prefix_free_unique (r ∷ rs) zero (suc j) p q x y free at also e =
-    absurd (no_clash_apart p q x y (subst (λ (z : List ℕ). clash z q ≡ false) (let h : r ≡ p = cc at in h) (clashes_none_at r rs j q (free_parts (clashes_none r rs) (is_prefix_free rs) free).0 also)) e)
+    absurd (no_clash_differ p q x y (subst (λ (z : List ℕ). clash z q ≡ false) (let h : r ≡ p = cc at in h) (clashes_none_at r rs j q (free_parts (clashes_none r rs) (is_prefix_free rs) free).0 also)) e)
 prefix_free_unique (r ∷ rs) (suc i) zero p q x y free at also e =
-    absurd (no_clash_apart q p y x (subst (λ (z : List ℕ). clash z p ≡ false) (let h : r ≡ q = cc also in h) (clashes_none_at r rs i p (free_parts (clashes_none r rs) (is_prefix_free rs) free).0 at)) (sym e))
+    absurd (no_clash_differ q p y x (subst (λ (z : List ℕ). clash z p ≡ false) (let h : r ≡ q = cc also in h) (clashes_none_at r rs i p (free_parts (clashes_none r rs) (is_prefix_free rs) free).0 at)) (sym e))
 prefix_free_unique (r ∷ rs) (suc i) (suc j) p q x y free at also e =
     ap (λ (n : ℕ). suc n) (prefix_free_unique rs i j p q x y (free_parts (clashes_none r rs) (is_prefix_free rs) free).1 at also e)

@@ -23,14 +23,14 @@ differs name other = not (bytes_eq name other)
 
 -- whether another name is among names does not depend on this one
 any_other : (name other : List ℕ) (names : List (List ℕ)) → bytes_eq other name ≡ false → list_any (bytes_eq other) (filter (differs name) names) ≡ list_any (bytes_eq other) names
-any_other name other [] apart = refl
-any_other name other (x ∷ names) apart =
+any_other name other [] unequal = refl
+any_other name other (x ∷ names) unequal =
     elim (cases_Bool (bytes_eq name x)) [
       | inl same ↦
           (let is_x : name ≡ x = (bytes_eq-Decides name x).0 same in
-          let no : bytes_eq other x ≡ false = ap (bytes_eq other) (sym is_x) ∙ apart in
-          rw (same, no) (any_other name other names apart))
-      | inr differ ↦ rw differ (ap (λ b. bytes_eq other x || b) (any_other name other names apart))
+          let no : bytes_eq other x ≡ false = ap (bytes_eq other) (sym is_x) ∙ unequal in
+          rw (same, no) (any_other name other names unequal))
+      | inr differ ↦ rw differ (ap (λ b. bytes_eq other x || b) (any_other name other names unequal))
     ]
 
 -- a name put after a first one and the others
@@ -44,13 +44,13 @@ insert_after name other names =
             | inl there ↦ rw (same, there) refl
             | inr new ↦ rw (same, new) (ap (λ l. name ∷ l) (sym skipped))
           ])
-      | inr apart ↦
-          (let turned : bytes_eq name other ≡ false = bytes_eq-sym other name false apart in
+      | inr unequal ↦
+          (let turned : bytes_eq name other ≡ false = bytes_eq-sym other name false unequal in
           let kept : filter (differs name) (names ++ other ∷ []) ≡ filter (differs name) names ++ other ∷ [] = filter-append (differs name) names (other ∷ []) ∙ rw turned refl in
-          let any = any_other name other names apart in
+          let any = any_other name other names unequal in
           elim (cases_Bool (list_any (bytes_eq other) names)) [
-            | inl there ↦ rw (apart, any, there) refl
-            | inr new ↦ rw (apart, any, new) (ap (λ l. name ∷ l) (sym kept))
+            | inl there ↦ rw (unequal, any, there) refl
+            | inr new ↦ rw (unequal, any, new) (ap (λ l. name ∷ l) (sym kept))
           ])
     ]
 

@@ -7,10 +7,10 @@ use Rattle.std.proofs.lemmas.Slice.Eq.{bytes_eq-Decides}
 use Rattle.wc_tool.specs.Command.{IsTrimLine, IsPageOption, AreExports, realloc_arguments}
 use Rattle.wc_tool.specs.TrimArguments.{realloc_parts, page_of, page_parts, either_realloc, are_exports, checked_parts, parts_after, trim_parts, TrimParts}
 
-bytes_eq-apart : (a b : List ℕ) → a ≢ b → bytes_eq a b ≡ false
-bytes_eq-apart a b apart =
+bytes_eq-differ : (a b : List ℕ) → a ≢ b → bytes_eq a b ≡ false
+bytes_eq-differ a b unequal =
     elim (cases_Bool (bytes_eq a b)) [
-      | inl same ↦ absurd (apart ((bytes_eq-Decides a b).0 same))
+      | inl same ↦ absurd (unequal ((bytes_eq-Decides a b).0 same))
       | inr other ↦ other
     ]
 
@@ -123,17 +123,17 @@ trim_sound arguments realloc page exports h = after_sound arguments (realloc_par
 
 exports_complete : (exports : List (List ℕ)) → AreExports exports → are_exports exports ≡ true
 exports_complete [] h = absurd h
-exports_complete (first ∷ others) h = rw (bytes_eq-apart first (codes "--realloc") h.0, bytes_eq-apart first (codes "--page") h.1) refl
+exports_complete (first ∷ others) h = rw (bytes_eq-differ first (codes "--realloc") h.0, bytes_eq-differ first (codes "--page") h.1) refl
 
 no_realloc : (exports : List (List ℕ)) → AreExports exports → realloc_parts exports ≡ (None, exports)
 no_realloc [] h = absurd h
 no_realloc (first ∷ []) h = refl
-no_realloc (first ∷ second ∷ others) h = rw (bytes_eq-apart first (codes "--realloc") h.0) refl
+no_realloc (first ∷ second ∷ others) h = rw (bytes_eq-differ first (codes "--realloc") h.0) refl
 
 no_page : (exports : List (List ℕ)) → AreExports exports → page_parts exports ≡ Some (16, exports)
 no_page [] h = absurd h
 no_page (first ∷ []) h = refl
-no_page (first ∷ second ∷ others) h = rw (bytes_eq-apart first (codes "--page") h.1) refl
+no_page (first ∷ second ∷ others) h = rw (bytes_eq-differ first (codes "--page") h.1) refl
 
 realloc_complete : (name : Option (List ℕ)) (arguments : List (List ℕ)) → realloc_parts arguments ≡ (None, arguments) → realloc_parts (realloc_arguments name ++ arguments) ≡ (name, arguments)
 realloc_complete None arguments h = h

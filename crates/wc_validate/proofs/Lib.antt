@@ -29,7 +29,7 @@ pub mod ExportedItemLemmas
 pub mod RequirementLemmas
 pub mod ExportedFunctionLemmas
 pub mod ContainedLemmas
-pub mod ApartLemmas
+pub mod DistinctNameLemmas
 pub mod SingleEntryLemmas
 pub mod SoundPairLemmas
 pub mod RestrictedImportLemmas

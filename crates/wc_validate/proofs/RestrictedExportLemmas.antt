@@ -23,7 +23,7 @@ use Rattle.wc_validate.specs.ExportMaps.{ExportRecord, is_memory}
 use Rattle.wc_validate.specs.RecordedExports.{AreExports, HasMismatch, IsExportEntry, IsExportsFault, IsMismatched, entry_of}
 use Rattle.wc_validate.specs.Requirements.{AreMet, IsFirstUnmet, IsMet, IsUnmetFault, Requirement, as_function_type, callback_name, callbacks, function_name, function_names, functions_of, interface_functions, is_callback_for, is_called_back, item_requirement, key_requirement, key_requirements, memory_count, needs_callback, one_memory, requirements, type_requirement, typed_function, typed_name, world_function}
 use Rattle.wc_validate.specs.Rules.{HasSignature}
-use Rattle.wc_validate.proofs.ApartLemmas.{AreNamedApart, apart_kept, lookup_one, lookups_alike}
+use Rattle.wc_validate.proofs.DistinctNameLemmas.{HaveDistinctNames, distinct_kept, lookup_one, lookups_alike}
 use Rattle.wc_validate.proofs.ContainedLemmas.{all_by, found_there, kept_from, kept_there, none_some, some_same}
 use Rattle.wc_validate.proofs.LawLemmas.{entries_alike}
 use Rattle.wc_validate.proofs.RequirementLemmas.{at_most_one}
@@ -62,17 +62,17 @@ module _ (s : Setting) (keys : List KeyView) where
   ]
 
   -- names that are recorded occur once, if those of the exports do
-  recorded_at : (x : CoreExport) (o : Option ExportView) (rest : ExportRecord) → All (λ (y : List ℕ × ExportView). x.name ≢ y.0) rest → AreNamedApart (λ y. y.0) rest → AreNamedApart (λ y. y.0) (entry_of x.name o ++ rest)
-  recorded_at x None rest first apart = apart
-  recorded_at x (Some v) rest first apart = AllPairs-cons (λ (a b : List ℕ × ExportView). a.0 ≢ b.0) (x.name, v) rest first apart
+  recorded_at : (x : CoreExport) (o : Option ExportView) (rest : ExportRecord) → All (λ (y : List ℕ × ExportView). x.name ≢ y.0) rest → HaveDistinctNames (λ y. y.0) rest → HaveDistinctNames (λ y. y.0) (entry_of x.name o ++ rest)
+  recorded_at x None rest first distinct = distinct
+  recorded_at x (Some v) rest first distinct = AllPairs-cons (λ (a b : List ℕ × ExportView). a.0 ≢ b.0) (x.name, v) rest first distinct
 
-  apart_recorded : (xs : List CoreExport) (recorded : ExportRecord) → AreNamedApart (λ x. x.name) xs → AreExports s keys xs recorded → AreNamedApart (λ y. y.0) recorded
-  apart_recorded [] recorded apart h = subst (AreNamedApart (λ y. y.0)) (sym h) (pairs_none (λ (a b : List ℕ × ExportView). a.0 ≢ b.0))
-  apart_recorded (x ∷ xs) recorded apart h =
-      let first = pairs_head (λ (a b : CoreExport). a.name ≢ b.name) x xs apart in
+  distinct_recorded : (xs : List CoreExport) (recorded : ExportRecord) → HaveDistinctNames (λ x. x.name) xs → AreExports s keys xs recorded → HaveDistinctNames (λ y. y.0) recorded
+  distinct_recorded [] recorded distinct h = subst (HaveDistinctNames (λ y. y.0)) (sym h) (pairs_none (λ (a b : List ℕ × ExportView). a.0 ≢ b.0))
+  distinct_recorded (x ∷ xs) recorded distinct h =
+      let first = pairs_head (λ (a b : CoreExport). a.name ≢ b.name) x xs distinct in
       let others : All (λ (y : List ℕ × ExportView). x.name ≢ y.0) h.1 = all_by (λ (y : List ℕ × ExportView). x.name ≢ y.0) h.1
       (λ y there. let from = recorded_from xs h.1 y h.3 there in subst (λ n. x.name ≢ n) from.2 (All-contains (λ (a : CoreExport). x.name ≢ a.name) xs from.0 first from.1)) in
-      subst (AreNamedApart (λ y. y.0)) (sym h.4) (recorded_at x h.0 h.1 others (apart_recorded xs h.1 (pairs_tail (λ (a b : CoreExport). a.name ≢ b.name) x xs apart) h.3))
+      subst (HaveDistinctNames (λ y. y.0)) (sym h.4) (recorded_at x h.0 h.1 others (distinct_recorded xs h.1 (pairs_tail (λ (a b : CoreExport). a.name ≢ b.name) x xs distinct) h.3))
 
   mismatch_in : (xs : List CoreExport) → HasMismatch s keys xs → (x : CoreExport) × Contains xs x × IsMismatched s keys x
   mismatch_in [] h = absurd h
@@ -159,13 +159,13 @@ two_at : (b : Bool) (n : ℕ) (P : Type 0) → 1 < cond b (n + 1) n → (b ≡ t
 two_at true n P h here later = here refl (omega (arith, h))
 two_at false n P h here later = later h
 
-two_memories : (xs : ExportRecord) → AreNamedApart (λ (y : List ℕ × ExportView). y.0) xs → 1 < memory_count xs → HasTwo xs
-two_memories [] apart h = absurd (omega (arith, h))
-two_memories (x ∷ xs) apart h =
+two_memories : (xs : ExportRecord) → HaveDistinctNames (λ (y : List ℕ × ExportView). y.0) xs → 1 < memory_count xs → HasTwo xs
+two_memories [] distinct h = absurd (omega (arith, h))
+two_memories (x ∷ xs) distinct h =
     two_at (is_memory x.1) (memory_count xs) (HasTwo (x ∷ xs)) h
     (λ is more. let other = memory_some xs more in
-    (x, other.0, contains_head xs x, is, contains_tail x xs other.0 other.1, other.2, All-contains (HasOther x) xs other.0 (pairs_head HasOther x xs apart) other.1))
-    (λ more. let rest = two_memories xs (pairs_tail HasOther x xs apart) more in
+    (x, other.0, contains_head xs x, is, contains_tail x xs other.0 other.1, other.2, All-contains (HasOther x) xs other.0 (pairs_head HasOther x xs distinct) other.1))
+    (λ more. let rest = two_memories xs (pairs_tail HasOther x xs distinct) more in
     (rest.0, rest.1, contains_tail x xs rest.0 rest.2, rest.3, contains_tail x xs rest.1 rest.4, rest.5, rest.6))
 
 -- a required function's name is among these
@@ -206,17 +206,17 @@ module _ (s : Setting) (keys : List KeyView) (unique : ExportsUnique) (names : L
   pub forth : (y : List ℕ × ExportView) → Contains p y → Contains q y
   forth y there = moved s keys unique xs ys p q y first second there (λ x at named. kept x at (subst (Contains names) (sym named) (All-contains (λ (z : List ℕ × ExportView). Contains names z.0) p y recorded there)))
 
-  module _ (apart : AreNamedApart (λ (x : CoreExport). x.name) ys) where
-    record_apart : AreNamedApart (λ (y : List ℕ × ExportView). y.0) q
-    record_apart = apart_recorded s keys ys q apart second
+  module _ (distinct : HaveDistinctNames (λ (x : CoreExport). x.name) ys) where
+    record_distinct : HaveDistinctNames (λ (y : List ℕ × ExportView). y.0) q
+    record_distinct = distinct_recorded s keys ys q distinct second
 
     one_still : memory_count p ≤ 1 → memory_count q ≤ 1
-    one_still few = at_most_one (memory_count q) (λ many. let two = two_memories q record_apart many in
+    one_still few = at_most_one (memory_count q) (λ many. let two = two_memories q record_distinct many in
         two.6 (ap (λ (z : List ℕ × ExportView). z.0) (memory_same p two.0 two.1 few (back two.0 two.2) two.3 (back two.1 two.4) two.5)))
 
     called_alike : (e : List ℕ × ExportView) → is_called_back q e ≡ is_called_back p e
     unfolding is_called_back
-    called_alike e = ap (λ o. not (needs_callback e.1) || option_map_or (is_callback_for e.1) o false) (lookups_alike q record_apart p back forth (callback_name e.0))
+    called_alike e = ap (λ o. not (needs_callback e.1) || option_map_or (is_callback_for e.1) o false) (lookups_alike q record_distinct p back forth (callback_name e.0))
 
     functions_still : (f : Option ℕ × List ℕ) → Contains (function_names p) f → Contains (function_names q) f
     functions_still f there = let of = kept_from function_name p f there in kept_there function_name q of.0 f (forth of.0 of.1) of.2
@@ -225,7 +225,7 @@ module _ (s : Setting) (keys : List KeyView) (unique : ExportsUnique) (names : L
     typed_still name ty named h =
         let of = kept_from typed_name xs (name, ty) (found_there name (filter_map typed_name xs) ty h) in
         let there : Contains ys of.0 = kept of.0 of.1 (subst (Contains names) (keeps_name of.0 (name, ty) of.2) named) in
-        lookup_one (filter_map typed_name ys) (apart_kept typed_name (λ (x : CoreExport). x.name) (λ (y : List ℕ × FuncTypeValue). y.0) keeps_name ys apart) name ty (kept_there typed_name ys of.0 (name, ty) there of.2)
+        lookup_one (filter_map typed_name ys) (distinct_kept typed_name (λ (x : CoreExport). x.name) (λ (y : List ℕ × FuncTypeValue). y.0) keeps_name ys distinct) name ty (kept_there typed_name ys of.0 (name, ty) there of.2)
 
     met_still : (r : ResolveView) (need : Requirement) → IsNamedIn names need → IsMet r xs p need → IsMet r ys q need
     met_still r one_memory named h = one_still h
@@ -256,7 +256,7 @@ mismatch_of s keys xs f other h = absurd h
 
 -- neither the exports nor what is required is refused
 module _ (s : Setting) (keys : List KeyView) (unique : ExportsUnique) (names : List (List ℕ)) (xs ys : List CoreExport) (p : ExportRecord) (first : AreExports s keys xs p)
-    (apart : AreNamedApart (λ (x : CoreExport). x.name) ys) (from : (x : CoreExport) → Contains ys x → Contains xs x) (kept : (x : CoreExport) → Contains xs x → Contains names x.name → Contains ys x)
+    (distinct : HaveDistinctNames (λ (x : CoreExport). x.name) ys) (from : (x : CoreExport) → Contains ys x → Contains xs x) (kept : (x : CoreExport) → Contains xs x → Contains names x.name → Contains ys x)
     (recorded : All (λ (y : List ℕ × ExportView). Contains names y.0) p) (required : List (List ℕ × FuncTypeValue)) (named : All (λ (f : List ℕ × FuncTypeValue). Contains names f.0) required) where
   abbrev needs : List Requirement
   needs = requirements s.world.exports keys required
@@ -265,5 +265,5 @@ module _ (s : Setting) (keys : List KeyView) (unique : ExportsUnique) (names : L
       → ¬ (IsExportsFault s keys ys f ⊎ ((q : ExportRecord) × AreExports s keys ys q × IsUnmetFault s.resolve ys q needs f))
   exports_valid f other met (inl h) = exports_sound s keys unique xs ys p first from (mismatch_of s keys ys f other h)
   exports_valid f other met (inr h) =
-      not_unmet s.resolve ys h.0 needs f (all_met s keys unique names xs ys p h.0 first h.1 from kept recorded apart s.resolve needs (all_named names s.world.exports keys required named) met)
+      not_unmet s.resolve ys h.0 needs f (all_met s keys unique names xs ys p h.0 first h.1 from kept recorded distinct s.resolve needs (all_named names s.world.exports keys required named) met)
       (first_unmet s.resolve ys h.0 needs f other h.2)

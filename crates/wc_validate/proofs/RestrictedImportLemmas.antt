@@ -22,7 +22,7 @@ use Rattle.wc_validate.specs.Faults.{fault_kind}
 use Rattle.wc_validate.specs.Imports.{AreEntries, ImportSetting, IsCoreImport, IsEntry, IsEntryCause, IsFaultOfImport, IsImportFault, entry_faults, original_name}
 use Rattle.wc_validate.specs.Restriction.{AreDistinct, HasCollision, HasOrigin, IsSameImport, main_module}
 use Rattle.wc_validate.specs.Rules.{HasSignature, IsNameFault}
-use Rattle.wc_validate.proofs.ApartLemmas.{pair_either, pairs_before}
+use Rattle.wc_validate.proofs.DistinctNameLemmas.{pair_either, pairs_before}
 use Rattle.wc_validate.proofs.ContainedLemmas.{all_by, first_from}
 use Rattle.wc_validate.proofs.LawLemmas.{one_core, one_entry, same_import, same_signature}
 use Rattle.wc_validate.proofs.RuleLemmas.{not_both}
@@ -63,7 +63,7 @@ not_refused e unique a v wanted meant signed other_fault h = h
 main_meant : (e : Setting) (a : CoreImport) → a.from ≡ main_module → Classified e a (means (main_module_export a.name (extern_kind a.ty)) None)
 main_meant e a at = inr ((λ p h. not_both a.from h.0 at), inl (at, refl))
 
--- an import with a fault, those in front of it, and their entries
+-- an import with a fault, those before it, and their entries
 record FaultAt (s : ImportSetting) (before : List Entry) (is : List ImportValue) (f : ValidateFault) : Type 0 where
   pub front : List ImportValue
   pub import : ImportValue
@@ -96,7 +96,7 @@ fault_at s before (i ∷ is) f (inr h) =
       fault = subst (λ z. IsFaultOfImport s z rest.import f) (append_assoc before (h.0 ∷ []) rest.entries) rest.fault;
     }
 
--- the origin of an import, and of those in front of it
+-- the origin of an import, and of those before it
 record OriginAt (v m : ModuleValue) (os : List (Option ℕ)) (front : List ImportValue) (i : ImportValue) : Type 0 where
   pub before : List (Option ℕ)
   pub origin : Option ℕ
@@ -116,16 +116,16 @@ origin_at v m (o ∷ os) (j ∷ front) i back h =
 abbrev IsMainEntry : Entry → Type 0
 IsMainEntry x = (name n : List ℕ) × (k : ExportKind) × (x ≡ single main_module name (main_module_export n k))
 
--- an import in front of one: both are not from one position
+-- an import before one: both are not from one position
 record IsEarlier (e : Setting) (renames : Option (List RenameValue)) (v m : ModuleValue) (o : Option ℕ) (front : List ImportValue) (y : Entry) : Type 0 where
   pub origin : Option ℕ
   pub import : ImportValue
   pub there : Contains front import
   pub from : HasOrigin v m origin import
   pub entry : IsEntry (setting_of e renames m) import y
-  pub apart : origin ≡ o → origin ≡ None
+  pub differs : origin ≡ o → origin ≡ None
 
--- an import in front of one of the main module has its module and its name
+-- an import before one of the main module has its module and its name
 record Collides (front : List ImportValue) (i : ImportValue) : Type 0 where
   pub of_main : i.module_name ≡ main_module
   pub first : ImportValue
@@ -135,23 +135,23 @@ record Collides (front : List ImportValue) (i : ImportValue) : Type 0 where
 
 module _ (e : Setting) (renames : Option (List RenameValue)) (v m : ModuleValue) where
   further : (o : Option ℕ) (k : ImportValue) (front : List ImportValue) (y : Entry) → IsEarlier e renames v m o front y → IsEarlier e renames v m o (k ∷ front) y
-  further o k front y r = record { origin = r.origin; import = r.import; there = contains_tail k front r.import r.there; from = r.from; entry = r.entry; apart = r.apart }
+  further o k front y r = record { origin = r.origin; import = r.import; there = contains_tail k front r.import r.there; from = r.from; entry = r.entry; differs = r.differs }
 
   earlier : (o : Option ℕ) (os : List (Option ℕ)) (front : List ImportValue) (ys : List Entry) → AllZip (HasOrigin v m) os front → AllZip (IsEntry (setting_of e renames m)) front ys → All (λ a. a ≡ o → a ≡ None) os
       → (y : Entry) → Contains ys y → IsEarlier e renames v m o front y
-  earlier o os front [] from recorded apart y h = absurd (contains_none y h)
-  earlier o os [] (z ∷ ys) from recorded apart y h = absurd recorded
-  earlier o [] (k ∷ front) (z ∷ ys) from recorded apart y h = absurd from
-  earlier o (a ∷ os) (k ∷ front) (z ∷ ys) from recorded apart y h = elim (contains_cons z ys y h) [
+  earlier o os front [] from recorded differs y h = absurd (contains_none y h)
+  earlier o os [] (z ∷ ys) from recorded differs y h = absurd recorded
+  earlier o [] (k ∷ front) (z ∷ ys) from recorded differs y h = absurd from
+  earlier o (a ∷ os) (k ∷ front) (z ∷ ys) from recorded differs y h = elim (contains_cons z ys y h) [
     | inl is ↦ record {
       origin = a;
       import = k;
       there = contains_head front k;
       from = from.0;
       entry = subst (IsEntry (setting_of e renames m) k) is recorded.0;
-      apart = All-head (λ b. b ≡ o → b ≡ None) a os apart;
+      differs = All-head (λ b. b ≡ o → b ≡ None) a os differs;
     }
-    | inr later ↦ further o k front y (earlier o os front ys from.1 recorded.1 (All-tail (λ b. b ≡ o → b ≡ None) a os apart) y later)
+    | inr later ↦ further o k front y (earlier o os front ys from.1 recorded.1 (All-tail (λ b. b ≡ o → b ≡ None) a os differs) y later)
   ]
 
   same_core : (j i : ImportValue) (a : CoreImport) → IsSameImport v m j i → IsCoreImport (setting_of e renames m) i a → IsCoreImport (setting_of e renames v) j a
@@ -207,11 +207,11 @@ module _ (e : Setting) (renames : Option (List RenameValue)) (v m : ModuleValue)
     -- two imports: one is a function of the main module, or they can stand together
     related : (a o : Option ℕ) (k i : ImportValue) (y z : Entry) → (a ≡ o → a ≡ None) → HasOrigin v m a k → HasOrigin v m o i → IsEntry (setting_of e renames m) k y → IsEntry (setting_of e renames m) i z
         → IsMainEntry y ⊎ (IsMainEntry z ⊎ AreCompatible y z)
-    related None o k i y z apart from_k from_i entry_k entry_i = inl (main_entry k y from_k entry_k)
-    related (Some q) None k i y z apart from_k from_i entry_k entry_i = inr (inl (main_entry i z from_i entry_i))
-    related (Some q) (Some p) k i y z apart from_k from_i entry_k entry_i =
+    related None o k i y z differs from_k from_i entry_k entry_i = inl (main_entry k y from_k entry_k)
+    related (Some q) None k i y z differs from_k from_i entry_k entry_i = inr (inl (main_entry i z from_i entry_i))
+    related (Some q) (Some p) k i y z differs from_k from_i entry_k entry_i =
         inr (inr (either_way y z
-        (pair_either AreCompatible xs q p y z (pairs_compatible (setting_of e renames v) (alone e renames v) v.imports xs entries) (λ is. let some : Some q ≡ None = apart (ap Some is) in let bad : ⊥ = cc some in bad)
+        (pair_either AreCompatible xs q p y z (pairs_compatible (setting_of e renames v) (alone e renames v) v.imports xs entries) (λ is. let some : Some q ≡ None = differs (ap Some is) in let bad : ⊥ = cc some in bad)
         (entry_of q from_k.0 k y from_k.1 from_k.2 entry_k) (entry_of p from_i.0 i z from_i.1 from_i.2 entry_i))))
 
     module _ (o : Option ℕ) (i : ImportValue) (w : ImportView) (front : List ImportValue) (ys : List Entry) (from : HasOrigin v m o i) (entry : IsEntry (setting_of e renames m) i (single i.module_name i.name w))
@@ -223,7 +223,7 @@ module _ (e : Setting) (renames : Option (List RenameValue)) (v m : ModuleValue)
       Related y = IsMainEntry y ⊎ (IsMainEntry here ⊎ AreCompatible y here)
 
       is_related : (y : Entry) → Contains ys y → Related y
-      is_related y there = let k = each y there in related k.origin o k.import i y here k.apart k.from from k.entry entry
+      is_related y there = let k = each y there in related k.origin o k.import i y here k.differs k.from from k.entry entry
 
       no_memories : (y : Entry) (ty other : MemoryType) → w ≡ main_module_memory ty → memory_of y ≡ Some other → ¬ Related y
       no_memories y ty other is own (inl main) = let both : None ≡ Some other = sym (ap memory_of main.3) ∙ own in let bad : ⊥ = cc both in bad
@@ -272,10 +272,10 @@ module _ (e : Setting) (renames : Option (List RenameValue)) (v m : ModuleValue)
 
     -- the fault of the imports
     pub imports_refused : (os : List (Option ℕ)) → AllZip (HasOrigin v m) os m.imports → AreDistinct os → (f : ValidateFault) → IsImportFault (setting_of e renames m) [] m.imports f → (f ≡ DuplicateImport) × HasCollision m
-    imports_refused os from apart f h =
+    imports_refused os from differs f h =
         let at = fault_at (setting_of e renames m) [] m.imports f h in
         let origin = origin_at v m os at.front at.import at.back (subst (AllZip (HasOrigin v m) os) at.cut from) in
-        let others = pairs_before (λ a b. a ≡ b → a ≡ None) origin.before origin.origin origin.after (subst AreDistinct origin.cut apart) in
+        let others = pairs_before (λ a b. a ≡ b → a ≡ None) origin.before origin.origin origin.after (subst AreDistinct origin.cut differs) in
         let refused = of_fault origin.origin at.import at.front at.entries f origin.from (earlier origin.origin origin.before at.front at.entries origin.front_from at.recorded others) at.fault in (
           refused.0,
           record {

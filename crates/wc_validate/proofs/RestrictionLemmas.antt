@@ -25,7 +25,7 @@ use Rattle.wc_validate.specs.RecordedExports.{AreExports, IsExportsFault, core_e
 use Rattle.wc_validate.specs.Requirements.{IsUnmetFault, requirements}
 use Rattle.wc_validate.specs.Restriction.{AreNeeded, HasCollision, IsKeptExport, IsModuleRecord, IsOldExport, IsRestrictedImport, IsRestriction, IsSameExport, RestrictionsRecorded, RestrictionsValid}
 use Rattle.wc_validate.specs.Validated.{IsExportsCause, IsImportsCause, IsSettingFor, IsSettingOf, Job, ModuleRecord}
-use Rattle.wc_validate.proofs.ApartLemmas.{AreNamedApart, apart_kept, apart_unmapped}
+use Rattle.wc_validate.proofs.DistinctNameLemmas.{HaveDistinctNames, distinct_kept, distinct_unmapped}
 use Rattle.wc_validate.proofs.ContainedLemmas.{kept_from, kept_there, none_some, some_same}
 use Rattle.wc_validate.proofs.LawLemmas.{one_setting}
 use Rattle.wc_validate.proofs.RestrictedExportLemmas.{back, exports_valid, forth}
@@ -37,11 +37,11 @@ named_at : (e : ExportValue) (o : Option ExternType) (x : CoreExport) → option
 named_at e None x h = absurd (none_some x h)
 named_at e (Some ty) x h = ap (λ (z : CoreExport). z.name) (sym (some_same h))
 
-exports_apart : (m : ModuleValue) → IsModule m → AreNamedApart (λ (x : CoreExport). x.name) (core_exports m m.exports)
+exports_distinct : (m : ModuleValue) → IsModule m → HaveDistinctNames (λ (x : CoreExport). x.name) (core_exports m m.exports)
 unfolding core_exports
-exports_apart m h =
-    apart_kept (typed_export m) (λ (e : ExportValue). e.name) (λ (x : CoreExport). x.name) (λ e x is. named_at e (item_type m e.kind e.index) x is) m.exports
-    (apart_unmapped (λ (e : ExportValue). e.name) m.exports h.distinct)
+exports_distinct m h =
+    distinct_kept (typed_export m) (λ (e : ExportValue). e.name) (λ (x : CoreExport). x.name) (λ e x is. named_at e (item_type m e.kind e.index) x is) m.exports
+    (distinct_unmapped (λ (e : ExportValue). e.name) m.exports h.distinct)
 
 -- exports that are the same have one name and one type
 same_typed : (v m : ModuleValue) (x y : ExportValue) → IsSameExport v m x y → typed_export v x ≡ typed_export m y
@@ -103,7 +103,7 @@ exports_part unique j v m r names f valid needed restriction is other h =
     let same = one_setting j.encoder cause.0 first.0 cause.1 first.1 in
     let xs = core_exports v v.exports in
     let ys = core_exports m m.exports in
-    exports_valid first.0 j.keys unique names xs ys r.exports first.2 (exports_apart m is) (core_from v m restriction.old_exports) (core_kept v m names restriction.kept_exports) needed.recorded j.required needed.required f other first.3
+    exports_valid first.0 j.keys unique names xs ys r.exports first.2 (exports_distinct m is) (core_from v m restriction.old_exports) (core_kept v m names restriction.kept_exports) needed.recorded j.required needed.required f other first.3
     (subst (λ z. IsExportsFault z j.keys ys f ⊎ ((q : ExportRecord) × AreExports z j.keys ys q × IsUnmetFault z.resolve ys q (requirements z.world.exports j.keys j.required) f)) same cause.2)
 
 pub restrictions_valid : (e : EncoderView) → MeaningsUnique e.resolve → ExportsUnique → RestrictionsValid e

@@ -8,7 +8,7 @@ use Rattle.wc_encoder.proofs.PairLemmas.{pairs_none}
 use Rattle.wc_names.specs.Views.{ImportView}
 use Rattle.wc_validate.specs.Entries.{Entry, single}
 use Rattle.wc_validate.specs.Imports.{AreEntries, ImportSetting, IsEntry}
-use Rattle.wc_validate.proofs.ApartLemmas.{pair_either}
+use Rattle.wc_validate.proofs.DistinctNameLemmas.{pair_either}
 use Rattle.wc_validate.proofs.ContainedLemmas.{none_some, some_same}
 use Rattle.wc_validate.proofs.SingleEntryLemmas.{AgreesWithFirst, AreCompatible, IsSingle, agrees_more, agrees_none, sound_compatible}
 

@@ -72,7 +72,7 @@ pub record AreNeeded (j : Job) (r : ModuleRecord) (names : List (List ℕ)) : Ty
   pub recorded : All (λ (x : List ℕ × ExportView). Contains names x.0) r.exports
   pub required : All (λ (f : List ℕ × FuncTypeValue). Contains names f.0) j.required
 
--- an import of the main module, and one in front of it that has its module and its name
+-- an import of the main module, and one before it that has its module and its name
 pub record HasCollision (m : ModuleValue) : Type 0 where
   pub front : List ImportValue
   pub second : ImportValue

@@ -86,10 +86,10 @@ module _ (e : EncoderView) (main : ModuleRecord) (x : NamedAdapter) (passed : Li
   pub made_last : (old new : List RawAdapter) (key : Bor (List ℕ)) (a : WorldAdapter) → is_kept e main x ≡ true → key.now ≡ x.0 → new ≡ insert_entry (λ (a c : Bor (List ℕ)). bytes_eq a.now c.now) old key a
       → IsAdapterOf e main x (adapter_entry (key, a)) → All (HasOtherName x.0) passed → AreMade e main passed (map adapter_entry old) → AreMade e main (passed ++ x ∷ []) (map adapter_entry new)
   made_last old new key a kept is put made others h =
-      let apart : AllByRecursion (λ (y : NamedWorldAdapter). y.0 ≢ key.now) (map adapter_entry old) =
+      let differs : AllByRecursion (λ (y : NamedWorldAdapter). y.0 ≢ key.now) (map adapter_entry old) =
       subst (λ n. AllByRecursion (λ (y : NamedWorldAdapter). y.0 ≢ n) (map adapter_entry old)) (sym is)
       (other_names e main x.0 (filter (is_kept e main) passed) (map adapter_entry old) (kept_all (HasOtherName x.0) (is_kept e main) passed (recursion_from_All (HasOtherName x.0) passed others)) h) in
-      let more : map adapter_entry new ≡ map adapter_entry old ++ adapter_entry (key, a) ∷ [] = ap (map adapter_entry) (put ∙ put_last old (key, a) apart) ∙ map-append adapter_entry old ((key, a) ∷ []) in
+      let more : map adapter_entry new ≡ map adapter_entry old ++ adapter_entry (key, a) ∷ [] = ap (map adapter_entry) (put ∙ put_last old (key, a) differs) ∙ map-append adapter_entry old ((key, a) ∷ []) in
       subst (λ z. AreMade e main (passed ++ x ∷ []) z) (sym more)
       (subst (λ z. AllZip (IsAdapterOf e main) z (map adapter_entry old ++ adapter_entry (key, a) ∷ [])) (sym (kept_push (is_kept e main) passed x true kept))
       (zip_push (IsAdapterOf e main) (filter (is_kept e main) passed) (map adapter_entry old) x (adapter_entry (key, a)) h made))

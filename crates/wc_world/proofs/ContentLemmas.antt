@@ -130,9 +130,9 @@ bools_same false false to from = refl
 bools_same true false to from = sym (to refl)
 bools_same false true to from = from refl
 
--- of the first i it is told which have text
-pub texts_told : (lists : Bool) (types : List TypeView) (front texts : List ℕ) → TextsBelow lists types front texts → (x : ℕ) → Contains front x → is_in texts x ≡ text_of lists types x
-texts_told lists types front texts t x h = bools_same (is_in texts x) (text_of lists types x) (t.sound x) (t.there x h)
+-- of the first i it is known which have text
+pub texts_known : (lists : Bool) (types : List TypeView) (front texts : List ℕ) → TextsBelow lists types front texts → (x : ℕ) → Contains front x → is_in texts x ≡ text_of lists types x
+texts_known lists types front texts t x h = bools_same (is_in texts x) (text_of lists types x) (t.sound x) (t.there x h)
 
 pub texts_start : (lists : Bool) (types : List TypeView) (texts : List ℕ) → texts ≡ [] → TextsBelow lists types [] texts
 texts_start lists types texts none = subst (TextsBelow lists types []) (sym none) (record {
@@ -221,7 +221,7 @@ pub text_found : (lists : Bool) (types : List TypeView) (order texts : List ℕ)
     → TextsBelow lists types (take i order) texts → i < length order → x ≡ get_or order i 0 → b ≡ text_rule lists (is_in texts) x (kind_at types x) → b ≡ text_of lists types x
 text_found lists types order texts i x b follows lead o t small at is =
     let before : (c : ℕ) → Contains (children types x) c → is_in texts c ≡ text_of lists types c =
-    λ c k. texts_told lists types (take i order) texts t c (o.first i c small (subst (λ (z : ℕ). Contains (children types z) c) at k)) in
+    λ c k. texts_known lists types (take i order) texts t c (o.first i c small (subst (λ (z : ℕ). Contains (children types z) c) at k)) in
     let within : x < length types = o.within x (subst (Contains order) (sym at) (Contains-get_or order i 0 small)) in
     is ∙ (text_looks_down lists types (is_in texts) (text_of lists types) x before ∙ sym (text_follows lists types follows lead x within))
 
@@ -265,9 +265,9 @@ texts_next lists types order i t b old new follows lead o small at is made below
     let x : ℕ = (get_or order i (record { 0 = 0 })).0 in
     let at_x : x ≡ get_or (indices order) i 0 = get_index order i small in
     let kind : Some t.kind ≡ kind_at types x = sym (ap (option_map (λ (v : TypeView). v.kind)) at) in
-    let told : b ≡ text_of lists types x = text_found lists types (indices order) old i x b follows lead o below short at_x (is ∙ ap (text_rule lists (is_in old) x) kind) in
+    let known : b ≡ text_of lists types x = text_found lists types (indices order) old i x b follows lead o below short at_x (is ∙ ap (text_rule lists (is_in old) x) kind) in
     let front : take (i + 1) (indices order) ≡ take i (indices order) ++ x ∷ [] = take_more (indices order) i 0 short ∙ ap (λ z. take i (indices order) ++ z ∷ []) (sym at_x) in
-    subst (λ z. TextsBelow lists types z new) (sym front) (cases x b told made)
+    subst (λ z. TextsBelow lists types z new) (sym front) (cases x b known made)
   where
     cases : (x : ℕ) (c : Bool) → c ≡ text_of lists types x → new ≡ (if c then with_live old x else old) → TextsBelow lists types (take i (indices order) ++ x ∷ []) new
     cases x true has is = subst (TextsBelow lists types (take i (indices order) ++ x ∷ [])) (sym is) (texts_with lists types (take i (indices order)) old x (sym has) below)

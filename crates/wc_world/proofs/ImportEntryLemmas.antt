@@ -25,8 +25,8 @@ use Rattle.wc_world.specs.Slots.{all_imports, imports_of}
 use Rattle.wc_world.specs.Views.{ImportMapView, ImportedView, NamedWorldAdapter}
 use Rattle.wc_world.proofs.PairListLemmas.{pairs_front}
 
-abbrev Apart : ImportEntry → ImportEntry → Type 0
-Apart x y = x.0 ≢ y.0
+abbrev Differ : ImportEntry → ImportEntry → Type 0
+Differ x y = x.0 ≢ y.0
 
 pub some_entry : (a b : ImportEntry) → Some a ≡ Some b → a ≡ b
 some_entry a b same = cc same
@@ -132,19 +132,19 @@ module _ (l : Lowerer) where
     entries_all P ((key, type_item t) ∷ rest) none h =
         All-cons (λ (e : ImportEntry). P e.0) (own_entry l imports) (filter_map (interface_entry l) rest) none (interfaces_all P rest (All-tail (λ x. P (import_name l.resolve x)) (key, type_item t) rest h))
 
-    abbrev AreNamesApart : Entries → Type 0
-    AreNamesApart rest = AllPairs (λ n m. n ≢ m) (map (import_name l.resolve) rest)
+    abbrev HaveDistinctNames : Entries → Type 0
+    HaveDistinctNames rest = AllPairs (λ n m. n ≢ m) (map (import_name l.resolve) rest)
 
-    names_after : (x : KeyView × ItemView) (rest : Entries) → AreNamesApart (x ∷ rest) → All (λ y. import_name l.resolve x ≢ import_name l.resolve y) rest
+    names_after : (x : KeyView × ItemView) (rest : Entries) → HaveDistinctNames (x ∷ rest) → All (λ y. import_name l.resolve x ≢ import_name l.resolve y) rest
     names_after x rest h = all_unviewed (import_name l.resolve) (λ m. import_name l.resolve x ≢ m) rest (pairs_head (λ n m. n ≢ m) (import_name l.resolve x) (map (import_name l.resolve) rest) h)
 
-    names_rest : (x : KeyView × ItemView) (rest : Entries) → AreNamesApart (x ∷ rest) → AreNamesApart rest
+    names_rest : (x : KeyView × ItemView) (rest : Entries) → HaveDistinctNames (x ∷ rest) → HaveDistinctNames rest
     names_rest x rest h = pairs_tail (λ n m. n ≢ m) (import_name l.resolve x) (map (import_name l.resolve) rest) h
 
-    interfaces_distinct : (rest : Entries) → AreNamesApart rest → AreEntriesDistinct (filter_map (interface_entry l) rest)
-    interfaces_distinct [] h = pairs_none Apart
+    interfaces_distinct : (rest : Entries) → HaveDistinctNames rest → AreEntriesDistinct (filter_map (interface_entry l) rest)
+    interfaces_distinct [] h = pairs_none Differ
     interfaces_distinct ((key, interface_item i external) ∷ rest) h =
-        AllPairs-cons Apart (entry_at key i external) (filter_map (interface_entry l) rest)
+        AllPairs-cons Differ (entry_at key i external) (filter_map (interface_entry l) rest)
         (interfaces_all (λ m. key_text parts_text l.resolve key ≢ m) rest (names_after (key, interface_item i external) rest h)) (interfaces_distinct rest (names_rest (key, interface_item i external) rest h))
     interfaces_distinct ((key, function_item f) ∷ rest) h = interfaces_distinct rest (names_rest (key, function_item f) rest h)
     interfaces_distinct ((key, type_item t) ∷ rest) h = interfaces_distinct rest (names_rest (key, type_item t) rest h)
@@ -156,22 +156,22 @@ module _ (l : Lowerer) where
     abbrev HaveNames : Entries → Type 0
     HaveNames rest = All (λ x. IsSome (import_name l.resolve x)) rest
 
-    own_apart : (x : KeyView × ItemView) (rest : Entries) → HaveNames (x ∷ rest) → AreNamesApart (x ∷ rest) → AreEntriesDistinct (own_entry l imports ∷ filter_map (interface_entry l) rest)
-    own_apart x rest named h =
-        AllPairs-cons Apart (own_entry l imports) (filter_map (interface_entry l) rest)
+    own_distinct : (x : KeyView × ItemView) (rest : Entries) → HaveNames (x ∷ rest) → HaveDistinctNames (x ∷ rest) → AreEntriesDistinct (own_entry l imports ∷ filter_map (interface_entry l) rest)
+    own_distinct x rest named h =
+        AllPairs-cons Differ (own_entry l imports) (filter_map (interface_entry l) rest)
         (interfaces_all (λ m. None ≢ m) rest
         (All-weaker (λ y. IsSome (import_name l.resolve y)) (λ y. None ≢ import_name l.resolve y) (λ y some same. is_not_none (import_name l.resolve y) some (sym same)) rest (All-tail (λ y. IsSome (import_name l.resolve y)) x rest named)))
         (interfaces_distinct rest (names_rest x rest h))
 
-    pub entries_distinct : (rest : Entries) → HaveNames rest → AreNamesApart rest → AreEntriesDistinct (entries_from l imports rest)
-    entries_distinct [] named h = pairs_none Apart
+    pub entries_distinct : (rest : Entries) → HaveNames rest → HaveDistinctNames rest → AreEntriesDistinct (entries_from l imports rest)
+    entries_distinct [] named h = pairs_none Differ
     entries_distinct ((key, interface_item i external) ∷ rest) named h =
-        AllPairs-cons Apart (entry_at key i external) (entries_from l imports rest)
+        AllPairs-cons Differ (entry_at key i external) (entries_from l imports rest)
         (entries_all (λ m. key_text parts_text l.resolve key ≢ m) rest
         (is_not_none (key_text parts_text l.resolve key) (All-head (λ y. IsSome (import_name l.resolve y)) (key, interface_item i external) rest named)) (names_after (key, interface_item i external) rest h))
         (entries_distinct rest (All-tail (λ y. IsSome (import_name l.resolve y)) (key, interface_item i external) rest named) (names_rest (key, interface_item i external) rest h))
-    entries_distinct ((key, function_item f) ∷ rest) named h = own_apart (key, function_item f) rest named h
-    entries_distinct ((key, type_item t) ∷ rest) named h = own_apart (key, type_item t) rest named h
+    entries_distinct ((key, function_item f) ∷ rest) named h = own_distinct (key, function_item f) rest named h
+    entries_distinct ((key, type_item t) ∷ rest) named h = own_distinct (key, type_item t) rest named h
 
     -- one more import
 
@@ -184,7 +184,7 @@ module _ (l : Lowerer) where
       one_more e old new step all = append_assoc found (e ∷ []) (entries_left imports new rest) ∙ (ap (λ z. found ++ z) (sym step) ∙ subst (AreAll found old) next all)
 
       one_distinct : (e : ImportEntry) (old new : Bool) → entries_left imports old ((key, item) ∷ rest) ≡ e ∷ entries_left imports new rest → AreAll found old left → AreEntriesDistinct (found ++ e ∷ [])
-      one_distinct e old new step all = pairs_front Apart (found ++ e ∷ []) (entries_left imports new rest) (subst AreEntriesDistinct (sym (one_more e old new step all)) distinct)
+      one_distinct e old new step all = pairs_front Differ (found ++ e ∷ []) (entries_left imports new rest) (subst AreEntriesDistinct (sym (one_more e old new step all)) distinct)
 
       pub add_interface : (has_own : Bool) (i : ℕ) (new : ImportMapView) → item_interface item ≡ Some i → ((e : ImportEntry) → interface_entry l (key, item) ≡ Some e → AreEntriesDistinct (found ++ e ∷ []) → new ≡ found ++ e ∷ []) → AreAll found has_own left → AreAll new has_own rest
       add_interface has_own i new is put all =
@@ -212,8 +212,8 @@ module _ (e : EncoderView) (r : ResolveView) (i : ℕ) (same : r ≡ e.resolve) 
         let there : slice_get e.resolve.worlds e.world ≡ Some w = sym (ap (λ (z : ResolveView). slice_get z.worlds i) same ∙ ap (slice_get e.resolve.worlds) index) ∙ at in
         sym (ap (λ o. option_map_or (λ (z : WorldView). z.imports) o []) there)
 
-    pub names_apart : AreNamesDistinct e.resolve (world_imports e) → AreNamesDistinct r w.imports
-    names_apart h = subst (λ (z : ResolveView). AreNamesDistinct z w.imports) (sym same) (subst (AreNamesDistinct e.resolve) (sym imports_are) h)
+    pub names_distinct : AreNamesDistinct e.resolve (world_imports e) → AreNamesDistinct r w.imports
+    names_distinct h = subst (λ (z : ResolveView). AreNamesDistinct z w.imports) (sym same) (subst (AreNamesDistinct e.resolve) (sym imports_are) h)
 
     -- what is found is what this world imports
     pub lowered_is : (options : OptionsOf) (main : ModuleRecord) (adapters : List NamedWorldAdapter) (has_memory : Bool) → has_memory ≡ is_some (memory_in main.imports)

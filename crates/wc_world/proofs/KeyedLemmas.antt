@@ -30,8 +30,8 @@ module _ {K V A B : Type 0} (key : K → A) (value : V → B) (eq : K → K → 
   abbrev view : K × V → A × B
   view e = (key e.0, value e.1)
 
-  abbrev Apart : A × B → A × B → Type 0
-  Apart a b = a.0 ≢ b.0
+  abbrev Differ : A × B → A × B → Type 0
+  Differ a b = a.0 ≢ b.0
 
   at_last : (P : A × B → Type 0) (es : List (K × V)) → All P (map view (es ++ x ∷ [])) → P (view x)
   at_last P [] h = All-head P (view x) [] h
@@ -41,11 +41,11 @@ module _ {K V A B : Type 0} (key : K → A) (value : V → B) (eq : K → K → 
   at e es true never later = absurd (never refl)
   at e es false never later = ap (λ z. e ∷ z) later
 
-  pub put_last : (es : List (K × V)) → AllPairs Apart (map view (es ++ x ∷ [])) → insert_entry eq es x.0 x.1 ≡ es ++ x ∷ []
+  pub put_last : (es : List (K × V)) → AllPairs Differ (map view (es ++ x ∷ [])) → insert_entry eq es x.0 x.1 ≡ es ++ x ∷ []
   put_last [] h = refl
   put_last (e ∷ es) h =
-      at e es (eq x.0 e.0) (λ same. at_last (Apart (view e)) es (pairs_head Apart (view e) (map view (es ++ x ∷ [])) h) (sym (law x.0 e.0 same)))
-      (put_last es (pairs_tail Apart (view e) (map view (es ++ x ∷ [])) h))
+      at e es (eq x.0 e.0) (λ same. at_last (Differ (view e)) es (pairs_head Differ (view e) (map view (es ++ x ∷ [])) h) (sym (law x.0 e.0 same)))
+      (put_last es (pairs_tail Differ (view e) (map view (es ++ x ∷ [])) h))
 
 -- lowerings
 
@@ -56,10 +56,10 @@ SaysEqual eq = (a b : String Global × AbiVariant) → eq a b ≡ true → ◌�
 pub put_next : (eq : String Global × AbiVariant → String Global × AbiVariant → Bool) → SaysEqual eq → (all left rest old new : List RawLowering) (x : RawLowering) → AreKeysDistinct (map lowering_entry all) → left ≡ x ∷ rest → new ≡ insert_entry eq old x.0 x.1 → old ++ left ≡ all → new ++ rest ≡ all
 put_next eq law all left rest old new x distinct is put same =
     let split : (old ++ x ∷ []) ++ rest ≡ all = append_assoc old (x ∷ []) rest ∙ (ap (λ z. old ++ z) (sym is) ∙ same) in
-    let apart : AreKeysDistinct (map lowering_entry (old ++ x ∷ [])) =
+    let keys_distinct : AreKeysDistinct (map lowering_entry (old ++ x ∷ [])) =
     pairs_front (λ (a b : KeyedLowering). a.0 ≢ b.0) (map lowering_entry (old ++ x ∷ [])) (map lowering_entry rest)
     (subst AreKeysDistinct (sym (ap (map lowering_entry) split) ∙ map-append lowering_entry (old ++ x ∷ []) rest) distinct) in
-    ap (λ z. z ++ rest) (put ∙ put_last (λ (k : String Global × AbiVariant). (string_bytes k.0, k.1)) lowering_view eq law x old apart) ∙ split
+    ap (λ z. z ++ rest) (put ∙ put_last (λ (k : String Global × AbiVariant). (string_bytes k.0, k.1)) lowering_view eq law x old keys_distinct) ∙ split
 
 -- names of imported interfaces
 names_law : (a b : Option (String Global)) → option_eq string_eq a b ≡ true → option_map string_bytes a ≡ option_map string_bytes b

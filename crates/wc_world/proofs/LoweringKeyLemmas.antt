@@ -49,9 +49,9 @@ drop_no_function name h = no_underscore (All-head IsFunctionCharacter 95 (codes 
 
 flat_distinct : {X : Type 0} (Of : X → LoweringKey → Type 0) (f : X → List KeyedLowering) (xs : List X) → All (λ x. All (λ (e : KeyedLowering). Of x e.0) (f x)) xs → All (λ x. AreKeysDistinct (f x)) xs
     → AllPairs (λ x y. (k : LoweringKey) → Of x k → Of y k → ⊥) xs → AreKeysDistinct (flat_map f xs)
-flat_distinct Of f xs of each apart =
+flat_distinct Of f xs of each disjoint =
     pairs_of_flat Differ f xs each (λ i j d less small k e there m c too same.
-    apart i j d less small (get_or (f (get_or xs i d)) k e).0 (of i d (omega (arith, less, small)) k e there) (subst (Of (get_or xs j d)) (sym same) (of j d small m c too)))
+    disjoint i j d less small (get_or (f (get_or xs i d)) k e).0 (of i d (omega (arith, less, small)) k e there) (subst (Of (get_or xs j d)) (sym same) (of j d small m c too)))
 
 cond_all : (P : KeyedLowering → Type 0) (x : KeyedLowering) (b : Bool) → P x → All P (cond b (x ∷ []) [])
 cond_all P x true p = All-cons P x [] p (All-nil P)
@@ -214,18 +214,18 @@ item_each l (interface_item i external) = pairs_none Differ
 item_each l (function_item f) = function_each l None f
 item_each l (type_item t) = type_each l t
 
-owns_apart : (n m : List ℕ) (x y : ItemView) → n ≢ m → (k : LoweringKey) → OwnOf n x k → OwnOf m y k → ⊥
-owns_apart n m (interface_item i external) y differ k a b = a
-owns_apart n m x (interface_item i external) differ k a b = b
-owns_apart n m (function_item f) (function_item g) differ k a b = differ (sym a.0 ∙ b.0)
-owns_apart n m (function_item f) (type_item t) differ k a b = drop_no_function m (subst IsFunctionName (sym a.0 ∙ ap (λ (z : LoweringKey). z.0) b) a.1)
-owns_apart n m (type_item t) (function_item g) differ k a b = drop_no_function n (subst IsFunctionName (sym b.0 ∙ ap (λ (z : LoweringKey). z.0) a) b.1)
-owns_apart n m (type_item t) (type_item u) differ k a b = differ (append_cancel_right n m (codes "_drop") (ap (λ (z : LoweringKey). z.0) (sym a ∙ b)))
+owns_differ : (n m : List ℕ) (x y : ItemView) → n ≢ m → (k : LoweringKey) → OwnOf n x k → OwnOf m y k → ⊥
+owns_differ n m (interface_item i external) y differ k a b = a
+owns_differ n m x (interface_item i external) differ k a b = b
+owns_differ n m (function_item f) (function_item g) differ k a b = differ (sym a.0 ∙ b.0)
+owns_differ n m (function_item f) (type_item t) differ k a b = drop_no_function m (subst IsFunctionName (sym a.0 ∙ ap (λ (z : LoweringKey). z.0) b) a.1)
+owns_differ n m (type_item t) (function_item g) differ k a b = drop_no_function n (subst IsFunctionName (sym b.0 ∙ ap (λ (z : LoweringKey). z.0) a) b.1)
+owns_differ n m (type_item t) (type_item u) differ k a b = differ (append_cancel_right n m (codes "_drop") (ap (λ (z : LoweringKey). z.0) (sym a ∙ b)))
 
-items_apart : (r : ResolveView) (x y : KeyView × ItemView) → import_name r x ≢ import_name r y → (k : LoweringKey) → ItemOf x k → ItemOf y k → ⊥
-items_apart r (interface_key i, x) y differ k a b = a
-items_apart r x (interface_key j, y) differ k a b = b
-items_apart r (plain_key n, x) (plain_key m, y) differ k a b = owns_apart n m x y (λ same. differ (ap (λ (z : List ℕ). Some z) same)) k a b
+items_differ : (r : ResolveView) (x y : KeyView × ItemView) → import_name r x ≢ import_name r y → (k : LoweringKey) → ItemOf x k → ItemOf y k → ⊥
+items_differ r (interface_key i, x) y differ k a b = a
+items_differ r x (interface_key j, y) differ k a b = b
+items_differ r (plain_key n, x) (plain_key m, y) differ k a b = owns_differ n m x y (λ same. differ (ap (λ (z : List ℕ). Some z) same)) k a b
 
 pub world_distinct : (l : Lowerer) → IsWellFormed l.resolve → (i : ℕ) (w : WorldView) → slice_get l.resolve.worlds i ≡ Some w → AreNamesDistinct l.resolve w.imports
     → AreKeysDistinct (flat_map (λ (x : KeyView × ItemView). item_lowerings l x.1) w.imports)
@@ -235,7 +235,7 @@ world_distinct l formed i w at names =
     flat_distinct ItemOf (λ (x : KeyView × ItemView). item_lowerings l x.1) w.imports
     (λ j d small. item_all l (get_or w.imports j d).0 (get_or w.imports j d).1 (imports_match l.resolve w keyed j d small) (imports_spelled w spelled j d small))
     (λ j d small. item_each l (get_or w.imports j d).1)
-    (λ j m d less small. items_apart l.resolve (get_or w.imports j d) (get_or w.imports m d) (pairs_unviewed (λ (a b : Option (List ℕ)). a ≢ b) (import_name l.resolve) w.imports names j m d less small))
+    (λ j m d less small. items_differ l.resolve (get_or w.imports j d) (get_or w.imports m d) (pairs_unviewed (λ (a b : Option (List ℕ)). a ≢ b) (import_name l.resolve) w.imports names j m d less small))
 
 -- the names of a map
 

@@ -124,20 +124,20 @@ module _ (r : ResolveView) (exports passed rest : Entries) (k : KeyView) (i : �
   has_set None is none = absurd (let bad : ⊥ = cc none in bad)
   has_set (Some test) is some = (test, is, h.used d test is)
 
-  in_front : (item : ItemView) → IsMatchingKey r (interface_key d) item → Contains passed (interface_key d, item) → HasUsedSet r exports sets d
-  in_front (interface_item j other) same c =
+  found_before : (item : ItemView) → IsMatchingKey r (interface_key d) item → Contains passed (interface_key d, item) → HasUsedSet r exports sets d
+  found_before (interface_item j other) same c =
       let there : Contains (exported_interfaces passed) j = listed_interface passed (interface_key d) j other c in
       has_set (sets d) refl ((h.exported d).1 (subst (Contains (exported_interfaces passed)) same there))
-  in_front (function_item f) never c = absurd never
-  in_front (type_item t) never c = absurd never
+  found_before (function_item f) never c = absurd never
+  found_before (type_item t) never c = absurd never
 
   at_itself : (item : ItemView) → IsMatchingKey r (interface_key d) item → ◌≡◌ {A = KeyView × ItemView} (k, interface_item i external) (interface_key d, item) → ⊥
   at_itself item match same =
       let own : interface_item i external ≡ item = ap (λ (z : KeyView × ItemView). z.1) same in
       depends_not r i (slice_get r.interfaces i) (subst (Contains (direct_dependencies r i)) (sym (subst (λ z. IsMatchingKey r (interface_key d) z) (sym own) match)) depends)
 
-  behind : (item : ItemView) → Contains rest (interface_key d, item) → ⊥
-  behind item c = all_has (λ later. ¬ DependsOn r (interface_item i external) later.0) rest (interface_key d, item)
+  none_after : (item : ItemView) → Contains rest (interface_key d, item) → ⊥
+  none_after item c = all_has (λ later. ¬ DependsOn r (interface_item i external) later.0) rest (interface_key d, item)
       (pairs_after (λ (x later : KeyView × ItemView). ¬ DependsOn r x.1 later.0) passed rest (k, interface_item i external) (subst (λ z. AreDependenciesBefore r z) split before)) c depends
 
   set_there : is_exported_itself exports d ≡ true → HasUsedSet r exports sets d
@@ -145,8 +145,8 @@ module _ (r : ResolveView) (exports passed rest : Entries) (k : KeyView) (i : �
       let found = entry_found exports d is in
       let match : IsMatchingKey r (interface_key d) found.0 = all_has (λ e. IsMatchingKey r e.0 e.1) exports (interface_key d, found.0) keyed found.1 in
       elim (Contains-append_cases passed ((k, interface_item i external) ∷ rest) (interface_key d, found.0) (subst (λ z. Contains z (interface_key d, found.0)) split found.1)) [
-        | inl c ↦ in_front found.0 match c
-        | inr c ↦ elim (contains_cons (k, interface_item i external) rest (interface_key d, found.0) c) [ inl same ↦ absurd (at_itself found.0 match same) | inr later ↦ absurd (behind found.0 later) ]
+        | inl c ↦ found_before found.0 match c
+        | inr c ↦ elim (contains_cons (k, interface_item i external) rest (interface_key d, found.0) c) [ inl same ↦ absurd (at_itself found.0 match same) | inr later ↦ absurd (none_after found.0 later) ]
       ]
 
 -- what the next export depends on has its sets

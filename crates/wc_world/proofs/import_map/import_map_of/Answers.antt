@@ -10,7 +10,7 @@ use Rattle.wc_validate.specs.Validated.{module_record}
 use Rattle.wc_world.specs.Lowered.{IsImportable, Lowerer, all_entries, lowered, lowerer_of}
 use Rattle.wc_world.specs.Slots.{all_imports, imports_of}
 use Rattle.wc_world.specs.WorldViews.{adapter_entry, import_map_view}
-use Rattle.wc_world.proofs.ImportEntryLemmas.{all_importable, entries_distinct, lowered_is, names_apart, world_there}
+use Rattle.wc_world.proofs.ImportEntryLemmas.{all_importable, entries_distinct, lowered_is, names_distinct, world_there}
 use Rattle.wc_world.proofs.LoweringKeyLemmas.{world_distinct}
 use Rattle.wc_world.proofs.import_map.import_map_of.Goals as goal
 
@@ -29,7 +29,7 @@ returns g c =
     let w : WorldView = world_view c.world.result.now in
     let imports : List ImportView = imports_of (all_imports (module_record c.args.main.now) (map adapter_entry c.args.adapters.now.entries)) in
     let l : Lowerer = lowerer_of r (g.O.ImportOptions.options_of c.args.options.now) c.is_some.result imports in
-    let names = names_apart c.args.encoder.now r c.metadata-metadata.result.now.world.0 c.metadata-metadata.ensures.resolve c.metadata-metadata.ensures.world w c.world.ensures c.well_formedness.ensures.distinct in
+    let names = names_distinct c.args.encoder.now r c.metadata-metadata.result.now.world.0 c.metadata-metadata.ensures.resolve c.metadata-metadata.ensures.world w c.world.ensures c.well_formedness.ensures.distinct in
     IfOk-weaker c.import_entries.result (λ m. import_map_view m ≡ all_entries l w.imports)
     (λ m. import_map_view m ≡ lowered c.args.encoder.now (g.O.ImportOptions.options_of c.args.options.now) (module_record c.args.main.now) (map adapter_entry c.args.adapters.now.entries))
     (λ m is. is
