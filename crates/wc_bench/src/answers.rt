@@ -1,31 +1,34 @@
 //! A row's answer, from the library whose call it names.
 
 use crate::component::calls as component_calls;
+use crate::examples;
 use crate::names::calls as name_calls;
-use crate::rows::{Flaw, Paragraph, Row};
 use crate::validation::calls as validate_calls;
-use crate::worlds::{encoder_calls, resolve_calls};
-use crate::{
-    dedupe_calls, examples, gc_calls, law_calls, machine_calls, machine_samples, read_calls,
-    sink_calls, tool_calls, unfolding, write_calls,
-};
 use std::alloc::{AllocError, Global};
+use wc_fixtures::{encoder_calls, resolve_calls};
+use wc_rows::lines::Lines;
+use wc_rows::rows::{Flaw, Paragraph, Row};
+use wc_rows::{
+    dedupe_calls, gc_calls, law_calls, machine_calls, machine_samples, read_calls, sink_calls,
+    tool_calls, unfolding, write_calls,
+};
 
 /// Appends the lines of a row's answer.
 pub(crate) fn answer(
     alloc: Global,
     paragraph: &Paragraph<'_>,
-    out: &mut String,
+    out: &mut Lines,
 ) -> Result<(), AllocError> {
     match paragraph.flaw {
         Some(Flaw::Line(line)) => writeln!(out, "bad row: no line of a row {line:?}"),
         Some(Flaw::Fixture(name)) => writeln!(out, "bad row: no fixture {name:?}"),
-        None => answer_call(alloc, &paragraph.row, out),
+        None => answer_call(alloc, &paragraph.row, out)?,
     }
+    Ok(())
 }
 
 /// The calls on bytes. False where the call is none.
-fn answer_on_bytes(alloc: Global, row: &Row<'_>, out: &mut String) -> Result<bool, AllocError> {
+fn answer_on_bytes(alloc: Global, row: &Row<'_>, out: &mut Lines) -> Result<bool, AllocError> {
     if read_calls::answer(alloc, row, out)? || write_calls::answer(alloc, row, out)? {
         return Ok(true);
     }
@@ -42,7 +45,7 @@ fn answer_on_bytes(alloc: Global, row: &Row<'_>, out: &mut String) -> Result<boo
 }
 
 /// The calls on worlds, encoders, names, validated modules and components. False where the call is none.
-fn answer_on_worlds(alloc: Global, row: &Row<'_>, out: &mut String) -> Result<bool, AllocError> {
+fn answer_on_worlds(alloc: Global, row: &Row<'_>, out: &mut Lines) -> Result<bool, AllocError> {
     if resolve_calls::answer(alloc, row, out)? || encoder_calls::answer(alloc, row, out)? {
         return Ok(true);
     }
@@ -56,14 +59,14 @@ fn answer_on_worlds(alloc: Global, row: &Row<'_>, out: &mut String) -> Result<bo
 }
 
 /// The laws, sinks and examples. False where the call is none.
-fn answer_other(alloc: Global, row: &Row<'_>, out: &mut String) -> Result<bool, AllocError> {
+fn answer_other(alloc: Global, row: &Row<'_>, out: &mut Lines) -> Result<bool, AllocError> {
     if law_calls::answer(alloc, row, out)? || sink_calls::answer(alloc, row, out)? {
         return Ok(true);
     }
     examples::answer(alloc, row, out)
 }
 
-fn answer_call(alloc: Global, row: &Row<'_>, out: &mut String) -> Result<(), AllocError> {
+fn answer_call(alloc: Global, row: &Row<'_>, out: &mut Lines) -> Result<(), AllocError> {
     if answer_on_bytes(alloc, row, out)? || answer_on_worlds(alloc, row, out)? {
         return Ok(());
     }
@@ -71,7 +74,8 @@ fn answer_call(alloc: Global, row: &Row<'_>, out: &mut String) -> Result<(), All
         return Ok(());
     }
     let call = row.call;
-    writeln!(out, "bad row: no call {call:?}")
+    writeln!(out, "bad row: no call {call:?}");
+    Ok(())
 }
 
 /// Whether the lines of an answer are those that a row wants. Where memory may fail, an answer may stop at a line that

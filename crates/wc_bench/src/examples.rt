@@ -11,23 +11,24 @@ mod validate;
 mod world;
 mod write;
 
-use crate::gc_calls::names_from;
-use crate::imports::imports_of;
-use crate::input::{Stop, answered, bad_row, bytes_of};
-use crate::rows::Row;
-use crate::values::{put_bytes_lines, put_fault};
 use indexmap::IndexMap;
 use std::alloc::{AllocError, Global};
 use std::str;
 use wc_encoder::{ComponentEncoder, EncoderFault};
 use wc_resolve::{Parts, Resolve, ResolveFault, World, WorldId};
+use wc_rows::gc_calls::names_from;
+use wc_rows::imports::imports_of;
+use wc_rows::input::{Stop, answered, bad_row, bytes_of};
+use wc_rows::lines::Lines;
+use wc_rows::rows::Row;
+use wc_rows::values::{put_bytes_lines, put_fault};
 
 /// Appends the answer of an example, and says whether the row's call is one.
-pub(crate) fn answer(alloc: Global, row: &Row<'_>, out: &mut String) -> Result<bool, AllocError> {
+pub(crate) fn answer(alloc: Global, row: &Row<'_>, out: &mut Lines) -> Result<bool, AllocError> {
     answered(answer_call(alloc, row, out))
 }
 
-fn answer_call(alloc: Global, row: &Row<'_>, out: &mut String) -> Result<bool, Stop> {
+fn answer_call(alloc: Global, row: &Row<'_>, out: &mut Lines) -> Result<bool, Stop> {
     if row.call != "example" {
         return Ok(false);
     }
@@ -40,7 +41,7 @@ fn answer_call(alloc: Global, row: &Row<'_>, out: &mut String) -> Result<bool, S
     } else if argument(row, 0) == "interface_id" {
         answer_interface_id(alloc, row, out)?;
     } else if argument(row, 0) == "dropped_resource" {
-        answer_dropped_resource(row, out)?;
+        answer_dropped_resource(row, out);
     } else if argument(row, 0) == "encoder_for" {
         answer_encoder_for(alloc, row, out)?;
     } else if argument(row, 0) == "printed_lines" {
@@ -52,7 +53,7 @@ fn answer_call(alloc: Global, row: &Row<'_>, out: &mut String) -> Result<bool, S
 }
 
 /// The examples of trimming, validation and worlds of components.
-fn answer_on_module(alloc: Global, row: &Row<'_>, out: &mut String) -> Result<(), Stop> {
+fn answer_on_module(alloc: Global, row: &Row<'_>, out: &mut Lines) -> Result<(), Stop> {
     if argument(row, 0) == "reaches_memory" {
         answer_reaches_memory(alloc, row, out)
     } else if is_on_encoder(argument(row, 0)) {
@@ -71,7 +72,7 @@ fn argument<'a>(row: &Row<'a>, index: usize) -> &'a str {
 }
 
 /// An argument that is a number.
-fn number(row: &Row<'_>, index: usize, out: &mut String) -> Result<u32, Stop> {
+fn number(row: &Row<'_>, index: usize, out: &mut Lines) -> Result<u32, Stop> {
     match argument(row, index).parse::<u32>() {
         Ok(number) => Ok(number),
         Err(_) => Err(bad_row(out, "no number", argument(row, index))),
@@ -79,33 +80,33 @@ fn number(row: &Row<'_>, index: usize, out: &mut String) -> Result<u32, Stop> {
 }
 
 /// A name in quotes, or `none`.
-fn put_name(out: &mut String, name: &Option<String>) -> Result<(), AllocError> {
+fn put_name(out: &mut Lines, name: &Option<String>) {
     match name {
         Some(name) => writeln!(out, "{name:?}"),
         None => out.push_str("none\n"),
     }
 }
 
-fn answer_exports_memory(alloc: Global, row: &Row<'_>, out: &mut String) -> Result<(), Stop> {
+fn answer_exports_memory(alloc: Global, row: &Row<'_>, out: &mut Lines) -> Result<(), Stop> {
     let bytes = bytes_of(alloc, &row.input, out)?;
     match read::exports_memory(alloc, &bytes) {
-        Ok(answer) => writeln!(out, "{answer}")?,
-        Err(fault) => put_fault(out, fault)?,
+        Ok(answer) => writeln!(out, "{answer}"),
+        Err(fault) => put_fault(out, fault),
     }
     Ok(())
 }
 
-fn answer_import_section(alloc: Global, row: &Row<'_>, out: &mut String) -> Result<(), Stop> {
+fn answer_import_section(alloc: Global, row: &Row<'_>, out: &mut Lines) -> Result<(), Stop> {
     let bytes = bytes_of(alloc, &row.input, out)?;
     match write::import_section(alloc, &bytes) {
-        Ok(section) => put_bytes_lines(out, "bytes", &section)?,
-        Err(fault) => put_fault(out, fault)?,
+        Ok(section) => put_bytes_lines(out, "bytes", &section),
+        Err(fault) => put_fault(out, fault),
     }
     Ok(())
 }
 
 /// The last line of input describes the import; those before it are the module.
-fn answer_original_name(alloc: Global, row: &Row<'_>, out: &mut String) -> Result<(), Stop> {
+fn answer_original_name(alloc: Global, row: &Row<'_>, out: &mut Lines) -> Result<(), Stop> {
     let Some((last, lines)) = row.input.as_slice().split_last() else {
         return Err(bad_row(out, "no import", ""));
     };
@@ -115,18 +116,18 @@ fn answer_original_name(alloc: Global, row: &Row<'_>, out: &mut String) -> Resul
         return Err(bad_row(out, "no import", last));
     };
     match dedupe::original_name(alloc, &bytes, import) {
-        Ok(name) => put_name(out, &name)?,
-        Err(fault) => put_fault(out, fault)?,
+        Ok(name) => put_name(out, &name),
+        Err(fault) => put_fault(out, fault),
     }
     Ok(())
 }
 
 /// `example interface_id NAMESPACE NAME INTERFACE`.
-fn answer_interface_id(alloc: Global, row: &Row<'_>, out: &mut String) -> Result<(), Stop> {
+fn answer_interface_id(alloc: Global, row: &Row<'_>, out: &mut Lines) -> Result<(), Stop> {
     let (namespace, name) = (argument(row, 1), argument(row, 2));
     match resolve::interface_id(alloc, namespace, name, argument(row, 3)) {
-        Ok(id) => put_name(out, &id)?,
-        Err(fault) => put_fault(out, fault)?,
+        Ok(id) => put_name(out, &id),
+        Err(fault) => put_fault(out, fault),
     }
     Ok(())
 }
@@ -148,7 +149,7 @@ fn empty_world(alloc: Global) -> Result<Resolve, ResolveFault> {
 }
 
 /// `example dropped_resource NAME`.
-fn answer_dropped_resource(row: &Row<'_>, out: &mut String) -> Result<(), AllocError> {
+fn answer_dropped_resource(row: &Row<'_>, out: &mut Lines) {
     match names::dropped_resource(argument(row, 1)) {
         Some(resource) => writeln!(out, "{resource:?}"),
         None => out.push_str("none\n"),
@@ -156,49 +157,49 @@ fn answer_dropped_resource(row: &Row<'_>, out: &mut String) -> Result<(), AllocE
 }
 
 /// `example encoder_for WORLD`: the encoder's module, and its world.
-fn answer_encoder_for(alloc: Global, row: &Row<'_>, out: &mut String) -> Result<(), Stop> {
+fn answer_encoder_for(alloc: Global, row: &Row<'_>, out: &mut Lines) -> Result<(), Stop> {
     let world = WorldId(number(row, 1, out)?);
     let module = bytes_of(alloc, &row.input, out)?;
     let resolve = match empty_world(alloc) {
         Ok(resolve) => resolve,
         Err(fault) => {
-            put_fault(out, fault)?;
+            put_fault(out, fault);
             return Ok(());
         }
     };
     match encoder::encoder_for(alloc, module, resolve, world) {
         Ok(encoder) => {
-            put_bytes_lines(out, "module", encoder.module())?;
+            put_bytes_lines(out, "module", encoder.module());
             let id = encoder.metadata().world.0;
-            writeln!(out, "world {id}")?;
+            writeln!(out, "world {id}");
         }
-        Err(fault) => put_fault(out, fault)?,
+        Err(fault) => put_fault(out, fault),
     }
     Ok(())
 }
 
 /// `example printed_lines ARGUMENT..`.
-fn answer_printed_lines(alloc: Global, row: &Row<'_>, out: &mut String) -> Result<(), Stop> {
+fn answer_printed_lines(alloc: Global, row: &Row<'_>, out: &mut Lines) -> Result<(), Stop> {
     let mut arguments = Vec::new(alloc);
     for argument in row.arguments.iter().skip(1) {
         arguments.push(String::from_str(alloc, argument)?)?;
     }
     let input = bytes_of(alloc, &row.input, out)?;
     match tool::printed_lines(alloc, &arguments, &input) {
-        Ok(Some(lines)) => put_lines(out, &lines)?,
-        Ok(None) => out.push_str("usage\n")?,
-        Err(fault) => put_fault(out, fault)?,
+        Ok(Some(lines)) => put_lines(out, &lines),
+        Ok(None) => out.push_str("usage\n"),
+        Err(fault) => put_fault(out, fault),
     }
     Ok(())
 }
 
 /// `example reaches_memory NAME..`.
-fn answer_reaches_memory(alloc: Global, row: &Row<'_>, out: &mut String) -> Result<(), Stop> {
+fn answer_reaches_memory(alloc: Global, row: &Row<'_>, out: &mut Lines) -> Result<(), Stop> {
     let bytes = bytes_of(alloc, &row.input, out)?;
     let required = names_from(alloc, row, 1)?;
     match gc::reaches_memory(alloc, &bytes, &required) {
-        Ok(answer) => writeln!(out, "{answer}")?,
-        Err(fault) => writeln!(out, "fault {fault}")?,
+        Ok(answer) => writeln!(out, "{answer}"),
+        Err(fault) => writeln!(out, "fault {fault}"),
     }
     Ok(())
 }
@@ -208,25 +209,20 @@ fn is_on_encoder(example: &str) -> bool {
 }
 
 /// The examples on an encoder of a world that imports and exports nothing.
-fn answer_on_encoder(alloc: Global, row: &Row<'_>, out: &mut String) -> Result<(), Stop> {
+fn answer_on_encoder(alloc: Global, row: &Row<'_>, out: &mut Lines) -> Result<(), Stop> {
     let module = bytes_of(alloc, &row.input, out)?;
     match empty_encoder(alloc, module) {
-        Ok(encoder) => put_on_encoder(alloc, argument(row, 0), &encoder, out)?,
-        Err(fault) => writeln!(out, "fault {fault}")?,
+        Ok(encoder) => put_on_encoder(alloc, argument(row, 0), &encoder, out),
+        Err(fault) => writeln!(out, "fault {fault}"),
     }
     Ok(())
 }
 
-fn put_on_encoder(
-    alloc: Global,
-    example: &str,
-    encoder: &ComponentEncoder,
-    out: &mut String,
-) -> Result<(), AllocError> {
+fn put_on_encoder(alloc: Global, example: &str, encoder: &ComponentEncoder, out: &mut Lines) {
     if example == "imported_memory" {
-        put_imported_memory(alloc, encoder, out)
+        put_imported_memory(alloc, encoder, out);
     } else {
-        put_can_use_slot_1(alloc, encoder, out)
+        put_can_use_slot_1(alloc, encoder, out);
     }
 }
 
@@ -238,22 +234,14 @@ fn empty_encoder(alloc: Global, module: Vec<u8>) -> Result<ComponentEncoder, Enc
     }
 }
 
-fn put_imported_memory(
-    alloc: Global,
-    encoder: &ComponentEncoder,
-    out: &mut String,
-) -> Result<(), AllocError> {
+fn put_imported_memory(alloc: Global, encoder: &ComponentEncoder, out: &mut Lines) {
     match validate::imported_memory(alloc, encoder, encoder.module()) {
         Ok(memory) => writeln!(out, "{memory:?}"),
         Err(fault) => writeln!(out, "fault {fault}"),
     }
 }
 
-fn put_can_use_slot_1(
-    alloc: Global,
-    encoder: &ComponentEncoder,
-    out: &mut String,
-) -> Result<(), AllocError> {
+fn put_can_use_slot_1(alloc: Global, encoder: &ComponentEncoder, out: &mut Lines) {
     match world::can_use_slot_1(alloc, encoder) {
         Ok(answer) => writeln!(out, "{answer}"),
         Err(fault) => writeln!(out, "fault {fault}"),
@@ -261,12 +249,11 @@ fn put_can_use_slot_1(
 }
 
 /// A line for each line that was printed.
-fn put_lines(out: &mut String, bytes: &[u8]) -> Result<(), AllocError> {
+fn put_lines(out: &mut Lines, bytes: &[u8]) {
     let Ok(text) = str::from_utf8(bytes) else {
         return put_bytes_lines(out, "printed", bytes);
     };
     for line in text.lines() {
-        writeln!(out, "line {line:?}")?;
+        writeln!(out, "line {line:?}");
     }
-    Ok(())
 }

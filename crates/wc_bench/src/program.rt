@@ -1,11 +1,11 @@
 //! The program: its arguments, its files and what it prints.
 
 use crate::answers::{answer, is_wanted};
-use crate::rows::{Paragraph, Rows};
-use std::alloc::AllocError;
 use std::process::ExitCode;
 use std::rt::{Env, Files};
 use std::{env, fs, io};
+use wc_rows::lines::Lines;
+use wc_rows::rows::{Paragraph, Rows};
 
 const USAGE: &str = "usage: wc_bench [--memory-may-fail] FILE...
        wc_bench -
@@ -66,10 +66,11 @@ fn print_answers<R: Print + AllocGlobal>(rt: &R, text: &str) -> io::Result<()> {
     let rows = Rows::read(rt.alloc(), text)?;
     for paragraph in &rows.rows {
         let name = paragraph.row.name;
-        let mut out = String::new(rt.alloc());
+        let mut out = Lines::new(rt.alloc());
         answer(rt.alloc(), paragraph, &mut out)?;
+        let text = out.text()?;
         println!(rt; "row {name}")?;
-        print_lines(rt, "out", out.as_str())?;
+        print_lines(rt, "out", text)?;
         rt.println("")?;
     }
     Ok(())
@@ -101,9 +102,10 @@ fn agrees<R: Print + AllocGlobal>(
     paragraph: &Paragraph<'_>,
     may_fail: bool,
 ) -> io::Result<bool> {
-    let mut out = String::new(rt.alloc());
+    let mut out = Lines::new(rt.alloc());
     answer(rt.alloc(), paragraph, &mut out)?;
-    if is_wanted(&paragraph.row, out.as_str(), may_fail) {
+    let text = out.text()?;
+    if is_wanted(&paragraph.row, text, may_fail) {
         return Ok(true);
     }
     let name = paragraph.row.name;
@@ -111,7 +113,7 @@ fn agrees<R: Print + AllocGlobal>(
     for line in &paragraph.row.answer {
         println!(rt; "  expected {line}")?;
     }
-    print_lines(rt, "  actual  ", out.as_str())?;
+    print_lines(rt, "  actual  ", text)?;
     Ok(false)
 }
 

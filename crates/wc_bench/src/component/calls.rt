@@ -1,29 +1,30 @@
 //! The calls of `wc_world`.
 
 use crate::component::shown::put_part;
-use crate::rows::Row;
 use crate::validation::described_modules::described_of;
-use crate::worlds::encoder_fixture::encoder_of;
-use crate::worlds::fixture::{Fixture, fixture_of};
-use crate::worlds::functions::complete_function;
-use crate::worlds::resolve_calls::{argument_words, resolve_of};
-use crate::worlds::signature_calls::abi_variant;
-use crate::worlds::stop::Stop;
-use crate::worlds::words::Words;
 use bitflags::Flags;
 use std::alloc::{AllocError, Global};
 use wc_encoder::ComponentEncoder;
+use wc_fixtures::encoder_fixture::encoder_of;
+use wc_fixtures::fixture::{Fixture, fixture_of};
+use wc_fixtures::functions::complete_function;
+use wc_fixtures::resolve_calls::{argument_words, resolve_of};
+use wc_fixtures::signature_calls::abi_variant;
+use wc_fixtures::stop::Stop;
+use wc_fixtures::words::Words;
 use wc_gc::GcFault;
 use wc_resolve::Resolve;
+use wc_rows::lines::Lines;
+use wc_rows::rows::Row;
 use wc_validate::ValidateFault;
 use wc_world::{ComponentWorld, ImportOptions, PlainOptions, WorldFault};
 
 /// A fault, and the bytes in pages that it carries.
-fn put_fault(fault: &WorldFault, out: &mut String) -> Result<(), AllocError> {
-    writeln!(out, "fault {fault}")?;
+fn put_fault(fault: &WorldFault, out: &mut Lines) {
+    writeln!(out, "fault {fault}");
     match fault {
         WorldFault::PageSize(_, own, main) => writeln!(out, "pages {own} {main}"),
-        _ => Ok(()),
+        _ => {}
     }
 }
 
@@ -32,17 +33,17 @@ fn put_world(
     alloc: Global,
     world: &Result<ComponentWorld<'_>, WorldFault>,
     parts: &[&str],
-    out: &mut String,
+    out: &mut Lines,
 ) -> Result<(), AllocError> {
     match world {
         Ok(world) => {
             for part in parts {
                 put_part(alloc, world, part, out)?;
             }
-            Ok(())
         }
         Err(fault) => put_fault(fault, out),
     }
+    Ok(())
 }
 
 /// `component_world PART..`, by plain options.
@@ -50,7 +51,7 @@ fn component_world(
     alloc: Global,
     encoder: &ComponentEncoder,
     parts: &[&str],
-    out: &mut String,
+    out: &mut Lines,
 ) -> Result<(), AllocError> {
     let options = PlainOptions::new(alloc, &encoder.metadata().resolve)?;
     let world = ComponentWorld::new(alloc, encoder, &options);
@@ -76,7 +77,7 @@ fn described_encoder<'a>(alloc: Global, input: &[&'a str]) -> Result<ComponentEn
 fn plain_options<'a>(
     resolve: &Resolve,
     words: &mut Words,
-    out: &mut String,
+    out: &mut Lines,
 ) -> Result<(), Stop<'a>> {
     let abi = abi_variant(words)?;
     let function = complete_function(words)?;
@@ -87,7 +88,7 @@ fn plain_options<'a>(
     let options = PlainOptions::new(words.alloc, resolve)?;
     let required = options.for_import(words.alloc, resolve, &function, abi)?;
     let bits = required.bits();
-    writeln!(out, "{bits}")?;
+    writeln!(out, "{bits}");
     Ok(())
 }
 
@@ -103,21 +104,21 @@ fn adapter_fault(alloc: Global, number: u32) -> Result<WorldFault, AllocError> {
 }
 
 /// The text of each fault, in the order of `WorldFault`.
-fn put_faults(alloc: Global, out: &mut String) -> Result<(), AllocError> {
+fn put_faults(alloc: Global, out: &mut Lines) -> Result<(), AllocError> {
     for fault in &[
         WorldFault::Memory,
         WorldFault::Main(ValidateFault::NotAModule),
     ] {
-        writeln!(out, "{fault}")?;
+        writeln!(out, "{fault}");
     }
     for number in 0..4 {
         let fault = adapter_fault(alloc, number)?;
-        writeln!(out, "{fault}")?;
+        writeln!(out, "{fault}");
     }
     Ok(())
 }
 
-fn answered<'a>(alloc: Global, row: &'a Row<'a>, out: &mut String) -> Result<(), Stop<'a>> {
+fn answered<'a>(alloc: Global, row: &'a Row<'a>, out: &mut Lines) -> Result<(), Stop<'a>> {
     if row.call == "world_faults" {
         put_faults(alloc, out)?;
         return Ok(());
@@ -141,13 +142,13 @@ fn is_own(call: &str) -> bool {
 }
 
 /// The answer of a call of `wc_world`. False where the call is none.
-pub(crate) fn answer(alloc: Global, row: &Row<'_>, out: &mut String) -> Result<bool, AllocError> {
+pub(crate) fn answer(alloc: Global, row: &Row<'_>, out: &mut Lines) -> Result<bool, AllocError> {
     if !is_own(row.call) {
         return Ok(false);
     }
-    let mut lines = String::new(alloc);
+    let mut lines = Lines::new(alloc);
     match answered(alloc, row, &mut lines) {
-        Ok(()) => out.push_str(&lines)?,
+        Ok(()) => out.push_str(lines.text()?),
         Err(stop) => stop.put(out)?,
     }
     Ok(true)

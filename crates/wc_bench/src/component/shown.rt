@@ -2,138 +2,123 @@
 
 use crate::validation::export_calls::put_exports;
 use crate::validation::shown_modules::put_modules;
-use crate::values::put_bytes_lines;
-use crate::worlds::shown_names::{put_id, put_name, put_optional_name};
 use indexmap::IndexMap;
 use std::alloc::{AllocError, Global};
 use std::borrow::CowSlice;
 use std::collections::HashSet;
+use wc_fixtures::shown_names::{put_id, put_name, put_optional_name};
 use wc_resolve::{AbiVariant, InterfaceId, Resolve};
+use wc_rows::lines::Lines;
+use wc_rows::values::put_bytes_lines;
 use wc_world::{ComponentWorld, ImportedInterface, Lowering, WorldAdapter};
 
 /// An adapter's name, after what it is.
-fn put_adapter_name(
-    name: &str,
-    adapter: &WorldAdapter<'_>,
-    out: &mut String,
-) -> Result<(), AllocError> {
+fn put_adapter_name(name: &str, adapter: &WorldAdapter<'_>, out: &mut Lines) {
     out.push_str(if adapter.library_info.is_some() {
         "library "
     } else {
         "adapter "
-    })?;
-    put_name(out, name)?;
-    out.push('\n')
+    });
+    put_name(out, name);
+    out.push('\n');
 }
 
 /// The adapters and libraries, each with what is recorded of its imports and exports.
 fn put_adapters(
     alloc: Global,
     world: &ComponentWorld<'_>,
-    out: &mut String,
+    out: &mut Lines,
 ) -> Result<(), AllocError> {
     for (name, adapter) in world.adapters.iter() {
-        put_adapter_name(name, adapter, out)?;
+        put_adapter_name(name, adapter, out);
         put_modules(alloc, &adapter.info.imports, out)?;
-        put_exports(&adapter.info.exports, out)?;
+        put_exports(&adapter.info.exports, out);
     }
     Ok(())
 }
 
 /// The adapters and libraries, each with its bytes, and whether they are borrowed.
-fn put_adapter_bytes(world: &ComponentWorld<'_>, out: &mut String) -> Result<(), AllocError> {
+fn put_adapter_bytes(world: &ComponentWorld<'_>, out: &mut Lines) {
     for (name, adapter) in world.adapters.iter() {
-        put_adapter_name(name, adapter, out)?;
+        put_adapter_name(name, adapter, out);
         let word = match &adapter.wasm {
             CowSlice::Borrowed(_) => "borrowed",
             CowSlice::Owned(_) => "owned",
         };
-        put_bytes_lines(out, word, adapter.wasm.as_slice())?;
+        put_bytes_lines(out, word, adapter.wasm.as_slice());
     }
-    Ok(())
 }
 
 /// A line for each lowering: `NAME ABI: LOWERING`.
-fn put_lowerings(
-    lowerings: &IndexMap<(String, AbiVariant), Lowering>,
-    out: &mut String,
-) -> Result<(), AllocError> {
+fn put_lowerings(lowerings: &IndexMap<(String, AbiVariant), Lowering>, out: &mut Lines) {
     for (key, lowering) in lowerings.iter() {
-        out.push_str("  ")?;
-        put_name(out, &key.0)?;
+        out.push_str("  ");
+        put_name(out, &key.0);
         let abi = key.1;
-        writeln!(out, " {abi:?}: {lowering:?}")?;
+        writeln!(out, " {abi:?}: {lowering:?}");
     }
-    Ok(())
 }
 
 /// What is imported of an interface, or of the world itself.
-fn put_imported(imported: &ImportedInterface, out: &mut String) -> Result<(), AllocError> {
+fn put_imported(imported: &ImportedInterface, out: &mut Lines) {
     let interface = imported.interface;
     let implements = imported.implements;
     let external_id = &imported.external_id;
     writeln!(
         out,
         ": interface {interface:?} implements {implements:?} external {external_id:?}"
-    )?;
-    put_lowerings(&imported.lowerings, out)
+    );
+    put_lowerings(&imported.lowerings, out);
 }
 
 /// How imports are met: for each interface a line, and lines of its lowerings.
-fn put_import_map(world: &ComponentWorld<'_>, out: &mut String) -> Result<(), AllocError> {
+fn put_import_map(world: &ComponentWorld<'_>, out: &mut Lines) {
     for (name, imported) in world.import_map.iter() {
-        put_optional_name(out, name)?;
-        put_imported(imported, out)?;
+        put_optional_name(out, name);
+        put_imported(imported, out);
     }
-    Ok(())
 }
 
 /// The interfaces of a set, by their ids.
-fn put_set(
-    resolve: &Resolve,
-    set: &HashSet<InterfaceId>,
-    out: &mut String,
-) -> Result<(), AllocError> {
+fn put_set(resolve: &Resolve, set: &HashSet<InterfaceId>, out: &mut Lines) {
     for index in 0..u32::MAX {
         if !resolve.has_interface(InterfaceId(index)) {
             break;
         }
         if set.contains(&InterfaceId(index)) {
-            out.push(' ')?;
-            put_id(out, 'i', index)?;
+            out.push(' ');
+            put_id(out, 'i', index);
         }
     }
-    out.push('\n')
+    out.push('\n');
 }
 
 /// For each exported interface a line of those that it uses, by their ids.
-fn put_used(world: &ComponentWorld<'_>, out: &mut String) -> Result<(), AllocError> {
+fn put_used(world: &ComponentWorld<'_>, out: &mut Lines) {
     let resolve = &world.encoder.metadata().resolve;
     for index in 0..u32::MAX {
         if !resolve.has_interface(InterfaceId(index)) {
             break;
         }
         if let Some(set) = world.exports_used.get(&InterfaceId(index)) {
-            put_id(out, 'i', index)?;
-            out.push_str(" uses")?;
-            put_set(resolve, set, out)?;
+            put_id(out, 'i', index);
+            out.push_str(" uses");
+            put_set(resolve, set, out);
         }
     }
-    Ok(())
 }
 
 /// For each interface a line of its live types.
-fn put_live(world: &ComponentWorld<'_>, out: &mut String) -> Result<(), AllocError> {
+fn put_live(world: &ComponentWorld<'_>, out: &mut Lines) {
     for (owner, types) in world.live_type_imports.iter() {
-        put_id(out, 'i', owner.0)?;
-        out.push(':')?;
+        put_id(out, 'i', owner.0);
+        out.push(':');
         for id in types.iter() {
-            out.push(' ')?;
-            put_id(out, 't', id.0)?;
+            out.push(' ');
+            put_id(out, 't', id.0);
         }
-        out.push('\n')?;
+        out.push('\n');
     }
-    Ok(())
 }
 
 /// What a part of a world is asked for by its name.
@@ -141,24 +126,25 @@ pub(crate) fn put_part(
     alloc: Global,
     world: &ComponentWorld<'_>,
     part: &str,
-    out: &mut String,
+    out: &mut Lines,
 ) -> Result<(), AllocError> {
     if part == "main" {
-        put_modules(alloc, &world.info.imports, out)
+        put_modules(alloc, &world.info.imports, out)?;
     } else if part == "adapters" {
-        put_adapters(alloc, world, out)
+        put_adapters(alloc, world, out)?;
     } else if part == "bytes" {
-        put_adapter_bytes(world, out)
+        put_adapter_bytes(world, out);
     } else if part == "imports" {
-        put_import_map(world, out)
+        put_import_map(world, out);
     } else if part == "used" {
-        put_used(world, out)
+        put_used(world, out);
     } else if part == "live" {
-        put_live(world, out)
+        put_live(world, out);
     } else if part == "slot-1" {
         let can_use = world.can_use_context_slot_1();
-        writeln!(out, "slot-1 {can_use}")
+        writeln!(out, "slot-1 {can_use}");
     } else {
-        writeln!(out, "bad row: no part of a world: {part}")
+        writeln!(out, "bad row: no part of a world: {part}");
     }
+    Ok(())
 }

@@ -4,13 +4,14 @@ use crate::names::in_worlds::put_world_line;
 use crate::names::meanings::put_name_line;
 use crate::names::scheme_texts::put_scheme;
 use crate::names::values::put_copies;
-use crate::rows::Row;
-use crate::worlds::resolve_calls::{argument_words, resolve_of};
-use crate::worlds::stop::Stop;
-use crate::worlds::words::Words;
 use std::alloc::{AllocError, Global};
+use wc_fixtures::resolve_calls::{argument_words, resolve_of};
+use wc_fixtures::stop::Stop;
+use wc_fixtures::words::Words;
 use wc_names::{Legacy, NameMangling, Standard};
 use wc_resolve::Resolve;
+use wc_rows::lines::Lines;
+use wc_rows::rows::Row;
 
 /// The calls on names alone, each of which is a line of input.
 fn is_on_names(call: &str) -> bool {
@@ -41,7 +42,7 @@ fn put_names<'a, N: NameMangling>(
     alloc: Global,
     scheme: &N,
     row: &'a Row<'a>,
-    out: &mut String,
+    out: &mut Lines,
 ) -> Result<(), Stop<'a>> {
     for line in &row.input {
         let mut words = Words::of(alloc, line, 0)?;
@@ -58,7 +59,7 @@ fn put_script<'a, N: NameMangling>(
     alloc: Global,
     scheme: &N,
     row: &'a Row<'a>,
-    out: &mut String,
+    out: &mut Lines,
 ) -> Result<(), Stop<'a>> {
     let resolve = resolve_of(alloc, &row.input)?;
     put_world_lines(alloc, scheme, row, &resolve, out)
@@ -69,7 +70,7 @@ fn put_world_lines<'a, N: NameMangling>(
     scheme: &N,
     row: &'a Row<'a>,
     resolve: &Resolve,
-    out: &mut String,
+    out: &mut Lines,
 ) -> Result<(), Stop<'a>> {
     for line in &row.input {
         if let Some(line) = line.strip_prefix("do ") {
@@ -88,7 +89,7 @@ fn answer_by<'a, N: NameMangling>(
     alloc: Global,
     scheme: &N,
     row: &'a Row<'a>,
-    out: &mut String,
+    out: &mut Lines,
 ) -> Result<(), Stop<'a>> {
     if is_in_world(row.call) {
         return put_script(alloc, scheme, row, out);
@@ -96,12 +97,12 @@ fn answer_by<'a, N: NameMangling>(
     if is_on_names(row.call) {
         return put_names(alloc, scheme, row, out);
     }
-    put_scheme(scheme, out)?;
+    put_scheme(scheme, out);
     Ok(())
 }
 
 /// The answer by the scheme that the arguments name: `standard`, or `legacy HOOK`.
-fn answered<'a>(alloc: Global, row: &'a Row<'a>, out: &mut String) -> Result<(), Stop<'a>> {
+fn answered<'a>(alloc: Global, row: &'a Row<'a>, out: &mut Lines) -> Result<(), Stop<'a>> {
     if row.call == "payload_infos" {
         return put_copies(alloc, &row.input, out);
     }
@@ -120,13 +121,13 @@ fn answered<'a>(alloc: Global, row: &'a Row<'a>, out: &mut String) -> Result<(),
 }
 
 /// The answer of a call on names. False where the call is none.
-pub(crate) fn answer(alloc: Global, row: &Row<'_>, out: &mut String) -> Result<bool, AllocError> {
+pub(crate) fn answer(alloc: Global, row: &Row<'_>, out: &mut Lines) -> Result<bool, AllocError> {
     if !is_own(row.call) {
         return Ok(false);
     }
-    let mut lines = String::new(alloc);
+    let mut lines = Lines::new(alloc);
     match answered(alloc, row, &mut lines) {
-        Ok(()) => out.push_str(&lines)?,
+        Ok(()) => out.push_str(lines.text()?),
         Err(stop) => stop.put(out)?,
     }
     Ok(true)

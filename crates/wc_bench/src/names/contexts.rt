@@ -6,14 +6,15 @@ ghost use Rattle.wc_resolve.specs.Ranges.{IsWorldIn};
 ghost use Rattle.wc_resolve.specs.Views.{world_view};
 
 use crate::names::shown_imports::put_found_import;
-use crate::worlds::bad::Bad;
-use crate::worlds::members::{interface_id, world_key};
-use crate::worlds::shown_kinds::put_complete_function;
-use crate::worlds::shown_names::{put_id, put_key, put_name};
-use crate::worlds::words::Words;
 use std::alloc::{AllocError, Global};
+use wc_fixtures::bad::Bad;
+use wc_fixtures::members::{interface_id, world_key};
+use wc_fixtures::shown_kinds::put_complete_function;
+use wc_fixtures::shown_names::{put_id, put_key, put_name};
+use wc_fixtures::words::Words;
 use wc_names::{NameMangling, PayloadLookupContext};
 use wc_resolve::{Function, InterfaceId, Resolve, TypeId, World, WorldId, WorldKey};
+use wc_rows::lines::Lines;
 
 /// `imports` or `exports`.
 pub(crate) fn is_imported(words: &mut Words) -> Result<bool, Bad> {
@@ -59,14 +60,14 @@ pub(crate) fn first_world(resolve: &Resolve) -> Option<&World>
     }
 }
 
-fn put_function(out: &mut String, found: Option<&Function>) -> Result<(), AllocError> {
+fn put_function(out: &mut Lines, found: Option<&Function>) {
     match found {
         Some(function) => put_complete_function(out, function),
         None => out.push_str("func none"),
     }
 }
 
-fn put_resource(out: &mut String, found: Option<TypeId>) -> Result<(), AllocError> {
+fn put_resource(out: &mut Lines, found: Option<TypeId>) {
     match found {
         Some(id) => put_id(out, 't', id.0),
         None => out.push_str("none"),
@@ -78,17 +79,18 @@ fn put_lookups(
     alloc: Global,
     context: &PayloadLookupContext<'_>,
     name: &str,
-    out: &mut String,
+    out: &mut Lines,
 ) -> Result<(), AllocError>
     requires world { IsWorldIn context.now.resolve.now (world_view context.now.world.now) }
     requires interface { ForSome context.now.id
         (λ id. id.0 < length context.now.resolve.now.interfaces) }
 {
-    put_function(out, context.function(alloc, name)?)?;
-    out.push_str(" resource ")?;
-    put_resource(out, context.resource(alloc, name)?)?;
-    out.push_str(" key ")?;
-    put_key(out, &context.key_of(alloc, name)?)
+    put_function(out, context.function(alloc, name)?);
+    out.push_str(" resource ");
+    put_resource(out, context.resource(alloc, name)?);
+    out.push_str(" key ");
+    put_key(out, &context.key_of(alloc, name)?);
+    Ok(())
 }
 
 /// What a name means in a context.
@@ -98,7 +100,7 @@ fn put_meaning<N: NameMangling>(
     call: &str,
     context: &PayloadLookupContext<'_>,
     name: &str,
-    out: &mut String,
+    out: &mut Lines,
 ) -> Result<(), AllocError>
     requires world { IsWorldIn context.now.resolve.now (world_view context.now.world.now) }
     requires interface { ForSome context.now.id
@@ -117,7 +119,7 @@ pub(crate) fn context_line<N: NameMangling>(
     call: &str,
     resolve: &Resolve,
     words: &mut Words,
-    out: &mut String,
+    out: &mut Lines,
 ) -> Result<(), Bad> {
     let imported = is_imported(words)?;
     let id = optional_interface(resolve, words)?;
@@ -133,9 +135,9 @@ pub(crate) fn context_line<N: NameMangling>(
         imported,
         key,
     };
-    put_name(out, &name)?;
-    out.push_str(": ")?;
+    put_name(out, &name);
+    out.push_str(": ");
     put_meaning(words.alloc, scheme, call, &context, &name, out)?;
-    out.push('\n')?;
+    out.push('\n');
     Ok(())
 }

@@ -1,7 +1,7 @@
 //! Types of core functions in rows: `i32 i64 -> f32`.
 
-use crate::worlds::bad::Bad;
-use crate::worlds::words::Words;
+use wc_fixtures::bad::Bad;
+use wc_fixtures::words::Words;
 use wc_read::{FuncType, ValType};
 
 /// The words of the core types.

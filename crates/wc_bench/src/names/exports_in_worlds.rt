@@ -1,44 +1,41 @@
 //! Scripts on the names of exports: the function, or the resource, that an export is for.
 
-use crate::worlds::bad::Bad;
-use crate::worlds::encoder_fixture::put_keys;
-use crate::worlds::shown_kinds::put_complete_function;
-use crate::worlds::shown_names::{put_id, put_key, put_name};
-use crate::worlds::words::Words;
 use indexmap::IndexSet;
-use std::alloc::AllocError;
+use wc_fixtures::bad::Bad;
+use wc_fixtures::encoder_fixture::put_keys;
+use wc_fixtures::shown_kinds::put_complete_function;
+use wc_fixtures::shown_names::{put_id, put_key, put_name};
+use wc_fixtures::words::Words;
 use wc_names::NameMangling;
 use wc_resolve::{Function, InterfaceId, Resolve, TypeId, WorldId, WorldKey};
+use wc_rows::lines::Lines;
 
-fn put_interface(out: &mut String, id: Option<InterfaceId>) -> Result<(), AllocError> {
+fn put_interface(out: &mut Lines, id: Option<InterfaceId>) {
     match id {
         Some(id) => {
-            out.push_str("interface ")?;
-            put_id(out, 'i', id.0)?;
-            out.push(' ')
+            out.push_str("interface ");
+            put_id(out, 'i', id.0);
+            out.push(' ');
         }
-        None => Ok(()),
+        None => {}
     }
 }
 
 /// The key, the interface if there is one, and the function, or `none`.
-fn put_exported(
-    out: &mut String,
-    found: Option<(&WorldKey, Option<InterfaceId>, &Function)>,
-) -> Result<(), AllocError> {
+fn put_exported(out: &mut Lines, found: Option<(&WorldKey, Option<InterfaceId>, &Function)>) {
     match found {
         Some((key, interface, function)) => {
-            out.push_str("key ")?;
-            put_key(out, key)?;
-            out.push(' ')?;
-            put_interface(out, interface)?;
-            put_complete_function(out, function)
+            out.push_str("key ");
+            put_key(out, key);
+            out.push(' ');
+            put_interface(out, interface);
+            put_complete_function(out, function);
         }
         None => out.push_str("none"),
     }
 }
 
-fn put_destructed(out: &mut String, found: Option<TypeId>) -> Result<(), AllocError> {
+fn put_destructed(out: &mut Lines, found: Option<TypeId>) {
     match found {
         Some(id) => put_id(out, 't', id.0),
         None => out.push_str("none"),
@@ -51,7 +48,7 @@ pub(crate) fn export_line<N: NameMangling>(
     call: &str,
     resolve: &Resolve,
     words: &mut Words,
-    out: &mut String,
+    out: &mut Lines,
 ) -> Result<(), Bad> {
     let alloc = words.alloc;
     let name = words.name()?;
@@ -60,15 +57,15 @@ pub(crate) fn export_line<N: NameMangling>(
     if !resolve.has_world(WorldId(0)) {
         return Err(Bad::Line("no world"));
     }
-    put_name(out, &name)?;
-    out.push_str(": ")?;
+    put_name(out, &name);
+    out.push_str(": ");
     if call == "match_wit_export" {
         let found = scheme.match_wit_export(alloc, &name, resolve, WorldId(0), &keys)?;
-        put_exported(out, found)?;
+        put_exported(out, found);
     } else {
         let found = scheme.match_wit_resource_dtor(alloc, &name, resolve, WorldId(0), &keys)?;
-        put_destructed(out, found)?;
+        put_destructed(out, found);
     }
-    out.push('\n')?;
+    out.push('\n');
     Ok(())
 }

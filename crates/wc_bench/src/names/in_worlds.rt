@@ -7,22 +7,23 @@ ghost use Rattle.wc_resolve.specs.Views.{world_entry};
 use crate::names::contexts::{context_line, first_world, is_imported};
 use crate::names::exports_in_worlds::export_line;
 use crate::names::values::payload_line;
-use crate::worlds::bad::Bad;
-use crate::worlds::shown_names::{put_id, put_key, put_name};
-use crate::worlds::words::Words;
 use indexmap::IndexMap;
 use std::alloc::{AllocError, Global};
+use wc_fixtures::bad::Bad;
+use wc_fixtures::shown_names::{put_id, put_key, put_name};
+use wc_fixtures::words::Words;
 use wc_names::NameMangling;
 use wc_resolve::{InterfaceId, Resolve, WorldItem, WorldKey};
+use wc_rows::lines::Lines;
 
-fn put_found(out: &mut String, found: &Option<(WorldKey, InterfaceId)>) -> Result<(), AllocError> {
+fn put_found(out: &mut Lines, found: &Option<(WorldKey, InterfaceId)>) {
     match found {
         Some((key, id)) => {
-            out.push_str(": key ")?;
-            put_key(out, key)?;
-            out.push_str(" interface ")?;
-            put_id(out, 'i', id.0)?;
-            out.push('\n')
+            out.push_str(": key ");
+            put_key(out, key);
+            out.push_str(" interface ");
+            put_id(out, 'i', id.0);
+            out.push('\n');
         }
         None => out.push_str(": none\n"),
     }
@@ -53,20 +54,20 @@ fn interface_line<N: NameMangling>(
     call: &str,
     resolve: &Resolve,
     words: &mut Words,
-    out: &mut String,
+    out: &mut Lines,
 ) -> Result<(), Bad> {
     let imported = is_imported(words)?;
     let text = words.name()?;
     let Some(world) = first_world(resolve) else {
         return Err(Bad::Line("no world"));
     };
-    put_name(out, &text)?;
+    put_name(out, &text);
     let found = if imported {
         find_interface(words.alloc, scheme, call, resolve, &world.imports, &text)?
     } else {
         find_interface(words.alloc, scheme, call, resolve, &world.exports, &text)?
     };
-    put_found(out, &found)?;
+    put_found(out, &found);
     Ok(())
 }
 
@@ -76,7 +77,7 @@ pub(crate) fn put_world_line<N: NameMangling>(
     call: &str,
     resolve: &Resolve,
     words: &mut Words,
-    out: &mut String,
+    out: &mut Lines,
 ) -> Result<(), Bad> {
     if call == "module_to_interface" || call == "interface_names" {
         interface_line(scheme, call, resolve, words, out)?;

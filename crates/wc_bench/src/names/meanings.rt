@@ -2,28 +2,25 @@
 
 use crate::names::core_types::func_type;
 use crate::names::shown_imports::{put_copy, put_found_import};
-use crate::worlds::bad::Bad;
-use crate::worlds::shown_names::put_name;
-use crate::worlds::words::Words;
 use std::alloc::{AllocError, Global};
 use std::fmt::Debug;
+use wc_fixtures::bad::Bad;
+use wc_fixtures::shown_names::put_name;
+use wc_fixtures::words::Words;
 use wc_names::NameMangling;
 use wc_resolve::AbiVariant;
+use wc_rows::lines::Lines;
 
 /// A word, and what was found, if something was.
-fn put_found<T: Debug + Drop>(
-    out: &mut String,
-    word: &str,
-    found: Option<T>,
-) -> Result<(), AllocError> {
+fn put_found<T: Debug + Drop>(out: &mut Lines, word: &str, found: Option<T>) {
     match found {
         Some(found) => write!(out, "{word} {found:?}"),
-        None => Ok(()),
+        None => {}
     }
 }
 
 /// The built-ins that have one name.
-fn put_plain<N: NameMangling>(scheme: &N, name: &str, out: &mut String) -> Result<(), AllocError> {
+fn put_plain<N: NameMangling>(scheme: &N, name: &str, out: &mut Lines) {
     let flags = [
         (" task_cancel", scheme.task_cancel(name)),
         (" backpressure_inc", scheme.backpressure_inc(name)),
@@ -36,24 +33,23 @@ fn put_plain<N: NameMangling>(scheme: &N, name: &str, out: &mut String) -> Resul
     ];
     for (word, holds) in flags {
         if holds {
-            out.push_str(word)?;
+            out.push_str(word);
         }
     }
-    Ok(())
 }
 
 /// The built-ins whose names say more.
-fn put_others<N: NameMangling>(scheme: &N, name: &str, out: &mut String) -> Result<(), AllocError> {
-    put_found(out, " waitable_set_wait", scheme.waitable_set_wait(name))?;
-    put_found(out, " waitable_set_poll", scheme.waitable_set_poll(name))?;
-    put_found(out, " context_get", scheme.context_get(name))?;
-    put_found(out, " context_set", scheme.context_set(name))?;
-    put_found(out, " error_context_new", scheme.error_context_new(name))?;
+fn put_others<N: NameMangling>(scheme: &N, name: &str, out: &mut Lines) {
+    put_found(out, " waitable_set_wait", scheme.waitable_set_wait(name));
+    put_found(out, " waitable_set_poll", scheme.waitable_set_poll(name));
+    put_found(out, " context_get", scheme.context_get(name));
+    put_found(out, " context_set", scheme.context_set(name));
+    put_found(out, " error_context_new", scheme.error_context_new(name));
     put_found(
         out,
         " error_context_debug_message",
         scheme.error_context_debug_message(name),
-    )
+    );
 }
 
 /// The built-in for threads.
@@ -61,11 +57,11 @@ fn put_thread<N: NameMangling>(
     alloc: Global,
     scheme: &N,
     name: &str,
-    out: &mut String,
+    out: &mut Lines,
 ) -> Result<(), AllocError> {
     match scheme.thread_intrinsic(name) {
         Some(import) => {
-            out.push_str(" thread_intrinsic ")?;
+            out.push_str(" thread_intrinsic ");
             put_copy(alloc, &import, out)
         }
         None => Ok(()),
@@ -73,50 +69,38 @@ fn put_thread<N: NameMangling>(
 }
 
 /// `subtask.cancel`, and whether it is lowered asynchronously.
-fn put_lowered<N: NameMangling>(
-    scheme: &N,
-    name: &str,
-    out: &mut String,
-) -> Result<(), AllocError> {
+fn put_lowered<N: NameMangling>(scheme: &N, name: &str, out: &mut Lines) {
     match scheme.subtask_cancel(name) {
         Some(cancel) => {
             let lowered = cancel.async_lowered;
-            write!(out, " subtask_cancel async_lowered {lowered}")
+            write!(out, " subtask_cancel async_lowered {lowered}");
         }
-        None => Ok(()),
+        None => {}
     }
 }
 
 /// The resource or function in the name of a built-in.
-fn put_subjects<N: NameMangling>(
-    scheme: &N,
-    name: &str,
-    out: &mut String,
-) -> Result<(), AllocError> {
-    put_found(out, " resource_drop_name", scheme.resource_drop_name(name))?;
-    put_found(out, " resource_new_name", scheme.resource_new_name(name))?;
-    put_found(out, " resource_rep_name", scheme.resource_rep_name(name))?;
-    put_found(out, " task_return_name", scheme.task_return_name(name))
+fn put_subjects<N: NameMangling>(scheme: &N, name: &str, out: &mut Lines) {
+    put_found(out, " resource_drop_name", scheme.resource_drop_name(name));
+    put_found(out, " resource_new_name", scheme.resource_new_name(name));
+    put_found(out, " resource_rep_name", scheme.resource_rep_name(name));
+    put_found(out, " task_return_name", scheme.task_return_name(name));
 }
 
 /// The export in the name of another one.
-fn put_exported<N: NameMangling>(
-    scheme: &N,
-    name: &str,
-    out: &mut String,
-) -> Result<(), AllocError> {
+fn put_exported<N: NameMangling>(scheme: &N, name: &str, out: &mut Lines) {
     put_found(
         out,
         " async_lift_callback_name",
         scheme.async_lift_callback_name(name),
-    )?;
-    put_found(out, " async_lift_name", scheme.async_lift_name(name))?;
+    );
+    put_found(out, " async_lift_name", scheme.async_lift_name(name));
     put_found(
         out,
         " async_lift_stackful_name",
         scheme.async_lift_stackful_name(name),
-    )?;
-    put_found(out, " strip_post_return", scheme.strip_post_return(name))
+    );
+    put_found(out, " strip_post_return", scheme.strip_post_return(name));
 }
 
 /// Each function of the scheme that has an answer for the name, and its answer.
@@ -124,14 +108,15 @@ fn put_meanings<N: NameMangling>(
     alloc: Global,
     scheme: &N,
     name: &str,
-    out: &mut String,
+    out: &mut Lines,
 ) -> Result<(), AllocError> {
-    put_plain(scheme, name, out)?;
-    put_others(scheme, name, out)?;
+    put_plain(scheme, name, out);
+    put_others(scheme, name, out);
     put_thread(alloc, scheme, name, out)?;
-    put_lowered(scheme, name, out)?;
-    put_subjects(scheme, name, out)?;
-    put_exported(scheme, name, out)
+    put_lowered(scheme, name, out);
+    put_subjects(scheme, name, out);
+    put_exported(scheme, name, out);
+    Ok(())
 }
 
 /// What a name means, or ` none`.
@@ -139,33 +124,27 @@ fn meanings<N: NameMangling>(
     alloc: Global,
     scheme: &N,
     name: &str,
-    out: &mut String,
+    out: &mut Lines,
 ) -> Result<(), AllocError> {
-    let before = out.len();
-    put_meanings(alloc, scheme, name, out)?;
-    if out.len() == before {
-        out.push_str(" none")?;
-    }
+    let mut found = Lines::new(alloc);
+    put_meanings(alloc, scheme, name, &mut found)?;
+    let text = found.text()?;
+    out.push_str(if text.is_empty() { " none" } else { text });
     Ok(())
 }
 
-fn put_function(
-    out: &mut String,
-    word: &str,
-    name: &str,
-    abi: AbiVariant,
-) -> Result<(), AllocError> {
-    out.push_str(word)?;
-    put_name(out, name)?;
-    write!(out, " {abi:?}")
+fn put_function(out: &mut Lines, word: &str, name: &str, abi: AbiVariant) {
+    out.push_str(word);
+    put_name(out, name);
+    write!(out, " {abi:?}");
 }
 
 /// The function of the world, and of an interface, that a name is of.
-fn functions<N: NameMangling>(scheme: &N, name: &str, out: &mut String) -> Result<(), AllocError> {
+fn functions<N: NameMangling>(scheme: &N, name: &str, out: &mut Lines) {
     let (own, abi) = scheme.world_key_name_and_abi(name);
-    put_function(out, " world ", own, abi)?;
+    put_function(out, " world ", own, abi);
     let (own, abi) = scheme.interface_function_name_and_abi(name);
-    put_function(out, " interface ", own, abi)
+    put_function(out, " interface ", own, abi);
 }
 
 /// What a name means in the module `env`, with the type after it.
@@ -173,10 +152,10 @@ fn environment<N: NameMangling>(
     scheme: &N,
     words: &mut Words,
     name: &str,
-    out: &mut String,
+    out: &mut Lines,
 ) -> Result<(), Bad> {
     let ty = func_type(words)?;
-    out.push(' ')?;
+    out.push(' ');
     put_found_import(words.alloc, &scheme.env_import(name, &ty), out)?;
     Ok(())
 }
@@ -186,19 +165,19 @@ pub(crate) fn put_name_line<N: NameMangling>(
     scheme: &N,
     call: &str,
     words: &mut Words,
-    out: &mut String,
+    out: &mut Lines,
 ) -> Result<(), Bad> {
     let name = words.name()?;
-    put_name(out, &name)?;
-    out.push(':')?;
+    put_name(out, &name);
+    out.push(':');
     if call == "function_names" {
-        functions(scheme, &name, out)?;
+        functions(scheme, &name, out);
     } else if call == "env_import" {
         environment(scheme, words, &name, out)?;
     } else {
         meanings(words.alloc, scheme, &name, out)?;
     }
     words.end()?;
-    out.push('\n')?;
+    out.push('\n');
     Ok(())
 }

@@ -1,17 +1,17 @@
 //! The texts of a scheme.
 
-use crate::worlds::shown_names::put_name;
-use std::alloc::AllocError;
+use wc_fixtures::shown_names::put_name;
 use wc_names::NameMangling;
+use wc_rows::lines::Lines;
 
-fn put_text(out: &mut String, word: &str, text: &str) -> Result<(), AllocError> {
-    out.push_str(word)?;
-    put_name(out, text)?;
-    out.push('\n')
+fn put_text(out: &mut Lines, word: &str, text: &str) {
+    out.push_str(word);
+    put_name(out, text);
+    out.push('\n');
 }
 
 /// The texts of a scheme, a line each.
-pub(crate) fn put_scheme<N: NameMangling>(scheme: &N, out: &mut String) -> Result<(), AllocError> {
+pub(crate) fn put_scheme<N: NameMangling>(scheme: &N, out: &mut Lines) {
     let texts = [
         ("import_root ", scheme.import_root()),
         ("import_non_root_prefix ", scheme.import_non_root_prefix()),
@@ -24,7 +24,7 @@ pub(crate) fn put_scheme<N: NameMangling>(scheme: &N, out: &mut String) -> Resul
         ("export_realloc ", scheme.export_realloc()),
     ];
     for (word, text) in texts {
-        put_text(out, word, text)?;
+        put_text(out, word, text);
     }
     let optional = [
         (
@@ -33,16 +33,15 @@ pub(crate) fn put_scheme<N: NameMangling>(scheme: &N, out: &mut String) -> Resul
         ),
         ("export_wasm_task_hook ", scheme.export_wasm_task_hook()),
     ];
-    put_optional(out, &optional)
+    put_optional(out, &optional);
 }
 
 /// Texts, or `none`, a line each.
-fn put_optional(out: &mut String, texts: &[(&str, Option<&str>)]) -> Result<(), AllocError> {
+fn put_optional(out: &mut Lines, texts: &[(&str, Option<&str>)]) {
     for (word, text) in texts {
         match text {
-            Some(text) => put_text(out, word, text)?,
-            None => writeln!(out, "{word}none")?,
+            Some(text) => put_text(out, word, text),
+            None => writeln!(out, "{word}none"),
         }
     }
-    Ok(())
 }

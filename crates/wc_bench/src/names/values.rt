@@ -5,17 +5,18 @@ ghost use Rattle.wc_names.specs.Payloads.{HasPayload};
 ghost use Rattle.wc_names.specs.Views.{payload_type_view, typed};
 
 use crate::names::contexts::is_imported;
-use crate::worlds::bad::Bad;
-use crate::worlds::members::{interface_id, world_key};
-use crate::worlds::resolve_calls::put_answer;
-use crate::worlds::shown_names::put_payload;
-use crate::worlds::stop::Stop;
-use crate::worlds::types::type_id;
-use crate::worlds::words::Words;
 use std::alloc::{AllocError, Global};
 use std::hash::{DefaultHasher, Hash, Hasher};
+use wc_fixtures::bad::Bad;
+use wc_fixtures::members::{interface_id, world_key};
+use wc_fixtures::resolve_calls::put_answer;
+use wc_fixtures::shown_names::put_payload;
+use wc_fixtures::stop::Stop;
+use wc_fixtures::types::type_id;
+use wc_fixtures::words::Words;
 use wc_names::{PayloadInfo, PayloadType};
 use wc_resolve::{Resolve, TypeDefKind, TypeId, WorldKey};
+use wc_rows::lines::Lines;
 
 /// `unit-future`, `unit-stream` or `typed TYPE-ID FUNCTION`.
 fn payload_type(words: &mut Words) -> Result<PayloadType, Bad> {
@@ -75,19 +76,20 @@ fn put_copy(
     alloc: Global,
     info: &PayloadInfo,
     first: &PayloadInfo,
-    out: &mut String,
+    out: &mut Lines,
 ) -> Result<(), AllocError> {
     let copy = info.clone(alloc)?;
-    writeln!(out, "{copy:?}")?;
-    put_answer(out, copy == *first)?;
-    put_answer(out, hash_of(&copy) == hash_of(first))
+    writeln!(out, "{copy:?}");
+    put_answer(out, copy == *first);
+    put_answer(out, hash_of(&copy) == hash_of(first));
+    Ok(())
 }
 
 /// A copy of each, compared with the first.
 pub(crate) fn put_copies<'a>(
     alloc: Global,
     input: &[&'a str],
-    out: &mut String,
+    out: &mut Lines,
 ) -> Result<(), Stop<'a>> {
     let infos = payload_infos(alloc, input)?;
     let Some(first) = infos.first() else {
@@ -127,7 +129,7 @@ fn has_payload(resolve: &Resolve, ty: &PayloadType) -> bool
 pub(crate) fn payload_line(
     resolve: &Resolve,
     words: &mut Words,
-    out: &mut String,
+    out: &mut Lines,
 ) -> Result<(), Bad> {
     let info = PayloadInfo {
         name: String::new(words.alloc),
@@ -139,7 +141,7 @@ pub(crate) fn payload_line(
     if !has_payload(resolve, &info.ty) {
         return Err(Bad::Line("no future or stream"));
     }
-    put_payload(out, info.payload(resolve))?;
-    out.push('\n')?;
+    put_payload(out, info.payload(resolve));
+    out.push('\n');
     Ok(())
 }

@@ -1,31 +1,32 @@
 //! The calls of `wc_validate`.
 
 use crate::names::shown_imports::put_copy;
-use crate::rows::Row;
 use crate::validation::described_modules::{DescribedModule, described_of};
 use crate::validation::export_calls::{classify_exports, put_recorded};
 use crate::validation::shown_modules::{put_imports, put_memory, put_modules, put_required};
-use crate::worlds::bad::Bad;
-use crate::worlds::encoder_fixture::described_encoder;
-use crate::worlds::resolve_calls::argument_words;
-use crate::worlds::stop::Stop;
-use crate::worlds::words::Words;
 use std::alloc::{AllocError, Global};
 use std::borrow::CowSlice;
-use wc_dedupe::{DedupeFault, ModuleImportMap};
+use wc_dedupe::ModuleImportMap;
 use wc_encoder::{Adapter, ComponentEncoder};
+use wc_fixtures::bad::Bad;
+use wc_fixtures::encoder_fixture::described_encoder;
+use wc_fixtures::resolve_calls::argument_words;
+use wc_fixtures::stop::Stop;
+use wc_fixtures::words::Words;
 use wc_read::ReadFault;
+use wc_rows::lines::Lines;
+use wc_rows::rows::Row;
 use wc_validate::{
     ImportInstance, ImportMap, ValidateFault, ValidatedModule, validate_adapter_module,
     validate_module,
 };
 
 /// What the words after a call ask of the imports: `imports`, `memory`, `required ADAPTER`, or all that is recorded.
-fn put_asked(imports: &ImportMap, words: &mut Words, out: &mut String) -> Result<(), Bad> {
+fn put_asked(imports: &ImportMap, words: &mut Words, out: &mut Lines) -> Result<(), Bad> {
     if words.take("imports") {
         put_imports(words.alloc, imports, out)?;
     } else if words.take("memory") {
-        put_memory(imports, out)?;
+        put_memory(imports, out);
     } else if words.take("required") {
         let adapter = words.name()?;
         put_required(words.alloc, imports, &adapter, out)?;
@@ -39,19 +40,19 @@ fn put_asked(imports: &ImportMap, words: &mut Words, out: &mut String) -> Result
 fn put_validated(
     validated: &Result<ValidatedModule, ValidateFault>,
     words: &mut Words,
-    out: &mut String,
+    out: &mut Lines,
 ) -> Result<(), Bad> {
     match validated {
         Ok(validated) => put_asked(&validated.imports, words, out),
         Err(fault) => {
-            writeln!(out, "fault {fault}")?;
+            writeln!(out, "fault {fault}");
             Ok(())
         }
     }
 }
 
 /// What single imports are, without their names.
-fn put_own(alloc: Global, instance: &ImportInstance, out: &mut String) -> Result<(), AllocError> {
+fn put_own(alloc: Global, instance: &ImportInstance, out: &mut Lines) -> Result<(), AllocError> {
     if let ImportInstance::Names(names) = instance {
         for (_, import) in names.iter() {
             put_copy(alloc, import, out)?;
@@ -64,29 +65,30 @@ fn put_own(alloc: Global, instance: &ImportInstance, out: &mut String) -> Result
 fn put_alone(
     alloc: Global,
     validated: &Result<ValidatedModule, ValidateFault>,
-    out: &mut String,
+    out: &mut Lines,
 ) -> Result<(), AllocError> {
     match validated {
         Ok(validated) => {
             for (_, instance) in validated.imports.modules().iter() {
                 put_own(alloc, instance, out)?;
             }
-            out.push('\n')
+            out.push('\n');
         }
         Err(fault) => writeln!(out, "fault {fault}"),
     }
+    Ok(())
 }
 
 /// The import of a line, in a module of its own.
 fn classify_line(
     encoder: &ComponentEncoder,
     words: &mut Words,
-    out: &mut String,
+    out: &mut Lines,
 ) -> Result<(), Bad> {
     let alloc = words.alloc;
     let mut described = DescribedModule::new(alloc);
     described.add(words, true)?;
-    described.put_names(out)?;
+    described.put_names(out);
     let bytes = described.into_bytes(alloc)?;
     encoder.well_formedness();
     put_alone(alloc, &validate_module(alloc, encoder, &bytes, None), out)?;
@@ -98,7 +100,7 @@ fn classify<'a>(
     alloc: Global,
     encoder: &ComponentEncoder,
     row: &'a Row<'a>,
-    out: &mut String,
+    out: &mut Lines,
 ) -> Result<(), Stop<'a>> {
     for line in &row.input {
         if let Some(line) = line.strip_prefix("do ") {
@@ -117,7 +119,7 @@ fn put_deduped(
     encoder: &ComponentEncoder,
     bytes: &[u8],
     words: &mut Words,
-    out: &mut String,
+    out: &mut Lines,
 ) -> Result<(), Bad> {
     let (deduped, renames) = ModuleImportMap::new(words.alloc, CowSlice::Borrowed(bytes))?;
     encoder.well_formedness();
@@ -130,7 +132,7 @@ fn put_described<'a>(
     encoder: &ComponentEncoder,
     row: &'a Row<'a>,
     words: &mut Words,
-    out: &mut String,
+    out: &mut Lines,
 ) -> Result<(), Stop<'a>> {
     let bytes = described_of(words.alloc, &row.input)?.into_bytes(words.alloc)?;
     if words.take("deduped") {
@@ -147,7 +149,7 @@ fn put_described<'a>(
 }
 
 /// The main module of the encoder, with the names that it had.
-fn put_main(encoder: &ComponentEncoder, words: &mut Words, out: &mut String) -> Result<(), Bad> {
+fn put_main(encoder: &ComponentEncoder, words: &mut Words, out: &mut Lines) -> Result<(), Bad> {
     encoder.well_formedness();
     let validated = validate_module(
         words.alloc,
@@ -164,7 +166,7 @@ fn put_as_adapter(
     adapter: &Adapter,
     mut described: DescribedModule,
     words: &mut Words,
-    out: &mut String,
+    out: &mut Lines,
 ) -> Result<(), Bad> {
     let required = described.take_required(words.alloc);
     let bytes = described.into_bytes(words.alloc)?;
@@ -185,7 +187,7 @@ fn put_adapter<'a>(
     encoder: &ComponentEncoder,
     row: &'a Row<'a>,
     words: &mut Words,
-    out: &mut String,
+    out: &mut Lines,
 ) -> Result<(), Stop<'a>> {
     let described = described_of(words.alloc, &row.input)?;
     let name = words.name()?;
@@ -197,7 +199,7 @@ fn put_adapter<'a>(
 }
 
 /// The text of each fault of imports, in the order of `ValidateFault`.
-fn put_faults(out: &mut String) -> Result<(), AllocError> {
+fn put_faults(out: &mut Lines) {
     let faults = [
         ValidateFault::Memory,
         ValidateFault::Read(ReadFault::NotWasm),
@@ -223,9 +225,8 @@ fn put_faults(out: &mut String) -> Result<(), AllocError> {
         ValidateFault::AdapterExportType,
     ];
     for fault in &faults {
-        writeln!(out, "{fault}")?;
+        writeln!(out, "{fault}");
     }
-    Ok(())
 }
 
 /// The calls on an encoder.
@@ -233,7 +234,7 @@ fn on_encoder<'a>(
     alloc: Global,
     encoder: &ComponentEncoder,
     row: &'a Row<'a>,
-    out: &mut String,
+    out: &mut Lines,
 ) -> Result<(), Stop<'a>> {
     if row.call == "classify" {
         return classify(alloc, encoder, row, out);
@@ -255,9 +256,9 @@ fn on_encoder<'a>(
     }
 }
 
-fn answered<'a>(alloc: Global, row: &'a Row<'a>, out: &mut String) -> Result<(), Stop<'a>> {
+fn answered<'a>(alloc: Global, row: &'a Row<'a>, out: &mut Lines) -> Result<(), Stop<'a>> {
     if row.call == "validate_faults" {
-        put_faults(out)?;
+        put_faults(out);
         return Ok(());
     }
     match described_encoder(alloc, row) {
@@ -281,13 +282,13 @@ fn is_own(call: &str) -> bool {
 }
 
 /// The answer of a call of `wc_validate`. False where the call is none.
-pub(crate) fn answer(alloc: Global, row: &Row<'_>, out: &mut String) -> Result<bool, AllocError> {
+pub(crate) fn answer(alloc: Global, row: &Row<'_>, out: &mut Lines) -> Result<bool, AllocError> {
     if !is_own(row.call) {
         return Ok(false);
     }
-    let mut lines = String::new(alloc);
+    let mut lines = Lines::new(alloc);
     match answered(alloc, row, &mut lines) {
-        Ok(()) => out.push_str(&lines)?,
+        Ok(()) => out.push_str(lines.text()?),
         Err(stop) => stop.put(out)?,
     }
     Ok(true)

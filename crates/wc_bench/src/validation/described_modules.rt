@@ -1,17 +1,18 @@
 //! Modules that are described by their imports and exports, a line each.
 
-use crate::imports::parse_import_type;
 use crate::names::core_types::func_type;
 use crate::validation::written_modules::written;
-use crate::worlds::bad::Bad;
-use crate::worlds::fixture::once;
-use crate::worlds::shown_names::put_name;
-use crate::worlds::stop::Stop;
-use crate::worlds::words::Words;
 use indexmap::IndexMap;
 use std::alloc::{AllocError, Global};
 use std::mem;
+use wc_fixtures::bad::Bad;
+use wc_fixtures::fixture::once;
+use wc_fixtures::shown_names::put_name;
+use wc_fixtures::stop::Stop;
+use wc_fixtures::words::Words;
 use wc_read::{FuncType, Import, ImportType};
+use wc_rows::imports::parse_import_type;
+use wc_rows::lines::Lines;
 
 /// An import's names and its type; that of a function by its index.
 #[derive(Drop)]
@@ -127,23 +128,21 @@ impl DescribedModule {
     }
 
     /// `MODULE NAME: `, for each import.
-    pub(crate) fn put_names(&self, out: &mut String) -> Result<(), AllocError> {
+    pub(crate) fn put_names(&self, out: &mut Lines) {
         for import in &self.imports {
-            put_name(out, &import.module)?;
-            out.push(' ')?;
-            put_name(out, &import.name)?;
-            out.push_str(": ")?;
+            put_name(out, &import.module);
+            out.push(' ');
+            put_name(out, &import.name);
+            out.push_str(": ");
         }
-        Ok(())
     }
 
     /// `NAME: `, for each export.
-    pub(crate) fn put_export_names(&self, out: &mut String) -> Result<(), AllocError> {
+    pub(crate) fn put_export_names(&self, out: &mut Lines) {
         for export in &self.exports {
-            put_name(out, &export.name)?;
-            out.push_str(": ")?;
+            put_name(out, &export.name);
+            out.push_str(": ");
         }
-        Ok(())
     }
 
     /// Takes out what is required of the module.

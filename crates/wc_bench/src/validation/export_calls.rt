@@ -1,67 +1,65 @@
 //! What is recorded of a module's exports, and what is looked up in the record.
 
-use crate::rows::Row;
 use crate::validation::described_modules::{DescribedModule, described_of};
-use crate::worlds::bad::Bad;
-use crate::worlds::functions::complete_function;
-use crate::worlds::members::world_key;
-use crate::worlds::shown_names::put_name;
-use crate::worlds::stop::Stop;
-use crate::worlds::types::type_id;
-use crate::worlds::words::Words;
-use std::alloc::{AllocError, Global};
+use std::alloc::Global;
 use wc_encoder::ComponentEncoder;
-use wc_names::Export;
+use wc_fixtures::bad::Bad;
+use wc_fixtures::functions::complete_function;
+use wc_fixtures::members::world_key;
+use wc_fixtures::shown_names::put_name;
+use wc_fixtures::stop::Stop;
+use wc_fixtures::types::type_id;
+use wc_fixtures::words::Words;
+use wc_rows::lines::Lines;
+use wc_rows::rows::Row;
 use wc_validate::{ExportMap, ValidateFault, ValidatedModule, validate_module};
 
 /// `NAME: EXPORT`, for each export that is recorded.
-pub(crate) fn put_exports(exports: &ExportMap, out: &mut String) -> Result<(), AllocError> {
+pub(crate) fn put_exports(exports: &ExportMap, out: &mut Lines) {
     for (name, export) in exports.iter() {
-        put_name(out, name)?;
-        writeln!(out, ": {export:?}")?;
+        put_name(out, name);
+        writeln!(out, ": {export:?}");
     }
-    Ok(())
 }
 
-fn put_reallocs(exports: &ExportMap, out: &mut String) -> Result<(), AllocError> {
+fn put_reallocs(exports: &ExportMap, out: &mut Lines) {
     for name in exports.reallocs() {
-        out.push(' ')?;
-        put_name(out, name)?;
+        out.push(' ');
+        put_name(out, name);
     }
-    Ok(())
 }
 
-fn put_found(found: Option<&str>, out: &mut String) -> Result<(), AllocError> {
-    out.push(' ')?;
+fn put_found(found: Option<&str>, out: &mut Lines) {
+    out.push(' ');
     match found {
         Some(name) => put_name(out, name),
         None => out.push_str("none"),
     }
 }
 
-fn put_memory(exports: &ExportMap, out: &mut String) -> Result<(), AllocError> {
+fn put_memory(exports: &ExportMap, out: &mut Lines) {
     match exports.memory() {
         Some((name, ty)) => {
-            put_found(Some(name), out)?;
-            write!(out, " {ty:?}")
+            put_found(Some(name), out);
+            write!(out, " {ty:?}");
         }
         None => put_found(None, out),
     }
 }
 
 /// What the exports of one kind are asked.
-fn put_of_kind(exports: &ExportMap, question: &str, out: &mut String) -> Result<(), Bad> {
+fn put_of_kind(exports: &ExportMap, question: &str, out: &mut Lines) -> Result<(), Bad> {
     match question {
-        "reallocs" => put_reallocs(exports, out)?,
-        "memory" => put_memory(exports, out)?,
-        "general_purpose_realloc" => put_found(exports.general_purpose_realloc(), out)?,
-        "import_realloc_fallback" => put_found(exports.import_realloc_fallback(), out)?,
+        "reallocs" => put_reallocs(exports, out),
+        "memory" => put_memory(exports, out),
+        "general_purpose_realloc" => put_found(exports.general_purpose_realloc(), out),
+        "import_realloc_fallback" => put_found(exports.import_realloc_fallback(), out),
         "realloc_to_import_into_adapter" => {
-            put_found(exports.realloc_to_import_into_adapter(), out)?
+            put_found(exports.realloc_to_import_into_adapter(), out)
         }
-        "indirect_function_table" => put_found(exports.indirect_function_table(), out)?,
-        "wasm_task_hook" => put_found(exports.wasm_task_hook(), out)?,
-        "initialize" => put_found(exports.initialize(), out)?,
+        "indirect_function_table" => put_found(exports.indirect_function_table(), out),
+        "wasm_task_hook" => put_found(exports.wasm_task_hook(), out),
+        "initialize" => put_found(exports.initialize(), out),
         _ => return Err(Bad::Line("no question on exports")),
     }
     Ok(())
@@ -72,14 +70,14 @@ fn put_of_function(
     exports: &ExportMap,
     question: &str,
     words: &mut Words,
-    out: &mut String,
+    out: &mut Lines,
 ) -> Result<(), Bad> {
     let key = world_key(words)?;
     let function = complete_function(words)?;
     match question {
-        "post_return" => put_found(exports.post_return(&key, &function), out)?,
-        "callback" => put_found(exports.callback(&key, &function), out)?,
-        _ => write!(out, " {:?}", exports.abi(&key, &function))?,
+        "post_return" => put_found(exports.post_return(&key, &function), out),
+        "callback" => put_found(exports.callback(&key, &function), out),
+        _ => write!(out, " {:?}", exports.abi(&key, &function)),
     }
     Ok(())
 }
@@ -89,26 +87,26 @@ fn put_of_name(
     exports: &ExportMap,
     question: &str,
     words: &mut Words,
-    out: &mut String,
+    out: &mut Lines,
 ) -> Result<(), Bad> {
     if question == "export_realloc_for" {
         let key = world_key(words)?;
         let name = words.name()?;
-        put_found(exports.export_realloc_for(&key, &name), out)?;
+        put_found(exports.export_realloc_for(&key, &name), out);
     } else {
         let name = words.name()?;
-        put_found(exports.import_realloc_for(None, &name), out)?;
+        put_found(exports.import_realloc_for(None, &name), out);
     }
     Ok(())
 }
 
 /// The answer to a question: `resource_dtor ID`, `abi KEY func NAME: FUNCTION`, ...
-fn put_answer(exports: &ExportMap, words: &mut Words, out: &mut String) -> Result<(), Bad> {
+fn put_answer(exports: &ExportMap, words: &mut Words, out: &mut Lines) -> Result<(), Bad> {
     let question = words.name()?;
     match question.as_str() {
         "resource_dtor" => {
             let id = type_id(words)?;
-            put_found(exports.resource_dtor(id), out)?;
+            put_found(exports.resource_dtor(id), out);
         }
         "post_return" | "callback" | "abi" => put_of_function(exports, &question, words, out)?,
         "export_realloc_for" | "import_realloc_for" => {
@@ -124,15 +122,15 @@ fn put_answers<'a>(
     alloc: Global,
     exports: &ExportMap,
     input: &[&'a str],
-    out: &mut String,
+    out: &mut Lines,
 ) -> Result<(), Stop<'a>> {
     for line in input {
         if let Some(question) = line.strip_prefix("do ask ") {
-            out.push_str(question)?;
-            out.push(':')?;
+            out.push_str(question);
+            out.push(':');
             let mut words = Words::of(alloc, question, 0)?;
             match put_answer(exports, &mut words, out) {
-                Ok(()) => out.push('\n')?,
+                Ok(()) => out.push('\n'),
                 Err(bad) => return Err(Stop::at(bad, line)),
             }
         }
@@ -145,27 +143,24 @@ pub(crate) fn put_recorded<'a>(
     alloc: Global,
     encoder: &ComponentEncoder,
     row: &'a Row<'a>,
-    out: &mut String,
+    out: &mut Lines,
 ) -> Result<(), Stop<'a>> {
     let bytes = described_of(alloc, &row.input)?.into_bytes(alloc)?;
     encoder.well_formedness();
     match validate_module(alloc, encoder, &bytes, None) {
         Ok(validated) => {
-            put_exports(&validated.exports, out)?;
+            put_exports(&validated.exports, out);
             put_answers(alloc, &validated.exports, &row.input, out)
         }
         Err(fault) => {
-            writeln!(out, "fault {fault}")?;
+            writeln!(out, "fault {fault}");
             Ok(())
         }
     }
 }
 
 /// The one export that is recorded, `none`, or why the module was refused.
-fn put_alone(
-    validated: &Result<ValidatedModule, ValidateFault>,
-    out: &mut String,
-) -> Result<(), AllocError> {
+fn put_alone(validated: &Result<ValidatedModule, ValidateFault>, out: &mut Lines) {
     match validated {
         Ok(validated) => match validated.exports.iter().next() {
             Some((_, export)) => writeln!(out, "{export:?}"),
@@ -179,15 +174,15 @@ fn put_alone(
 fn classify_line(
     encoder: &ComponentEncoder,
     words: &mut Words,
-    out: &mut String,
+    out: &mut Lines,
 ) -> Result<(), Bad> {
     let alloc = words.alloc;
     let mut described = DescribedModule::new(alloc);
     described.add_export(words)?;
-    described.put_export_names(out)?;
+    described.put_export_names(out);
     let bytes = described.into_bytes(alloc)?;
     encoder.well_formedness();
-    put_alone(&validate_module(alloc, encoder, &bytes, None), out)?;
+    put_alone(&validate_module(alloc, encoder, &bytes, None), out);
     Ok(())
 }
 
@@ -196,7 +191,7 @@ pub(crate) fn classify_exports<'a>(
     alloc: Global,
     encoder: &ComponentEncoder,
     row: &'a Row<'a>,
-    out: &mut String,
+    out: &mut Lines,
 ) -> Result<(), Stop<'a>> {
     for line in &row.input {
         if let Some(line) = line.strip_prefix("do ") {

@@ -1,12 +1,13 @@
 //! What is recorded of a module's imports, as lines.
 
 use crate::names::shown_imports::put_copy;
-use crate::values::put_func_type;
-use crate::worlds::encoder_fields::put_which;
-use crate::worlds::shown_names::put_name;
 use indexmap::IndexMap;
 use std::alloc::{AllocError, Global};
+use wc_fixtures::encoder_fields::put_which;
+use wc_fixtures::shown_names::put_name;
 use wc_names::Import;
+use wc_rows::lines::Lines;
+use wc_rows::values::put_func_type;
 use wc_validate::{ImportInstance, ImportMap};
 
 /// `MODULE NAME: IMPORT`.
@@ -15,21 +16,22 @@ pub(crate) fn put_record(
     module_name: &str,
     name: &str,
     import: &Import,
-    out: &mut String,
+    out: &mut Lines,
 ) -> Result<(), AllocError> {
-    put_name(out, module_name)?;
-    out.push(' ')?;
-    put_name(out, name)?;
-    out.push_str(": ")?;
+    put_name(out, module_name);
+    out.push(' ');
+    put_name(out, name);
+    out.push_str(": ");
     put_copy(alloc, import, out)?;
-    out.push('\n')
+    out.push('\n');
+    Ok(())
 }
 
 fn put_names(
     alloc: Global,
     module_name: &str,
     names: &IndexMap<String, Import>,
-    out: &mut String,
+    out: &mut Lines,
 ) -> Result<(), AllocError> {
     for (name, import) in names.iter() {
         put_record(alloc, module_name, name, import, out)?;
@@ -42,24 +44,25 @@ fn put_instance(
     alloc: Global,
     module_name: &str,
     instance: &ImportInstance,
-    out: &mut String,
+    out: &mut Lines,
 ) -> Result<(), AllocError> {
     match instance {
         ImportInstance::Whole(which) => {
-            put_name(out, module_name)?;
-            out.push_str(": ")?;
-            put_which(out, which)?;
-            out.push('\n')
+            put_name(out, module_name);
+            out.push_str(": ");
+            put_which(out, which);
+            out.push('\n');
         }
-        ImportInstance::Names(names) => put_names(alloc, module_name, names, out),
+        ImportInstance::Names(names) => put_names(alloc, module_name, names, out)?,
     }
+    Ok(())
 }
 
 /// All that is recorded, module by module.
 pub(crate) fn put_modules(
     alloc: Global,
     imports: &ImportMap,
-    out: &mut String,
+    out: &mut Lines,
 ) -> Result<(), AllocError> {
     for (module_name, instance) in imports.modules().iter() {
         put_instance(alloc, module_name, instance, out)?;
@@ -71,7 +74,7 @@ pub(crate) fn put_modules(
 pub(crate) fn put_imports(
     alloc: Global,
     imports: &ImportMap,
-    out: &mut String,
+    out: &mut Lines,
 ) -> Result<(), AllocError> {
     for (module_name, name, import) in imports.imports() {
         put_record(alloc, module_name, name, import, out)?;
@@ -84,20 +87,20 @@ pub(crate) fn put_required(
     alloc: Global,
     imports: &ImportMap,
     adapter: &str,
-    out: &mut String,
+    out: &mut Lines,
 ) -> Result<(), AllocError> {
     let required = imports.required_from_adapter(alloc, adapter)?;
     for (name, ty) in required.iter() {
-        put_name(out, name)?;
-        out.push(':')?;
-        put_func_type(out, ty)?;
-        out.push('\n')?;
+        put_name(out, name);
+        out.push(':');
+        put_func_type(out, ty);
+        out.push('\n');
     }
     Ok(())
 }
 
 /// The memory that is imported, or `none`.
-pub(crate) fn put_memory(imports: &ImportMap, out: &mut String) -> Result<(), AllocError> {
+pub(crate) fn put_memory(imports: &ImportMap, out: &mut Lines) {
     match imports.imported_memory() {
         Some(ty) => writeln!(out, "{ty:?}"),
         None => out.push_str("none\n"),

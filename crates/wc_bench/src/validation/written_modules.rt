@@ -1,8 +1,8 @@
 //! The bytes of modules that are described.
 
 use crate::validation::described_modules::DescribedExport;
-use crate::worlds::bad::Bad;
 use std::alloc::Global;
+use wc_fixtures::bad::Bad;
 use wc_read::{
     Body, Def, Export, ExportKind, FuncType, Import, ImportType, Init, Item, MODULE_HEADER,
     ValType, frames, read_body, read_init,

@@ -1,0 +1,134 @@
+//! Live types: a script, whose lines begin with `do `.
+
+use crate::functions::complete_function;
+use crate::members::world_entry;
+use crate::resolve_calls::put_answer;
+use crate::shown_names::put_id;
+use crate::stop::Stop;
+use crate::types::{type_id, wit_type};
+use crate::words::Words;
+use std::alloc::Global;
+use wc_resolve::{LiveTypes, Resolve, WitType, WorldItem};
+use wc_rows::lines::Lines;
+
+fn add_type_id<'a>(
+    resolve: &Resolve,
+    live: &mut LiveTypes,
+    words: &mut Words,
+) -> Result<(), Stop<'a>> {
+    let id = type_id(words)?;
+    if !resolve.has_type(id) {
+        return Err(Stop::Missing("no such type"));
+    }
+    live.add_type_id(resolve, id)?;
+    Ok(())
+}
+
+fn add_type<'a>(
+    resolve: &Resolve,
+    live: &mut LiveTypes,
+    words: &mut Words,
+) -> Result<(), Stop<'a>> {
+    let ty = wit_type(words)?;
+    let is_there = match ty {
+        WitType::Id(id) => resolve.has_type(id),
+        _ => true,
+    };
+    if !is_there {
+        return Err(Stop::Missing("no such type"));
+    }
+    live.add_type(resolve, ty)?;
+    Ok(())
+}
+
+fn add_func<'a>(
+    resolve: &Resolve,
+    live: &mut LiveTypes,
+    words: &mut Words,
+) -> Result<(), Stop<'a>> {
+    let function = complete_function(words)?;
+    if !resolve.has_function(&function) {
+        return Err(Stop::Missing("a function that is not usable"));
+    }
+    live.add_func(resolve, &function)?;
+    Ok(())
+}
+
+fn add_world_item<'a>(
+    resolve: &Resolve,
+    live: &mut LiveTypes,
+    words: &mut Words,
+) -> Result<(), Stop<'a>> {
+    let (_key, item) = world_entry(words)?;
+    let is_there = match &item {
+        WorldItem::Interface { id, .. } => resolve.has_interface(*id),
+        WorldItem::Function(function) => resolve.has_function(function),
+        WorldItem::TypeItem { id } => resolve.has_type(*id),
+    };
+    if !is_there {
+        return Err(Stop::Missing("an item of what is not there"));
+    }
+    live.add_world_item(resolve, &item)?;
+    Ok(())
+}
+
+/// The types in their order, on a line.
+fn put_ids(live: &LiveTypes, out: &mut Lines) {
+    out.push_str("ids");
+    for id in live.iter() {
+        out.push(' ');
+        put_id(out, 't', id.0);
+    }
+    out.push('\n');
+}
+
+/// How many types there are.
+fn put_count(live: &LiveTypes, out: &mut Lines) {
+    let count = live.iter().count();
+    writeln!(out, "{count}");
+}
+
+/// A line of the script, after `do`.
+fn step<'a>(
+    resolve: &Resolve,
+    live: &mut LiveTypes,
+    words: &mut Words,
+    out: &mut Lines,
+) -> Result<(), Stop<'a>> {
+    if words.take("add_type_id") {
+        add_type_id(resolve, live, words)?;
+    } else if words.take("add_type") {
+        add_type(resolve, live, words)?;
+    } else if words.take("add_func") {
+        add_func(resolve, live, words)?;
+    } else if words.take("add_world_item") {
+        add_world_item(resolve, live, words)?;
+    } else if words.take("contains") {
+        put_answer(out, live.contains(type_id(words)?));
+    } else if words.take("ids") {
+        put_ids(live, out);
+    } else if words.take("count") {
+        put_count(live, out);
+    } else {
+        return Err(Stop::Missing("no line of a script"));
+    }
+    words.end()?;
+    Ok(())
+}
+
+/// The answers of the script's lines.
+pub fn live_call<'a>(
+    alloc: Global,
+    resolve: &Resolve,
+    input: &[&'a str],
+    out: &mut Lines,
+) -> Result<(), Stop<'a>> {
+    let mut live = LiveTypes::new(alloc);
+    for line in input {
+        if let Some(line) = line.strip_prefix("do ") {
+            let mut words = Words::of(alloc, line, 0)?;
+            step(resolve, &mut live, &mut words, out)?;
+        }
+    }
+    Ok(())
+}

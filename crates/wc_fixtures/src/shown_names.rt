@@ -1,0 +1,149 @@
+//! Names, types and keys, as fixtures write them.
+
+use wc_resolve::{PackageName, TypeOwner, WitType, WorldKey};
+use wc_rows::lines::Lines;
+
+fn is_plain_character(c: char) -> bool {
+    c.is_ascii_alphanumeric()
+        || matches!(
+            c,
+            '-' | '_' | '.' | '[' | ']' | '/' | '@' | '#' | '+' | ':' | '$' | '|'
+        )
+}
+
+/// Whether a word is a letter and a number, as ids are.
+fn is_id(text: &str) -> bool {
+    for letter in ['t', 'i', 'p', 'w'] {
+        if let Some(number) = text.strip_prefix(letter) {
+            if number.parse::<u32>().is_ok() {
+                return true;
+            }
+        }
+    }
+    false
+}
+
+/// Words that fixtures and answers use where names are.
+const TAKEN: [&str; 5] = ["in", "of", "clones", "none", "named"];
+
+/// Whether a name can occur without quotes wherever a name can.
+fn is_plain(name: &str) -> bool {
+    let is_taken = TAKEN.iter().any(|word| *word == name);
+    !name.is_empty()
+        && !is_taken
+        && !is_id(name)
+        && !name.starts_with(':')
+        && !name.ends_with(':')
+        && name.chars().all(|c| is_plain_character(c))
+}
+
+/// Puts a name in quotes.
+fn put_quoted(out: &mut Lines, name: &str) {
+    out.push('"');
+    for c in name.chars() {
+        match c {
+            '"' => out.push_str("\\\""),
+            '\\' => out.push_str("\\\\"),
+            '\n' => out.push_str("\\n"),
+            _ => out.push(c),
+        }
+    }
+    out.push('"');
+}
+
+pub fn put_name(out: &mut Lines, name: &str) {
+    if is_plain(name) {
+        out.push_str(name);
+    } else {
+        put_quoted(out, name);
+    }
+}
+
+/// A name, or `none`.
+pub fn put_optional_name(out: &mut Lines, name: &Option<String>) {
+    match name {
+        Some(name) => put_name(out, name),
+        None => out.push_str("none"),
+    }
+}
+
+/// An id: its letter and its index.
+pub fn put_id(out: &mut Lines, letter: char, index: u32) {
+    write!(out, "{letter}{index}");
+}
+
+fn primitive(ty: WitType) -> &'static str {
+    match ty {
+        WitType::Bool => "bool",
+        WitType::U8 => "u8",
+        WitType::U16 => "u16",
+        WitType::U32 => "u32",
+        WitType::U64 => "u64",
+        WitType::S8 => "s8",
+        WitType::S16 => "s16",
+        WitType::S32 => "s32",
+        WitType::S64 => "s64",
+        WitType::F32 => "f32",
+        WitType::F64 => "f64",
+        WitType::Char => "char",
+        WitType::String => "string",
+        WitType::ErrorContext => "error-context",
+        WitType::Id(_) => "",
+    }
+}
+
+pub fn put_type(out: &mut Lines, ty: WitType) {
+    match ty {
+        WitType::Id(id) => put_id(out, 't', id.0),
+        _ => out.push_str(primitive(ty)),
+    }
+}
+
+/// A type, or `_`.
+pub fn put_payload(out: &mut Lines, ty: Option<WitType>) {
+    match ty {
+        Some(ty) => put_type(out, ty),
+        None => out.push_str("_"),
+    }
+}
+
+pub fn put_key(out: &mut Lines, key: &WorldKey) {
+    match key {
+        WorldKey::Name(name) => put_name(out, name),
+        WorldKey::Interface(id) => put_id(out, 'i', id.0),
+    }
+}
+
+/// ` in` and the owner, where there is one.
+pub fn put_owner(out: &mut Lines, owner: TypeOwner) {
+    match owner {
+        TypeOwner::None => {}
+        TypeOwner::World(id) => {
+            out.push_str(" in ");
+            put_id(out, 'w', id.0);
+        }
+        TypeOwner::Interface(id) => {
+            out.push_str(" in ");
+            put_id(out, 'i', id.0);
+        }
+    }
+}
+
+/// A part of a package's name: without quotes where no `:` and no `@` is in it either.
+fn put_part(out: &mut Lines, part: &str) {
+    if is_plain(part) && !part.contains(':') && !part.contains('@') {
+        out.push_str(part);
+    } else {
+        put_quoted(out, part);
+    }
+}
+
+pub fn put_package_name(out: &mut Lines, name: &PackageName) {
+    put_part(out, &name.namespace);
+    out.push(':');
+    put_part(out, &name.name);
+    match &name.version {
+        Some(version) => write!(out, "@{version}"),
+        None => {}
+    }
+}

@@ -1,0 +1,79 @@
+//! Why the answer of a row is one line alone.
+
+use crate::bad::Bad;
+use std::alloc::{AllocError, AllocFailed};
+use wc_encoder::EncoderFault;
+use wc_resolve::ResolveFault;
+use wc_rows::lines::Lines;
+use wc_write::WriteFault;
+
+/// Why a call has no other answer: memory ran out, a line can't be read, what is asked for is not there, or the
+/// fault of a call.
+#[derive(Clone, Copy, Debug)]
+pub enum Stop<'a> {
+    Memory,
+    Line(&'static str, &'a str),
+    Missing(&'static str),
+    Resolve(ResolveFault),
+    Encoder(EncoderFault),
+}
+
+impl<'a> Stop<'a> {
+    pub fn at(bad: Bad, line: &'a str) -> Stop<'a> {
+        match bad {
+            Bad::Memory => Stop::Memory,
+            Bad::Line(why) => Stop::Line(why, line),
+        }
+    }
+
+    /// Writes it after an answer; Err where memory ran out.
+    pub fn put(self, out: &mut Lines) -> Result<(), AllocError> {
+        match self {
+            Stop::Memory => return Err(AllocError),
+            Stop::Line(why, line) => writeln!(out, "bad row: {why}: {line}"),
+            Stop::Missing(why) => writeln!(out, "bad row: {why}"),
+            Stop::Resolve(fault) => writeln!(out, "fault {fault}"),
+            Stop::Encoder(fault) => writeln!(out, "fault {fault}"),
+        }
+        Ok(())
+    }
+}
+
+impl<'a> From<Bad> for Stop<'a> {
+    fn from(bad: Bad) -> Stop<'a> {
+        match bad {
+            Bad::Memory => Stop::Memory,
+            Bad::Line(why) => Stop::Missing(why),
+        }
+    }
+}
+
+impl<'a> From<WriteFault> for Stop<'a> {
+    fn from(fault: WriteFault) -> Stop<'a> {
+        Stop::from(Bad::from(fault))
+    }
+}
+
+impl<'a> From<AllocError> for Stop<'a> {
+    fn from(_e: AllocError) -> Stop<'a> {
+        Stop::Memory
+    }
+}
+
+impl<'a, T: Drop> From<AllocFailed<T>> for Stop<'a> {
+    fn from(_e: AllocFailed<T>) -> Stop<'a> {
+        Stop::Memory
+    }
+}
+
+impl<'a> From<ResolveFault> for Stop<'a> {
+    fn from(fault: ResolveFault) -> Stop<'a> {
+        Stop::Resolve(fault)
+    }
+}
+
+impl<'a> From<EncoderFault> for Stop<'a> {
+    fn from(fault: EncoderFault) -> Stop<'a> {
+        Stop::Encoder(fault)
+    }
+}

@@ -1,0 +1,190 @@
+//! Calls of `wc_gc`.
+
+ghost use Rattle.std.specs.Prelude.{IfSome, ◌≤◌};
+
+use crate::input::{Stop, answered, bad_row, bytes_of};
+use crate::lines::Lines;
+use crate::rows::Row;
+use crate::values::put_bytes_lines;
+use indexmap::IndexSet;
+use std::alloc::{AllocError, Global};
+use wc_gc::{BitVec, GcFault, LiveSet, Liveness, liveness_counted, run};
+use wc_read::ReadFault;
+
+/// Appends the answer of a call of `wc_gc`, and says whether the row's is one.
+pub fn answer(alloc: Global, row: &Row<'_>, out: &mut Lines) -> Result<bool, AllocError> {
+    answered(answer_call(alloc, row, out))
+}
+
+fn answer_call(alloc: Global, row: &Row<'_>, out: &mut Lines) -> Result<bool, Stop> {
+    if row.call == "liveness_counted" {
+        answer_liveness(alloc, row, out)?;
+    } else if row.call == "trim" {
+        answer_trim(alloc, row, out)?;
+    } else if row.call == "trim_for" {
+        answer_trim_for(alloc, row, out)?;
+    } else if row.call == "bit_vec" {
+        answer_bit_vec(alloc, row, out)?;
+    } else if row.call == "gc_faults" {
+        put_faults(alloc, out)?;
+    } else {
+        return Ok(false);
+    }
+    Ok(true)
+}
+
+/// The arguments of a row from one on, as names.
+pub fn names_from(
+    alloc: Global,
+    row: &Row<'_>,
+    first: usize,
+) -> Result<IndexSet<String>, AllocError> {
+    let mut names = IndexSet::new(alloc);
+    for name in row.arguments.iter().skip(first) {
+        names.insert(String::from_str(alloc, name)?)?;
+    }
+    Ok(names)
+}
+
+/// `liveness_counted NAME..`: what the exports of these names reach.
+fn answer_liveness(alloc: Global, row: &Row<'_>, out: &mut Lines) -> Result<(), Stop> {
+    let bytes = bytes_of(alloc, &row.input, out)?;
+    let required = names_from(alloc, row, 0)?;
+    put_answer(liveness_counted(alloc, &bytes, &required), out);
+    Ok(())
+}
+
+fn put_answer(found: Result<Liveness<BitVec>, GcFault>, out: &mut Lines) {
+    match found {
+        Ok(found) => put_liveness(&found, out),
+        Err(fault) => writeln!(out, "fault {fault}"),
+    }
+}
+
+/// `trim NAME..`: the adapter, cut to what the exports of these names reach.
+fn answer_trim(alloc: Global, row: &Row<'_>, out: &mut Lines) -> Result<(), Stop> {
+    let bytes = bytes_of(alloc, &row.input, out)?;
+    let required = names_from(alloc, row, 0)?;
+    if required.is_empty() {
+        return Err(bad_row(out, "no names", row.call));
+    }
+    put_trimmed(run(alloc, &bytes, &required, None, 16), out);
+    Ok(())
+}
+
+/// `trim_for REALLOC PAGE NAME..`: the same for a main module that exports a realloc of this name, none by `-`, with an
+/// exponent of the page size.
+fn answer_trim_for(alloc: Global, row: &Row<'_>, out: &mut Lines) -> Result<(), Stop> {
+    let bytes = bytes_of(alloc, &row.input, out)?;
+    let required = names_from(alloc, row, 2)?;
+    let Some(page) = exponent_of(row) else {
+        return Err(bad_row(out, "no exponent", row.call));
+    };
+    if required.is_empty() {
+        return Err(bad_row(out, "no names", row.call));
+    }
+    put_trimmed(run(alloc, &bytes, &required, realloc_of(row), page), out);
+    Ok(())
+}
+
+fn realloc_of<'a>(row: &Row<'a>) -> Option<&'a str> {
+    let name = *row.arguments.first()?;
+    if name == "-" { None } else { Some(name) }
+}
+
+/// The exponent that is the second argument, 16 at most.
+fn exponent_of(row: &Row<'_>) -> Option<u32>
+    ensures { IfSome result (λ page. page ≤ 16) }
+{
+    let page = row.arguments.get(1)?.parse::<u32>().ok()?;
+    if page > 16 { None } else { Some(page) }
+}
+
+fn put_trimmed(trimmed: Result<Vec<u8>, GcFault>, out: &mut Lines) {
+    match trimmed {
+        Ok(trimmed) => put_bytes_lines(out, "bytes", &trimmed),
+        Err(fault) => writeln!(out, "fault {fault}"),
+    }
+}
+
+/// The live items below this index are shown.
+const SHOWN: u32 = 256;
+
+fn put_liveness(found: &Liveness<BitVec>, out: &mut Lines) {
+    put_set("types", &found.live.types, out);
+    put_set("functions", &found.live.funcs, out);
+    put_set("tables", &found.live.tables, out);
+    put_set("memories", &found.live.memories, out);
+    put_set("globals", &found.live.globals, out);
+    let turns = found.turns;
+    writeln!(out, "turns {turns}");
+}
+
+/// A line for a set that has something: its numbers.
+fn put_set(name: &str, set: &BitVec, out: &mut Lines) {
+    let mut is_empty = true;
+    for number in 0..SHOWN {
+        if set.contains(number) {
+            if is_empty {
+                out.push_str(name);
+            }
+            is_empty = false;
+            write!(out, " {number}");
+        }
+    }
+    if !is_empty {
+        out.push('\n');
+    }
+}
+
+/// `bit_vec`, with lines `insert NUMBER` and `contains NUMBER`: a line for what each answers.
+fn answer_bit_vec(alloc: Global, row: &Row<'_>, out: &mut Lines) -> Result<(), Stop> {
+    let mut set = BitVec::new(alloc);
+    for line in &row.input {
+        if !put_step(&mut set, line, out)? {
+            return Err(bad_row(out, "no step of a set", line));
+        }
+    }
+    Ok(())
+}
+
+/// What a step answers. False where the line is none.
+fn put_step(set: &mut BitVec, line: &str, out: &mut Lines) -> Result<bool, AllocError> {
+    if let Some(number) = number_after(line, "insert ") {
+        let is_new = set.insert(number)?;
+        writeln!(out, "{is_new}");
+        return Ok(true);
+    }
+    let Some(number) = number_after(line, "contains ") else {
+        return Ok(false);
+    };
+    let is_there = set.contains(number);
+    writeln!(out, "{is_there}");
+    Ok(true)
+}
+
+fn number_after(line: &str, word: &str) -> Option<u32> {
+    line.strip_prefix(word)?.parse::<u32>().ok()
+}
+
+/// The text of each fault.
+fn put_faults(alloc: Global, out: &mut Lines) -> Result<(), AllocError> {
+    let faults = [
+        GcFault::Memory,
+        GcFault::Read(ReadFault::NotWasm),
+        GcFault::MissingExport(String::from_str(alloc, "x")?),
+        GcFault::UnsupportedSection,
+        GcFault::LiveBody,
+        GcFault::SeveralNamed,
+        GcFault::LiveTable,
+        GcFault::SeveralMemories,
+        GcFault::LocalMemory,
+        GcFault::ReallocType,
+        GcFault::ReallocMemory,
+        GcFault::TooLarge,
+    ];
+    for fault in &faults {
+        writeln!(out, "{fault}");
+    }
+    Ok(())
+}

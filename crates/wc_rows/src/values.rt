@@ -1,0 +1,170 @@
+//! Lines for types, imports and the items of modules.
+
+use crate::lines::Lines;
+use std::fmt::Display;
+use wc_read::{
+    Def, Export, ExportKind, FuncType, GlobalType, Import, ImportType, MemoryType, TableType,
+    ValType,
+};
+
+/// A fault's line.
+pub fn put_fault(out: &mut Lines, fault: impl Display + Drop) {
+    writeln!(out, "fault {fault}");
+}
+
+/// Bytes in hex, each with a space at the front.
+pub fn put_bytes(out: &mut Lines, bytes: &[u8]) {
+    for byte in bytes {
+        write!(out, " {byte:02x}");
+    }
+}
+
+/// A line of bytes in hex.
+pub fn put_bytes_line(out: &mut Lines, word: &str, bytes: &[u8]) {
+    out.push_str(word);
+    put_bytes(out, bytes);
+    out.push_str("\n");
+}
+
+/// Lines of at most 32 bytes in hex.
+pub fn put_bytes_lines(out: &mut Lines, word: &str, bytes: &[u8]) {
+    if bytes.is_empty() {
+        return put_bytes_line(out, word, bytes);
+    }
+    for part in bytes.chunks(32) {
+        put_bytes_line(out, word, part);
+    }
+}
+
+pub fn val_type_word(ty: ValType) -> &'static str {
+    match ty {
+        ValType::I32 => "i32",
+        ValType::I64 => "i64",
+        ValType::F32 => "f32",
+        ValType::F64 => "f64",
+        ValType::V128 => "v128",
+        ValType::FuncRef => "funcref",
+        ValType::ExternRef => "externref",
+    }
+}
+
+/// Types, each with a space at the front.
+pub fn put_val_types(out: &mut Lines, types: &[ValType]) {
+    for ty in types {
+        out.push_str(" ");
+        out.push_str(val_type_word(*ty));
+    }
+}
+
+/// A function type, as ` i32 i64 -> f32`.
+pub fn put_func_type(out: &mut Lines, ty: &FuncType) {
+    put_val_types(out, ty.params());
+    out.push_str(" ->");
+    put_val_types(out, ty.results());
+}
+
+fn put_bounds(out: &mut Lines, initial: u64, maximum: Option<u64>) {
+    write!(out, " min {initial}");
+    match maximum {
+        Some(maximum) => write!(out, " max {maximum}"),
+        None => {}
+    }
+}
+
+pub fn put_table_type(out: &mut Lines, ty: &TableType) {
+    out.push_str(" ");
+    out.push_str(val_type_word(ty.element_type));
+    if ty.table64 {
+        out.push_str(" 64");
+    }
+    put_bounds(out, ty.initial, ty.maximum);
+}
+
+pub fn put_memory_type(out: &mut Lines, ty: &MemoryType) {
+    if ty.memory64 {
+        out.push_str(" 64");
+    }
+    if ty.shared {
+        out.push_str(" shared");
+    }
+    put_bounds(out, ty.initial, ty.maximum);
+    match ty.page_size_log2 {
+        Some(exponent) => write!(out, " page {exponent}"),
+        None => {}
+    }
+}
+
+pub fn put_global_type(out: &mut Lines, ty: &GlobalType) {
+    out.push_str(" ");
+    out.push_str(val_type_word(ty.content_type));
+    if ty.mutable {
+        out.push_str(" mut");
+    }
+}
+
+fn put_import_type(out: &mut Lines, ty: &ImportType) {
+    match ty {
+        ImportType::Func(index) => write!(out, "func {index}"),
+        ImportType::Table(table) => {
+            out.push_str("table");
+            put_table_type(out, table);
+        }
+        ImportType::Memory(memory) => {
+            out.push_str("memory");
+            put_memory_type(out, memory);
+        }
+        ImportType::Global(global) => {
+            out.push_str("global");
+            put_global_type(out, global);
+        }
+    }
+}
+
+/// An import, without the end of its line.
+pub fn put_import(out: &mut Lines, import: &Import<'_>) {
+    let module = import.module;
+    let name = import.name;
+    write!(out, "import {module:?} {name:?} ");
+    put_import_type(out, &import.ty);
+}
+
+pub fn put_imports(out: &mut Lines, imports: &[Import<'_>]) {
+    for import in imports {
+        put_import(out, import);
+        out.push_str("\n");
+    }
+}
+
+fn kind_name(kind: ExportKind) -> &'static str {
+    match kind {
+        ExportKind::Func => "func",
+        ExportKind::Table => "table",
+        ExportKind::Memory => "memory",
+        ExportKind::Global => "global",
+    }
+}
+
+pub fn put_exports(out: &mut Lines, exports: &[Export<'_>]) {
+    for export in exports {
+        let name = export.name;
+        let kind = kind_name(export.kind);
+        let index = export.index;
+        writeln!(out, "export {name:?} {kind} {index}");
+    }
+}
+
+/// Where an item comes from that has no content: the end of its line.
+pub fn put_def(out: &mut Lines, def: &Def<'_, ()>) {
+    match def {
+        Def::Import(module, name) => writeln!(out, " import {module:?} {name:?}"),
+        Def::Local(()) => out.push_str(" defined\n"),
+    }
+}
+
+/// Where an item comes from, or the bytes of its content: the end of its line.
+pub fn put_bytes_def(out: &mut Lines, def: &Def<'_, &[u8]>, word: &str) {
+    match def {
+        Def::Import(module, name) => writeln!(out, " import {module:?} {name:?}"),
+        Def::Local(bytes) => put_bytes_line(out, word, bytes),
+    }
+}
