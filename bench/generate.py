@@ -31,7 +31,7 @@ def vector(items):
 
 
 def section(ident, content):
-    """A framed section."""
+    """A section: its id, its size and its content."""
     return bytes([ident]) + number(len(content)) + content
 
 

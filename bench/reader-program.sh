@@ -70,7 +70,7 @@ fn run<R: Env + Files + Print + AllocGlobal>(rt: &R) -> io::Result<()> {
             let with_bodies = what.as_str() == "bodies";
             for file in files {
                 let bytes = fs::read(rt, file.as_str())?;
-                tell(rt, file.as_str(), times, with_bodies, bytes.as_slice())?;
+                report(rt, file.as_str(), times, with_bodies, bytes.as_slice())?;
             }
             Ok(())
         }
@@ -92,7 +92,7 @@ struct Found {
 
 /// Prints `FILE` and `ok`, or the fault; with bodies also how many there are, their bytes, their operators, how
 /// many were refused, and of the first of these the function and the fault.
-fn tell<R: Print + AllocGlobal>(
+fn report<R: Print + AllocGlobal>(
     rt: &R,
     file: &str,
     times: u32,

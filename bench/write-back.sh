@@ -25,7 +25,7 @@ FEATURES = [f"--enable-{it}" for it in "threads tail-call memory64 multi-memory 
 KEPT = {1, 2, 3, 4, 5, 6, 7, 8, 10}
 # those of elements, the count of data and data, which are not
 SEGMENTS = {9, 12, 11}
-# the order of all, custom sections apart
+# the order of all, custom sections aside
 ORDER = [1, 2, 3, 4, 5, 6, 7, 8, 9, 12, 10, 11]
 # an operator that names a segment, or a function that only a segment may declare
 BY_SEGMENT = re.compile(r"\| *(memory\.init|data\.drop|table\.init|elem\.drop|ref\.func) ")
@@ -65,17 +65,17 @@ def kept_size(module):
     return 8 + sum(len(bytes) for id, bytes in found if id in KEPT) + sum(producers[-1:])
 
 
-def place(id):
+def position(id):
     """The position of a section of this id; custom sections are written last."""
     return ORDER.index(id) if id else len(ORDER)
 
 
 def with_segments(text, module):
-    """The text, with the module's sections of segments as they stand put in at their places."""
+    """The text, with the module's sections of segments put in as they are, at their positions."""
     made = sections(text)
     for id, bytes in sections(module):
         if id in SEGMENTS:
-            after = (at for at, (other, _) in enumerate(made) if place(other) > place(id))
+            after = (at for at, (other, _) in enumerate(made) if position(other) > position(id))
             made.insert(next(after, len(made)), (id, bytes))
     return text[:8] + b"".join(bytes for _, bytes in made)
 
