@@ -25,6 +25,7 @@ use Rattle.wc_resolve.specs.Views.{ItemView, KeyView, WorldView}
 use Rattle.wc_resolve.specs.WellFormed.{IsWellFormed}
 use Rattle.wc_resolve.proofs.WellFormedLemmas.{export_items_in}
 use Rattle.wc_resolve.specs.World.{ResolveView}
+use Rattle.wc_dedupe.specs.Renaming.{RenameValue}
 use Rattle.wc_encoder.specs.declared.adapters.Adapter.{Adapter}
 use Rattle.wc_encoder.specs.Adapters.{AdapterView, LibraryView, adapter_entry}
 use Rattle.wc_encoder.specs.EncoderParts.{EncoderView}
@@ -76,21 +77,21 @@ setting_is e r w es b h index resolve at there adapters flag hook =
     )
 
 -- imports that are recorded, or are not
-module _ (e : EncoderView) (c : ImportContext) (library : Option LibraryView) (types : List FuncType) (passed imports : List Import) (has_setting : IsSettingOf e (setting_of c.names)) (same_types : c.types.now ≡ types) (same : passed ≡ imports) where
-  setting_for : IsSettingFor e (option_copied c.renames) library (map func_type_value types) (import_setting c library)
-  setting_for = record { has_setting = has_setting; has_library = refl; has_renames = refl; has_types = ap (map func_type_value) same_types }
+module _ (e : EncoderView) (c : ImportContext) (renames : Option (List RenameValue)) (library : Option LibraryView) (types : List FuncType) (passed imports : List Import) (has_setting : IsSettingOf e (setting_of c.names)) (same_renames : option_copied c.renames ≡ renames) (same_types : c.types.now ≡ types) (same : passed ≡ imports) where
+  setting_for : IsSettingFor e renames library (map func_type_value types) (import_setting c library)
+  setting_for = record { has_setting = has_setting; has_library = refl; has_renames = same_renames; has_types = ap (map func_type_value) same_types }
 
   pub record_is : (r : Recorder) (records : Records) → AreRecorded (import_setting c library) (import_values passed) r → records ≡ map instance_entry r.instances.entries
-      → IsImportsRecord e (option_copied c.renames) library (map func_type_value types) (import_values imports) records
+      → IsImportsRecord e renames library (map func_type_value types) (import_values imports) records
   record_is r records recorded is =
       let h = subst (λ z. AreRecorded (import_setting c library) (import_values z) r) same recorded in
       (import_setting c library, setting_for, (h.0, h.1, is ∙ h.2.instances))
 
-  cause_here : (f : ValidateFault) → IsImportsRefusal (import_setting c library) (import_values imports) f → IsImportsCause e (option_copied c.renames) library (map func_type_value types) (import_values imports) f
+  cause_here : (f : ValidateFault) → IsImportsRefusal (import_setting c library) (import_values imports) f → IsImportsCause e renames library (map func_type_value types) (import_values imports) f
   cause_here Memory h = tt
   cause_here f h = (import_setting c library, setting_for, h)
 
-  pub cause_is : (f : ValidateFault) → IsImportsRefusal (import_setting c library) (import_values passed) f → IsImportsCause e (option_copied c.renames) library (map func_type_value types) (import_values imports) f
+  pub cause_is : (f : ValidateFault) → IsImportsRefusal (import_setting c library) (import_values passed) f → IsImportsCause e renames library (map func_type_value types) (import_values imports) f
   cause_is f h = cause_here f (subst (λ z. IsImportsRefusal (import_setting c library) (import_values z) f) same h)
 
 pub recorded_memory : (s : ImportSetting) (is : List ImportValue) (r : Recorder) → AreRecorded s is r → memory_in (map instance_entry r.instances.entries) ≡ r.memory

@@ -8,10 +8,11 @@ ghost use Rattle.wc_read.specs.Types.{func_type_value};
 ghost use Rattle.wc_resolve.specs.Views.{key_view};
 ghost use Rattle.wc_encoder.specs.Adapters.{library_view};
 ghost use Rattle.wc_encoder.specs.EncoderParts.{EncoderView};
+ghost use Rattle.wc_validate.specs.Arguments.{HasArgumentsOf};
 ghost use Rattle.wc_validate.specs.Contexts.{IsTypeIn};
 ghost use Rattle.wc_validate.specs.ExportContexts.{IsExportContext};
 ghost use Rattle.wc_validate.specs.ImportMaps.{required_entry};
-ghost use Rattle.wc_validate.specs.Settings.{setting_of};
+ghost use Rattle.wc_validate.specs.Settings.{AreInterfacesOf, setting_of};
 ghost use Rattle.wc_validate.specs.Validated.{IsCause, IsExportsCause, IsExportsRecord, IsImportsCause, IsImportsRecord, IsModuleCause, IsRecordOf, IsSettingOf, adapter_job, job_by, main_job, module_record};
 
 use crate::ValidateFault;
@@ -68,6 +69,33 @@ fn names_of(encoder: &ComponentEncoder) -> Names<'_>
     }
 }
 
+/// What the imports of a module are recorded by, for an encoder.
+fn import_context<'a>(
+    alloc: Global,
+    encoder: &'a ComponentEncoder,
+    module: &'a Module<'_>,
+    renames: Option<&'a ModuleImportMap>,
+    library: Option<&'a LibraryInfo>,
+) -> Result<ImportContext<'a>, AllocError>
+    ensures setting { IfOk result (λ c. IsSettingOf encoder.now (setting_of c.names)) }
+    ensures interfaces { IfOk result (λ c. AreInterfacesOf (setting_of c.names) c.interfaces) }
+    ensures arguments { IfOk result (λ c. HasArgumentsOf c.arguments
+        (option_map (λ l. library_view l.now) library.entry)) }
+    ensures renames { IfOk result (λ c. option_copied c.renames ≡ option_copied renames.entry) }
+    ensures types { IfOk result (λ c. c.types.now ≡ «module».now.types.items) }
+{
+    let names = names_of(encoder);
+    let interfaces = Interfaces::new(alloc, &names, module.imports.len())?;
+    let arguments = Arguments::new(alloc, library)?;
+    Ok(ImportContext {
+        names,
+        interfaces,
+        arguments,
+        renames,
+        types: &module.types,
+    })
+}
+
 /// The imports of a module, recorded.
 fn module_imports(
     alloc: Global,
@@ -87,15 +115,7 @@ fn module_imports(
         (map func_type_value «module».now.types.items)
         (import_values «module».now.imports.items)) }
 {
-    let names = names_of(encoder);
-    let interfaces = Interfaces::new(alloc, &names, module.imports.len())?;
-    let context = ImportContext {
-        names,
-        interfaces,
-        arguments: Arguments::new(alloc, library)?,
-        renames,
-        types: &module.types,
-    };
+    let context = import_context(alloc, encoder, module, renames, library)?;
     let recorder = record_imports(alloc, &context, &module.imports)?;
     Ok(ImportMap::from_recorder(recorder))
 }
