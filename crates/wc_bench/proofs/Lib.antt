@@ -1,2 +1,1 @@
 pub mod SomeElement
-pub mod WorldRanges

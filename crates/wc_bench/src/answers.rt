@@ -2,10 +2,10 @@
 
 use crate::component::calls as component_calls;
 use crate::examples;
-use crate::names::calls as name_calls;
-use crate::validation::calls as validate_calls;
 use std::alloc::{AllocError, Global};
 use wc_fixtures::{encoder_calls, resolve_calls};
+use wc_module_rows::names::calls as name_calls;
+use wc_module_rows::validation::calls as validate_calls;
 use wc_rows::lines::Lines;
 use wc_rows::rows::{Flaw, Paragraph, Row};
 use wc_rows::{

@@ -4,9 +4,7 @@
 mod answers;
 mod component;
 mod examples;
-mod names;
 mod program;
-mod validation;
 
 use std::process::ExitCode;
 

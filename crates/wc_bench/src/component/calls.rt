@@ -1,7 +1,6 @@
 //! The calls of `wc_world`.
 
 use crate::component::shown::put_part;
-use crate::validation::described_modules::described_of;
 use bitflags::Flags;
 use std::alloc::{AllocError, Global};
 use wc_encoder::ComponentEncoder;
@@ -13,6 +12,7 @@ use wc_fixtures::signature_calls::abi_variant;
 use wc_fixtures::stop::Stop;
 use wc_fixtures::words::Words;
 use wc_gc::GcFault;
+use wc_module_rows::validation::described_modules::described_of;
 use wc_resolve::Resolve;
 use wc_rows::lines::Lines;
 use wc_rows::rows::Row;

@@ -1,12 +1,12 @@
 //! The parts of a component's world, as lines.
 
-use crate::validation::export_calls::put_exports;
-use crate::validation::shown_modules::put_modules;
 use indexmap::IndexMap;
 use std::alloc::{AllocError, Global};
 use std::borrow::CowSlice;
 use std::collections::HashSet;
 use wc_fixtures::shown_names::{put_id, put_name, put_optional_name};
+use wc_module_rows::validation::export_calls::put_exports;
+use wc_module_rows::validation::shown_modules::put_modules;
 use wc_resolve::{AbiVariant, InterfaceId, Resolve};
 use wc_rows::lines::Lines;
 use wc_rows::values::put_bytes_lines;

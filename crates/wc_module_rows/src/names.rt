@@ -1,6 +1,6 @@
 //! Rows on the names of imports and exports of core modules.
 
-pub(crate) mod calls;
+pub mod calls;
 pub(crate) mod contexts;
 pub(crate) mod core_types;
 pub(crate) mod exports_in_worlds;

@@ -1,6 +1,6 @@
 use Rattle.wc_resolve.specs.Views.{world_view}
-use Rattle.wc_bench.proofs.WorldRanges.{world_in_range}
-use Rattle.wc_bench.proofs.names.contexts.first_world.Goals as goal
+use Rattle.wc_module_rows.proofs.WorldRanges.{world_in_range}
+use Rattle.wc_module_rows.proofs.names.contexts.first_world.Goals as goal
 
 pub returns-then-has_world : goal.returns-then-has_world
 returns-then-has_world c =

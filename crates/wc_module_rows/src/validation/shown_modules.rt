@@ -59,11 +59,7 @@ fn put_instance(
 }
 
 /// All that is recorded, module by module.
-pub(crate) fn put_modules(
-    alloc: Global,
-    imports: &ImportMap,
-    out: &mut Lines,
-) -> Result<(), AllocError> {
+pub fn put_modules(alloc: Global, imports: &ImportMap, out: &mut Lines) -> Result<(), AllocError> {
     for (module_name, instance) in imports.modules().iter() {
         put_instance(alloc, module_name, instance, out)?;
     }

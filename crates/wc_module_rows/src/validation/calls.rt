@@ -282,7 +282,7 @@ fn is_own(call: &str) -> bool {
 }
 
 /// The answer of a call of `wc_validate`. False where the call is none.
-pub(crate) fn answer(alloc: Global, row: &Row<'_>, out: &mut Lines) -> Result<bool, AllocError> {
+pub fn answer(alloc: Global, row: &Row<'_>, out: &mut Lines) -> Result<bool, AllocError> {
     if !is_own(row.call) {
         return Ok(false);
     }

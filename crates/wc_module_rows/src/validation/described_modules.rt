@@ -31,7 +31,7 @@ pub(crate) struct DescribedExport {
 
 /// The imports of a module, its exports, the types of its functions, and what is required of it.
 #[derive(Drop)]
-pub(crate) struct DescribedModule {
+pub struct DescribedModule {
     types: Vec<FuncType>,
     imports: Vec<Described>,
     exports: Vec<DescribedExport>,
@@ -151,7 +151,7 @@ impl DescribedModule {
     }
 
     /// The bytes of the module.
-    pub(crate) fn into_bytes(self, alloc: Global) -> Result<Vec<u8>, Bad> {
+    pub fn into_bytes(self, alloc: Global) -> Result<Vec<u8>, Bad> {
         let DescribedModule {
             types,
             imports,
@@ -163,10 +163,7 @@ impl DescribedModule {
 }
 
 /// The module of the lines of a script, which begin with `do `.
-pub(crate) fn described_of<'a>(
-    alloc: Global,
-    input: &[&'a str],
-) -> Result<DescribedModule, Stop<'a>> {
+pub fn described_of<'a>(alloc: Global, input: &[&'a str]) -> Result<DescribedModule, Stop<'a>> {
     let mut described = DescribedModule::new(alloc);
     for line in input {
         if let Some(line) = line.strip_prefix("do ") {

@@ -15,7 +15,7 @@ use wc_rows::rows::Row;
 use wc_validate::{ExportMap, ValidateFault, ValidatedModule, validate_module};
 
 /// `NAME: EXPORT`, for each export that is recorded.
-pub(crate) fn put_exports(exports: &ExportMap, out: &mut Lines) {
+pub fn put_exports(exports: &ExportMap, out: &mut Lines) {
     for (name, export) in exports.iter() {
         put_name(out, name);
         writeln!(out, ": {export:?}");

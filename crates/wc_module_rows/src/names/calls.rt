@@ -121,7 +121,7 @@ fn answered<'a>(alloc: Global, row: &'a Row<'a>, out: &mut Lines) -> Result<(), 
 }
 
 /// The answer of a call on names. False where the call is none.
-pub(crate) fn answer(alloc: Global, row: &Row<'_>, out: &mut Lines) -> Result<bool, AllocError> {
+pub fn answer(alloc: Global, row: &Row<'_>, out: &mut Lines) -> Result<bool, AllocError> {
     if !is_own(row.call) {
         return Ok(false);
     }

@@ -1,0 +1,7 @@
+//! Rows on validated modules.
+
+pub mod calls;
+pub mod described_modules;
+pub mod export_calls;
+pub mod shown_modules;
+pub(crate) mod written_modules;
