@@ -8,7 +8,7 @@ ghost use Rattle.wc_validate.specs.Records.{IsFree, IsInstanceFault, IsPutFault,
 
 use crate::ValidateFault;
 use indexmap::IndexMap;
-use std::alloc::Global;
+use std::alloc::{AllocError, Global};
 use wc_encoder::MainOrAdapter;
 use wc_names::Import;
 
@@ -29,8 +29,20 @@ fn one_import(
         ≡ (name.now, import_view import) ∷ []) }
     ensures memory { IfErr result (λ f. f ≡ ValidateFault.Memory) }
 {
+    let name = String::from_str(alloc, name)?;
+    Ok(one_entry(alloc, name, import)?)
+}
+
+/// A map of one entry.
+fn one_entry<V: Drop>(
+    alloc: Global,
+    name: String,
+    value: V,
+) -> Result<IndexMap<String, V>, AllocError>
+    ensures { IfOk result (λ names. names.entries ≡ (name, value) ∷ []) }
+{
     let mut names = IndexMap::new(alloc);
-    names.insert(String::from_str(alloc, name)?, import)?;
+    names.insert(name, value)?;
     Ok(names)
 }
 
