@@ -41,7 +41,7 @@ same_import e = cc e
 pub same_signature : {v u : ImportView} {p q : Option FuncTypeValue} → means v p ≡ means u q → p ≡ q
 same_signature e = cc e
 
-none_some : {X : Type 0} (o : Option X) (x : X) → o ≡ None → o ≡ Some x → ⊥
+pub none_some : {X : Type 0} (o : Option X) (x : X) → o ≡ None → o ≡ Some x → ⊥
 none_some o x none some = let both : None ≡ Some x = sym none ∙ some in let bad : ⊥ = cc both in bad
 
 module _ (r : ResolveView) (unique : MeaningsUnique r) where
@@ -75,7 +75,7 @@ setting_by e l n t = record { setting = e; library = l; renames = n; types = t }
 pub one_setting : (e : EncoderView) (p q : Setting) → IsSettingOf e p → IsSettingOf e q → p ≡ q
 one_setting e p q a b = a.2 ∙ (ap (encoder_setting e) (some_same (sym a.1 ∙ b.1)) ∙ sym b.2)
 
-settings_same : (e : EncoderView) (renames : Option (List RenameValue)) (library : Option LibraryView) (types : List FuncTypeValue) (s t : ImportSetting) → IsSettingFor e renames library types s → IsSettingFor e renames library types t → s ≡ t
+pub settings_same : (e : EncoderView) (renames : Option (List RenameValue)) (library : Option LibraryView) (types : List FuncTypeValue) (s t : ImportSetting) → IsSettingFor e renames library types s → IsSettingFor e renames library types t → s ≡ t
 settings_same e renames library types s t p q =
     ap (λ z. setting_by z s.library s.renames s.types) (one_setting e s.setting t.setting p.has_setting q.has_setting)
     ∙ (ap (λ z. setting_by t.setting z s.renames s.types) (p.has_library ∙ sym q.has_library)
@@ -90,7 +90,7 @@ entries_alike s keys x (Some v) None unique a b = absurd (b (is_export v a.0) a.
 entries_alike s keys x (Some v) (Some w) unique a b =
     ap (λ (z : ExportMeaning). Some z.export) (unique s keys x (is_export v a.0) (is_export w b.0) a.1 b.1)
 
-exports_alike : (s : Setting) (keys : List KeyView) (xs : List CoreExport) (p q : ExportRecord) → ExportsUnique → AreExports s keys xs p → AreExports s keys xs q → p ≡ q
+pub exports_alike : (s : Setting) (keys : List KeyView) (xs : List CoreExport) (p q : ExportRecord) → ExportsUnique → AreExports s keys xs p → AreExports s keys xs q → p ≡ q
 exports_alike s keys [] p q unique a b = a ∙ sym b
 exports_alike s keys (x ∷ xs) p q unique a b =
     a.4 ∙ (ap (λ o. entry_of x.name o ++ a.1) (entries_alike s keys x a.0 b.0 unique a.2 b.2) ∙ (ap (λ z. entry_of x.name b.0 ++ z) (exports_alike s keys xs a.1 b.1 unique a.3 b.3) ∙ sym b.4))

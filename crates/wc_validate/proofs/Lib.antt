@@ -18,6 +18,7 @@ pub mod ImportLemmas
 pub mod RequiredLemmas
 pub mod ValidateLemmas
 pub mod LawLemmas
+pub mod ExclusionLemmas
 pub mod RecordLawLemmas
 pub mod SignatureLemmas
 pub mod StageLemmas

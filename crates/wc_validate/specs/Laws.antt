@@ -15,12 +15,16 @@ use Rattle.wc_validate.specs.Entries.{Entry, single}
 use Rattle.wc_validate.specs.ImportMaps.{imports_in}
 use Rattle.wc_validate.specs.Imports.{ImportSetting, IsCoreImport, IsEntry, library_entry}
 use Rattle.wc_validate.specs.Settings.{HasItsWorld}
-use Rattle.wc_validate.specs.Validated.{IsRecordOf, IsSettingFor, Job, ModuleRecord}
+use Rattle.wc_validate.specs.Validated.{HasNoCause, IsRecordOf, IsSettingFor, Job, ModuleRecord}
 
 -- of a module there is one record at most, for a job
 abbrev pub RecordsUnique : EncoderView → Type 0
 RecordsUnique e =
     (j : Job) (bytes : List ℕ) (p q : ModuleRecord) → j.encoder ≡ e → IsRecordOf j bytes p → IsRecordOf j bytes q → p ≡ q
+
+-- where there is a record of a module, no fault but Memory has a cause
+abbrev pub RecordsExcludeFaults : EncoderView → Type 0
+RecordsExcludeFaults e = (j : Job) (bytes : List ℕ) (r : ModuleRecord) → j.encoder ≡ e → IsRecordOf j bytes r → HasNoCause j bytes
 
 -- an import has one entry at most
 abbrev pub EntriesUnique : ResolveView → Type 0

@@ -1,5 +1,5 @@
 -- A module, validated for an encoder: what is recorded of it, and why it is refused.
-use Rattle.std.specs.Prelude.{◌≡◌, ◌⊎◌, ℕ, List, [], map, Option, None}
+use Rattle.std.specs.Prelude.{◌≡◌, ◌≢◌, ◌⊎◌, ℕ, List, [], map, Option, None}
 use Rattle.wc_read.specs.Faults.{SpellsNothing}
 use Rattle.wc_read.specs.Imports.{ImportValue}
 use Rattle.wc_read.specs.Modules.{ModuleValue, SpellsModule}
@@ -110,3 +110,7 @@ IsCause j bytes Memory = Unit {0}
 IsCause j bytes (Read f) = (of_read f ≡ Read f) × (¬ IsComponent bytes) × SpellsNothing SpellsModule bytes
 IsCause j bytes NotAModule = IsComponent bytes
 IsCause j bytes f = (m : ModuleValue) × SpellsModule bytes m × IsModuleCause j m f
+
+-- no fault but Memory has a cause
+abbrev pub HasNoCause : Job → List ℕ → Type 0
+HasNoCause j bytes = (f : ValidateFault) → f ≢ Memory → ¬ IsCause j bytes f

@@ -1,6 +1,6 @@
 //! Laws of what is recorded of modules: contracts of functions that do nothing when they run.
 
-ghost use Rattle.wc_validate.specs.Laws.{EntriesInRange, EntriesUnique, RecordedExportsInRange, RecordsAreImports, RecordsInRange, RecordsUnique, SignaturesFixed};
+ghost use Rattle.wc_validate.specs.Laws.{EntriesInRange, EntriesUnique, RecordedExportsInRange, RecordsAreImports, RecordsExcludeFaults, RecordsInRange, RecordsUnique, SignaturesFixed};
 
 use wc_encoder::ComponentEncoder;
 use wc_names::laws::{exports_in_range, exports_unique, meanings_in_range, meanings_unique};
@@ -11,6 +11,17 @@ use wc_resolve::Resolve;
 /// is handed, original names, and what the module has to export. It does nothing when it runs.
 pub fn records_unique(encoder: &ComponentEncoder)
     ensures { RecordsUnique encoder.now }
+{
+    let metadata = encoder.metadata();
+    meanings_unique(&metadata.resolve);
+    exports_unique();
+    modules_unique();
+}
+
+/// A module that is recorded has no cause of a fault but `Memory`: where `validate_module` or `validate_adapter_module`
+/// succeeds, no other fault could have been answered. It does nothing when it runs.
+pub fn records_exclude_faults(encoder: &ComponentEncoder)
+    ensures { RecordsExcludeFaults encoder.now }
 {
     let metadata = encoder.metadata();
     meanings_unique(&metadata.resolve);

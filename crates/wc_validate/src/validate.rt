@@ -1,6 +1,6 @@
 //! Core modules, validated for an encoder.
 
-ghost use Rattle.std.specs.Prelude.{◌≡◌, [], All, IfErr, IfOk, length, map, option_copied};
+ghost use Rattle.std.specs.Prelude.{◌≡◌, [], All, IfErr, IfOk, OnOk, length, map, option_copied};
 ghost use Rattle.std.specs.Option.{option_map};
 ghost use Rattle.wc_read.specs.Imports.{import_values};
 ghost use Rattle.wc_read.specs.Modules.{IsModule, module_value};
@@ -13,7 +13,7 @@ ghost use Rattle.wc_validate.specs.Contexts.{IsTypeIn};
 ghost use Rattle.wc_validate.specs.ExportContexts.{IsExportContext};
 ghost use Rattle.wc_validate.specs.ImportMaps.{required_entry};
 ghost use Rattle.wc_validate.specs.Settings.{AreInterfacesOf, setting_of};
-ghost use Rattle.wc_validate.specs.Validated.{IsCause, IsExportsCause, IsExportsRecord, IsImportsCause, IsImportsRecord, IsModuleCause, IsRecordOf, IsSettingOf, adapter_job, job_by, main_job, module_record};
+ghost use Rattle.wc_validate.specs.Validated.{HasNoCause, IsCause, IsExportsCause, IsExportsRecord, IsImportsCause, IsImportsRecord, IsModuleCause, IsRecordOf, IsSettingOf, adapter_job, job_by, main_job, module_record};
 
 use crate::ValidateFault;
 use crate::arguments::Arguments;
@@ -21,6 +21,7 @@ use crate::classify_exports::ExportContext;
 use crate::export_map::ExportMap;
 use crate::import_map::ImportMap;
 use crate::imports::{ImportContext, record_imports};
+use crate::laws::records_exclude_faults;
 use crate::recorded_exports::record_exports;
 use crate::requirements::check_exports;
 use crate::setting::{Interfaces, Names};
@@ -244,7 +245,11 @@ fn validate_bytes(
     ensures fault { IfErr result (IsCause (job_by encoder.now
         (option_map (λ l. library_view l.now) library.entry) (option_copied renames.entry)
         (map key_view keys.now.keys) (map required_entry required.now.entries)) bytes.now) }
+    ensures no_cause { OnOk result (HasNoCause (job_by encoder.now
+        (option_map (λ l. library_view l.now) library.entry) (option_copied renames.entry)
+        (map key_view keys.now.keys) (map required_entry required.now.entries)) bytes.now) }
 {
+    records_exclude_faults(encoder);
     let module = read_module(alloc, bytes)?;
     validate_read(alloc, encoder, &module, renames, library, keys, required)
 }
@@ -289,6 +294,9 @@ pub fn validate_module(
         (option_copied import_map.entry)) bytes.now (module_record v)) }
     ensures fault { IfErr result (IsCause (main_job encoder.now
         (option_copied import_map.entry)) bytes.now) }
+    // Without a fault there is no cause.
+    ensures no_cause { OnOk result (HasNoCause (main_job encoder.now
+        (option_copied import_map.entry)) bytes.now) }
 {
     let keys = encoder.main_module_exports();
     let required = IndexMap::new(alloc);
@@ -325,6 +333,11 @@ pub fn validate_adapter_module(
         (map key_view exports.now.keys) (map required_entry required_by_import.now.entries))
         bytes.now (module_record v)) }
     ensures fault { IfErr result (IsCause (adapter_job encoder.now
+        (option_map (λ l. library_view l.now) library_info.entry)
+        (map key_view exports.now.keys) (map required_entry required_by_import.now.entries))
+        bytes.now) }
+    // Without a fault there is no cause.
+    ensures no_cause { OnOk result (HasNoCause (adapter_job encoder.now
         (option_map (λ l. library_view l.now) library_info.entry)
         (map key_view exports.now.keys) (map required_entry required_by_import.now.entries))
         bytes.now) }

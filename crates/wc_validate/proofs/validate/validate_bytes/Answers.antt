@@ -7,6 +7,7 @@ use Rattle.wc_encoder.specs.declared.adapters.LibraryInfo.{LibraryInfo}
 use Rattle.wc_encoder.specs.Adapters.{library_view}
 use Rattle.wc_validate.specs.ImportMaps.{required_entry}
 use Rattle.wc_validate.specs.Validated.{IsCause, job_by}
+use Rattle.wc_validate.proofs.ExclusionLemmas.{answered}
 use Rattle.wc_validate.proofs.RecorderLemmas.{passed}
 use Rattle.wc_validate.proofs.ValidateLemmas.{cause_of, read_cause, record_of, typed_imports}
 use Rattle.wc_validate.proofs.validate.validate_bytes.Goals as goal
@@ -26,3 +27,6 @@ returns-clause-recorded c = record_of c.validate_read.result (job_by c.args.enco
 
 pub returns-clause-fault : goal.returns-clause-fault
 returns-clause-fault c = cause_of c.validate_read.result (job_by c.args.encoder.now (option_map (λ (l : Bor LibraryInfo). library_view l.now) c.args.library) (option_copied c.args.renames) (map key_view c.args.keys.now.keys) (map required_entry c.args.required.now.entries)) c.args.bytes.now (module_value c.in_ok-module.module) c.in_ok-module.ensures.found c.validate_read.ensures.fault
+
+pub returns-clause-no_cause : goal.returns-clause-no_cause
+returns-clause-no_cause c = answered c.args.encoder.now c.records_exclude_faults.ensures c.validate_read.result (job_by c.args.encoder.now (option_map (λ (l : Bor LibraryInfo). library_view l.now) c.args.library) (option_copied c.args.renames) (map key_view c.args.keys.now.keys) (map required_entry c.args.required.now.entries)) c.args.bytes.now refl (returns-clause-recorded c)

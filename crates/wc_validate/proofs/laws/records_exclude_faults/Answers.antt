@@ -1,0 +1,7 @@
+use Rattle.std.proofs.Common.{subst}
+use Rattle.wc_names.specs.Laws.{MeaningsUnique}
+use Rattle.wc_validate.proofs.ExclusionLemmas.{records_exclude}
+use Rattle.wc_validate.proofs.laws.records_exclude_faults.Goals as goal
+
+pub returns : goal.returns
+returns c = records_exclude c.args.encoder.now (subst MeaningsUnique c.metadata-metadata.ensures.resolve c.meanings_unique.ensures) c.exports_unique.ensures c.modules_unique.ensures
