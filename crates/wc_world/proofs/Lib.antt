@@ -19,3 +19,4 @@ pub mod FaultLemmas
 pub mod AdapterLemmas
 pub mod WorldLemmas
 pub mod RestrictedLemmas
+pub mod ExclusionLemmas

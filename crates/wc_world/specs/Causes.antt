@@ -100,3 +100,7 @@ pub record IsAdaptersCause (e : EncoderView) (f : WorldFault) : Type 0 where
 abbrev pub IsCause : EncoderView → WorldFault → Type 0
 IsCause e (Main f) = IsRefused (main_job e e.module_import_map) e.module_bytes f
 IsCause e f = IsAdaptersCause e f
+
+-- no fault but those of memory has a cause
+abbrev pub HasNoCause : EncoderView → Type 0
+HasNoCause e = (f : WorldFault) → ¬ IsCause e f

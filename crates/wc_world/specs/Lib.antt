@@ -12,3 +12,4 @@ pub mod World
 pub mod Causes
 pub mod Given
 pub mod Restricted
+pub mod Laws

@@ -7,6 +7,8 @@ use Rattle.wc_encoder.specs.EncoderParts.{EncoderView, world_exports}
 use Rattle.wc_gc.specs.Liveness.{Wanted}
 use Rattle.wc_gc.specs.Parts.{SettingsValue}
 use Rattle.wc_gc.specs.TrimmedText.{IsTrimmedRead}
+use Rattle.wc_gc.specs.Trimming.{IsTrimCause}
+use Rattle.wc_gc.specs.declared.fault.GcFault.{GcFault}
 use Rattle.wc_validate.specs.ImportMaps.{memory_in, required_in}
 use Rattle.wc_validate.specs.Validated.{IsRecordOf, ModuleRecord, main_job}
 use Rattle.wc_world.specs.Adapters.{NamedAdapter, is_kept, job_of, main_page_size, main_realloc, page_size, required_names, trim_exponent}
@@ -28,12 +30,13 @@ settings_of e main first = record {
   exponent = trim_exponent (memory_in first.imports);
 }
 
--- an adapter that is trimmed: it is valid, its bytes are trimmed, so that each item unfolds as before, and these are valid;
--- what is recorded of them is what is recorded of the adapter, restricted
+-- an adapter that is trimmed: it is valid, its bytes are trimmed, so that each item unfolds as before, no fault of trimming
+-- has a cause, and these bytes are valid; what is recorded of them is what is recorded of the adapter, restricted
 pub record IsTrimmedAdapter (e : EncoderView) (main : ModuleRecord) (x : NamedAdapter) (w : WorldAdapterView) : Type 0 where
   pub first : ModuleRecord
   pub original : IsRecordOf (job_of e main x) x.1.wasm first
   pub trimmed : IsTrimmedRead (settings_of e main first) (wanted_of main x first) w.wasm
+  pub no_cause : (f : GcFault) → ¬ IsTrimCause (settings_of e main first) (wanted_of main x first) f
   pub last : IsRecordOf (job_of e main x) w.wasm w.info
   pub restricted : IsRestrictedTrim (settings_of e main first) (wanted_of main x first) w.wasm first w.info
 

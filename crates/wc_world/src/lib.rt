@@ -14,6 +14,7 @@ mod contents;
 mod fault;
 mod import_map;
 mod imported;
+pub mod laws;
 mod live;
 mod lowering;
 mod options;

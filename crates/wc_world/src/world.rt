@@ -1,11 +1,11 @@
 //! The world of a component.
 
-ghost use Rattle.std.specs.Prelude.{◌≡◌, ◌↔◌, ◌⊎◌, IfErr, IfOk, IsTrue, map};
+ghost use Rattle.std.specs.Prelude.{◌≡◌, ◌↔◌, ◌⊎◌, IfErr, IfOk, IsTrue, OnOk, map};
 ghost use Rattle.std.specs.List.{list_any};
 ghost use Rattle.wc_names.specs.Views.{import_view};
 ghost use Rattle.wc_validate.specs.ImportMaps.{imports_in};
 ghost use Rattle.wc_validate.specs.Validated.{IsRecordOf, main_job, module_record};
-ghost use Rattle.wc_world.specs.Causes.{IsCause, IsMemory};
+ghost use Rattle.wc_world.specs.Causes.{HasNoCause, IsCause, IsMemory};
 ghost use Rattle.wc_world.specs.Slots.{IsSlot1Used, uses_slot_1};
 ghost use Rattle.wc_world.specs.World.{AreAdapters, IsWorldOf};
 ghost use Rattle.wc_world.specs.WorldViews.{adapter_entry, world_view};
@@ -15,6 +15,7 @@ use crate::adapters::adapters_of;
 use crate::fault::WorldFault;
 use crate::import_map::import_map_of;
 use crate::imported::ImportedInterface;
+use crate::laws::worlds_exclude_faults;
 use crate::live::live_type_imports;
 use crate::options::ImportOptions;
 use crate::used::exports_used;
@@ -154,7 +155,10 @@ impl<'a> ComponentWorld<'a> {
         ensures world { IfOk result (λ w.
             IsWorldOf (O.options_of options.now) encoder.now (world_view w)) }
         ensures fault { IfErr result (λ f. IsMemory f ⊎ IsCause encoder.now f) }
+        // Without a fault there is no cause.
+        ensures no_cause { OnOk result (HasNoCause encoder.now) }
     {
+        worlds_exclude_faults(encoder);
         let info = main_record(alloc, encoder)?;
         let adapters = adapters_of(alloc, encoder, &info)?;
         Ok(world_with(alloc, encoder, options, info, adapters)?)

@@ -19,6 +19,7 @@ returns-clause-made c = record {
   first = module_record c.args.first.now;
   original = c.requires.original;
   trimmed = c.in_ok-bytes.ensures.trimmed.trimmed;
+  no_cause = c.in_ok-bytes.ensures.trimmed.no_cause;
   last = subst (λ b. IsGivenRecord c.args.given.now b (module_record c.in_ok-info.info)) c.deref.ensures.value c.in_ok-info.ensures.recorded;
   restricted =
       c.trimmed_is_restricted.ensures.restricted (job_of c.args.given.now.encoder.now (main_of c.args.given.now) (named_adapter c.args.given.now))
