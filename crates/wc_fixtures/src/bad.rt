@@ -6,7 +6,7 @@ use wc_read::ReadFault;
 use wc_write::WriteFault;
 
 /// Why a line was not read: memory ran out, or what is wrong with it.
-#[derive(Clone, Copy, Debug)]
+#[derive(Clone, Copy)]
 pub enum Bad {
     Memory,
     Line(&'static str),

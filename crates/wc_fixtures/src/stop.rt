@@ -9,7 +9,7 @@ use wc_write::WriteFault;
 
 /// Why a call has no other answer: memory ran out, a line can't be read, what is asked for is not there, or the
 /// fault of a call.
-#[derive(Clone, Copy, Debug)]
+#[derive(Clone, Copy)]
 pub enum Stop<'a> {
     Memory,
     Line(&'static str, &'a str),

@@ -134,7 +134,8 @@ module_fault e unique unique_exports j m imports exports f is p q (inl h) =
     (no_imports_cause j.encoder j.renames j.library m.types m.imports imports f (subst (λ (z : EncoderView). MeaningsUnique z.resolve) (sym is) unique) p)
 module_fault e unique unique_exports j m imports exports f is p q (inr h) = no_exports_fault j.encoder j.keys j.required m exports f unique_exports q h.2
 
-no_component : (bytes : List ℕ) (m : ModuleValue) → SpellsModule bytes m → ¬ (IsComponent bytes)
+-- bytes that spell a module are no component
+pub no_component : (bytes : List ℕ) (m : ModuleValue) → SpellsModule bytes m → ¬ (IsComponent bytes)
 no_component bytes m s c = let fifth : 1 ≡ 13 = ap (λ z. get_or z 4 0) (sym s.has_frames.1 ∙ c.1) in absurd (omega (arith, fifth))
 
 no_fault : (e : EncoderView) → MeaningsUnique e.resolve → ExportsUnique → HasOneValue SpellsModule → (j : Job) (bytes : List ℕ) (r : ModuleRecord) (f : ValidateFault) → j.encoder ≡ e → IsRecordOf j bytes r → IsCause j bytes f → f ≡ Memory

@@ -1,5 +1,5 @@
 -- What trimming leaves of an adapter's imports and exports, as they are recorded.
-use Rattle.std.proofs.Common.{◌≡◌, ◌≢◌, ℕ, Bool, true, false, cond, not, List, [], ◌∷◌, ◌++◌, map, filter, Contains, Option, Some, None, get_or, slice_get, refl, sym, ap, subst, ◌∙◌, inl, inr, arith}
+use Rattle.std.proofs.Common.{◌≡◌, ◌≢◌, ℕ, Bool, true, false, cond, not, List, [], ◌∷◌, ◌++◌, map, filter, Contains, Option, Some, None, slice_get, refl, sym, ap, subst, ◌∙◌, inl, inr}
 use Rattle.std.specs.Option.{option_and_then, option_map}
 use Rattle.std.specs.Str.{bytes_eq}
 use Rattle.std.proofs.lemmas.List.Elements.{All-weaker, Contains-append_left, Contains-append_right}
@@ -8,7 +8,6 @@ use Rattle.wc_read.specs.Imports.{ImportValue}
 use Rattle.wc_read.specs.Items.{FuncValue}
 use Rattle.wc_read.specs.Laws.{HasOneValue}
 use Rattle.wc_read.specs.Modules.{ModuleValue, SpellsModule}
-use Rattle.wc_read.specs.Sections.{IsComponent}
 use Rattle.wc_read.specs.Types.{FuncTypeValue}
 use Rattle.wc_read.specs.declared.exports.ExportKind.{ExportKind}
 use Rattle.wc_read.specs.declared.exports.ExportKind.TheVariants as export
@@ -39,6 +38,7 @@ use Rattle.wc_validate.specs.Validated.{IsModuleCause, IsRecordOf, Job, ModuleRe
 use Rattle.wc_validate.specs.declared.fault.ValidateFault.{ValidateFault}
 use Rattle.wc_validate.specs.declared.fault.ValidateFault.TheVariants as fault
 use Rattle.wc_validate.proofs.ContainedLemmas.{all_by, mapped_there}
+use Rattle.wc_validate.proofs.ExclusionLemmas.{no_component}
 use Rattle.wc_validate.proofs.RecordLemmas.{same}
 use Rattle.wc_world.specs.Adapters.{NamedAdapter, job_of, required_names}
 use Rattle.wc_world.specs.Restricted.{IsCollision, IsTrimFor, RefusedAsCollision, TrimmedIsRestricted}
@@ -100,10 +100,6 @@ restricts realloc names v m r = record {
   old_exports = All-weaker (trimming.IsOldExport v m) (recording.IsOldExport v m) (λ y h. (h.0, h.1, export_same v m h.0 y h.2)) m.exports r.old_exports;
   kept_exports = λ x there named. let h = r.new_exports x there named in (h.0, h.1, export_same v m x h.0 h.2);
 }
-
--- bytes that spell a module are no component
-no_component : (bytes : List ℕ) (m : ModuleValue) → SpellsModule bytes m → ¬ (IsComponent bytes)
-no_component bytes m s c = let fifth : 1 ≡ 13 = ap (λ z. get_or z 4 0) (sym s.has_frames.1 ∙ c.1) in absurd (omega (arith, fifth))
 
 -- what is recorded of bytes is recorded of the module that they spell
 recorded : HasOneValue SpellsModule → (j : Job) (bytes : List ℕ) (r : ModuleRecord) (m : ModuleValue) → IsRecordOf j bytes r → SpellsModule bytes m → IsModuleRecord j m r
