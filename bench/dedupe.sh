@@ -2,7 +2,7 @@
 # Times `wctrim dedupe` and `cp` on the modules of bench/data, best of 5 each, and checks what dedupe wrote.
 set -e
 top=$(CDPATH='' cd -P -- "$(dirname -- "$0")/.." && pwd -P)
-"$top/wctrim" </dev/null >/dev/null # builds the program where it must be
+"$top/wctrim" --build
 [ -e "$top/bench/data/repeats-100000.wasm" ] || python3 "$top/bench/generate.py" "$top/bench/data"
 exec python3 - "$top/crates/wctrim/out/wctrim" "$top/bench/data" <<'END'
 import os

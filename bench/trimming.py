@@ -3,7 +3,7 @@
 
     trimming.py [--program PROGRAM] [--rounds N] [--most COUNT] [SHAPE ..]
 
-PROGRAM is crates/wctrim/out/wctrim unless another is named; the script wctrim builds it. All shapes are made, in
+PROGRAM is crates/wctrim/out/wctrim unless another is named; `./wctrim --build` makes it. All shapes are made, in
 bench/data/trimming, unless some are named, each with its largest count, a tenth and a hundredth of it, and with no
 more than COUNT items. For each adapter a line says its items, the bytes of the adapter and of what is left, the fastest
 of N runs (5, unless another number is given) from the start of the process to its end, the nanoseconds for each byte of

@@ -9,8 +9,8 @@ use wc_module_rows::validation::calls as validate_calls;
 use wc_rows::lines::Lines;
 use wc_rows::rows::{Flaw, Paragraph, Row};
 use wc_rows::{
-    dedupe_calls, gc_calls, law_calls, machine_calls, machine_samples, read_calls, sink_calls,
-    tool_calls, unfolding, write_calls,
+    dedupe_calls, fault_calls, gc_calls, hostile_calls, law_calls, machine_calls, machine_samples,
+    read_calls, sink_calls, tool_calls, unfolding, write_calls,
 };
 
 /// Appends the lines of a row's answer.
@@ -38,7 +38,10 @@ fn answer_on_bytes(alloc: Global, row: &Row<'_>, out: &mut Lines) -> Result<bool
     if machine_calls::answer(alloc, row, out)? || machine_samples::answer(alloc, row, out)? {
         return Ok(true);
     }
-    if unfolding::answer(alloc, row, out)? {
+    if unfolding::answer(alloc, row, out)? || hostile_calls::answer(alloc, row, out)? {
+        return Ok(true);
+    }
+    if fault_calls::answer(alloc, row, out)? {
         return Ok(true);
     }
     tool_calls::answer(alloc, row, out)

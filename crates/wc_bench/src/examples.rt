@@ -1,6 +1,7 @@
 //! Examples of calling each library, and the rows' call of them: `example NAME ARGUMENT..`.
 
 mod dedupe;
+mod demo;
 mod encoder;
 mod gc;
 mod names;
@@ -11,10 +12,12 @@ mod validate;
 mod world;
 mod write;
 
+use crate::examples::world::Summary;
 use indexmap::IndexMap;
 use std::alloc::{AllocError, Global};
 use std::str;
 use wc_encoder::{ComponentEncoder, EncoderFault};
+use wc_gc::GcFault;
 use wc_resolve::{Parts, Resolve, ResolveFault, World, WorldId};
 use wc_rows::gc_calls::names_from;
 use wc_rows::imports::imports_of;
@@ -56,6 +59,10 @@ fn answer_call(alloc: Global, row: &Row<'_>, out: &mut Lines) -> Result<bool, St
 fn answer_on_module(alloc: Global, row: &Row<'_>, out: &mut Lines) -> Result<(), Stop> {
     if argument(row, 0) == "reaches_memory" {
         answer_reaches_memory(alloc, row, out)
+    } else if argument(row, 0) == "trim_both" {
+        answer_trim_both(alloc, row, out)
+    } else if argument(row, 0) == "summary" {
+        answer_summary(alloc, row, out)
     } else if is_on_encoder(argument(row, 0)) {
         answer_on_encoder(alloc, row, out)
     } else {
@@ -204,6 +211,30 @@ fn answer_reaches_memory(alloc: Global, row: &Row<'_>, out: &mut Lines) -> Resul
     Ok(())
 }
 
+/// `example trim_both NAME..`, with a line `and` between two modules.
+fn answer_trim_both(alloc: Global, row: &Row<'_>, out: &mut Lines) -> Result<(), Stop> {
+    let first = bytes_beside(alloc, row, "and", false, out)?;
+    let second = bytes_beside(alloc, row, "and", true, out)?;
+    let required = names_from(alloc, row, 1)?;
+    if required.is_empty() {
+        return Err(bad_row(out, "no names", row.call));
+    }
+    put_both(gc::trim_both(alloc, &first, &second, &required), out);
+    Ok(())
+}
+
+fn put_both(trimmed: Result<(Vec<u8>, Vec<u8>), GcFault>, out: &mut Lines) {
+    match trimmed {
+        Ok((first, second)) => {
+            out.push_str("first\n");
+            put_bytes_lines(out, "bytes", &first);
+            out.push_str("second\n");
+            put_bytes_lines(out, "bytes", &second);
+        }
+        Err(fault) => writeln!(out, "fault {fault}"),
+    }
+}
+
 fn is_on_encoder(example: &str) -> bool {
     example == "imported_memory" || example == "can_use_slot_1"
 }
@@ -245,6 +276,63 @@ fn put_can_use_slot_1(alloc: Global, encoder: &ComponentEncoder, out: &mut Lines
     match world::can_use_slot_1(alloc, encoder) {
         Ok(answer) => writeln!(out, "{answer}"),
         Err(fault) => writeln!(out, "fault {fault}"),
+    }
+}
+
+/// `example summary`: of the component of a main module and an adapter. A line `adapter` is between their bytes.
+fn answer_summary(alloc: Global, row: &Row<'_>, out: &mut Lines) -> Result<(), Stop> {
+    let main = bytes_beside(alloc, row, "adapter", false, out)?;
+    let adapter = bytes_beside(alloc, row, "adapter", true, out)?;
+    match demo::demo_encoder(alloc, &main, &adapter) {
+        Ok(encoder) => put_summary(alloc, &encoder, out),
+        Err(fault) => put_fault(out, fault),
+    }
+    Ok(())
+}
+
+/// The bytes of the lines before the line that separates two modules, or of those after it.
+fn bytes_beside(
+    alloc: Global,
+    row: &Row<'_>,
+    separator: &str,
+    is_after: bool,
+    out: &mut Lines,
+) -> Result<Vec<u8>, Stop> {
+    let mut bytes = Vec::new(alloc);
+    let mut is_past = false;
+    for line in &row.input {
+        if *line == separator {
+            is_past = true;
+        } else if is_past == is_after {
+            let part = bytes_of(alloc, &[*line], out)?;
+            bytes.extend_from_slice(&part)?;
+        }
+    }
+    Ok(bytes)
+}
+
+fn put_summary(alloc: Global, encoder: &ComponentEncoder, out: &mut Lines) {
+    match world::read_world(alloc, encoder) {
+        Ok(summary) => put_parts(&summary, out),
+        Err(fault) => writeln!(out, "fault {fault}"),
+    }
+}
+
+fn put_parts(summary: &Summary, out: &mut Lines) {
+    put_bytes_lines(out, "trimmed", &summary.trimmed);
+    for lowered in &summary.lowered {
+        let name = lowered.name.as_str();
+        let when = if lowered.is_direct {
+            "direct"
+        } else {
+            "indirect"
+        };
+        let options = lowered.options;
+        writeln!(out, "lowered {name:?} {when} {options}");
+    }
+    for id in &summary.live {
+        let index = id.0;
+        writeln!(out, "live {index}");
     }
 }
 

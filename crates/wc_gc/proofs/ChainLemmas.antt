@@ -27,21 +27,21 @@ use Rattle.wc_gc.proofs.UntouchedLemmas.{first_false, second_false}
 
 -- lists
 
-any_fails : {A : Type 0} (p : A → Bool) (xs : List A) → list_any p xs ≡ false → AllByRecursion (λ x. p x ≡ false) xs
+pub any_fails : {A : Type 0} (p : A → Bool) (xs : List A) → list_any p xs ≡ false → AllByRecursion (λ x. p x ≡ false) xs
 any_fails p [] h = tt
 any_fails p (x ∷ xs) h = (first_false (p x) (list_any p xs) h, any_fails p xs (second_false (p x) (list_any p xs) h))
 
-fails_any : {A : Type 0} (p : A → Bool) (xs : List A) → AllByRecursion (λ x. p x ≡ false) xs → list_any p xs ≡ false
+pub fails_any : {A : Type 0} (p : A → Bool) (xs : List A) → AllByRecursion (λ x. p x ≡ false) xs → list_any p xs ≡ false
 fails_any p [] h = refl
 fails_any p (x ∷ xs) h = ap (λ b. b || list_any p xs) h.0 ∙ fails_any p xs h.1
 
-in_all : {A : Type 0} (P : A → Type 0) (xs : List A) (x : A) → AllByRecursion P xs → Contains xs x → P x
+pub in_all : {A : Type 0} (P : A → Type 0) (xs : List A) (x : A) → AllByRecursion P xs → Contains xs x → P x
 in_all P xs x h c = All-contains P xs x (All-from_recursion P xs h) c
 
-in_filter : {A : Type 0} (p : A → Bool) (xs : List A) (x : A) → Contains xs x → p x ≡ true → Contains (filter p xs) x
+pub in_filter : {A : Type 0} (p : A → Bool) (xs : List A) (x : A) → Contains xs x → p x ≡ true → Contains (filter p xs) x
 in_filter p xs x c h = in_all (λ y. IsTrue (p y) → Contains (filter p xs) y) xs x (each_named p (Contains (filter p xs)) xs (λ y k. k)) c h
 
-contains_unmapped : {A B : Type 0} (f : A → B) (xs : List A) (y : B) → Contains (map f xs) y → (x : A) × Contains xs x × (f x ≡ y)
+pub contains_unmapped : {A B : Type 0} (f : A → B) (xs : List A) (y : B) → Contains (map f xs) y → (x : A) × Contains xs x × (f x ≡ y)
 contains_unmapped f xs y c =
     let below : c.0 < length xs = let l = length-map xs f in let h = c.1 in omega (arith, l, h) in
     let x = get_some xs c.0 below in
@@ -50,10 +50,10 @@ contains_unmapped f xs y c =
 
 -- names
 
-same_names : (xs ys : List ℕ) → bytes_eq xs ys ≡ true → xs ≡ ys
+pub same_names : (xs ys : List ℕ) → bytes_eq xs ys ≡ true → xs ≡ ys
 same_names xs ys h = (bytes_eq-Decides xs ys).0 h
 
-unless : (b : Bool) → (b ≡ true → ⊥) → b ≡ false
+pub unless : (b : Bool) → (b ≡ true → ⊥) → b ≡ false
 unless true h = absurd (h refl)
 unless false h = refl
 

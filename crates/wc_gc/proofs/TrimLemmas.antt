@@ -147,13 +147,13 @@ fault_trims s w f (inr c) =
 
 -- a module has one test that decides what is live
 
-bools : (a b : Bool) → (IsTrue a → IsTrue b) → (IsTrue b → IsTrue a) → a ≡ b
+pub bools : (a b : Bool) → (IsTrue a → IsTrue b) → (IsTrue b → IsTrue a) → a ≡ b
 bools true true f g = refl
 bools true false f g = sym (f refl)
 bools false true f g = g refl
 bools false false f g = refl
 
-tests_one : (required : List (List ℕ)) (m : ModuleValue) (a b : ItemIndex → Bool) → DecidesLive required m a → DecidesLive required m b → a ≡ b
+pub tests_one : (required : List (List ℕ)) (m : ModuleValue) (a b : ItemIndex → Bool) → DecidesLive required m a → DecidesLive required m b → a ≡ b
 tests_one required m a b ta tb = fun_ext (λ x. bools (a x) (b x) (λ h. (tb x).1 ((ta x).0 h)) (λ h. (ta x).1 ((tb x).0 h)))
 
 module _ (settings : SettingsValue) (w : Wanted) (m : ModuleValue) (s : SpellsModule w.bytes m) where

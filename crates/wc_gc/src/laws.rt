@@ -1,4 +1,4 @@
-//! Laws of trimming, over its definitions.
+//! Laws of trimming, over its definitions: all of this crate.
 
 ghost use Rattle.wc_gc.specs.Laws.{BodiesStaySpellable, InitialisersStaySpellable, KeepsBits, TrimmedIsRead};
 ghost use Rattle.std.specs.Prelude.{Bool};
@@ -7,6 +7,13 @@ ghost use Rattle.wc_gc.specs.Image.{rank};
 ghost use Rattle.wc_gc.specs.Edited.{EditedModule};
 ghost use Rattle.wc_gc.specs.Unfolding.{ImageUnfolds, RenumberedUnfolds, TrimmedIsWhole, TrimmedUnfolds};
 ghost use Rattle.wc_gc.specs.RankLaws.{RanksDiffer, RanksKeepOrder};
+
+pub use crate::machine_laws::{
+    added_bodies_are_spellable, growing_body_grows, stack_body_allocates,
+};
+pub use crate::restriction_laws::trimmed_restricts;
+pub use crate::trace_laws::{image_is_of_cut, no_trace, trim_twice};
+pub use crate::untouched_laws::{calls_keep_code, kept_items_have_chains, untouched};
 
 /// A body that can be spelled, as `wc_write::laws::body_text_read` asks, can be spelled under new indices that have 32
 /// bits where the old ones have; so can an initialiser (WebAssembly core specification, 5.4).

@@ -1,6 +1,6 @@
 //! Sets of live items.
 
-ghost use Rattle.std.specs.Prelude.{◌≡◌, ◌<◌, ◌/◌, ◌^◌, ℕ, Bool, not, false, length, slice_index, IfOk, OnOk, OnErr};
+ghost use Rattle.std.specs.Prelude.{◌≡◌, ◌<◌, ◌/◌, ◌^◌, ℕ, Bool, not, false, true, length, slice_index, IfOk, IsOk, OnOk, OnErr};
 ghost use Rattle.wc_gc.specs.Decoded.{ItemIndex};
 ghost use Rattle.wc_gc.specs.Bits.{bit_of};
 ghost use Rattle.wc_gc.specs.Counts.{count_below};
@@ -20,14 +20,15 @@ pub trait LiveSet: Sized + Drop {
     fn new(alloc: Global) -> Self
         ensures { (x : ℕ) → has result x ≡ false };
 
-    /// Puts a number in, and answers whether it is new.
+    /// Puts a number in, and answers whether it is new. For one that is in the set this takes no memory, and succeeds.
     ///
     /// # Errors
     ///
-    /// `AllocError`: an allocation failed. The set is as before.
+    /// `AllocError`: an allocation for a new number failed. The set is as before.
     fn insert(&mut self, x: u32) -> Result<bool, AllocError>
         ensures new { IfOk result (λ new. new ≡ not (has self.old x)) }
         ensures inserts { OnOk result (Inserts (has self.old) (has self.new) x) }
+        ensures there { has self.old x ≡ true → IsOk result }
         ensures err { OnErr result ((y : ℕ) → has self.new y ≡ has self.old y) };
 
     /// Whether a number is in the set.
@@ -75,10 +76,11 @@ impl LiveSet for BitVec {
 }
 
 impl BitVec {
-    /// Makes room for a word.
+    /// Makes room for a word. It takes no memory where there is room.
     fn make_room(&mut self, index: usize) -> Result<(), AllocError>
         requires { index < 2 ^ 32 }
         ensures room { OnOk result (index < length self.new.words.items) }
+        ensures there { index < length self.old.words.items → IsOk result }
         ensures same { (i : ℕ) →
             slice_index self.new.words.items i ≡ slice_index self.old.words.items i }
     {
@@ -131,15 +133,16 @@ impl<L: LiveSet> LiveSets<L> {
         }
     }
 
-    /// Puts an item in, and answers whether it is new.
+    /// Puts an item in, and answers whether it is new. For one that is in its set this takes no memory, and succeeds.
     ///
     /// # Errors
     ///
-    /// `AllocError`: an allocation failed. The sets are as before.
+    /// `AllocError`: an allocation for a new item failed. The sets are as before.
     pub fn insert(&mut self, item: (Space, u32)) -> Result<bool, AllocError>
         ensures new { IfOk result (λ new. new ≡ not (has_item L.has self.old item)) }
         ensures inserts { OnOk result
             (Inserts (has_item L.has self.old) (has_item L.has self.new) item) }
+        ensures there { has_item L.has self.old item ≡ true → IsOk result }
         ensures err { OnErr result ((x : ItemIndex) →
             has_item L.has self.new x ≡ has_item L.has self.old x) }
     {

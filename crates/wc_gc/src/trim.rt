@@ -144,11 +144,11 @@ fn trim_module<L: LiveSet>(
         (names_of required.now.keys) (module_value adapter.now)) }
 {
     let found = find_live_in::<L>(alloc, adapter, required)?;
-    cut(alloc, adapter, required, &found.live, settings)
+    image_text(alloc, adapter, required, &found.live, settings)
 }
 
 /// The text of the image of a module, where nothing that is live stops it.
-fn cut<L: LiveSet>(
+fn image_text<L: LiveSet>(
     alloc: Global,
     adapter: &Module<'_>,
     required: &IndexSet<String>,

@@ -69,7 +69,7 @@ fn world_function<'a>(
     }
 }
 
-/// The names of the exports of a world that are in an export set, by one scheme (`NameMangling::export_names`). Each
+/// The names of the exports of a world that are in an export set, by one scheme (`NameIndexes::export_names`). Each
 /// name is looked up by hashes of its parts: it is compared with no key of the set.
 #[derive(Drop)]
 pub struct ExportNames<'a> {

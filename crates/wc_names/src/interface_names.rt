@@ -137,8 +137,8 @@ fn interface_of_text(
     }
 }
 
-/// The interfaces of a world's imports or exports by the texts of one scheme (`NameMangling::interface_names`). Each text
-/// is looked up by hashes: it is compared with no key of the world.
+/// The interfaces of a world's imports or exports by the texts of one scheme (`NameIndexes::interface_names`). Each
+/// text is looked up by hashes: it is compared with no key of the world.
 #[derive(Drop)]
 pub struct InterfaceNames<'a> {
     resolve: &'a Resolve,

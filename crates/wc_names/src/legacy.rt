@@ -10,8 +10,8 @@ use crate::interfaces::legacy_interface;
 use crate::payloads::async_value_import;
 use crate::texts::{after, pointer_type, slot};
 use crate::{
-    ExportNames, ExportSyntax, Import, InterfaceNames, MaybeAsyncLowered, NameMangling,
-    PayloadLookupContext,
+    ExportNames, ExportSyntax, Import, InterfaceNames, MaybeAsyncLowered, NameIndexes,
+    NameMangling, PayloadLookupContext,
 };
 use indexmap::{IndexMap, IndexSet};
 use std::alloc::{AllocError, Global};
@@ -250,31 +250,12 @@ impl<'h> NameMangling for Legacy<'h> {
         legacy_interface(alloc, resolve, items, module)
     }
 
-    fn interface_names<'a>(
-        &self,
-        alloc: Global,
-        resolve: &'a Resolve,
-        items: &'a IndexMap<WorldKey, WorldItem>,
-    ) -> Result<InterfaceNames<'a>, AllocError> {
-        InterfaceNames::by_full_ids(alloc, resolve, items)
-    }
-
     fn env_import(&self, name: &str, ty: &FuncType) -> Option<Import> {
         environment_import(name, ty)
     }
 
     fn strip_post_return<'a>(&self, name: &'a str) -> Option<&'a str> {
         after(name, "cabi_post_")
-    }
-
-    fn export_names<'a>(
-        &self,
-        alloc: Global,
-        resolve: &'a Resolve,
-        world: WorldId,
-        exports: &'a IndexSet<WorldKey>,
-    ) -> Result<ExportNames<'a>, AllocError> {
-        ExportNames::new(alloc, ExportSyntax::Hashed, resolve, world, exports)
     }
 
     fn match_wit_export<'a>(
@@ -297,5 +278,26 @@ impl<'h> NameMangling for Legacy<'h> {
         exports: &'a IndexSet<WorldKey>,
     ) -> Result<Option<TypeId>, AllocError> {
         matched_destructor(alloc, ExportSyntax::Hashed, name, resolve, world, exports)
+    }
+}
+
+impl<'h> NameIndexes for Legacy<'h> {
+    fn interface_names<'a>(
+        &self,
+        alloc: Global,
+        resolve: &'a Resolve,
+        items: &'a IndexMap<WorldKey, WorldItem>,
+    ) -> Result<InterfaceNames<'a>, AllocError> {
+        InterfaceNames::by_full_ids(alloc, resolve, items)
+    }
+
+    fn export_names<'a>(
+        &self,
+        alloc: Global,
+        resolve: &'a Resolve,
+        world: WorldId,
+        exports: &'a IndexSet<WorldKey>,
+    ) -> Result<ExportNames<'a>, AllocError> {
+        ExportNames::new(alloc, ExportSyntax::Hashed, resolve, world, exports)
     }
 }

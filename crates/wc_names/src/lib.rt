@@ -14,14 +14,16 @@
 //! | exports the function `hello` of an interface | `my:demo/host@1.2.3#hello` | `\|my:demo/host@1\|hello` |
 //! | destroys a resource `file` of an interface | `my:demo/host@1.2.3#[dtor]file` | `\|my:demo/host@1\|file_dtor` |
 //!
-//! A module's text is looked up among what a world imports or exports (`NameMangling::module_to_interface`; to look up
-//! many there is an index, `InterfaceNames`), and the names of functions and resources in an interface or in the world
-//! itself (`PayloadLookupContext`). Which of several
+//! A module's text is looked up among what a world imports or exports (`NameMangling::module_to_interface`), and the
+//! names of functions and resources in an interface or in the world itself (`PayloadLookupContext`). Which of several
 //! kinds a name is of is for the caller to decide; that an import means one thing at most, and what it names is there,
 //! is a law (`laws`), and the same of an export.
 //!
 //! Exports are those of an export set, a set of keys of a world: `NameMangling::match_wit_export` and
-//! `match_wit_resource_dtor` look up one name, and `ExportNames` is an index to look up many.
+//! `match_wit_resource_dtor` look up one name.
+//!
+//! To look up many there are indexes, which both schemes make (`NameIndexes`): `InterfaceNames` of the interfaces of a
+//! world, and `ExportNames` of an export set.
 //!
 //! Where an allocation fails the answer is `AllocError`. A call that names a thing by its id requires that the id is in
 //! range.
@@ -55,6 +57,7 @@ pub mod laws;
 mod legacy;
 mod lookups;
 mod mangling;
+mod name_indexes;
 mod payloads;
 mod standard;
 mod texts;
@@ -66,5 +69,6 @@ pub use imports::{Import, PayloadInfo, PayloadType};
 pub use interface_names::InterfaceNames;
 pub use legacy::Legacy;
 pub use mangling::{MaybeAsyncLowered, NameMangling};
+pub use name_indexes::NameIndexes;
 pub use payloads::PayloadLookupContext;
 pub use standard::Standard;

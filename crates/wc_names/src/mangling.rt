@@ -11,18 +11,16 @@ ghost use Rattle.wc_resolve.specs.Views.{key_view, world_entry, world_view};
 ghost use Rattle.wc_names.specs.AsyncValues.{NamesAsyncImport};
 ghost use Rattle.wc_names.specs.Builtins.{IsThreadBuiltin, NamesBuiltin, builtin_import};
 ghost use Rattle.wc_names.specs.Environment.{NamesEnvironment};
-ghost use Rattle.wc_names.specs.ExportIndexes.{names_view};
 ghost use Rattle.wc_names.specs.ExportNames.{NamesDestructor, NamesFunctionExport, export_syntax, world_exports};
 ghost use Rattle.wc_names.specs.ExportViews.{export_target};
 ghost use Rattle.wc_names.specs.Finds.{Finds};
 ghost use Rattle.wc_names.specs.Imports.{NamesFunctionAs};
-ghost use Rattle.wc_names.specs.InterfaceIndexes.{interface_names_view};
-ghost use Rattle.wc_names.specs.Interfaces.{FoundInterface, NamesInterface, found_interface, interface_texts};
+ghost use Rattle.wc_names.specs.Interfaces.{FoundInterface, NamesInterface, found_interface};
 ghost use Rattle.wc_names.specs.Schemes.{export_prefix, function_table_name, initialize_name, interface_prefix, memory_name, realloc_name, root_module, task_hook_name, NamesAsyncLift, NamesCallback, NamesPostReturn, NamesResource, NamesStackfulLift, NamesTaskCancel, NamesTaskReturn, resource_drop, resource_new, resource_rep};
 ghost use Rattle.wc_names.specs.Contexts.{context_scope};
 ghost use Rattle.wc_names.specs.Views.{Builtin, import_view, backpressure_dec, backpressure_inc, context_get, context_set, error_context_debug_message, error_context_drop, error_context_new, subtask_cancel, subtask_drop, waitable_join, waitable_set_drop, waitable_set_new, waitable_set_poll, waitable_set_wait};
 
-use crate::{ExportNames, Import, InterfaceNames, PayloadLookupContext};
+use crate::{Import, PayloadLookupContext};
 use indexmap::{IndexMap, IndexSet};
 use std::alloc::{AllocError, Global};
 use wc_encoder::StringEncoding;
@@ -222,7 +220,7 @@ pub trait NameMangling {
 
     /// The interface that a module's name is about, without what comes before it (`import_non_root_prefix`,
     /// `import_exported_intrinsic_prefix`), among what a world imports or exports, and its key there. For many names of
-    /// one world there is `interface_names`.
+    /// one world there is `NameIndexes::interface_names`.
     ///
     /// The keys must be in range of the `Resolve` (`has_interface`).
     ///
@@ -241,26 +239,6 @@ pub trait NameMangling {
             (NamesInterface (scheme self.now) resolve.now (map world_entry items.now.entries)
             «module».now)) };
 
-    /// The interfaces of a world's imports or exports by their texts, to look up many of them
-    /// (`InterfaceNames::interface`). It is made in a time linear in the keys, and a text is looked up in a time that
-    /// doesn't depend on them.
-    ///
-    /// The keys must be in range of the `Resolve` (`has_interface`).
-    ///
-    /// # Errors
-    ///
-    /// `AllocError`: an allocation failed.
-    fn interface_names<'a>(
-        &self,
-        alloc: Global,
-        resolve: &'a Resolve,
-        items: &'a IndexMap<WorldKey, WorldItem>,
-    ) -> Result<InterfaceNames<'a>, AllocError>
-        requires { All (λ x. IsKeyIn resolve.now x.0) (map world_entry items.now.entries) }
-        ensures { IfOk result (λ names. names ≡ interface_names_view
-            (interface_texts (scheme self.now)) resolve.now
-            (map world_entry items.now.entries)) };
-
     /// The import that a function of the module `env` is, by its name and by the first type of its results or
     /// parameters: that of the stack pointer, or of the pointer to a thread's local storage.
     fn env_import(&self, name: &str, ty: &FuncType) -> Option<Import>
@@ -272,30 +250,10 @@ pub trait NameMangling {
         ensures { Finds (option_copied result)
             (λ (returned : List ℕ). NamesPostReturn (scheme self.now) returned name.now) };
 
-    /// The names of the exports of a world that are in an export set, to look up many of them. Only keys that the world
-    /// exports have names; the first key of the set that fits a name counts. It is made in a time linear in the set,
-    /// and a name is looked up in a time that doesn't depend on the set.
-    ///
-    /// The world must be in range (`has_world`).
-    ///
-    /// # Errors
-    ///
-    /// `AllocError`: an allocation failed.
-    fn export_names<'a>(
-        &self,
-        alloc: Global,
-        resolve: &'a Resolve,
-        world: WorldId,
-        exports: &'a IndexSet<WorldKey>,
-    ) -> Result<ExportNames<'a>, AllocError>
-        requires { world.0 < length resolve.now.worlds }
-        ensures { IfOk result (λ names. names ≡ names_view (export_syntax (scheme self.now))
-            resolve.now (world_exports resolve.now world.0) (map key_view exports.now.keys)) };
-
     /// The function that an export of this name is for, among the exports of a world that are in an export set: the key
     /// in the set, the interface, if the function is of one, and the function. A lift or what runs after a return is
     /// named by what is after its own beginning, or before its own end (`async_lift_name`, `strip_post_return`). For
-    /// many names of one set there is `export_names`.
+    /// many names of one set there is `NameIndexes::export_names`.
     ///
     /// The world must be in range (`has_world`). Keys that the world doesn't export have no names.
     ///
@@ -316,7 +274,7 @@ pub trait NameMangling {
             (world_exports resolve.now world.0) (map key_view exports.now.keys) name.now)) };
 
     /// The resource whose destructor an export of this name is, among the interfaces of an export set that a world
-    /// exports. An alias of a resource is none. For many names of one set there is `export_names`.
+    /// exports. An alias of a resource is none. For many names of one set there is `NameIndexes::export_names`.
     ///
     /// The world must be in range (`has_world`). Keys that the world doesn't export have no names.
     ///

@@ -4,8 +4,8 @@ use crate::export_set::{matched_destructor, matched_export};
 use crate::interfaces::standard_interface;
 use crate::texts::before;
 use crate::{
-    ExportNames, ExportSyntax, Import, InterfaceNames, MaybeAsyncLowered, NameMangling,
-    PayloadLookupContext,
+    ExportNames, ExportSyntax, Import, InterfaceNames, MaybeAsyncLowered, NameIndexes,
+    NameMangling, PayloadLookupContext,
 };
 use indexmap::{IndexMap, IndexSet};
 use std::alloc::{AllocError, Global};
@@ -18,7 +18,7 @@ use wc_resolve::{
 /// The standard scheme (component model, pull request 378), after `cm32p2`: `|my:demo/host@1` is the module of an
 /// interface, and `file_drop` drops a resource `file`. It has no names for asynchronous functions and their built-ins.
 #[derive(Drop)]
-pub struct Standard {}
+pub struct Standard;
 
 impl NameMangling for Standard {
     ghost use Rattle.wc_names.specs.Schemes.{standard};
@@ -176,31 +176,12 @@ impl NameMangling for Standard {
         standard_interface(alloc, resolve, items, module)
     }
 
-    fn interface_names<'a>(
-        &self,
-        alloc: Global,
-        resolve: &'a Resolve,
-        items: &'a IndexMap<WorldKey, WorldItem>,
-    ) -> Result<InterfaceNames<'a>, AllocError> {
-        InterfaceNames::by_canonical_ids(alloc, resolve, items)
-    }
-
     fn env_import(&self, _name: &str, _ty: &FuncType) -> Option<Import> {
         None
     }
 
     fn strip_post_return<'a>(&self, name: &'a str) -> Option<&'a str> {
         before(name, "_post")
-    }
-
-    fn export_names<'a>(
-        &self,
-        alloc: Global,
-        resolve: &'a Resolve,
-        world: WorldId,
-        exports: &'a IndexSet<WorldKey>,
-    ) -> Result<ExportNames<'a>, AllocError> {
-        ExportNames::new(alloc, ExportSyntax::Barred, resolve, world, exports)
     }
 
     fn match_wit_export<'a>(
@@ -223,5 +204,26 @@ impl NameMangling for Standard {
         exports: &'a IndexSet<WorldKey>,
     ) -> Result<Option<TypeId>, AllocError> {
         matched_destructor(alloc, ExportSyntax::Barred, name, resolve, world, exports)
+    }
+}
+
+impl NameIndexes for Standard {
+    fn interface_names<'a>(
+        &self,
+        alloc: Global,
+        resolve: &'a Resolve,
+        items: &'a IndexMap<WorldKey, WorldItem>,
+    ) -> Result<InterfaceNames<'a>, AllocError> {
+        InterfaceNames::by_canonical_ids(alloc, resolve, items)
+    }
+
+    fn export_names<'a>(
+        &self,
+        alloc: Global,
+        resolve: &'a Resolve,
+        world: WorldId,
+        exports: &'a IndexSet<WorldKey>,
+    ) -> Result<ExportNames<'a>, AllocError> {
+        ExportNames::new(alloc, ExportSyntax::Barred, resolve, world, exports)
     }
 }

@@ -5,6 +5,7 @@ pub mod AlikeFlatteningLemmas
 pub mod FuturesEntryLemmas
 pub mod CanonicalIdLemmas
 pub mod ChildLemmas
+pub mod ContentLemmas
 pub mod CoreSignatureLemmas
 pub mod DistinctLemmas
 pub mod FlatStepLemmas

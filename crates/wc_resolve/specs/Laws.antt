@@ -1,7 +1,9 @@
--- Laws of listings, of futures and streams, and of flat types: no other lists follow their rules.
-use Rattle.std.specs.Prelude.{List}
+-- Laws of listings, of futures and streams, of flat types, and of the types that hold strings or lists: no other values
+-- follow their rules.
+use Rattle.std.specs.Prelude.{Bool, List}
+use Rattle.wc_resolve.specs.Contents.{text_of, text_rule}
 use Rattle.wc_resolve.specs.Flat.{flat_of, flat_rule}
-use Rattle.wc_resolve.specs.TypeRules.{IsOnlyFollowing}
+use Rattle.wc_resolve.specs.TypeRules.{Follows, IsOnlyFollowing}
 use Rattle.wc_resolve.specs.Futures.{futures_of, futures_rule}
 use Rattle.wc_resolve.specs.Live.{listing_of, listing_rule}
 use Rattle.wc_resolve.specs.Views.{TypeView}
@@ -16,3 +18,10 @@ FuturesUnique types = IsOnlyFollowing futures_rule types (futures_of types)
 
 abbrev pub FlatTypesUnique : List TypeView → Type 0
 FlatTypesUnique types = IsOnlyFollowing flat_rule types (flat_of types)
+
+-- of the types that hold strings, and those that hold strings or lists
+abbrev pub TextsFollow : List TypeView → Type 0
+TextsFollow types = (lists : Bool) → Follows (text_rule lists) types (text_of lists types)
+
+abbrev pub TextsUnique : List TypeView → Type 0
+TextsUnique types = (lists : Bool) → IsOnlyFollowing (text_rule lists) types (text_of lists types)

@@ -1,4 +1,5 @@
 pub mod Characters
+pub mod Contents
 pub mod Dependencies
 pub mod Faults
 pub mod Flat

@@ -1,8 +1,9 @@
--- What a `Resolve` keeps beside its parts: an order of its types, which of them are resources, their flat types, their
--- futures and streams, and the names of its packages.
-use Rattle.std.specs.Prelude.{◌≡◌, ℕ, ◌<◌, List, length, map, Contains}
+-- What a `Resolve` keeps beside its parts: an order of its types, which of them are resources, and which hold strings or
+-- lists, their flat types, their futures and streams, and the names of its packages.
+use Rattle.std.specs.Prelude.{◌≡◌, ℕ, ◌<◌, List, false, length, map, true, Contains}
 use Rattle.wc_resolve.specs.declared.packages.PackageName.{PackageName}
 use Rattle.wc_resolve.specs.declared.validate.Tables.{Tables}
+use Rattle.wc_resolve.specs.Contents.{AreTextFlags}
 use Rattle.wc_resolve.specs.Flat.{AreFlattened, lists}
 use Rattle.wc_resolve.specs.Futures.{AreFuturesEntries, entry_view}
 use Rattle.wc_resolve.specs.Resources.{AreResourceFlags}
@@ -26,4 +27,6 @@ pub record AreTables (r : ResolveView) (kept : Tables) : Type 0 where
   pub has_resources : AreResourceFlags r.types kept.resources.items
   pub flattened : AreFlattened r.types (lists kept.flats.items)
   pub has_futures : AreFuturesEntries r.types (map entry_view kept.futures.items)
+  pub has_strings : AreTextFlags false r.types kept.strings.items
+  pub has_texts : AreTextFlags true r.types kept.texts.items
   pub has_names : AreNamesOf r.packages kept.package_names.keys

@@ -1,7 +1,7 @@
 //! A `Resolve`: the worlds, interfaces, types and packages of the component model, each named by
 //! its index in its list. `Resolve::build` checks that they are well-formed. A `Resolve` then
-//! answers the ids of interfaces, the core signatures of functions (Canonical ABI), and the live
-//! types of worlds and functions.
+//! answers the ids of interfaces, the core signatures of functions (Canonical ABI), which types hold
+//! strings or lists, and the live types of worlds and functions.
 //!
 //! Where an allocation fails the answer is `AllocError`, or the fault `Memory`. A call that names a
 //! thing by its id requires that the id is in range.
@@ -54,6 +54,7 @@
 #![tactic(auto)]
 
 mod canonical_ids;
+mod contents;
 mod fault;
 mod flat;
 mod flattening;

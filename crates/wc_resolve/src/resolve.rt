@@ -3,13 +3,14 @@
 ghost use Rattle.std.specs.Prelude.{◌≡◌, ◌≢◌, ◌↔◌, ◌<◌, [], false, IfErr, IfNone, IfOk, IfSome, IsTrue, OnOk, Some, length, map, slice_get, string_bytes};
 ghost use Rattle.std.specs.Option.{IsSome, option_map};
 ghost use Rattle.semver.specs.Identifiers.{parts_text};
+ghost use Rattle.wc_resolve.specs.Contents.{holds_string, holds_string_or_list};
 ghost use Rattle.wc_resolve.specs.Views.{function_view, interface_view, item_view, key_view, package_name_view, package_view, type_view, world_view};
 ghost use Rattle.wc_resolve.specs.Dependencies.{AddsDependencies, aliased_at, dependency, direct_dependencies, id_of_interface, interface_ids, other_owner};
 ghost use Rattle.wc_resolve.specs.Faults.{IsCause};
 ghost use Rattle.wc_resolve.specs.Flat.{flat_of, flat_rule};
 ghost use Rattle.wc_resolve.specs.TypeRules.{Follows};
 ghost use Rattle.wc_resolve.specs.Futures.{IsFuturesEntry, entry_view, futures_of, futures_rule};
-ghost use Rattle.wc_resolve.specs.Laws.{FlatTypesUnique, FuturesUnique, ListingsUnique};
+ghost use Rattle.wc_resolve.specs.Laws.{FlatTypesUnique, FuturesUnique, ListingsUnique, TextsFollow, TextsUnique};
 ghost use Rattle.wc_resolve.specs.Live.{listing_of, listing_rule};
 ghost use Rattle.wc_resolve.specs.ResolveParts.{parts_view};
 ghost use Rattle.wc_resolve.specs.Queries.{HasNoPackage, IsPackageAt, canonical_id, external_id, full_id, if_named, implemented, key_text, qualified_name};
@@ -19,6 +20,7 @@ ghost use Rattle.wc_resolve.specs.Signatures.{flatten_functype, signature_view};
 ghost use Rattle.wc_resolve.specs.WellFormed.{IsUsable, IsWellFormed};
 
 use crate::canonical_ids::is_canonical_member_id;
+use crate::contents::type_has_text;
 use crate::futures::FuturesEntry;
 use crate::interface_ids::{canonical_member_id, member_id};
 use crate::packages::name_index;
@@ -170,6 +172,33 @@ impl Resolve {
         ensures alone { FlatTypesUnique self.now.types }
     {
         let _ = &self.kept;
+    }
+
+    /// That a type holds strings where it is one, or one of the types that it contains by value, or its target where it
+    /// is an alias, holds some, and so of strings or lists, but that a list holds these too; and that no other answers
+    /// follow this rule. For proofs of callers; it does nothing when it runs.
+    pub fn texts_unique(&self)
+        ensures made { TextsFollow self.now.types }
+        ensures alone { TextsUnique self.now.types }
+    {
+        let _ = &self.kept;
+    }
+
+    /// Whether a type holds a string: it is one, or one of the types that it contains by value, or its target where it
+    /// is an alias, holds one. Payloads of futures and streams count, resources of handles not. A type that is not in
+    /// range holds none. Nothing is allocated: `build` finds it for all types.
+    pub fn holds_string(&self, ty: WitType) -> bool
+        ensures { result ≡ holds_string self.now ty }
+    {
+        type_has_text(&self.kept.strings, ty)
+    }
+
+    /// Whether a type holds a string or a list: it is one, or holds one as `holds_string` says. A type that is not in
+    /// range holds none. Nothing is allocated.
+    pub fn holds_string_or_list(&self, ty: WitType) -> bool
+        ensures { result ≡ holds_string_or_list self.now ty }
+    {
+        type_has_text(&self.kept.texts, ty)
     }
 
     /// The core signature of a function that a guest imports or exports (component model, Canonical ABI, "Flattening",

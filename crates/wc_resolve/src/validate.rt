@@ -1,7 +1,8 @@
 //! Whether parts are well-formed: one file for each rule, in the order of the faults.
 
-ghost use Rattle.std.specs.Prelude.{IfErr, IfOk, map};
+ghost use Rattle.std.specs.Prelude.{IfErr, IfOk, false, map, true};
 ghost use Rattle.wc_resolve.specs.ResolveParts.{parts_view};
+ghost use Rattle.wc_resolve.specs.Contents.{AreTextFlags};
 ghost use Rattle.wc_resolve.specs.Faults.{IsCause, IsOrderCause};
 ghost use Rattle.wc_resolve.specs.Flat.{AreFlattened, lists};
 ghost use Rattle.wc_resolve.specs.Futures.{AreFuturesEntries, entry_view};
@@ -19,6 +20,7 @@ pub(crate) mod resources;
 mod spelling;
 mod type_test;
 
+use crate::contents::find_texts;
 use crate::flattening::flatten_all;
 use crate::futures::{FuturesEntry, futures_entries};
 use crate::{PackageName, Parts, ResolveFault, WasmType};
@@ -44,6 +46,10 @@ pub(crate) struct Tables {
     pub(crate) flats: Vec<Vec<WasmType>>,
     /// For each type its futures and streams.
     pub(crate) futures: Vec<FuturesEntry>,
+    /// For each type whether it holds a string.
+    pub(crate) strings: Vec<bool>,
+    /// For each type whether it holds a string or a list.
+    pub(crate) texts: Vec<bool>,
     /// The names of the packages, in order.
     pub(crate) package_names: IndexSet<PackageName>,
 }
@@ -92,6 +98,24 @@ fn futures_of_parts(
     futures_entries(alloc, &parts.types, order)
 }
 
+/// For each type whether it holds a string.
+fn strings_of_parts(alloc: Global, parts: &Parts, order: &[usize]) -> Result<Vec<bool>, AllocError>
+    requires { IsOrder (parts_view parts.now).types order.now }
+    ensures { IfOk result
+        (λ flags. AreTextFlags false (parts_view parts.now).types flags.items) }
+{
+    find_texts(alloc, &parts.types, order, false)
+}
+
+/// For each type whether it holds a string or a list.
+fn texts_of_parts(alloc: Global, parts: &Parts, order: &[usize]) -> Result<Vec<bool>, AllocError>
+    requires { IsOrder (parts_view parts.now).types order.now }
+    ensures { IfOk result
+        (λ flags. AreTextFlags true (parts_view parts.now).types flags.items) }
+{
+    find_texts(alloc, &parts.types, order, true)
+}
+
 /// Checks that the parts are well-formed, and makes what is kept beside them.
 ///
 /// # Errors
@@ -126,11 +150,15 @@ pub(crate) fn check(alloc: Global, parts: &Parts) -> Result<Tables, ResolveFault
     }
     let flats = flatten_parts(alloc, parts, &order)?;
     let futures = futures_of_parts(alloc, parts, &order)?;
+    let strings = strings_of_parts(alloc, parts, &order)?;
+    let texts = texts_of_parts(alloc, parts, &order)?;
     Ok(Tables {
         order,
         resources,
         flats,
         futures,
+        strings,
+        texts,
         package_names,
     })
 }

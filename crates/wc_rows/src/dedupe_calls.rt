@@ -8,7 +8,7 @@ use crate::rows::Row;
 use crate::values::{put_bytes_lines, put_fault, put_import};
 use std::alloc::{AllocError, Global};
 use std::borrow::CowSlice;
-use wc_dedupe::{DedupeFault, ModuleImportMap};
+use wc_dedupe::ModuleImportMap;
 use wc_read::{Import, ReadFault, frames, read_imports, read_module};
 use wc_write::append_import_section;
 
@@ -32,8 +32,6 @@ fn answer_call(alloc: Global, row: &Row<'_>, out: &mut Lines) -> Result<bool, St
         answer_originals(alloc, row, out)?;
     } else if row.call == "read_deduped" {
         answer_read(alloc, row, out)?;
-    } else if row.call == "dedupe_faults" {
-        put_faults(out);
     } else {
         return Ok(false);
     }
@@ -189,11 +187,4 @@ fn answer_read(alloc: Global, row: &Row<'_>, out: &mut Lines) -> Result<(), Stop
     let bytes = bytes_of(alloc, &row.input, out)?;
     put_deduped_module(alloc, &bytes, out);
     Ok(())
-}
-
-/// The texts of faults.
-fn put_faults(out: &mut Lines) {
-    put_fault(out, DedupeFault::Memory);
-    put_fault(out, DedupeFault::Read(ReadFault::NotWasm));
-    put_fault(out, DedupeFault::TooLarge);
 }

@@ -9,7 +9,6 @@ use crate::values::put_bytes_lines;
 use indexmap::IndexSet;
 use std::alloc::{AllocError, Global};
 use wc_gc::{BitVec, GcFault, LiveSet, Liveness, liveness_counted, run};
-use wc_read::ReadFault;
 
 /// Appends the answer of a call of `wc_gc`, and says whether the row's is one.
 pub fn answer(alloc: Global, row: &Row<'_>, out: &mut Lines) -> Result<bool, AllocError> {
@@ -25,8 +24,6 @@ fn answer_call(alloc: Global, row: &Row<'_>, out: &mut Lines) -> Result<bool, St
         answer_trim_for(alloc, row, out)?;
     } else if row.call == "bit_vec" {
         answer_bit_vec(alloc, row, out)?;
-    } else if row.call == "gc_faults" {
-        put_faults(alloc, out)?;
     } else {
         return Ok(false);
     }
@@ -165,26 +162,4 @@ fn put_step(set: &mut BitVec, line: &str, out: &mut Lines) -> Result<bool, Alloc
 
 fn number_after(line: &str, word: &str) -> Option<u32> {
     line.strip_prefix(word)?.parse::<u32>().ok()
-}
-
-/// The text of each fault.
-fn put_faults(alloc: Global, out: &mut Lines) -> Result<(), AllocError> {
-    let faults = [
-        GcFault::Memory,
-        GcFault::Read(ReadFault::NotWasm),
-        GcFault::MissingExport(String::from_str(alloc, "x")?),
-        GcFault::UnsupportedSection,
-        GcFault::LiveBody,
-        GcFault::SeveralNamed,
-        GcFault::LiveTable,
-        GcFault::SeveralMemories,
-        GcFault::LocalMemory,
-        GcFault::ReallocType,
-        GcFault::ReallocMemory,
-        GcFault::TooLarge,
-    ];
-    for fault in &faults {
-        writeln!(out, "{fault}");
-    }
-    Ok(())
 }

@@ -3,7 +3,9 @@
 
 pub mod built;
 pub mod dedupe_calls;
+pub mod fault_calls;
 pub mod gc_calls;
+pub mod hostile_calls;
 pub mod imports;
 pub mod input;
 pub mod law_calls;

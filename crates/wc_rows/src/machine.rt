@@ -72,9 +72,9 @@ impl Machine {
         }
     }
 
-    /// Other code writes a global. Nothing, where that is not there.
+    /// Other code writes a global. Nothing, where that is not there, or where something has stopped the machine.
     pub fn write(&mut self, global: usize, value: u32) {
-        if global < self.globals.len() {
+        if !self.has_stopped && global < self.globals.len() {
             self.globals[global] = value;
         }
     }

@@ -9,8 +9,8 @@ use crate::rows::Row;
 use crate::values::{put_fault, put_func_type, put_imports};
 use std::alloc::{AllocError, Global};
 use wc_read::{
-    Body, Form, FuncType, MemoryType, Opcode, ReadFault, ValType, form_of, frames, read_body,
-    read_imports, read_init, read_module, refs,
+    Body, Form, FuncType, MemoryType, Opcode, ValType, form_of, frames, read_body, read_imports,
+    read_init, read_module, refs,
 };
 
 /// Appends the answer of a call of `wc_read`, and says whether the row's is one.
@@ -66,8 +66,6 @@ fn answer_other(alloc: Global, row: &Row<'_>, out: &mut Lines) -> Result<bool, S
         answer_page_size(row, out)?;
     } else if row.call == "func_type" {
         answer_func_type(alloc, row, out)?;
-    } else if row.call == "read_faults" {
-        put_faults(out);
     } else {
         return Ok(false);
     }
@@ -276,35 +274,4 @@ fn put_func_type_and_copy(alloc: Global, ty: &FuncType, out: &mut Lines) -> Resu
     let equal = copy == *ty;
     writeln!(out, "\nequal {equal}");
     Ok(())
-}
-
-/// All faults, in their order.
-const FAULTS: [ReadFault; 19] = [
-    ReadFault::Memory,
-    ReadFault::NotWasm,
-    ReadFault::Component,
-    ReadFault::Truncated,
-    ReadFault::BadNumber,
-    ReadFault::BadName,
-    ReadFault::SectionOrder,
-    ReadFault::SectionSize,
-    ReadFault::UnknownSection,
-    ReadFault::BadType,
-    ReadFault::BadLimits,
-    ReadFault::BadIndex,
-    ReadFault::DuplicateExport,
-    ReadFault::BadInitialiser,
-    ReadFault::CountMismatch,
-    ReadFault::UnknownOperator,
-    ReadFault::BadNesting,
-    ReadFault::BadStart,
-    ReadFault::TooLarge,
-];
-
-/// The number of each fault, and its text.
-fn put_faults(out: &mut Lines) {
-    for fault in FAULTS {
-        let number = fault as u8;
-        writeln!(out, "{number} {fault}");
-    }
 }

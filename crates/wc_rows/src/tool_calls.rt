@@ -6,12 +6,9 @@ ghost use Rattle.wc_tool.specs.Command.{IsExecutable, command_value};
 use crate::input::{Stop, answered, bad_row, bytes_of};
 use crate::lines::Lines;
 use crate::rows::Row;
-use crate::values::{put_bytes_lines, put_fault};
+use crate::values::put_bytes_lines;
 use std::alloc::{AllocError, Global};
 use std::str;
-use wc_dedupe::DedupeFault;
-use wc_gc::GcFault;
-use wc_read::ReadFault;
 use wc_tool::{Command, ToolFault, execute, parse};
 use wc_write::WriterSink;
 
@@ -25,8 +22,6 @@ fn answer_call(alloc: Global, row: &Row<'_>, out: &mut Lines) -> Result<bool, St
         answer_parse(alloc, row, out)?;
     } else if row.call == "execute" {
         answer_execute(alloc, row, out)?;
-    } else if row.call == "tool_faults" {
-        put_faults(out);
     } else {
         return Ok(false);
     }
@@ -162,13 +157,4 @@ pub fn put_answer(out: &mut Lines, answer: &Result<Option<Vec<u8>>, ToolFault>) 
         Ok(None) => out.push_str("no bytes\n"),
         Err(fault) => writeln!(out, "fault {fault}"),
     }
-}
-
-/// The texts of faults.
-fn put_faults(out: &mut Lines) {
-    put_fault(out, ToolFault::Memory);
-    put_fault(out, ToolFault::Dedupe(DedupeFault::TooLarge));
-    put_fault(out, ToolFault::Trim(GcFault::LiveBody));
-    put_fault(out, ToolFault::Read(ReadFault::Truncated));
-    put_fault(out, ToolFault::Output);
 }

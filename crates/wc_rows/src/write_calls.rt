@@ -9,7 +9,7 @@ use crate::values::{put_bytes_lines, put_fault};
 use std::alloc::{AllocError, Global};
 use wc_read::{Def, Func, read_body, read_imports, read_module};
 use wc_write::{
-    PutFailed, WriteFault, append_import_section, append_raw_section, raw_section, write_body,
+    WriteFault, append_import_section, append_raw_section, raw_section, write_body,
     write_import_section, write_module,
 };
 
@@ -61,8 +61,6 @@ fn answer_other(alloc: Global, row: &Row<'_>, out: &mut Lines) -> Result<bool, S
         answer_raw_section(alloc, row, out)?;
     } else if row.call == "append_raw_section" {
         answer_appended_section(alloc, row, out)?;
-    } else if row.call == "write_faults" {
-        put_faults(out);
     } else {
         return Ok(false);
     }
@@ -166,11 +164,4 @@ fn answer_module(alloc: Global, bytes: &[u8], out: &mut Lines) {
         Ok(built) => put_written(out, &write_module(alloc, &built)),
         Err(fault) => put_fault(out, fault),
     }
-}
-
-/// The texts of all faults.
-fn put_faults(out: &mut Lines) {
-    put_fault(out, WriteFault::Memory);
-    put_fault(out, WriteFault::TooLarge);
-    put_fault(out, PutFailed);
 }

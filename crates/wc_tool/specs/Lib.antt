@@ -4,6 +4,7 @@ pub mod Exports
 pub mod Lines
 pub mod Scan
 pub mod Faults
+pub mod FaultTexts
 pub mod Execution
 pub mod Files
 pub mod Output

@@ -3,7 +3,7 @@ use Rattle.std.specs.Prelude.{ℕ, List, ◌++◌, codes}
 use Rattle.std.specs.List.{flat_map}
 use Rattle.wc_dedupe.specs.Renaming.{RenameValue}
 
--- between a module's name and an import's, between an import's name and its new one, between the parts of a line, and
+-- between a module's name and an import's (and between the names of faults), between an import's name and its new one, between the parts of a line, and
 -- the end of a line
 abbrev pub colon : List ℕ
 colon = codes ": "

@@ -1,9 +1,10 @@
 -- The program: what it prints, what becomes of files, and its exit status.
-use Rattle.std.specs.Prelude.{◌≡◌, ◌≢◌, ℕ, ◌⊎◌, ⊤, Bool, true, false, List, [], ◌∷◌, ◌++◌, codes, Option, Some, None}
+use Rattle.std.specs.Prelude.{◌≡◌, ◌≢◌, ℕ, ◌⊎◌, Bool, true, false, List, [], ◌∷◌, ◌++◌, codes, Option, Some, None}
 use Rattle.std.specs.Io.KnownBytes.{Appends}
 use Rattle.wc_tool.specs.Command.{CommandValue, source_of, target_of, IsCommandLine}
 use Rattle.wc_tool.specs.Lines.{line_feed}
 use Rattle.wc_tool.specs.Execution.{Runs, IsCause}
+use Rattle.wc_tool.specs.FaultTexts.{memory_text, tool_fault_text}
 use Rattle.wc_tool.specs.Files.{Held, Holds, Writes, KeepsOthers}
 use Rattle.wc_tool.specs.declared.fault.ToolFault.{ToolFault}
 use Rattle.wc_tool.specs.declared.fault.ToolFault.TheVariants.{Output}
@@ -33,10 +34,6 @@ unread_text path = codes "cannot read " ++ path
 
 abbrev pub unwritten_text : List ℕ → List ℕ
 unwritten_text path = codes "cannot write " ++ path
-
--- an export that is wanted is missing
-abbrev pub missing_text : List ℕ → List ℕ
-missing_text name = (codes "adapter module does not have export `" ++ name) ++ codes "`"
 
 -- these bytes were put to an output, which handed on all its bytes
 pub record HandsOn (written_before written_after sent_after : Option (List ℕ)) (bytes : List ℕ) : Type 0 where
@@ -84,18 +81,16 @@ abbrev pub HasPut : (List ℕ → Type 0) → Bool → List ℕ → RunFault →
 HasPut puts failed lines (Tool Output) = failed ≡ true
 HasPut puts failed lines f = puts lines
 
--- the text of a fault; of one of the command itself it may be any
-abbrev pub IsFaultText : RunFault → List ℕ → Type 0
-IsFaultText (CannotRead path) text = text ≡ unread_text path.now
-IsFaultText (CannotWrite path) text = text ≡ unwritten_text path.now
-IsFaultText (Tool fault) text = ⊤
+-- the text of a fault
+abbrev pub run_fault_text : RunFault → List ℕ
+run_fault_text (CannotRead path) = unread_text path.now
+run_fault_text (CannotWrite path) = unwritten_text path.now
+run_fault_text (Tool fault) = tool_fault_text fault
 
 -- why the command could not be run was printed after its lines
 pub record IsReported (puts : List ℕ → Type 0) (fault : RunFault) (lines : List ℕ) : Type 0 where
-  pub text : List ℕ
-  pub is_text : IsFaultText fault text
   pub is_put : fault ≢ Tool Output
-  pub printed : puts (lines ++ fault_line text)
+  pub printed : puts (lines ++ fault_line (run_fault_text fault))
 
 -- the command did its work, and its lines were printed
 abbrev pub EndsWell : CommandValue → Option Held → Option Held → (List ℕ → Type 0) → Bool → Type 0
@@ -125,4 +120,4 @@ ProgramEnds (x ∷ xs) before after puts failed status =
 -- how the program ends where its arguments are not known: there was no memory for them, or they are no text
 pub record EndsWithoutArguments (no_memory : Type 0) (puts : List ℕ → Type 0) (failed : Bool) (status : ℕ) : Type 0 where
   pub no_text : ¬ no_memory → Prints usage_text wrong_arguments puts failed status
-  pub reported : no_memory → (status ≡ failure) × (failed ≡ false → (text : List ℕ) × puts (fault_line text))
+  pub reported : no_memory → (status ≡ failure) × (failed ≡ false → puts (fault_line memory_text))

@@ -20,8 +20,8 @@ pub enum Command<'a> {
         source: &'a str,
     },
     /// Cuts the adapter in the file `source` to what the exports of these names reach, and writes it to the file
-    /// `target`. Both are paths. The main module's realloc is named `realloc`, and its pages have 2^`page` bytes: both
-    /// have no effect yet.
+    /// `target`. Both are paths. The main module exports a realloc as `realloc`, where that is a name, and a page of
+    /// its memory has 2^`page` bytes.
     Trim {
         source: &'a str,
         target: &'a str,

@@ -10,7 +10,7 @@ use wc_gc::GcFault;
 use wc_read::ReadFault;
 use wc_write::PutFailed;
 
-/// Why a command could not be executed.
+/// Why a command could not be executed. The text that `Display` writes is that of `FaultText`, as is tested.
 #[derive(Debug, Drop, Error)]
 pub enum ToolFault {
     /// An allocation failed.
@@ -20,7 +20,7 @@ pub enum ToolFault {
     #[error("Dedupe: {0}")]
     Dedupe(DedupeFault),
     /// The adapter could not be trimmed. It carries why, never `Memory`.
-    #[error("{0}")]
+    #[error("Trim: {0}")]
     Trim(GcFault),
     /// The bytes are no module. It carries why, never `Memory`.
     #[error("Read: {0}")]

@@ -37,6 +37,7 @@
 mod command;
 mod execution;
 mod fault;
+mod fault_text;
 mod files;
 mod lines;
 mod output;
@@ -47,6 +48,7 @@ mod trim_arguments;
 pub use command::{Command, Usage, parse};
 pub use execution::execute;
 pub use fault::ToolFault;
+pub use fault_text::FaultText;
 pub use files::FileStore;
 pub use output::{Output, Printer};
 pub use program::{RunFault, run, run_command};

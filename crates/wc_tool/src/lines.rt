@@ -8,8 +8,8 @@ ghost use Rattle.wc_tool.specs.Lines.{line_of, lines_of};
 use wc_dedupe::Rename;
 use wc_write::{PutFailed, Sink};
 
-/// Between a module's name and an import's.
-const COLON: &[u8] = b": ";
+/// Between a module's name and an import's, and between a fault's name and the text of the fault that it carries.
+pub(crate) const COLON: &[u8] = b": ";
 
 /// Between an import's name and its new one.
 const ARROW: &[u8] = b" -> ";

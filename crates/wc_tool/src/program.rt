@@ -6,19 +6,18 @@ ghost use Rattle.std.specs.Io.KnownBytes.{Appends};
 ghost use Rattle.std.specs.IoError.{error_kind};
 ghost use Rattle.wc_tool.specs.Command.{command_value, IsExecutable};
 ghost use Rattle.wc_tool.specs.Execution.{Runs, IsCause};
-ghost use Rattle.wc_tool.specs.Program.{HandsOn, EndsWell, IsRunCause, HasPut, IsFaultText, Prints, CommandEnds, ProgramEnds, EndsWithoutArguments, fault_line, usage_text, failure, missing_text};
+ghost use Rattle.wc_tool.specs.Program.{HandsOn, EndsWell, IsRunCause, HasPut, Prints, CommandEnds, ProgramEnds, EndsWithoutArguments, fault_line, run_fault_text, usage_text, failure};
 
 use crate::command::{Command, Usage, parse};
 use crate::execution::execute;
 use crate::fault::ToolFault;
+use crate::fault_text::{FaultText, put_after};
 use crate::files::FileStore;
 use crate::lines::LINE_FEED;
 use crate::output::Output;
 use std::alloc::Global;
-use std::fmt::InlineText;
 use std::io::{self, ErrorKind};
-use wc_gc::GcFault;
-use wc_write::PutFailed;
+use wc_write::{PutFailed, Sink};
 
 const USAGE: &[u8] = b"usage: wctrim dedupe IN OUT
        wctrim trim IN OUT [--realloc NAME] [--page 0|16] EXPORT...
@@ -34,9 +33,6 @@ const FAILURE: u8 = 1;
 /// The exit status of a program whose arguments are those of no command.
 const WRONG_ARGUMENTS: u8 = 2;
 
-/// How many bytes of a fault's text are printed.
-const TEXT_SIZE: usize = 64;
-
 /// Why a command could not be run on its files.
 #[derive(Debug, Drop)]
 pub enum RunFault<'a> {
@@ -48,6 +44,18 @@ pub enum RunFault<'a> {
     Tool(ToolFault),
 }
 
+impl FaultText for RunFault<'_> {
+    ghost text = { run_fault_text };
+
+    fn put_text<S: Sink>(&self, out: &mut S) -> Result<(), PutFailed> {
+        match self {
+            RunFault::CannotRead(path) => put_after(out, b"cannot read ", path),
+            RunFault::CannotWrite(path) => put_after(out, b"cannot write ", path),
+            RunFault::Tool(fault) => fault.put_text(out),
+        }
+    }
+}
+
 /// Runs the program with these arguments, the first of them the one after the program's name. The answer is its exit
 /// status:
 ///
@@ -57,11 +65,12 @@ pub enum RunFault<'a> {
 /// | 2 | the arguments are those of no command, or no text | the usage text |
 /// | 0 | the command was run | its lines |
 /// | 1 | the command could not be run | the lines that it put, and then the line `wctrim: TEXT` |
-/// | 1 | there was no memory for the arguments | the line `wctrim: TEXT` |
+/// | 1 | there was no memory for the arguments | the line `wctrim: out of memory` |
 /// | 1 | `out` failed | not known |
 ///
-/// TEXT is `cannot read IN` or `cannot write OUT` with the path; which text another fault has is not promised. All that
-/// is printed is flushed. Files are as `run_command` leaves them; without a command they are unchanged.
+/// TEXT is the text of `run_command`'s fault (`FaultText`): `cannot read IN` or `cannot write OUT` with the path, or the
+/// text of the fault of `execute`. All that is printed is flushed. Files are as `run_command` leaves them; without a
+/// command they are unchanged.
 pub fn run<F: FileStore, O: Output>(
     alloc: Global,
     arguments: &io::Result<Vec<String>>,
@@ -216,8 +225,8 @@ fn put_usage<O: Output>(out: &mut O) -> Result<(), PutFailed>
 fn report<O: Output>(out: &mut O, fault: &RunFault<'_>) -> u8
     ensures status { result ≡ failure }
     ensures printed { O.is_failed out.new ≡ false
-        → (text : List ℕ) × IsFaultText fault.now text
-        × HandsOn (O.written out.old) (O.written out.new) (O.sent out.new) (fault_line text) }
+        → HandsOn (O.written out.old) (O.written out.new) (O.sent out.new)
+        (fault_line (run_fault_text fault.now)) }
     ensures refuses { O.is_failed out.new ≡ false → O.is_failed out.old ≡ false }
 {
     let _ = put_fault(out, fault);
@@ -226,57 +235,15 @@ fn report<O: Output>(out: &mut O, fault: &RunFault<'_>) -> u8
 
 /// Puts the line that says why the program failed, and flushes.
 fn put_fault<O: Output>(out: &mut O, fault: &RunFault<'_>) -> Result<(), PutFailed>
-    ensures printed { OnOk result ((text : List ℕ) × IsFaultText fault.now text
-        × HandsOn (O.written out.old) (O.written out.new) (O.sent out.new) (fault_line text)) }
+    ensures printed { OnOk result
+        (HandsOn (O.written out.old) (O.written out.new) (O.sent out.new)
+        (fault_line (run_fault_text fault.now))) }
     ensures refuses { OnOk result (O.is_failed out.old ≡ false) }
     ensures works { OnOk result (O.is_failed out.new ≡ false) }
     ensures fails { OnErr result (O.is_failed out.new ≡ true) }
 {
     out.put(b"wctrim: ")?;
-    put_fault_text(out, fault)?;
+    fault.put_text(out)?;
     out.put(LINE_FEED)?;
     out.flush()
-}
-
-/// Puts the text of a fault; of a long one that is about no file and no export, the beginning. It does not allocate.
-fn put_fault_text<O: Output>(out: &mut O, fault: &RunFault<'_>) -> Result<(), PutFailed>
-    ensures written { OnOk result ((text : List ℕ) × IsFaultText fault.now text
-        × Appends (O.written out.old) (O.written out.new) text) }
-    ensures refuses { OnOk result (O.is_failed out.old ≡ false) }
-    ensures works { OnOk result (O.is_failed out.new ≡ false) }
-    ensures fails { OnErr result (O.is_failed out.new ≡ true) }
-{
-    match fault {
-        RunFault::CannotRead(path) => put_path(out, b"cannot read ", path),
-        RunFault::CannotWrite(path) => put_path(out, b"cannot write ", path),
-        RunFault::Tool(ToolFault::Trim(GcFault::MissingExport(name))) => put_missing(out, name),
-        RunFault::Tool(fault) => {
-            let text = InlineText::<TEXT_SIZE>::of(fault);
-            out.put(text.as_str().as_bytes())
-        }
-    }
-}
-
-/// Puts the text of a fault for an export that is missing, of any length.
-fn put_missing<O: Output>(out: &mut O, name: &str) -> Result<(), PutFailed>
-    ensures written { OnOk result (Appends (O.written out.old) (O.written out.new)
-        (missing_text name.now)) }
-    ensures refuses { OnOk result (O.is_failed out.old ≡ false) }
-    ensures works { OnOk result (O.is_failed out.new ≡ false) }
-    ensures fails { OnErr result (O.is_failed out.new ≡ true) }
-{
-    put_path(out, b"adapter module does not have export `", name)?;
-    out.put(b"`")
-}
-
-/// Puts a prefix, and then a path or a name.
-fn put_path<O: Output>(out: &mut O, prefix: &[u8], path: &str) -> Result<(), PutFailed>
-    ensures written { OnOk result (Appends (O.written out.old) (O.written out.new)
-        (prefix.now ++ path.now)) }
-    ensures refuses { OnOk result (O.is_failed out.old ≡ false) }
-    ensures works { OnOk result (O.is_failed out.new ≡ false) }
-    ensures fails { OnErr result (O.is_failed out.new ≡ true) }
-{
-    out.put(prefix)?;
-    out.put(path.as_bytes())
 }

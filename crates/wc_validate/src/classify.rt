@@ -142,10 +142,10 @@ pub(crate) fn function_import(
 {
     let standard = &interfaces.standard;
     if let Some(rest) = after(module_name, STANDARD_MARKER) {
-        return decide_by(&Standard {}, alloc, names, standard, rest, name, ty);
+        return decide_by(&Standard, alloc, names, standard, rest, name, ty);
     }
     if names.reject_legacy_names {
-        return decide_by(&Standard {}, alloc, names, standard, module_name, name, ty);
+        return decide_by(&Standard, alloc, names, standard, module_name, name, ty);
     }
     let legacy = Legacy {
         task_hook: names.task_hook,

@@ -374,7 +374,7 @@ pub(crate) fn classify_export(
     }
     let names = &context.names;
     if let Some(rest) = after(name, STANDARD_MARKER) {
-        return export_by(&Standard {}, alloc, names, &context.standard, rest, ty);
+        return export_by(&Standard, alloc, names, &context.standard, rest, ty);
     }
     if names.reject_legacy_names {
         return Ok(None);

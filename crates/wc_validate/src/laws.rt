@@ -1,6 +1,9 @@
-//! Laws of what is recorded of modules: contracts of functions that do nothing when they run.
+//! Laws of what is recorded of modules, and of why they are refused: contracts of functions that do nothing when they
+//! run.
 
 ghost use Rattle.wc_validate.specs.Laws.{EntriesInRange, EntriesUnique, RecordedExportsInRange, RecordsAreImports, RecordsExcludeFaults, RecordsInRange, RecordsUnique, SignaturesFixed};
+ghost use Rattle.wc_validate.specs.MemoryTypes.{RecordedMemoriesValid};
+ghost use Rattle.wc_validate.specs.Restriction.{RestrictionsRecorded, RestrictionsValid};
 
 use wc_encoder::ComponentEncoder;
 use wc_names::laws::{exports_in_range, exports_unique, meanings_in_range, meanings_unique};
@@ -74,4 +77,31 @@ pub fn recorded_exports_in_range(encoder: &ComponentEncoder)
 {
     let metadata = encoder.metadata();
     exports_in_range(&metadata.resolve);
+}
+
+/// The memory that a module is recorded to import has a type as modules have them: the exponent of its pages is 16 at
+/// most. It does nothing when it runs.
+pub fn recorded_memories_valid()
+    ensures { RecordedMemoriesValid }
+{}
+
+/// A module that has imports of another, each at most once, besides functions of the main module, and at least those of
+/// its exports that are recorded or required, is refused only where two of its imports have one name of the main
+/// module, if the other module is valid for the same job. It does nothing when it runs.
+pub fn restrictions_valid(encoder: &ComponentEncoder)
+    ensures { RestrictionsValid encoder.now }
+{
+    let metadata = encoder.metadata();
+    meanings_unique(&metadata.resolve);
+    exports_unique();
+}
+
+/// What is recorded of a module that restricts a valid one, and is valid too: of its imports what is recorded of those
+/// that it has of the other, and functions of the main module; and the same exports. It does nothing when it runs.
+pub fn restrictions_recorded(encoder: &ComponentEncoder)
+    ensures { RestrictionsRecorded encoder.now }
+{
+    let metadata = encoder.metadata();
+    meanings_unique(&metadata.resolve);
+    exports_unique();
 }

@@ -8,7 +8,7 @@ ghost use Rattle.wc_validate.specs.Settings.{AreInterfacesBy, AreInterfacesOf, H
 use indexmap::IndexMap;
 use std::alloc::{AllocError, Global};
 use wc_encoder::Adapter;
-use wc_names::{InterfaceNames, Legacy, NameMangling, Standard};
+use wc_names::{InterfaceNames, Legacy, NameIndexes, Standard};
 use wc_resolve::{Resolve, World};
 
 /// How many look-ups by walks over a world's keys take about as long as it takes to index them.
@@ -50,7 +50,7 @@ impl<'a> SchemeInterfaces<'a> {
     }
 
     /// The interfaces of the world, indexed.
-    fn indexed<N: NameMangling>(
+    fn indexed<N: NameIndexes>(
         scheme: &N,
         alloc: Global,
         names: &Names<'a>,
@@ -88,7 +88,7 @@ impl<'a> Interfaces<'a> {
         let legacy = Legacy {
             task_hook: names.task_hook,
         };
-        let by_standard = SchemeInterfaces::indexed(&Standard {}, alloc, names)?;
+        let by_standard = SchemeInterfaces::indexed(&Standard, alloc, names)?;
         let by_legacy = SchemeInterfaces::indexed(&legacy, alloc, names)?;
         Ok(Interfaces {
             standard: by_standard,

@@ -29,7 +29,7 @@ use indexmap::{IndexMap, IndexSet};
 use std::alloc::{AllocError, Global};
 use wc_dedupe::ModuleImportMap;
 use wc_encoder::{ComponentEncoder, LibraryInfo};
-use wc_names::{Legacy, NameMangling, Standard};
+use wc_names::{Legacy, NameIndexes, Standard};
 use wc_read::{FuncType, Module, read_module};
 use wc_resolve::WorldKey;
 
@@ -135,7 +135,7 @@ fn export_context<'a>(
     let names = names_of(encoder);
     let metadata = encoder.metadata();
     let resolve = &metadata.resolve;
-    let standard = Standard {}.export_names(alloc, resolve, metadata.world, keys)?;
+    let standard = Standard.export_names(alloc, resolve, metadata.world, keys)?;
     let scheme = Legacy {
         task_hook: names.task_hook,
     };

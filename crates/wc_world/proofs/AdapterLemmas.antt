@@ -21,13 +21,13 @@ use Rattle.wc_validate.specs.ImportMaps.{required_in}
 use Rattle.wc_validate.specs.Validated.{IsCause as IsModuleCause, IsRecordOf, ModuleRecord, main_job}
 use Rattle.wc_validate.specs.declared.fault.ValidateFault.{ValidateFault}
 use Rattle.wc_world.specs.Adapters.{HasOtherName, NamedAdapter, is_kept, is_needed, kept_adapters}
-use Rattle.wc_world.specs.Causes.{IsCause, IsFaultOf, IsFirstFault, IsKeptFault, IsMemory, IsSound}
+use Rattle.wc_world.specs.Causes.{IsCause, IsFaultOf, IsFirst, IsFirstFault, IsFirstStop, IsKeptStop, IsMemory, IsMemoryOf, IsReachedMemory, IsSound, IsStopOf}
 use Rattle.wc_world.specs.Views.{NamedWorldAdapter}
 use Rattle.wc_world.specs.World.{AreMade, IsAdapterOf}
 use Rattle.wc_world.specs.WorldViews.{adapter_entry}
 use Rattle.wc_world.specs.declared.adapter.WorldAdapter.{WorldAdapter}
 use Rattle.wc_world.specs.declared.fault.WorldFault.{WorldFault}
-use Rattle.wc_world.specs.declared.fault.WorldFault.TheVariants.{Main}
+use Rattle.wc_world.specs.declared.fault.WorldFault.TheVariants.{Main, Memory}
 use Rattle.wc_world.proofs.FaultLemmas.{refused_or_memory}
 
 zip_push : {A B : Type 0} (R : A → B → Type 0) (xs : List A) (ys : List B) (x : A) (y : B) → AllZip R xs ys → R x y → AllZip R (xs ++ x ∷ []) (ys ++ y ∷ [])
@@ -142,7 +142,7 @@ module _ (e : EncoderView) (main : ModuleRecord) (left : List RawGiven) where
   pub walk_end : (ys : List NamedWorldAdapter) → left ≡ [] → AdaptersWalk e main left ys → AreMade e main e.adapters ys
   walk_end ys none w = subst (λ z. AreMade e main z ys) (ap (map given_entry) (sym (append-nil w.front) ∙ ap (λ z. w.front ++ z) (sym none)) ∙ w.split) w.made
 
-  pub walk_fault : (rest : List RawGiven) (x : RawGiven) (ys : List NamedWorldAdapter) (f : WorldFault) → left ≡ x ∷ rest → IsKeptFault e main (given_entry x) f → AdaptersWalk e main left ys → IsFirstFault e main (kept_adapters e main) f
+  pub walk_fault : (rest : List RawGiven) (x : RawGiven) (ys : List NamedWorldAdapter) (f : WorldFault) → left ≡ x ∷ rest → IsKeptStop e main (given_entry x) f → AdaptersWalk e main left ys → IsFirstStop e main f
   walk_fault rest x ys f is h w =
       let cut : e.adapters ≡ map given_entry w.front ++ given_entry x ∷ map given_entry rest = sym w.split ∙ (ap (λ z. map given_entry (w.front ++ z)) is ∙ map-append given_entry w.front (x ∷ rest)) in
       record {
@@ -151,7 +151,7 @@ module _ (e : EncoderView) (main : ModuleRecord) (left : List RawGiven) where
         back = filter (is_kept e main) (map given_entry rest);
         cut = ap (filter (is_kept e main)) cut ∙ kept_cut (is_kept e main) (map given_entry w.front) (given_entry x) (map given_entry rest) h.0;
         sound = All-from_recursion (IsSound e main) (filter (is_kept e main) (map given_entry w.front)) (all_sound e main (filter (is_kept e main) (map given_entry w.front)) ys w.made);
-        fault = h.1;
+        here = h.1;
       }
 
 -- what is required of an adapter decides whether it is kept
@@ -160,25 +160,42 @@ pub kept_by : (e : EncoderView) (main : ModuleRecord) (x : NamedAdapter) (r : Re
 kept_by e main x r exports required same are is =
     ap (λ z. is_needed e.resolve (world_exports e) x.1 z) (sym is) ∙ (ap (λ z. is_needed e.resolve z x.1 required) are ∙ ap (λ z. is_needed z exports x.1 required) (sym same))
 
-pub kept_or_memory : (e : EncoderView) (main : ModuleRecord) (x : NamedAdapter) (f : WorldFault) → is_kept e main x ≡ true → IsMemory f ⊎ IsFaultOf e main x f → IsMemory f ⊎ IsKeptFault e main x f
+pub kept_or_memory : (e : EncoderView) (main : ModuleRecord) (x : NamedAdapter) (f : WorldFault) → is_kept e main x ≡ true → (f ≡ Memory) ⊎ IsStopOf e main x f → (f ≡ Memory) ⊎ IsKeptStop e main x f
 kept_or_memory e main x f kept (inl memory) = inl memory
 kept_or_memory e main x f kept (inr fault) = inr (kept, fault)
 
 -- the fault of the adapters has its cause, the main module being valid
-pub adapters_cause : (e : EncoderView) (main : ModuleRecord) (f : WorldFault) → IsRecordOf (main_job e e.module_import_map) e.module_bytes main → IsFirstFault e main (kept_adapters e main) f → IsCause e f
-adapters_cause e main (Main v) h first = absurd first.fault
+pub adapters_cause : (e : EncoderView) (main : ModuleRecord) (f : WorldFault) → IsRecordOf (main_job e e.module_import_map) e.module_bytes main → IsFirstFault e main f → IsCause e f
+adapters_cause e main (Main v) h first = absurd first.here
 adapters_cause e main f h first = record { main = main; recorded = h; first = first }
 
-pub first_or_memory : (e : EncoderView) (main : ModuleRecord) (f : WorldFault) → IsRecordOf (main_job e e.module_import_map) e.module_bytes main → IsMemory f ⊎ IsFirstFault e main (kept_adapters e main) f → IsMemory f ⊎ IsCause e f
-first_or_memory e main f h (inl memory) = inl memory
-first_or_memory e main f h (inr first) = inr (adapters_cause e main f h first)
+adapters_memory : (e : EncoderView) (main : ModuleRecord) (f : WorldFault) → IsRecordOf (main_job e e.module_import_map) e.module_bytes main → IsReachedMemory e main f → IsMemory e f
+adapters_memory e main Memory h first = tt
+adapters_memory e main (Main v) h first = absurd first.here
+adapters_memory e main f h first = record { main = main; recorded = h; first = first }
+
+-- what is so of the first is one of two
+first_cases : (e : EncoderView) (main : ModuleRecord) (xs : List NamedAdapter) (P Q : NamedAdapter → Type 0) → IsFirst e main xs (λ x. P x ⊎ Q x) → IsFirst e main xs P ⊎ IsFirst e main xs Q
+first_cases e main xs P Q h =
+    elim h.here [
+      | inl p ↦ inl (record { front = h.front; adapter = h.adapter; back = h.back; cut = h.cut; sound = h.sound; here = p })
+      | inr q ↦ inr (record { front = h.front; adapter = h.adapter; back = h.back; cut = h.cut; sound = h.sound; here = q })
+    ]
+
+pub first_or_memory : (e : EncoderView) (main : ModuleRecord) (f : WorldFault) → IsRecordOf (main_job e e.module_import_map) e.module_bytes main → (f ≡ Memory) ⊎ IsFirstStop e main f → IsMemory e f ⊎ IsCause e f
+first_or_memory e main f h (inl memory) = inl (subst (IsMemory e) (sym memory) tt)
+first_or_memory e main f h (inr stop) =
+    elim (first_cases e main (kept_adapters e main) (λ x. IsFaultOf e main x f) (λ x. IsMemoryOf e main x f) stop) [
+      | inl first ↦ inr (adapters_cause e main f h first)
+      | inr first ↦ inl (adapters_memory e main f h first)
+    ]
 
 -- the main module is refused
-pub main_refused : (e : EncoderView) (f : ValidateFault) → IsModuleCause (main_job e e.module_import_map) e.module_bytes f → IsMemory (Main f) ⊎ IsCause e (Main f)
+pub main_refused : (e : EncoderView) (f : ValidateFault) → IsModuleCause (main_job e e.module_import_map) e.module_bytes f → IsMemory e (Main f) ⊎ IsCause e (Main f)
 main_refused e f h = refused_or_memory (main_job e e.module_import_map) e.module_bytes f h
 
 -- of an adapter that the walk has come to, under the name that was read
 pub first_by_walk : (e : EncoderView) (main : ModuleRecord) (left rest : List RawGiven) (x : RawGiven) (ys : List NamedWorldAdapter) (f : WorldFault) (name : List ℕ) → left ≡ x ∷ rest → name ≡ string_bytes x.0
-    → IsMemory f ⊎ IsKeptFault e main (name, (given_entry x).1) f → AdaptersWalk e main left ys → IsMemory f ⊎ IsFirstFault e main (kept_adapters e main) f
+    → (f ≡ Memory) ⊎ IsKeptStop e main (name, (given_entry x).1) f → AdaptersWalk e main left ys → (f ≡ Memory) ⊎ IsFirstStop e main f
 first_by_walk e main left rest x ys f name is same (inl memory) w = inl memory
-first_by_walk e main left rest x ys f name is same (inr fault) w = inr (walk_fault e main left rest x ys f is (subst (λ n. IsKeptFault e main (n, (given_entry x).1) f) same fault) w)
+first_by_walk e main left rest x ys f name is same (inr fault) w = inr (walk_fault e main left rest x ys f is (subst (λ n. IsKeptStop e main (n, (given_entry x).1) f) same fault) w)

@@ -22,7 +22,7 @@ use Rattle.wc_validate.specs.ImportMaps.{memory_in}
 use Rattle.wc_validate.specs.Laws.{RecordsExcludeFaults, RecordsUnique}
 use Rattle.wc_validate.specs.Validated.{IsRecordOf, Job, ModuleRecord, main_job}
 use Rattle.wc_validate.specs.declared.fault.ValidateFault.{ValidateFault}
-use Rattle.wc_world.specs.Adapters.{NamedAdapter, job_of, kept_adapters, main_page_size, page_size}
+use Rattle.wc_world.specs.Adapters.{NamedAdapter, job_of, main_page_size, page_size}
 use Rattle.wc_world.specs.Causes.{IsAdaptersCause, IsFaultOf, IsFirstFault, IsMinimizedFault, IsPageFault, IsRefused, IsUntrimmed}
 use Rattle.wc_world.specs.Laws.{WorldsExcludeFaults}
 use Rattle.wc_world.specs.Options.{OptionsOf}
@@ -87,12 +87,12 @@ module _ (e : EncoderView) (unique : RecordsUnique e) (excludes : RecordsExclude
 
       not_untrimmed : (f : GcFault) → ¬ IsUntrimmed e main x f
       not_untrimmed f h =
-          let same = same_record x.1.wasm x.1.wasm h.first a.first refl h.original a.original in
+          let same = same_record x.1.wasm x.1.wasm h.valid.first a.first refl h.valid.original a.original in
           let stopped = subst (λ z. IsTrimFault (settings_of e main z) (wanted_of main x z) f) same h.stopped in
           no_trim_fault (settings_of e main a.first) (wanted_of main x a.first) f stopped h.no_memory a.no_cause
 
       not_minimized : (f : ValidateFault) → ¬ IsMinimizedFault e main x f
-      not_minimized f h = not_refused (job_of e main x) y.wasm y.info f refl a.last (subst (λ z. IsRefused (job_of e main x) z f) (text_of h.first h.text h.original h.trimmed.trimmed) h.refused)
+      not_minimized f h = not_refused (job_of e main x) y.wasm y.info f refl a.last (subst (λ z. IsRefused (job_of e main x) z f) (text_of h.reached.valid.first h.reached.text h.reached.valid.original h.reached.trimmed.trimmed) h.refused)
 
     same_info : (y z : WorldAdapterView) (o : Option LibraryView) → IsMade e main x y o → IsMade e main x z o → y.info ≡ z.info
     same_info y z None a b = same_record y.wasm z.wasm y.info z.info (text_of z b a.first y.wasm a.original a.trimmed.trimmed) a.last b.last
@@ -108,16 +108,16 @@ module _ (e : EncoderView) (unique : RecordsUnique e) (excludes : RecordsExclude
     no_fault_of y Memory a h = h
     no_fault_of y (Main f) a h = h
     no_fault_of y (Adapter name f) a h = let given = given_record y.1 x.1.library_info a.made in not_refused (job_of e main x) x.1.wasm given.0 f refl given.1 h.1
-    no_fault_of y (Trim name f) a h = not_untrimmed y.1 (subst (IsMade e main x y.1) h.1.trims a.made) f h.1
-    no_fault_of y (Minimized name f) a h = not_minimized y.1 (subst (IsMade e main x y.1) h.1.trims a.made) f h.1
+    no_fault_of y (Trim name f) a h = not_untrimmed y.1 (subst (IsMade e main x y.1) h.1.valid.trims a.made) f h.1
+    no_fault_of y (Minimized name f) a h = not_minimized y.1 (subst (IsMade e main x y.1) h.1.reached.valid.trims a.made) f h.1
     no_fault_of y (PageSize name own mains) a h = not_other_pages y own mains a h.1
 
   no_adapters_cause : (options : OptionsOf) (w : ComponentWorldView) (f : WorldFault) → IsWorldOf options e w → ¬ IsAdaptersCause e f
   no_adapters_cause options w f p h =
       let same = unique (main_job e e.module_import_map) e.module_bytes h.main w.info refl h.recorded p.main in
-      let first = subst (λ z. IsFirstFault e z (kept_adapters e z) f) same h.first in
+      let first = subst (λ z. IsFirstFault e z f) same h.first in
       let found = zip_at (IsAdapterOf e w.info) first.front first.back first.adapter w.adapters (subst (λ z. AllZip (IsAdapterOf e w.info) z w.adapters) first.cut p.adapters) in
-      no_fault_of w.info first.adapter found.0 f found.1 first.fault
+      no_fault_of w.info first.adapter found.0 f found.1 first.here
 
   pub worlds_exclude : WorldsExcludeFaults e
   worlds_exclude options w p (Main f) h = not_refused (main_job e e.module_import_map) e.module_bytes w.info f refl p.main h

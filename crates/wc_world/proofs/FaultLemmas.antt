@@ -1,5 +1,5 @@
 -- Faults of adapters, by what refused them.
-use Rattle.std.proofs.Common.{◌≡◌, ◌≢◌, ◌≤◌, ◌⊎◌, ℕ, min, arith, List, [], Option, Some, None, Result, Ok, Err, IfErr, IfOk, String, string_bytes, refl, sym, ap, ◌∙◌, subst, inl, inr}
+use Rattle.std.proofs.Common.{◌≡◌, ◌≢◌, ◌≤◌, ◌⊎◌, ℕ, min, arith, List, [], Option, Some, None, Result, Ok, Err, IfErr, IfOk, String, string_bytes, true, refl, sym, ap, ◌∙◌, subst, inl, inr}
 use Rattle.std.specs.Borrow.{Bor}
 use Rattle.std.specs.Option.{option_copied, option_map, option_map_or}
 use Rattle.std.specs.Result.{IsErrAnd}
@@ -21,7 +21,7 @@ use Rattle.wc_validate.specs.Validated.{IsCause as IsModuleCause, IsRecordOf, Jo
 use Rattle.wc_validate.specs.declared.fault.ValidateFault.{ValidateFault}
 use Rattle.wc_validate.specs.declared.fault.ValidateFault.TheVariants as validate
 use Rattle.wc_world.specs.Adapters.{job_of, main_page_size, main_realloc, page_size, required_names, trim_exponent}
-use Rattle.wc_world.specs.Causes.{IsNamed, IsRefused}
+use Rattle.wc_world.specs.Causes.{IsMinimizedReached, IsNamed, IsRefused, IsTrimReached}
 use Rattle.wc_world.specs.Given.{IsGivenFault, IsGivenMade, IsGivenRecord, IsGivenText, IsNeeded, main_of, named_adapter, required_of}
 use Rattle.wc_world.specs.Restricted.{RefusedAsCollision}
 use Rattle.wc_world.specs.Views.{WorldAdapterView}
@@ -86,28 +86,30 @@ module _ (g : Given) (needed : IsNeeded g) (library : Option LibraryView) (own :
       → IsNamed (λ s. Adapter s v) g.name.now f → IsGivenFault g f
   unfolding job
   adapter_refused bytes v f is h named =
-      named_fault (λ s. Adapter s v) g.name.now (IsGivenFault g) f (inl tt)
-      (λ s same. elim (refused_given bytes g.adapter.now.wasm.items v is h) [ inl memory ↦ inl memory | inr refused ↦ inr (same, refused) ]) named
+      named_fault (λ s. Adapter s v) g.name.now (IsGivenFault g) f (inl refl)
+      (λ s same. elim (refused_given bytes g.adapter.now.wasm.items v is h) [ inl memory ↦ inr (inr (same, memory)) | inr refused ↦ inr (inl (same, refused)) ]) named
 
   pub minimized_refused : (bytes : List ℕ) (v : ValidateFault) (f : WorldFault) (first : ModuleRecord) → RefusedAsCollision g.encoder.now → IsGivenText g first bytes
       → IsModuleCause (adapter_job g.encoder.now library (named_adapter g).1.required_exports (required_of g)) bytes v → IsNamed (λ s. Minimized s v) g.name.now f → IsGivenFault g f
   unfolding job
   minimized_refused bytes v f first law trim h named =
-      named_fault (λ s. Minimized s v) g.name.now (IsGivenFault g) f (inl tt)
+      let reached : IsMinimizedReached g.encoder.now (main_of g) (named_adapter g) = record {
+        valid = record { first = first; trims = trim.no_library; original = trim.original };
+        text = bytes;
+        trimmed = trim.trimmed;
+        no_cause = trim.no_cause;
+      } in
+      named_fault (λ s. Minimized s v) g.name.now (IsGivenFault g) f (inl refl)
       (λ s same. elim (refused_given bytes bytes v refl h) [
-        | inl memory ↦ inl memory
-        | inr refused ↦ inr (
+        | inl memory ↦ inr (inr (same, memory, reached))
+        | inr refused ↦ inr (inl (
           same,
           record {
-            first = first;
-            text = bytes;
-            trims = trim.no_library;
-            original = trim.original;
-            trimmed = trim.trimmed;
+            reached = reached;
             refused = refused;
             collides = law job (settings_of g.encoder.now (main_of g) first) (wanted_of (main_of g) (named_adapter g) first) bytes first v trim refused.0 refused.1;
           },
-        )
+        ))
       ]) named
 
 -- to what it is trimmed
@@ -145,10 +147,11 @@ module _ (g : Given) (needed : IsNeeded g) (first : ModuleRecord) (realloc : Opt
 
   pub trim_refused : (v : GcFault) (f : WorldFault) → (named_adapter g).1.library_info ≡ None → IsGivenRecord g g.adapter.now.wasm.items first → IsTrimFault (settings realloc exponent) (wanted bytes names) v → IsNamed (λ s. Trim s v) g.name.now f → IsGivenFault g f
   trim_refused v f none original h named =
-      named_fault (λ s. Trim s v) g.name.now (IsGivenFault g) f (inl tt)
+      let valid : IsTrimReached g.encoder.now (main_of g) (named_adapter g) = record { first = first; trims = none; original = original } in
+      named_fault (λ s. Trim s v) g.name.now (IsGivenFault g) f (inl refl)
       (λ s same. elim (untrimmed_or_memory (settings_of g.encoder.now (main_of g) first) (wanted_of (main_of g) (named_adapter g) first) v (untrimmed_given v h)) [
-        | inl memory ↦ inl memory
-        | inr stopped ↦ inr (same, record { first = first; trims = none; original = original; stopped = stopped.1; no_memory = stopped.0 })
+        | inl memory ↦ inr (inr (same, memory, valid))
+        | inr stopped ↦ inr (inl (same, record { valid = valid; stopped = stopped.1; no_memory = stopped.0 }))
       ]) named
 
   -- a name is wanted of it
@@ -161,10 +164,10 @@ module _ (g : Given) (needed : IsNeeded g) (first : ModuleRecord) (realloc : Opt
 pub page_fault : (g : Given) (info : ModuleRecord) (s : String Global) (memory : MemoryType) (own mains : ℕ) → string_bytes s ≡ g.name.now → memory_in info.imports ≡ Some memory → own ≡ page_size memory → mains ≡ main_page_size g.main.now.exports → own ≢ mains
     → (a : WorldAdapterView) → a.info ≡ info → IsGivenMade g a → IsGivenFault g (PageSize s own mains)
 page_fault g info s memory own mains named imported is_own is_main differ a is made =
-    inr (named, record { adapter = a; memory = memory; made = made; imported = subst (λ (z : ModuleRecord). memory_in z.imports ≡ Some memory) (sym is) imported; is_own = is_own; is_main = is_main; differ = differ })
+    inr (inl (named, record { adapter = a; memory = memory; made = made; imported = subst (λ (z : ModuleRecord). memory_in z.imports ≡ Some memory) (sym is) imported; is_own = is_own; is_main = is_main; differ = differ }))
 
 -- a library is what it was given as
-pub library_made : (g : Given) (library : LibraryInfo) (a : WorldAdapterView) → g.adapter.now.library_info ≡ Some library → a.wasm ≡ g.adapter.now.wasm.items → IsGivenRecord g g.adapter.now.wasm.items a.info → IsGivenMade g a
-library_made g library a is given recorded =
+pub library_made : (g : Given) (library : LibraryInfo) (a : WorldAdapterView) → g.adapter.now.library_info ≡ Some library → a.wasm ≡ g.adapter.now.wasm.items → a.is_borrowed ≡ true → IsGivenRecord g g.adapter.now.wasm.items a.info → IsGivenMade g a
+library_made g library a is given borrowed recorded =
     subst (λ o. IsMade g.encoder.now (main_of g) (named_adapter g) a (option_map library_view o)) (sym is)
-    (record { given = given; recorded = subst (λ b. IsGivenRecord g b a.info) (sym given) recorded })
+    (record { given = given; borrowed = borrowed; recorded = subst (λ b. IsGivenRecord g b a.info) (sym given) recorded })

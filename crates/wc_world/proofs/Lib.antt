@@ -1,5 +1,3 @@
-pub mod ContentLemmas
-pub mod OptionLemmas
 pub mod UsedLemmas
 pub mod UsedWalkLemmas
 pub mod FoundLemmas

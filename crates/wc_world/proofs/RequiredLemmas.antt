@@ -24,10 +24,14 @@ use Rattle.wc_validate.specs.Validated.{ModuleRecord}
 use Rattle.wc_world.specs.Slots.{all_imports, imports_of}
 use Rattle.wc_world.specs.Views.{NamedWorldAdapter}
 use Rattle.wc_world.specs.declared.required.Required.{Required}
-use Rattle.wc_world.specs.Contents.{is_in}
 use Rattle.wc_world.specs.Lowered.{is_drop_of, is_import_of, same_call}
-use Rattle.wc_world.specs.Required.{AreCalled, AreRequired, FunctionKey, IsCall, called_function, dropped_resource, same_function}
+use Rattle.wc_world.specs.Required.{AreCalled, AreRequired, FunctionKey, IsCall, called_function, dropped_resource, is_in, same_function}
 use Rattle.wc_world.proofs.UsedLemmas.{turned}
+
+-- the set of ids, by their indices
+pub ids_in : (keys : List TypeId) (id : TypeId) → list_any (λ (k : TypeId). id.0 == k.0) keys ≡ is_in (indices keys) id.0
+ids_in [] id = refl
+ids_in (k ∷ keys) id = ap (λ b. (id.0 == k.0) || b) (ids_in keys id)
 
 pub bytes_turned : (a b : List ℕ) → bytes_eq a b ≡ bytes_eq b a
 bytes_turned a b = two (bytes_eq a b) (bytes_eq b a) refl refl where

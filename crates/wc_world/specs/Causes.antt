@@ -1,11 +1,11 @@
 -- Why a component has no world, in the order of the steps: the main module; then the adapters in order, each before it
--- is trimmed, as it is trimmed, after that, and by its pages.
+-- is trimmed, as it is trimmed, after that, and by its pages. And at which of these steps an allocation failed.
 use Rattle.std.specs.Prelude.{◌≡◌, ◌≢◌, ◌⊎◌, ℕ, List, ◌∷◌, ◌++◌, All, Some, None, true, String, string_bytes}
 use Rattle.std.specs.declared.alloc.Global.{Global}
 use Rattle.wc_read.specs.declared.types.MemoryType.{MemoryType}
 use Rattle.wc_encoder.specs.EncoderParts.{EncoderView}
 use Rattle.wc_gc.specs.TrimmedText.{IsTrimmedRead}
-use Rattle.wc_gc.specs.Trimming.{IsTrimFault}
+use Rattle.wc_gc.specs.Trimming.{IsTrimCause, IsTrimFault}
 use Rattle.wc_gc.specs.declared.fault.GcFault.{GcFault}
 use Rattle.wc_gc.specs.declared.fault.GcFault.TheVariants.{Memory as trim_memory}
 use Rattle.wc_validate.specs.ImportMaps.{memory_in}
@@ -19,15 +19,6 @@ use Rattle.wc_world.specs.World.{IsAdapterOf, IsMade, settings_of, wanted_of}
 use Rattle.wc_world.specs.declared.fault.WorldFault.{WorldFault}
 use Rattle.wc_world.specs.declared.fault.WorldFault.TheVariants.{Memory, Main, Adapter, Trim, Minimized, PageSize}
 
--- the fault, or one that it carries, is that an allocation failed
-abbrev pub IsMemory : WorldFault → Type 0
-IsMemory Memory = Unit {0}
-IsMemory (Main f) = f ≡ module_memory
-IsMemory (Adapter name f) = f ≡ module_memory
-IsMemory (Trim name f) = f ≡ trim_memory
-IsMemory (Minimized name f) = f ≡ module_memory
-IsMemory (PageSize name own main) = ⊥
-
 -- a fault is made of a name; or else an allocation failed
 abbrev pub IsNamed : (String Global → WorldFault) → List ℕ → WorldFault → Type 0
 IsNamed make name f = (f ≡ Memory) ⊎ ((s : String Global) × (string_bytes s ≡ name) × (f ≡ make s))
@@ -36,23 +27,30 @@ IsNamed make name f = (f ≡ Memory) ⊎ ((s : String Global) × (string_bytes s
 abbrev pub IsRefused : Job → List ℕ → ValidateFault → Type 0
 IsRefused j bytes f = (f ≢ module_memory) × IsModuleCause j bytes f
 
--- an adapter that is valid is not trimmed
-pub record IsUntrimmed (e : EncoderView) (main : ModuleRecord) (x : NamedAdapter) (f : GcFault) : Type 0 where
+-- an adapter is to be trimmed: it is no library, and valid
+pub record IsTrimReached (e : EncoderView) (main : ModuleRecord) (x : NamedAdapter) : Type 0 where
   pub first : ModuleRecord
   pub trims : x.1.library_info ≡ None
   pub original : IsRecordOf (job_of e main x) x.1.wasm first
-  pub stopped : IsTrimFault (settings_of e main first) (wanted_of main x first) f
+
+-- it is trimmed, and no fault of trimming has a cause
+pub record IsMinimizedReached (e : EncoderView) (main : ModuleRecord) (x : NamedAdapter) : Type 0 where
+  pub valid : IsTrimReached e main x
+  pub text : List ℕ
+  pub trimmed : IsTrimmedRead (settings_of e main valid.first) (wanted_of main x valid.first) text
+  pub no_cause : (f : GcFault) → ¬ IsTrimCause (settings_of e main valid.first) (wanted_of main x valid.first) f
+
+-- an adapter that is valid is not trimmed
+pub record IsUntrimmed (e : EncoderView) (main : ModuleRecord) (x : NamedAdapter) (f : GcFault) : Type 0 where
+  pub valid : IsTrimReached e main x
+  pub stopped : IsTrimFault (settings_of e main valid.first) (wanted_of main x valid.first) f
   pub no_memory : f ≢ trim_memory
 
 -- an adapter that is valid is trimmed, and its bytes are refused: they import one name of the main module twice
 pub record IsMinimizedFault (e : EncoderView) (main : ModuleRecord) (x : NamedAdapter) (f : ValidateFault) : Type 0 where
-  pub first : ModuleRecord
-  pub text : List ℕ
-  pub trims : x.1.library_info ≡ None
-  pub original : IsRecordOf (job_of e main x) x.1.wasm first
-  pub trimmed : IsTrimmedRead (settings_of e main first) (wanted_of main x first) text
-  pub refused : IsRefused (job_of e main x) text f
-  pub collides : IsCollision text f
+  pub reached : IsMinimizedReached e main x
+  pub refused : IsRefused (job_of e main x) reached.text f
+  pub collides : IsCollision reached.text f
 
 -- its pages are not those of the main module's memory
 pub record IsPageFault (e : EncoderView) (main : ModuleRecord) (x : NamedAdapter) (own : ℕ) (mains : ℕ) : Type 0 where
@@ -73,33 +71,68 @@ IsFaultOf e main x (Trim name f) = (string_bytes name ≡ x.0) × IsUntrimmed e 
 IsFaultOf e main x (Minimized name f) = (string_bytes name ≡ x.0) × IsMinimizedFault e main x f
 IsFaultOf e main x (PageSize name own mains) = (string_bytes name ≡ x.0) × IsPageFault e main x own mains
 
+-- an allocation failed at a step of one adapter that was reached: as it was read, trimmed, or read again
+abbrev pub IsMemoryOf : EncoderView → ModuleRecord → NamedAdapter → WorldFault → Type 0
+IsMemoryOf e main x Memory = ⊥
+IsMemoryOf e main x (Main f) = ⊥
+IsMemoryOf e main x (Adapter name f) = (string_bytes name ≡ x.0) × (f ≡ module_memory)
+IsMemoryOf e main x (Trim name f) = (string_bytes name ≡ x.0) × (f ≡ trim_memory) × IsTrimReached e main x
+IsMemoryOf e main x (Minimized name f) = (string_bytes name ≡ x.0) × (f ≡ module_memory) × IsMinimizedReached e main x
+IsMemoryOf e main x (PageSize name own mains) = ⊥
+
+-- either
+abbrev pub IsStopOf : EncoderView → ModuleRecord → NamedAdapter → WorldFault → Type 0
+IsStopOf e main x f = IsFaultOf e main x f ⊎ IsMemoryOf e main x f
+
 -- of one that is kept
-abbrev pub IsKeptFault : EncoderView → ModuleRecord → NamedAdapter → WorldFault → Type 0
-IsKeptFault e main x f = (is_kept e main x ≡ true) × IsFaultOf e main x f
+abbrev pub IsKeptStop : EncoderView → ModuleRecord → NamedAdapter → WorldFault → Type 0
+IsKeptStop e main x f = (is_kept e main x ≡ true) × IsStopOf e main x f
 
 -- nothing is wrong with an adapter
 abbrev pub IsSound : EncoderView → ModuleRecord → NamedAdapter → Type 0
 IsSound e main x = (y : NamedWorldAdapter) × IsAdapterOf e main x y
 
--- of the first of some adapters with which something is wrong
-pub record IsFirstFault (e : EncoderView) (main : ModuleRecord) (xs : List NamedAdapter) (f : WorldFault) : Type 0 where
+-- it is so of one of some adapters, and nothing is wrong with those before it
+pub record IsFirst (e : EncoderView) (main : ModuleRecord) (xs : List NamedAdapter) (P : NamedAdapter → Type 0) : Type 0 where
   pub front : List NamedAdapter
   pub adapter : NamedAdapter
   pub back : List NamedAdapter
   pub cut : xs ≡ front ++ adapter ∷ back
   pub sound : All (IsSound e main) front
-  pub fault : IsFaultOf e main adapter f
+  pub here : P adapter
+
+-- of the first of the kept adapters with which something is wrong; of one that was reached; either
+abbrev pub IsFirstFault : EncoderView → ModuleRecord → WorldFault → Type 0
+IsFirstFault e main f = IsFirst e main (kept_adapters e main) (λ x. IsFaultOf e main x f)
+
+abbrev pub IsReachedMemory : EncoderView → ModuleRecord → WorldFault → Type 0
+IsReachedMemory e main f = IsFirst e main (kept_adapters e main) (λ x. IsMemoryOf e main x f)
+
+abbrev pub IsFirstStop : EncoderView → ModuleRecord → WorldFault → Type 0
+IsFirstStop e main f = IsFirst e main (kept_adapters e main) (λ x. IsStopOf e main x f)
 
 -- the cause of a fault of the adapters: of the first kept one that has one, the main module being valid
 pub record IsAdaptersCause (e : EncoderView) (f : WorldFault) : Type 0 where
   pub main : ModuleRecord
   pub recorded : IsRecordOf (main_job e e.module_import_map) e.module_bytes main
-  pub first : IsFirstFault e main (kept_adapters e main) f
+  pub first : IsFirstFault e main f
 
 -- the cause of each fault but those of memory: the main module is refused, or else an adapter
 abbrev pub IsCause : EncoderView → WorldFault → Type 0
 IsCause e (Main f) = IsRefused (main_job e e.module_import_map) e.module_bytes f
 IsCause e f = IsAdaptersCause e f
+
+-- an allocation failed at a step of an adapter, the main module being valid
+pub record IsAdaptersMemory (e : EncoderView) (f : WorldFault) : Type 0 where
+  pub main : ModuleRecord
+  pub recorded : IsRecordOf (main_job e e.module_import_map) e.module_bytes main
+  pub first : IsReachedMemory e main f
+
+-- an allocation failed: at any step; or, as a fault that another one carries, at the step of that one, which was reached
+abbrev pub IsMemory : EncoderView → WorldFault → Type 0
+IsMemory e Memory = Unit {0}
+IsMemory e (Main f) = f ≡ module_memory
+IsMemory e f = IsAdaptersMemory e f
 
 -- no fault but those of memory has a cause
 abbrev pub HasNoCause : EncoderView → Type 0

@@ -5,12 +5,13 @@ use Rattle.wc_encoder.specs.Adapters.{adapter_view}
 use Rattle.wc_validate.specs.ImportMaps.{required_entry, required_in}
 use Rattle.wc_validate.specs.Validated.{IsRecordOf, ModuleRecord, module_record}
 use Rattle.wc_world.specs.Adapters.{NamedAdapter, is_kept, job_of}
-use Rattle.wc_world.specs.Causes.{IsFaultOf, IsMemory}
+use Rattle.wc_world.specs.Causes.{IsStopOf}
 use Rattle.wc_world.specs.Restricted.{IsTrimFor}
 use Rattle.wc_world.specs.Views.{WorldAdapterView}
 use Rattle.wc_world.specs.World.{IsAdapterOf, IsMade, settings_of, wanted_of}
 use Rattle.wc_world.specs.declared.adapters.Given.{Given}
 use Rattle.wc_world.specs.declared.fault.WorldFault.{WorldFault}
+use Rattle.wc_world.specs.declared.fault.WorldFault.TheVariants.{Memory}
 
 abbrev pub named_adapter : Given → NamedAdapter
 named_adapter g = (g.name.now, adapter_view g.adapter.now)
@@ -45,4 +46,4 @@ IsGivenMade g a = IsMade g.encoder.now (main_of g) (named_adapter g) a (named_ad
 
 -- why it is not; or an allocation failed
 abbrev pub IsGivenFault : Given → WorldFault → Type 0
-IsGivenFault g f = IsMemory f ⊎ IsFaultOf g.encoder.now (main_of g) (named_adapter g) f
+IsGivenFault g f = (f ≡ Memory) ⊎ IsStopOf g.encoder.now (main_of g) (named_adapter g) f

@@ -1,4 +1,3 @@
-pub mod Contents
 pub mod Options
 pub mod Used
 pub mod Views

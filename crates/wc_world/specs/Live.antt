@@ -17,7 +17,7 @@ use Rattle.wc_validate.specs.Entries.{Records}
 use Rattle.wc_validate.specs.ImportMaps.{imports_in}
 use Rattle.wc_validate.specs.Requirements.{functions_of}
 use Rattle.wc_validate.specs.Validated.{ModuleRecord}
-use Rattle.wc_world.specs.Contents.{is_in}
+use Rattle.wc_world.specs.Required.{is_in}
 use Rattle.wc_world.specs.Slots.{imports_of}
 use Rattle.wc_world.specs.Used.{UsedView}
 use Rattle.wc_world.specs.Views.{NamedWorldAdapter}

@@ -1,17 +1,16 @@
 -- What a component has to say where it lowers an imported function (component model, Canonical ABI, "canonopt"), as
 -- bits.
-use Rattle.std.specs.Prelude.{◌≡◌, ℕ, ◌+◌, ◌<◌, ◌^◌, length, Bool, true, false, ◌||◌, if◌then◌else◌}
+use Rattle.std.specs.Prelude.{ℕ, ◌+◌, List, Bool, true, false, ◌||◌, if◌then◌else◌}
+use Rattle.std.specs.List.{list_any}
+use Rattle.std.specs.Option.{option_map_or}
 use Rattle.wc_resolve.specs.declared.functions.AbiVariant.{AbiVariant}
 use Rattle.wc_resolve.specs.declared.functions.AbiVariant.TheVariants.{GuestImportAsync}
 use Rattle.wc_resolve.specs.declared.types.WitType.{WitType}
+use Rattle.wc_resolve.specs.Contents.{has_text, holds_string, holds_string_or_list, text_of}
 use Rattle.wc_resolve.specs.Flat.{flat_of}
-use Rattle.wc_resolve.specs.Roots.{indices}
 use Rattle.wc_resolve.specs.Signatures.{SignatureView, flatten_functype}
 use Rattle.wc_resolve.specs.Views.{FunctionView}
-use Rattle.wc_resolve.specs.WellFormed.{IsUsable}
 use Rattle.wc_resolve.specs.World.{ResolveView}
-use Rattle.wc_world.specs.Contents.{any_param, has_text, is_in, holds_string, holds_string_or_list, outcome_does}
-use Rattle.wc_world.specs.declared.options.PlainOptions.{PlainOptions}
 
 -- which options a function has when it is lowered in this way
 abbrev pub OptionsOf : Type 0
@@ -23,6 +22,17 @@ bit_if bit b = if b then bit else 0
 
 abbrev pub option_bits : Bool → Bool → Bool → Bool → ℕ
 option_bits memory realloc encoding is_async = bit_if 1 memory + (bit_if 2 realloc + (bit_if 4 encoding + bit_if 8 is_async))
+
+-- one of the parameters passes a test; the result does
+abbrev pub any_param : (WitType → Bool) → FunctionView → Bool
+any_param test f = list_any (λ (p : List ℕ × WitType). test p.1) f.params
+
+abbrev pub outcome_does : (WitType → Bool) → FunctionView → Bool
+outcome_does test f = option_map_or test f.outcome false
+
+-- a string is in the type, or, if lists count too, a string or a list
+abbrev pub holds_text : Bool → ResolveView → WitType → Bool
+holds_text lists r = has_text (text_of lists r.types)
 
 abbrev pub signature_of : ResolveView → AbiVariant → FunctionView → SignatureView
 signature_of r abi f = flatten_functype (flat_of r.types) abi f
@@ -41,13 +51,6 @@ options_by strings texts r f abi =
     (any_param strings f || outcome_does strings f)
     (is_async_import abi)
 
+-- by what the types of the function hold
 abbrev pub plain_options : OptionsOf
 plain_options r = options_by (holds_string r) (holds_string_or_list r) r
-
--- by lists of the types that hold some
-abbrev pub listed_options : PlainOptions → OptionsOf
-listed_options o = options_by (has_text (is_in (indices o.strings.keys))) (has_text (is_in (indices o.texts.keys)))
-
--- functions of this `Resolve` have the plain options, if it has fewer than 2^32 types
-abbrev pub ArePlain : ResolveView → PlainOptions → Type 0
-ArePlain r o = length r.types < 2 ^ 32 → (f : FunctionView) (abi : AbiVariant) → IsUsable r f → listed_options o r f abi ≡ plain_options r f abi

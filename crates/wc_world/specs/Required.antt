@@ -11,9 +11,12 @@ use Rattle.wc_resolve.specs.declared.ids.InterfaceId.{InterfaceId}
 use Rattle.wc_resolve.specs.Roots.{indices}
 use Rattle.wc_names.specs.Views.{ImportView, imported_resource_drop, interface_func, world_func}
 use Rattle.wc_validate.specs.ExportedFunctions.{function_key}
-use Rattle.wc_world.specs.Contents.{is_in}
 use Rattle.wc_world.specs.Lowered.{is_drop_of, is_import_of}
 use Rattle.wc_world.specs.declared.required.Required.{Required}
+
+-- whether an index is listed
+abbrev pub is_in : List ℕ → ℕ → Bool
+is_in xs x = list_any (λ y. x == y) xs
 
 -- a function by its interface, if it has one, and its name
 abbrev pub FunctionKey : Type 0

@@ -1,6 +1,6 @@
 -- What contracts see of a component's world: texts and bytes as lists of numbers, ids as indices, maps as lists in
 -- order.
-use Rattle.std.specs.Prelude.{ℕ, List, Option}
+use Rattle.std.specs.Prelude.{ℕ, Bool, List, Option}
 use Rattle.wc_resolve.specs.declared.functions.AbiVariant.{AbiVariant}
 use Rattle.wc_resolve.specs.Signatures.{SignatureView}
 use Rattle.wc_encoder.specs.Adapters.{LibraryView}
@@ -8,9 +8,11 @@ use Rattle.wc_encoder.specs.EncoderParts.{EncoderView}
 use Rattle.wc_validate.specs.Validated.{ModuleRecord}
 use Rattle.wc_world.specs.Used.{UsedView}
 
--- an adapter or a library: its bytes, what is recorded of them, and how it is instantiated, if it is a library
+-- an adapter or a library: its bytes, whether they are borrowed, what is recorded of them, and how it is instantiated, if
+-- it is a library
 pub record WorldAdapterView : Type 0 where
   pub wasm : List ℕ
+  pub is_borrowed : Bool
   pub info : ModuleRecord
   pub library_info : Option LibraryView
 

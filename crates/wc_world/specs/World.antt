@@ -1,5 +1,5 @@
 -- The world of a component: what it is made of, for an encoder and options.
-use Rattle.std.specs.Prelude.{◌≡◌, List, Option, None, Some, IfSome, filter}
+use Rattle.std.specs.Prelude.{◌≡◌, List, Option, None, Some, IfSome, filter, true}
 use Rattle.std.specs.List.{AllZip}
 use Rattle.wc_read.specs.declared.types.MemoryType.{MemoryType}
 use Rattle.wc_encoder.specs.Adapters.{LibraryView}
@@ -40,9 +40,10 @@ pub record IsTrimmedAdapter (e : EncoderView) (main : ModuleRecord) (x : NamedAd
   pub last : IsRecordOf (job_of e main x) w.wasm w.info
   pub restricted : IsRestrictedTrim (settings_of e main first) (wanted_of main x first) w.wasm first w.info
 
--- a library: its bytes are the given ones, and valid
+-- a library: its bytes are the given ones, borrowed, and valid
 pub record IsGivenLibrary (e : EncoderView) (main : ModuleRecord) (x : NamedAdapter) (w : WorldAdapterView) : Type 0 where
   pub given : w.wasm ≡ x.1.wasm
+  pub borrowed : w.is_borrowed ≡ true
   pub recorded : IsRecordOf (job_of e main x) w.wasm w.info
 
 -- by its library information, if it has some

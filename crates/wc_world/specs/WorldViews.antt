@@ -1,9 +1,11 @@
 -- What is seen of a component's world and of its parts.
-use Rattle.std.specs.Prelude.{ℕ, List, map, Option, String, string_bytes}
+use Rattle.std.specs.Prelude.{ℕ, Bool, true, false, List, map, Option, String, string_bytes}
 use Rattle.std.specs.Borrow.{Bor}
 use Rattle.std.specs.Cow.{cow_slice_items}
 use Rattle.std.specs.Option.{option_map}
 use Rattle.std.specs.declared.alloc.Global.{Global}
+use Rattle.std.specs.declared.borrow.CowSlice.{CowSlice}
+use Rattle.std.specs.declared.borrow.CowSlice.TheVariants.{Borrowed, Owned}
 use Rattle.indexmap.specs.IndexMap.{IndexMap}
 use Rattle.indexmap.specs.IndexSet.{IndexSet}
 use Rattle.wc_resolve.specs.declared.functions.AbiVariant.{AbiVariant}
@@ -44,9 +46,14 @@ imported_entry e = (option_map string_bytes e.0, imported_view e.1)
 abbrev pub import_map_view : {S : Type 0} → IndexMap (Option (String Global)) ImportedInterface S → ImportMapView
 import_map_view m = map imported_entry m.entries
 
+abbrev pub is_borrowed : {X Z : Type 0} → CowSlice X Z → Bool
+is_borrowed (Borrowed bytes) = true
+is_borrowed (Owned bytes) = false
+
 abbrev pub adapter_view : WorldAdapter → WorldAdapterView
 adapter_view a = record {
   wasm = cow_slice_items a.wasm;
+  is_borrowed = is_borrowed a.wasm;
   info = module_record a.info;
   library_info = option_map (λ l. library_view l.now) a.library_info;
 }

@@ -4,9 +4,10 @@ ghost use Rattle.std.specs.Prelude.{◌≡◌, ◌++◌, ◌∷◌, ◌⊎◌, [
 ghost use Rattle.wc_encoder.specs.Adapters.{adapter_view as given_view};
 ghost use Rattle.wc_gc.specs.Liveness.{names_of};
 ghost use Rattle.wc_validate.specs.Validated.{ModuleRecord, module_record};
-ghost use Rattle.wc_world.specs.Adapters.{HasOtherName, NamedAdapter, kept_adapters, required_names};
-ghost use Rattle.wc_world.specs.Causes.{IsFirstFault, IsKeptFault, IsMemory, IsNamed};
+ghost use Rattle.wc_world.specs.Adapters.{HasOtherName, NamedAdapter, required_names};
+ghost use Rattle.wc_world.specs.Causes.{IsFirstStop, IsKeptStop, IsNamed};
 ghost use Rattle.wc_world.specs.Given.{IsGivenAdapter, IsGivenFault, IsGivenMade, IsGivenRecord, IsGivenText, IsNeeded, main_of, named_adapter, required_of};
+ghost use Rattle.wc_world.specs.declared.fault.WorldFault.TheVariants.{Memory};
 ghost use Rattle.wc_world.specs.Views.{WorldAdapterView};
 ghost use Rattle.wc_world.specs.World.{AreAdapters, AreMade, HasMainPages, IsTrimmedAdapter};
 ghost use Rattle.wc_world.specs.WorldViews.{adapter_entry, adapter_view};
@@ -249,7 +250,7 @@ fn add_adapter<'a>(
         → OnOk result (AreMade encoder.now (module_record main.now)
         (passed ++ (name.now, given_view adapter.now) ∷ [])
         (map adapter_entry found.new.entries)) }
-    ensures fault { IfErr result (λ f. IsMemory f ⊎ IsKeptFault encoder.now
+    ensures fault { IfErr result (λ f. (f ≡ Memory) ⊎ IsKeptStop encoder.now
         (module_record main.now) (name.now, given_view adapter.now) f) }
 {
     encoder.well_formedness();
@@ -281,8 +282,8 @@ pub(crate) fn adapters_of<'a>(
 ) -> Result<IndexMap<&'a str, WorldAdapter<'a>>, WorldFault>
     ensures made { IfOk result (λ found. AreAdapters encoder.now (module_record main.now)
         (map adapter_entry found.entries)) }
-    ensures fault { IfErr result (λ f. IsMemory f ⊎ IsFirstFault encoder.now
-        (module_record main.now) (kept_adapters encoder.now (module_record main.now)) f) }
+    ensures fault { IfErr result (λ f. (f ≡ Memory)
+        ⊎ IsFirstStop encoder.now (module_record main.now) f) }
 {
     let mut found = IndexMap::new(alloc);
     for (name, adapter) in encoder.adapters().iter() {

@@ -9,7 +9,7 @@ use wc_gc::GcFault;
 use wc_validate::ValidateFault;
 
 /// Why a component has no world. Of several causes the first is named: that of the main module, and then adapter by
-/// adapter in this order. `Memory` may come in place of any, also as a fault that another one carries.
+/// adapter in this order. `Memory` may come in place of any; another fault carries it only at its own step.
 #[derive(Debug, Drop, Error)]
 pub enum WorldFault {
     /// An allocation failed.
@@ -29,7 +29,7 @@ pub enum WorldFault {
     Minimized(String, ValidateFault),
     /// The bytes in a page of the memory that the adapter of this name imports, and in one of the main module's memory,
     /// which are others.
-    #[error("PageSize `{0}`")]
+    #[error("PageSize")]
     PageSize(String, u64, u64),
 }
 

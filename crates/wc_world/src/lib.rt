@@ -10,7 +10,6 @@
 
 mod adapter;
 mod adapters;
-mod contents;
 mod fault;
 mod import_map;
 mod imported;

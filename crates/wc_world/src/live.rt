@@ -16,7 +16,7 @@ ghost use Rattle.wc_names.specs.Payloads.{HasPayload};
 ghost use Rattle.wc_names.specs.Views.{ImportView, async_value, import_view, payload_type_view, payload_view};
 ghost use Rattle.wc_validate.specs.Requirements.{functions_of};
 ghost use Rattle.wc_validate.specs.Validated.{module_record};
-ghost use Rattle.wc_world.specs.Contents.{is_in};
+ghost use Rattle.wc_world.specs.Required.{is_in};
 ghost use Rattle.wc_world.specs.Live.{AreImportsIn, AreImportsOf, AreListed, AreLive, AreRootsIn, adapter_roots, builtin_roots, by_owner, elsewhere_from, export_roots, exports_roots, import_payload, import_resource, import_roots, imported_types, is_from_elsewhere, is_used, live_from, module_roots, payload_roots, world_roots};
 ghost use Rattle.wc_world.specs.Used.{used_view};
 ghost use Rattle.wc_world.specs.WorldViews.{adapter_entry, live_view};

@@ -1,17 +1,15 @@
 //! What a component has to say where it lowers an imported function.
 
-ghost use Rattle.std.specs.Prelude.{◌≡◌, ◌||◌, IfOk};
-ghost use Rattle.wc_resolve.specs.Roots.{indices};
+ghost use Rattle.std.specs.Prelude.{◌≡◌, ◌||◌, IfOk, false};
+ghost use Rattle.std.specs.List.{list_any};
+ghost use Rattle.std.specs.Option.{option_map_or};
 ghost use Rattle.wc_resolve.specs.Views.{function_view};
 ghost use Rattle.wc_resolve.specs.WellFormed.{IsUsable};
-ghost use Rattle.wc_world.specs.Contents.{any_param, has_text, is_in, outcome_does};
-ghost use Rattle.wc_world.specs.Options.{ArePlain, bit_if, is_async_import, option_bits};
+ghost use Rattle.wc_world.specs.Options.{any_param, bit_if, holds_text, is_async_import, option_bits, outcome_does};
 
-use crate::contents::{optional_has_text, params_have_text, types_in_order, types_with_text};
 use bitflags::{Flag, Flags};
-use indexmap::IndexSet;
 use std::alloc::{AllocError, Global};
-use wc_resolve::{AbiVariant, Function, Resolve, TypeId, WasmSignature};
+use wc_resolve::{AbiVariant, Function, Resolve, WasmSignature, WitType};
 
 /// Which canonical options (component model, Canonical ABI, "canonopt") a lowered function needs. They are a set:
 /// `bitflags::Flags` has its operations.
@@ -98,21 +96,49 @@ fn is_async_import(abi: AbiVariant) -> bool
     matches!(abi, AbiVariant::GuestImportAsync)
 }
 
-/// Whether a parameter of a function has text.
-fn takes_text(texts: &IndexSet<TypeId>, function: &Function) -> bool
-    ensures { result ≡ any_param (has_text (is_in (indices texts.now.keys)))
-        (function_view function.now) }
+/// Whether a type holds a string, or, if lists count too, a string or a list.
+fn holds_text(resolve: &Resolve, ty: WitType, lists: bool) -> bool
+    ensures { result ≡ holds_text lists resolve.now ty }
 {
-    params_have_text(texts, &function.params)
+    if lists {
+        resolve.holds_string_or_list(ty)
+    } else {
+        resolve.holds_string(ty)
+    }
 }
 
-/// Whether a parameter or the result of a function has text.
-fn passes_text(texts: &IndexSet<TypeId>, function: &Function) -> bool
-    ensures { result ≡ (any_param (has_text (is_in (indices texts.now.keys)))
-        (function_view function.now)
-        || outcome_does (has_text (is_in (indices texts.now.keys))) (function_view function.now)) }
+/// Whether there is a type, and it does.
+fn optional_holds_text(resolve: &Resolve, ty: Option<WitType>, lists: bool) -> bool
+    ensures { result ≡ option_map_or (holds_text lists resolve.now) ty false }
 {
-    takes_text(texts, function) || optional_has_text(texts, function.result)
+    match ty {
+        Some(ty) => holds_text(resolve, ty, lists),
+        None => false,
+    }
+}
+
+/// Whether a parameter does.
+fn params_hold_text(resolve: &Resolve, params: &[(String, WitType)], lists: bool) -> bool
+    ensures { result ≡ list_any (λ p. holds_text lists resolve.now p.1) params.now }
+{
+    params
+        .iter()
+        .any(|param| holds_text(resolve, param.1, lists))
+}
+
+/// Whether a parameter of a function does.
+fn takes_text(resolve: &Resolve, function: &Function, lists: bool) -> bool
+    ensures { result ≡ any_param (holds_text lists resolve.now) (function_view function.now) }
+{
+    params_hold_text(resolve, &function.params, lists)
+}
+
+/// Whether a parameter or the result of a function does.
+fn passes_text(resolve: &Resolve, function: &Function, lists: bool) -> bool
+    ensures { result ≡ (any_param (holds_text lists resolve.now) (function_view function.now)
+        || outcome_does (holds_text lists resolve.now) (function_view function.now)) }
+{
+    takes_text(resolve, function, lists) || optional_holds_text(resolve, function.result, lists)
 }
 
 /// Whether something is passed in memory.
@@ -124,7 +150,6 @@ fn needs_memory(signature: &WasmSignature, passes_text: bool) -> bool
 
 /// Decides which options lowered functions need.
 pub trait ImportOptions {
-    ghost use Rattle.wc_world.specs.Contents.{any_param, has_text, is_in, outcome_does};
     ghost use Rattle.wc_world.specs.Options.{OptionsOf};
 
     // The options, as bits: the same for the same functions.
@@ -151,38 +176,15 @@ pub trait ImportOptions {
 }
 
 /// Options by what functions pass: memory, where parameters or the result are passed indirectly or hold strings or
-/// lists; a realloc, where the result holds some; an encoding, where one of them holds strings. A type holds what the
-/// types in it hold, payloads of futures and streams among them, and the resources of handles not.
-///
-/// Which types hold some is found once, for all types of a `Resolve` of fewer than 2^32 types. The options are for
-/// functions of that `Resolve`.
-#[derive(Drop)]
-pub struct PlainOptions {
-    strings: IndexSet<TypeId>,
-    texts: IndexSet<TypeId>,
-}
-
-impl PlainOptions {
-    /// The options of functions of this `Resolve`.
-    ///
-    /// # Errors
-    ///
-    /// `AllocError`: an allocation failed.
-    pub fn new(alloc: Global, resolve: &Resolve) -> Result<PlainOptions, AllocError>
-        ensures { IfOk result (ArePlain resolve.now) }
-    {
-        let order = types_in_order(alloc, resolve)?;
-        let strings = types_with_text(alloc, resolve, &order, false)?;
-        let texts = types_with_text(alloc, resolve, &order, true)?;
-        Ok(PlainOptions { strings, texts })
-    }
-}
+/// lists; a realloc, where the result holds some; an encoding, where one of them holds strings. The `Resolve` that is
+/// passed as an argument says which types hold some (`Resolve::holds_string`, `Resolve::holds_string_or_list`).
+#[derive(Clone, Copy, Debug, Default, PartialEq, Eq)]
+pub struct PlainOptions;
 
 impl ImportOptions for PlainOptions {
-    ghost use Rattle.wc_world.specs.Contents.{any_param, has_text, is_in, outcome_does};
-    ghost use Rattle.wc_world.specs.Options.{listed_options};
+    ghost use Rattle.wc_world.specs.Options.{plain_options};
 
-    ghost options_of = { listed_options };
+    ghost options_of = { λ _. plain_options };
 
     fn for_import(
         &self,
@@ -192,9 +194,9 @@ impl ImportOptions for PlainOptions {
         abi: AbiVariant,
     ) -> Result<RequiredOptions, AllocError> {
         let signature = resolve.wasm_signature(alloc, abi, function)?;
-        let memory = needs_memory(&signature, passes_text(&self.texts, function));
-        let realloc = optional_has_text(&self.texts, function.result);
-        let encoding = passes_text(&self.strings, function);
+        let memory = needs_memory(&signature, passes_text(resolve, function, true));
+        let realloc = optional_holds_text(resolve, function.result, true);
+        let encoding = passes_text(resolve, function, false);
         Ok(required(memory, realloc, encoding, is_async_import(abi)))
     }
 }

@@ -7,9 +7,9 @@ ghost use Rattle.wc_gc.specs.Parts.{settings};
 ghost use Rattle.wc_world.specs.Restricted.{RefusedAsCollision, TrimmedIsRestricted};
 
 use wc_encoder::ComponentEncoder;
-use wc_gc::restriction_laws::trimmed_restricts;
+use wc_gc::laws::trimmed_restricts;
 use wc_read::laws::modules_unique;
-use wc_validate::restriction_laws::{restrictions_recorded, restrictions_valid};
+use wc_validate::laws::{restrictions_recorded, restrictions_valid};
 
 /// What is recorded of a trimmed adapter is, of what is recorded of the adapter, what its wanted exports reach, besides
 /// the main module's realloc. It is refused only where it imports one name of the main module twice. It does nothing

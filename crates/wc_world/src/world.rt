@@ -88,7 +88,7 @@ fn adapter_uses_slot_1<'a>(adapters: &IndexMap<&'a str, WorldAdapter<'a>>) -> bo
 fn main_record(alloc: Global, encoder: &ComponentEncoder) -> Result<ValidatedModule, WorldFault>
     ensures recorded { IfOk result (λ v. IsRecordOf (main_job encoder.now
         encoder.now.module_import_map) encoder.now.module_bytes (module_record v)) }
-    ensures fault { IfErr result (λ f. IsMemory f ⊎ IsCause encoder.now f) }
+    ensures fault { IfErr result (λ f. IsMemory encoder.now f ⊎ IsCause encoder.now f) }
 {
     match validate_module(
         alloc,
@@ -138,13 +138,15 @@ impl<'a> ComponentWorld<'a> {
     ///
     /// # Errors
     ///
-    /// The main module is before adapters, and these are in their order. `Memory` may come in place of any, also as a
-    /// fault that another one carries.
+    /// The main module is before adapters, and these are in their order. `Memory` may come in place of any. As a fault
+    /// that another one carries it comes at the step of that one: for an adapter only where the main module is valid and
+    /// nothing is wrong with the needed adapters before it.
     ///
     /// - `Main`: the main module is not valid (`wc_validate::validate_module`).
     /// - `Adapter`: an adapter, or a library, is not (`wc_validate::validate_adapter_module`).
     /// - `Trim`: an adapter can't be trimmed (`wc_gc::run`).
-    /// - `Minimized`: an adapter is not valid once it is trimmed: it imports one name of `__main_module__` twice.
+    /// - `Minimized`: an adapter, which could be trimmed, is not valid after that: it imports one name of
+    ///   `__main_module__` twice.
     /// - `PageSize`: the memory that an adapter, or a library, imports has other pages than the main module's memory.
     /// - `Memory`: an allocation failed.
     pub fn new<O: ImportOptions>(
@@ -154,7 +156,7 @@ impl<'a> ComponentWorld<'a> {
     ) -> Result<ComponentWorld<'a>, WorldFault>
         ensures world { IfOk result (λ w.
             IsWorldOf (O.options_of options.now) encoder.now (world_view w)) }
-        ensures fault { IfErr result (λ f. IsMemory f ⊎ IsCause encoder.now f) }
+        ensures fault { IfErr result (λ f. IsMemory encoder.now f ⊎ IsCause encoder.now f) }
         // Without a fault there is no cause.
         ensures no_cause { OnOk result (HasNoCause encoder.now) }
     {

@@ -19,11 +19,13 @@ use wc_rows::rows::Row;
 use wc_validate::ValidateFault;
 use wc_world::{ComponentWorld, ImportOptions, PlainOptions, WorldFault};
 
-/// A fault, and the bytes in pages that it carries.
+/// A fault; and after PageSize the adapter, and the bytes in its pages and in the main module's.
 fn put_fault(fault: &WorldFault, out: &mut Lines) {
     writeln!(out, "fault {fault}");
     match fault {
-        WorldFault::PageSize(_, own, main) => writeln!(out, "pages {own} {main}"),
+        WorldFault::PageSize(name, own, main) => {
+            writeln!(out, "pages of {name}: {own} {main}");
+        }
         _ => {}
     }
 }
@@ -53,8 +55,7 @@ fn component_world(
     parts: &[&str],
     out: &mut Lines,
 ) -> Result<(), AllocError> {
-    let options = PlainOptions::new(alloc, &encoder.metadata().resolve)?;
-    let world = ComponentWorld::new(alloc, encoder, &options);
+    let world = ComponentWorld::new(alloc, encoder, &PlainOptions);
     put_world(alloc, &world, parts, out)
 }
 
@@ -85,8 +86,7 @@ fn plain_options<'a>(
     if !resolve.has_function(&function) {
         return Err(Stop::Missing("a function that is not usable"));
     }
-    let options = PlainOptions::new(words.alloc, resolve)?;
-    let required = options.for_import(words.alloc, resolve, &function, abi)?;
+    let required = PlainOptions.for_import(words.alloc, resolve, &function, abi)?;
     let bits = required.bits();
     writeln!(out, "{bits}");
     Ok(())

@@ -1,13 +1,17 @@
-//! An example of `wc_gc`.
+//! Examples of `wc_gc`.
 
-ghost use Rattle.std.specs.Prelude.{◌↔◌, IfOk, IsTrue};
+ghost use Rattle.std.specs.Prelude.{◌≡◌, ◌≢◌, ◌↔◌, [], IfOk, IsTrue};
 ghost use Rattle.wc_read.specs.Modules.{ModuleValue, SpellsModule};
-ghost use Rattle.wc_gc.specs.Liveness.{IsLive, names_of};
+ghost use Rattle.wc_gc.specs.Decoded.{DecodedModule};
+ghost use Rattle.wc_gc.specs.Liveness.{IsLive, names_of, wanted};
+ghost use Rattle.wc_gc.specs.Traces.{HasCut};
 
 use indexmap::IndexSet;
 use std::alloc::Global;
-use wc_gc::{GcFault, LiveSet, liveness_counted};
+use wc_gc::laws::no_trace;
+use wc_gc::{GcFault, LiveSet, liveness_counted, run};
 use wc_read::Space;
+use wc_write::laws::slices_are_bytes;
 
 /// Whether the wanted exports of an adapter reach its first memory.
 pub(crate) fn reaches_memory(
@@ -20,4 +24,26 @@ pub(crate) fn reaches_memory(
 {
     let found = liveness_counted(alloc, adapter, required)?;
     Ok(found.live.contains((Space::Memories, 0)))
+}
+
+/// Two adapters, trimmed to the same exports. Where both have the same cut, both give the same bytes: what their exports do
+/// not reach leaves no trace.
+pub(crate) fn trim_both(
+    alloc: Global,
+    first: &[u8],
+    second: &[u8],
+    required: &IndexSet<String>,
+) -> Result<(Vec<u8>, Vec<u8>), GcFault>
+    requires { required.now.keys ≢ [] }
+    ensures { IfOk result (λ both. (c : DecodedModule)
+        → HasCut (wanted first.now required.now.keys) c
+        → HasCut (wanted second.now required.now.keys) c
+        → both.0.items ≡ both.1.items) }
+{
+    no_trace();
+    slices_are_bytes(first);
+    slices_are_bytes(second);
+    let one = run(alloc, first, required, None, 16)?;
+    let other = run(alloc, second, required, None, 16)?;
+    Ok((one, other))
 }

@@ -8,7 +8,7 @@ use std::alloc::{AllocError, Global};
 use wc_fixtures::resolve_calls::{argument_words, resolve_of};
 use wc_fixtures::stop::Stop;
 use wc_fixtures::words::Words;
-use wc_names::{Legacy, NameMangling, Standard};
+use wc_names::{Legacy, NameIndexes, NameMangling, Standard};
 use wc_resolve::Resolve;
 use wc_rows::lines::Lines;
 use wc_rows::rows::Row;
@@ -55,7 +55,7 @@ fn put_names<'a, N: NameMangling>(
 }
 
 /// The answers of the lines of a script, which begin with `do `.
-fn put_script<'a, N: NameMangling>(
+fn put_script<'a, N: NameIndexes>(
     alloc: Global,
     scheme: &N,
     row: &'a Row<'a>,
@@ -65,7 +65,7 @@ fn put_script<'a, N: NameMangling>(
     put_world_lines(alloc, scheme, row, &resolve, out)
 }
 
-fn put_world_lines<'a, N: NameMangling>(
+fn put_world_lines<'a, N: NameIndexes>(
     alloc: Global,
     scheme: &N,
     row: &'a Row<'a>,
@@ -85,7 +85,7 @@ fn put_world_lines<'a, N: NameMangling>(
 }
 
 /// The answer of a call by a scheme.
-fn answer_by<'a, N: NameMangling>(
+fn answer_by<'a, N: NameIndexes>(
     alloc: Global,
     scheme: &N,
     row: &'a Row<'a>,
@@ -109,7 +109,7 @@ fn answered<'a>(alloc: Global, row: &'a Row<'a>, out: &mut Lines) -> Result<(), 
     let mut words = argument_words(alloc, row)?;
     if words.take("standard") {
         words.end()?;
-        return answer_by(alloc, &Standard {}, row, out);
+        return answer_by(alloc, &Standard, row, out);
     }
     words.expect("legacy", "no scheme")?;
     let hook = words.name()?;

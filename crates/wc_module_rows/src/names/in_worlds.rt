@@ -12,7 +12,7 @@ use std::alloc::{AllocError, Global};
 use wc_fixtures::bad::Bad;
 use wc_fixtures::shown_names::{put_id, put_key, put_name};
 use wc_fixtures::words::Words;
-use wc_names::NameMangling;
+use wc_names::NameIndexes;
 use wc_resolve::{InterfaceId, Resolve, WorldItem, WorldKey};
 use wc_rows::lines::Lines;
 
@@ -30,7 +30,7 @@ fn put_found(out: &mut Lines, found: &Option<(WorldKey, InterfaceId)>) {
 }
 
 /// The interface that a text is about, by one look-up among items, or by an index of them.
-fn find_interface<N: NameMangling>(
+fn find_interface<N: NameIndexes>(
     alloc: Global,
     scheme: &N,
     call: &str,
@@ -49,7 +49,7 @@ fn find_interface<N: NameMangling>(
 }
 
 /// `imports TEXT` or `exports TEXT`.
-fn interface_line<N: NameMangling>(
+fn interface_line<N: NameIndexes>(
     scheme: &N,
     call: &str,
     resolve: &Resolve,
@@ -72,7 +72,7 @@ fn interface_line<N: NameMangling>(
 }
 
 /// The answer to a line of a script.
-pub(crate) fn put_world_line<N: NameMangling>(
+pub(crate) fn put_world_line<N: NameIndexes>(
     scheme: &N,
     call: &str,
     resolve: &Resolve,

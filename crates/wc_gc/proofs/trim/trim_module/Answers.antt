@@ -4,14 +4,14 @@ use Rattle.wc_gc.specs.Liveness.{names_of}
 use Rattle.wc_gc.proofs.TrimLemmas.{live_sound, trimmed_of, later_of}
 use Rattle.wc_gc.proofs.trim.trim_module.Goals as goal
 
-pub cut-requires-clause-sound : goal.cut-requires-clause-sound
-cut-requires-clause-sound g c =
+pub image_text-requires-clause-sound : goal.image_text-requires-clause-sound
+image_text-requires-clause-sound g c =
     live_sound c.args.adapter.now (names_of c.args.required.now.keys) (has_item g.L.LiveSet.has c.in_ok-found.found.live) c.in_ok-found.found.turns c.in_ok-found.ensures.live
 
 pub returns-clause-trimmed : goal.returns-clause-trimmed
 returns-clause-trimmed g c =
-    trimmed_of (settings_value c.args.settings) c.args.adapter.now (names_of c.args.required.now.keys) (has_item g.L.LiveSet.has c.in_ok-found.found.live) c.in_ok-found.found.turns c.in_ok-found.ensures.live (λ v. v.items) c.cut.result c.cut.ensures.written c.cut.ensures.none
+    trimmed_of (settings_value c.args.settings) c.args.adapter.now (names_of c.args.required.now.keys) (has_item g.L.LiveSet.has c.in_ok-found.found.live) c.in_ok-found.found.turns c.in_ok-found.ensures.live (λ v. v.items) c.image_text.result c.image_text.ensures.written c.image_text.ensures.none
 
 pub returns-clause-fault : goal.returns-clause-fault
 returns-clause-fault g c =
-    later_of (settings_value c.args.settings) c.args.adapter.now (names_of c.args.required.now.keys) (has_item g.L.LiveSet.has c.in_ok-found.found.live) c.in_ok-found.found.turns c.in_ok-found.ensures.live c.cut.result c.cut.ensures.fault
+    later_of (settings_value c.args.settings) c.args.adapter.now (names_of c.args.required.now.keys) (has_item g.L.LiveSet.has c.in_ok-found.found.live) c.in_ok-found.found.turns c.in_ok-found.ensures.live c.image_text.result c.image_text.ensures.fault

@@ -42,5 +42,7 @@ returns-clause-kept c = let names = rw c.in-Some.is at c.in_ok-package_names.ens
   has_resources = c.in_ok-resources.ensures;
   flattened = c.in_ok-flats.ensures;
   has_futures = c.in_ok-futures.ensures;
+  has_strings = c.in_ok-strings.ensures;
+  has_texts = c.in_ok-texts.ensures;
   has_names = names.1;
 }

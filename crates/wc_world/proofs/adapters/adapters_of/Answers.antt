@@ -1,11 +1,12 @@
-use Rattle.std.proofs.Common.{◌++◌, ◌∷◌, ◌⊎◌, [], All, map, subst, sym}
+use Rattle.std.proofs.Common.{◌≡◌, ◌++◌, ◌∷◌, ◌⊎◌, [], All, map, subst, sym}
 use Rattle.wc_encoder.specs.Adapters.{adapter_view as given_view}
 use Rattle.wc_validate.specs.Validated.{module_record}
-use Rattle.wc_world.specs.Adapters.{HasOtherName, kept_adapters}
-use Rattle.wc_world.specs.Causes.{IsFirstFault, IsMemory}
+use Rattle.wc_world.specs.Adapters.{HasOtherName}
+use Rattle.wc_world.specs.Causes.{IsFirstStop}
 use Rattle.wc_world.specs.World.{AreMade}
 use Rattle.wc_world.specs.WorldViews.{adapter_entry}
 use Rattle.wc_world.specs.declared.fault.WorldFault.{WorldFault}
+use Rattle.wc_world.specs.declared.fault.WorldFault.TheVariants.{Memory}
 use Rattle.wc_world.proofs.AdapterLemmas.{first_by_walk, walk_next}
 use Rattle.wc_world.proofs.FaultLemmas.{passed_on}
 use Rattle.wc_world.proofs.adapters.adapters_of.Goals as goal
@@ -18,5 +19,5 @@ loop-name-preserved c =
 
 pub returns-in_err-add_adapter-clause-fault : goal.returns-in_err-add_adapter-clause-fault
 returns-in_err-add_adapter-clause-fault c =
-    passed_on (λ (f : WorldFault). IsMemory f ⊎ IsFirstFault c.args.encoder.now (module_record c.args.main.now) (kept_adapters c.args.encoder.now (module_record c.args.main.now)) f) c.from_residual.result _ c.from_residual.ensures.1
+    passed_on (λ (f : WorldFault). (f ≡ Memory) ⊎ IsFirstStop c.args.encoder.now (module_record c.args.main.now) f) c.from_residual.result _ c.from_residual.ensures.1
     (first_by_walk c.args.encoder.now (module_record c.args.main.now) c.loop-name.name-iterator c.next.new.self (c.in-Some.name.now, c.in-Some.adapter.now) (map adapter_entry c.loop-name.found.entries) _ c.deref.result.now c.in-Some.ensures.steps c.deref.ensures c.in_err-add_adapter.ensures.fault c.loop-name.invariant)

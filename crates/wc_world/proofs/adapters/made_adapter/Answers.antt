@@ -1,4 +1,4 @@
-use Rattle.std.proofs.Common.{◌≡◌, IfOk, None, Some, ap, subst, sym}
+use Rattle.std.proofs.Common.{◌≡◌, IfOk, None, Some, ap, refl, subst, sym, true}
 use Rattle.std.specs.Borrow.{Bor}
 use Rattle.std.specs.Option.{option_map}
 use Rattle.wc_encoder.specs.declared.adapters.LibraryInfo.{LibraryInfo}
@@ -17,8 +17,8 @@ returns-in_err-first-clause-fault c = passed_on (IsGivenFault c.args.given.now) 
 
 pub returns-in-Some-clause-made : goal.returns-in-Some-clause-made
 returns-in-Some-clause-made c =
-    let a : WorldAdapterView = record { wasm = c.deref.result.now; info = module_record c.in_ok-first.first; library_info = Some (library_view c.in-Some.library) } in
-    library_made c.args.given.now c.in-Some.library a c.in-Some.is c.deref.ensures.value c.in_ok-first.ensures.recorded
+    let a : WorldAdapterView = record { wasm = c.deref.result.now; is_borrowed = true; info = module_record c.in_ok-first.first; library_info = Some (library_view c.in-Some.library) } in
+    library_made c.args.given.now c.in-Some.library a c.in-Some.is c.deref.ensures.value refl c.in_ok-first.ensures.recorded
 
 pub returns-in-Some-clause-library : goal.returns-in-Some-clause-library
 returns-in-Some-clause-library c = ap (option_map library_view) (sym c.in-Some.is)

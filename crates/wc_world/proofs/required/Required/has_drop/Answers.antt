@@ -1,5 +1,5 @@
 use Rattle.std.proofs.Common.{◌∙◌}
-use Rattle.wc_world.proofs.ContentLemmas.{ids_in}
+use Rattle.wc_world.proofs.RequiredLemmas.{ids_in}
 use Rattle.wc_world.proofs.required.Required.has_drop.Goals as goal
 
 pub returns : goal.returns

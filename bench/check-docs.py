@@ -1,0 +1,369 @@
+#!/usr/bin/env python3
+"""Checks README.md, docs/*.md and the READMEs of bench/ and examples/ against the repository.
+
+    bench/check-docs.py
+
+It prints a line for each thing that is wrong, and ends with status 1 where there is one. Checked are:
+
+- links: the file of each relative link is there, and has a heading for the anchor;
+- sentences: none has more than 40 words. A text in backquotes is one word. Code, headings and quotations (lines that
+  begin with `>`) are left out; cells of tables, and items of lists, are texts of their own;
+- names in backquotes: paths of files are there; names with an underscore, and names that begin with a capital letter,
+  occur in the sources; names of three words and more with hyphens are those of edits, or occur in the sources;
+- docs/GUARANTEES.md: each function in a table is one of its crate, and has the clauses of its rows; each public
+  function of a library is in a table; each with a `requires` is in the table of requirements, and no other;
+- docs/MAP.md: each file of src/, specs/ and proofs/ that a row names is there, and each file of src/ has a row.
+"""
+
+import glob
+import os
+import re
+import sys
+
+TOP = os.path.dirname(os.path.dirname(os.path.abspath(__file__)))
+MOST_WORDS = 40
+# crates of the tests, and the program: their functions promise nothing to others
+TESTS = {"wc_rows", "wc_fixtures", "wc_module_rows", "wc_bench"}
+NO_LIBRARIES = TESTS | {"wctrim"}
+# parts of paths of files that are made, and may be missing
+MADE = ("out/", "bench/data", "lang/antt/", "target/")
+# files that programs and scripts write
+WRITTEN = {"out.wasm", "main.wasm", "adapter.wasm", "no-repeats.wasm", "one-repeat.wasm", "repeats-10000.wasm",
+           "repeats-100000.wasm"}
+# names of the Rust crates and of the kit, which no source of the repository has
+FOREIGN = {"TypeRef", "Default", "Dec", "wasm-component-ld"}
+
+faults = []
+
+
+def fault(document, number, text):
+    faults.append(f"{os.path.relpath(document, TOP)}:{number}: {text}")
+
+
+def read(path):
+    with open(path, encoding="utf-8", errors="replace") as file:
+        return file.read()
+
+
+def files(*pattern):
+    return sorted(glob.glob(os.path.join(TOP, *pattern), recursive=True))
+
+
+def documents():
+    readmes = [os.path.join(TOP, part, "README.md") for part in ("", "bench", "examples")]
+    return [path for path in readmes if os.path.exists(path)] + files("docs", "*.md")
+
+
+# Documents: their texts, links, sentences and names.
+
+
+def texts_of(document):
+    """The texts of a document, without code: (number of the first line, kind, text). A kind is `heading`, `cell`,
+    `quotation` or `text`; the cells of one row have one number."""
+    found = []
+    paragraph, first, is_fenced = [], 0, False
+
+    def end():
+        if paragraph:
+            kind = "quotation" if paragraph[0].startswith(">") else "text"
+            found.append((first, kind, " ".join(paragraph)))
+            paragraph.clear()
+
+    for number, line in enumerate(read(document).split("\n"), 1):
+        text = line.strip()
+        item = re.match(r"([-*]|\d+\.) +", text)
+        if text.startswith("```"):
+            end()
+            is_fenced = not is_fenced
+        elif is_fenced or (line.startswith("    ") and not paragraph and not item):
+            continue
+        elif not text:
+            end()
+        elif text.startswith("#"):
+            end()
+            found.append((number, "heading", text.lstrip("# ")))
+        elif text.startswith("|"):
+            end()
+            cells = re.split(r"(?<!\\)\|", text.strip("|"))
+            if not all(re.fullmatch(r"\s*:?-+:?\s*", cell) for cell in cells):
+                found.extend((number, "cell", cell.strip().replace("\\|", "|")) for cell in cells)
+        else:
+            if item:
+                end()
+                text = text[item.end() :]
+            first = first if paragraph else number
+            paragraph.append(text)
+    end()
+    return found
+
+
+def rows_of(document):
+    """The rows of a document's tables: (number, cells)."""
+    rows = {}
+    for number, kind, text in texts_of(document):
+        if kind == "cell":
+            rows.setdefault(number, []).append(text)
+    return sorted(rows.items())
+
+
+def anchors_of(document):
+    """The anchors of a document's headings, as GitHub makes them."""
+    counts, anchors = {}, set()
+    for _, kind, text in texts_of(document):
+        if kind == "heading":
+            text = re.sub(r"\[([^\]]*)\]\([^)]*\)", r"\1", text)
+            anchor = re.sub(r"[^\w\- ]", "", text.lower()).replace(" ", "-")
+            anchors.add(f"{anchor}-{counts[anchor]}" if anchor in counts else anchor)
+            counts[anchor] = counts.get(anchor, 0) + 1
+    return anchors
+
+
+def check_links(document):
+    for number, _, text in texts_of(document):
+        # a link's text may be in backquotes, and what is in other backquotes is no link
+        text = re.sub(r"(`+)(.+?)\1(?!\])", " code ", text)
+        for target in re.findall(r"\[[^\]]*\]\(([^)\s]*)\)", text):
+            if re.match(r"[a-z]+:", target):
+                continue
+            path, _, anchor = target.partition("#")
+            file = os.path.normpath(os.path.join(os.path.dirname(document), path)) if path else document
+            if not os.path.exists(file):
+                fault(document, number, f"no file for the link {target}")
+            elif anchor and anchor not in anchors_of(file):
+                fault(document, number, f"no heading for the link {target}")
+
+
+def check_sentences(document):
+    for number, kind, text in texts_of(document):
+        if kind in ("heading", "quotation"):
+            continue
+        plain = re.sub(r"(`+)(?:.+?)\1", " code ", text)
+        plain = re.sub(r"\[([^\]]*)\]\([^)]*\)", r"\1", plain)
+        for sentence in re.split(r"(?<=[.!?])[)\"*]* +(?=[\"(*]*[A-Z0-9`]|code\b)| · ", plain):
+            words = [word for word in sentence.split() if re.search(r"\w", word)]
+            if len(words) > MOST_WORDS:
+                fault(document, number, f"a sentence of {len(words)} words: {' '.join(words[:8])} ..")
+
+
+def words_of_sources():
+    """All words of the sources, of scripts and of examples, words with hyphens among them."""
+    words = set()
+    sources = [path for part in ("src", "specs", "proofs", "data", "must-fail")
+               for path in files("crates", "*", part, "**", "*")]
+    others = [path for part in ("edits", "examples", "bench") for path in files(part, "**", "*")]
+    for path in [*sources, *others, *files("crates.txt"), *files("HANDLES"), *files("wctrim")]:
+        is_text = not path.endswith((".wasm", ".md", "check-docs.py")) and "/bench/data/" not in path
+        if os.path.isfile(path) and is_text:
+            for text in (read(path), os.path.relpath(path, TOP)):
+                words.update(re.findall(r"\w+", text))
+                words.update(re.findall(r"[a-z]+(?:-[a-z]+)+", text))
+    return words
+
+
+def is_file(document, name):
+    """Whether a path is that of a file: from the top, from the document's folder, or in a crate."""
+    is_pattern = "*" in name or any(part.isupper() for part in name.split("/"))
+    if name.startswith("/") or is_pattern or name in WRITTEN or any(made in name for made in MADE):
+        return True
+    folders = [TOP, os.path.dirname(document), *files("crates"), *files("crates", "*"), *files("crates", "*", "*")]
+    for ending in ("", ".rt", ".antt"):
+        if any(os.path.exists(os.path.join(folder, name.rstrip("/") + ending)) for folder in folders):
+            return True
+    return "/" not in name and bool(files("crates", "*", "**", name))
+
+
+def check_names(document, words):
+    for number, _, text in texts_of(document):
+        for name in re.findall(r"(?<!`)`([^`]+)`(?!`)", text):
+            if re.fullmatch(r"[\w.-]+(/[\w.-]+)+/?|[\w-]+\.(rt|antt|rows|py|sh|md|wasm|wat|edit|txt|c)", name):
+                if not is_file(document, name):
+                    fault(document, number, f"no file {name}")
+            elif re.fullmatch(r"[a-z]+(-[a-z]+){2,}", name):
+                if name not in words and name not in FOREIGN:
+                    fault(document, number, f"no {name} in the sources")
+            elif re.fullmatch(r"\w+(::\w+)*", name):
+                for word in name.split("::"):
+                    is_name = re.search(r"[a-z]_[a-z]", word) or re.match(r"[A-Z][a-z]", word)
+                    if is_name and word not in words and word not in FOREIGN:
+                        fault(document, number, f"no {word} in the sources")
+
+
+# Crates: what is public in them, and the clauses of their functions.
+
+
+class Crate:
+    """A crate's source files, the heads of its functions by their names, its types, the functions in their blocks, its
+    public functions, and those of them that have a `requires`."""
+
+    def __init__(self, folder):
+        self.name = os.path.basename(folder)
+        self.source = os.path.join(folder, "src")
+        self.files = files(self.source, "**", "*.rt")
+        exports = re.findall(r"pub use [\w:]+::(\{[^}]*\}|\w+)", self.text("lib"))
+        self.exported = {word for names in exports for word in re.findall(r"\w+", names)}
+        self.heads, self.types, self.members = {}, set(), set()
+        self.public, self.required = set(), set()
+        for file in self.files:
+            self.add_file(file)
+
+    def text(self, module):
+        path = os.path.join(self.source, module + ".rt")
+        return read(path) if os.path.exists(path) else ""
+
+    def path_of(self, file):
+        return os.path.relpath(file, self.source)[: -len(".rt")]
+
+    def public_module(self, file):
+        """The path of a file's module, as `laws::x`, where it is public."""
+        parts = self.path_of(file).split("/")
+        for depth, part in enumerate(parts):
+            if f"pub mod {part};" not in self.text("/".join(parts[:depth]) or "lib"):
+                return None
+        return "::".join(parts)
+
+    def add_file(self, file):
+        lines = read(file).split("\n")
+        module = self.public_module(file)
+        owner, is_open, is_of_trait = None, False, False
+        for number, line in enumerate(lines):
+            self.types.update(re.findall(r"^pub (?:struct|enum|trait|type|const) (\w+)", line))
+            block = re.match(r"impl(?:<.*?>)? (\w+(?:<.*?>)? for )?&?(\w+)", line)
+            trait = re.match(r"pub trait (\w+)", line)
+            if block:
+                owner, is_open, is_of_trait = block.group(2), False, block.group(1) is not None
+            elif trait:
+                owner, is_open, is_of_trait = trait.group(1), True, False
+            function = re.match(r"( *)(pub )?fn (\w+)", line)
+            if function:
+                head = head_at(lines, number)
+                indent, is_marked, name = function.groups()
+                self.heads.setdefault(name, []).append(head)
+                if indent:
+                    # what an `impl` of a trait promises is said at the trait
+                    is_public = owner in self.exported and (is_marked or is_open) and not is_of_trait
+                    path = f"{owner}::{name}"
+                    self.members.add(path)
+                else:
+                    is_public = is_marked and (module or name in self.exported)
+                    path = f"{module}::{name}" if module else name
+                if is_public:
+                    self.public.add(path)
+                    if re.search(r"^\s*requires\b", head, re.M):
+                        self.required.add(path)
+
+    def has(self, parts):
+        """Whether the crate has a function, a type, or a public module of this path."""
+        if len(parts) > 1 and parts[-2] in self.types and parts[-1] not in self.types:
+            return f"{parts[-2]}::{parts[-1]}" in self.members
+        modules = {self.public_module(file) for file in self.files}
+        return parts[-1] in self.heads or parts[-1] in self.types or "::".join(parts) in modules
+
+    def has_clause(self, functions, clause):
+        """Whether one of the functions has the clause; or it is a law, or what an `impl` says of a trait."""
+        heads = [head for name in functions for head in self.heads.get(name, [])]
+        return (clause in self.heads or any(re.search(rf"\b(ensures|requires) {clause}\b", head) for head in heads)
+                or any(re.search(rf"\bghost {clause}\b", read(file)) for file in self.files))
+
+
+def head_at(lines, number):
+    """The head of the function that begins at this line, with its clauses."""
+    head = []
+    for line in lines[number:]:
+        head.append(line)
+        is_clause = "ensures" in line or "requires" in line
+        if line.strip() == "{" or line.endswith(";") or (not is_clause and line.endswith(("{", "{}"))):
+            break
+    return "\n".join(head)
+
+
+# The tables of docs/GUARANTEES.md and docs/MAP.md.
+
+
+def paths_in(cell):
+    """The functions that a cell names, as lists of a crate and names. A name without its crate is beside the one before
+    it: `wc_x::A::f`, `g`, `B::h`."""
+    paths = []
+    for name in re.findall(r"`([\w:]+)`", cell):
+        parts = name.split("::")
+        if parts[0].startswith("wc_"):
+            paths.append(parts)
+        elif paths:
+            paths.append([paths[-1][0], *parts] if len(parts) > 1 else [*paths[-1][:-1], *parts])
+    return paths
+
+
+def check_guarantees(crates):
+    document = os.path.join(TOP, "docs", "GUARANTEES.md")
+    listed, requirements, paths = set(), {}, []
+    for number, cells in rows_of(document):
+        if len(cells) == 2:
+            requirements.update(("::".join(path), number) for path in paths_in(cells[0]))
+        elif len(cells) == 3 and cells[0] != "Function":
+            paths = paths_in(cells[0]) or paths
+            clauses = re.findall(r"`(\w+)`", cells[1] + ("" if cells[1] else cells[2]))
+            for path in paths:
+                listed.add((path[0], path[-1]))
+                listed.update((path[0], clause) for clause in clauses)
+                if path[0] not in crates or not crates[path[0]].has(path[1:]):
+                    fault(document, number, f"no {'::'.join(path)}")
+            for clause in clauses if cells[1] else ():
+                crate = crates.get(paths[0][0])
+                if crate and not crate.has_clause([path[-1] for path in paths], clause):
+                    fault(document, number, f"no clause {clause} of {'::'.join(paths[0])}")
+    libraries = [crate for name, crate in crates.items() if name not in NO_LIBRARIES]
+    for crate in libraries:
+        for path in sorted(crate.public):
+            if (crate.name, path.split("::")[-1]) not in listed:
+                fault(document, 1, f"no row for {crate.name}::{path}")
+    required = {f"{crate.name}::{path}" for crate in libraries for path in crate.required}
+    for path in sorted(required - set(requirements)):
+        fault(document, 1, f"{path} has a `requires`, and is not in the table of requirements")
+    for path in sorted(set(requirements) - required):
+        fault(document, requirements[path], f"{path} is in the table of requirements, and has no `requires`")
+
+
+def check_map(crates):
+    document = os.path.join(TOP, "docs", "MAP.md")
+    named = {name: {"lib"} for name in crates}
+    crate = None
+    for number, cells in rows_of(document):
+        if len(cells) != 4 or cells[1] == "`src/`":
+            continue
+        crate = (re.findall(r"`(\w+)`", cells[0]) or [crate])[0]
+        if crate not in crates:
+            continue
+        for name in re.findall(r"`([\w/]+)`", cells[1]) + re.findall(r"`(examples/\w+)`", cells[2]):
+            named[crate].add(name)
+            if not os.path.exists(os.path.join(crates[crate].source, name + ".rt")):
+                fault(document, number, f"no src/{name} of {crate}")
+        folder = None
+        for name in re.findall(r"`([\w/]+)`", cells[3]):
+            first, _, rest = name.partition("/")
+            if first in ("specs", "proofs"):
+                folder, name = first, rest
+            if folder and "/" not in name and name and not files("crates", crate, folder, name + ".antt"):
+                fault(document, number, f"no {folder}/{name} of {crate}")
+    for name, crate in crates.items():
+        for path in map(crate.path_of, crate.files):
+            # of a crate of the tests a row of a folder is enough
+            if path not in named[name] and not (name in TESTS and path.split("/")[0] in named[name]):
+                fault(document, 1, f"no row for src/{path} of {name}")
+
+
+def main():
+    crates = {os.path.basename(folder): Crate(folder) for folder in files("crates", "*") if os.path.isdir(folder)}
+    words = words_of_sources()
+    for document in documents():
+        check_links(document)
+        check_sentences(document)
+        check_names(document, words)
+    check_guarantees(crates)
+    check_map(crates)
+    for line in faults:
+        print(line)
+    print("all as wanted" if not faults else f"{len(faults)} not as wanted")
+    return 1 if faults else 0
+
+
+if __name__ == "__main__":
+    sys.exit(main())

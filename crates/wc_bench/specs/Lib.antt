@@ -1,0 +1,2 @@
+-- What the examples' contracts cite.
+pub mod Summary

@@ -1,0 +1,109 @@
+-- Code that is renumbered twice is renumbered once, where the two renumberings agree with one on what it names.
+use Rattle.std.proofs.Common.{◌≡◌, ℕ, List, [], ◌∷◌, refl, ◌∙◌, ap, Option, Some, None}
+use Rattle.std.specs.List.{AllByRecursion}
+use Rattle.std.specs.Option.{option_map, option_to_list}
+use Rattle.wc_read.specs.Bodies.{BodyValue}
+use Rattle.wc_read.specs.Items.{DefValue, ItemValue, imported, local}
+use Rattle.wc_read.specs.Operators.{ImmediatesValue, WithNone, WithBlock, WithIndex, WithIndices, WithLabels, WithValTypes, WithRefType, WithMemArg}
+use Rattle.wc_read.specs.Operators.{WithMemArgLane, WithI32, WithI64, WithBytes, WithLane, InstrValue}
+use Rattle.wc_read.specs.Refs.{in_space, reference, one_ref, two_refs, refs_of}
+use Rattle.wc_read.specs.Renumbering.{Renumbering, renumber, renumber_index, renumber_immediates, renumber_instr}
+use Rattle.wc_read.specs.declared.operators.Index.{Index}
+use Rattle.wc_read.specs.declared.operators.IndexKind.{IndexKind}
+use Rattle.wc_read.specs.declared.operators.IndexKind.TheVariants.{In, Elem, Data, Local, Label}
+use Rattle.wc_read.specs.declared.operators.BlockType.TheVariants.{Empty, Value, FuncType}
+use Rattle.wc_read.specs.declared.operators.MemArg.{MemArg}
+use Rattle.wc_read.specs.declared.types.GlobalType.{GlobalType}
+use Rattle.wc_write.specs.BuiltValues.{def_seen}
+use Rattle.wc_gc.specs.Decoded.{GlobalCode, ItemIndex}
+use Rattle.wc_gc.specs.Entries.{code_refs, def_refs, init_refs, instr_refs, refs_list}
+use Rattle.wc_gc.specs.Image.{new_global, new_init, renumber_body, renumber_code}
+use Rattle.wc_gc.specs.Unfolding.{renumber_global}
+use Rattle.wc_gc.proofs.CutListLemmas.{split_all}
+
+-- an index that two renumberings, one after the other, take where a third one does
+abbrev pub Agrees : Renumbering → Renumbering → Renumbering → ItemIndex → Type 0
+Agrees first second both x = second x.0 (first x.0 x.1) ≡ both x.0 x.1
+
+module _ (first second both : Renumbering) where
+  abbrev Agree : List ItemIndex → Type 0
+  Agree xs = AllByRecursion (Agrees first second both) xs
+
+  number_agrees : (kind : IndexKind) (n : ℕ) → Agree (option_to_list (in_space kind n)) → renumber second kind (renumber first kind n)
+      ≡ renumber both kind n
+  number_agrees (In space) n h = h.0
+  number_agrees Elem n h = refl
+  number_agrees Data n h = refl
+  number_agrees Local n h = refl
+  number_agrees Label n h = refl
+
+  two_parts : (a b : Option ItemIndex) → Agree (refs_list (two_refs a b)) → Agree (option_to_list a) × Agree (option_to_list b)
+  two_parts None None h = (tt, tt)
+  two_parts None (Some y) h = (tt, h)
+  two_parts (Some x) None h = (h, tt)
+  two_parts (Some x) (Some y) h = ((h.0, tt), h.1)
+
+  one_part : (a : Option ItemIndex) → Agree (refs_list (one_ref a)) → Agree (option_to_list a)
+  one_part None h = tt
+  one_part (Some x) h = h
+
+  abbrev index_with : IndexKind → ℕ → Index
+  index_with kind n = record { kind = kind; number = n }
+
+  index_agrees : (i : Index) → Agree (option_to_list (reference i)) → renumber_index second (renumber_index first i) ≡ renumber_index both i
+  index_agrees i h = ap (index_with i.kind) (number_agrees i.kind i.number h)
+
+  abbrev mem_arg_with : MemArg → ℕ → MemArg
+  mem_arg_with m n = record { align = m.align; memory = n; offset = m.offset }
+
+  immediates_agree : (v : ImmediatesValue) → Agree (refs_list (refs_of v)) → renumber_immediates second (renumber_immediates first v)
+      ≡ renumber_immediates both v
+  immediates_agree WithNone h = refl
+  immediates_agree (WithBlock Empty) h = refl
+  immediates_agree (WithBlock (Value t)) h = refl
+  immediates_agree (WithBlock (FuncType n)) h = ap (λ k. WithBlock (FuncType k)) h.0
+  immediates_agree (WithIndex i) h = ap WithIndex (index_agrees i (one_part (reference i) h))
+  immediates_agree (WithIndices i j) h =
+      let p = two_parts (reference i) (reference j) h in
+      ap (λ k. WithIndices k (renumber_index second (renumber_index first j))) (index_agrees i p.0)
+      ∙ ap (WithIndices (renumber_index both i)) (index_agrees j p.1)
+  immediates_agree (WithLabels ls d) h = refl
+  immediates_agree (WithValTypes ts) h = refl
+  immediates_agree (WithRefType t) h = refl
+  immediates_agree (WithMemArg m) h = ap (λ k. WithMemArg (mem_arg_with m k)) h.0
+  immediates_agree (WithMemArgLane m lane) h = ap (λ k. WithMemArgLane (mem_arg_with m k) lane) h.0
+  immediates_agree (WithI32 n) h = refl
+  immediates_agree (WithI64 n) h = refl
+  immediates_agree (WithBytes bytes) h = refl
+  immediates_agree (WithLane lane) h = refl
+
+  abbrev instr_with : InstrValue → ImmediatesValue → InstrValue
+  instr_with i v = record { opcode = i.opcode; immediates = v }
+
+  pub code_agrees : (is : List InstrValue) → Agree (code_refs is) → renumber_code second (renumber_code first is) ≡ renumber_code both is
+  code_agrees [] h = refl
+  code_agrees (i ∷ is) h =
+      let p = split_all (Agrees first second both) (instr_refs i) (code_refs is) h in
+      ap (λ v. instr_with i v ∷ renumber_code second (renumber_code first is)) (immediates_agree i.immediates p.0)
+      ∙ ap (λ js. renumber_instr both i ∷ js) (code_agrees is p.1)
+
+  abbrev body_with : BodyValue → List InstrValue → BodyValue
+  body_with b is = record { locals = b.locals; operators = is }
+
+  pub body_agrees : (b : BodyValue) → Agree (code_refs b.operators) → renumber_body second (renumber_body first b) ≡ renumber_body both b
+  body_agrees b h = ap (body_with b) (code_agrees b.operators h)
+
+  init_agrees : (o : Option (List InstrValue)) → Agree (init_refs o) → new_init second (option_map (renumber_code first) o) ≡ new_init both o
+  init_agrees None h = refl
+  init_agrees (Some is) h = code_agrees is h
+
+  global_def : (d : DefValue (Option (List InstrValue))) → Agree (def_refs init_refs d)
+      → def_seen (new_init second) (def_seen (option_map (renumber_code first)) d) ≡ def_seen (new_init both) d
+  global_def (imported a b) h = refl
+  global_def (local o) h = ap local (init_agrees o h)
+
+  abbrev global_with : GlobalCode → DefValue (List InstrValue) → ItemValue GlobalType (List InstrValue)
+  global_with g d = record { ty = g.ty; def = d }
+
+  pub global_agrees : (g : GlobalCode) → Agree (def_refs init_refs g.def) → new_global second (renumber_global first g) ≡ new_global both g
+  global_agrees g h = ap (global_with g) (global_def g.def h)

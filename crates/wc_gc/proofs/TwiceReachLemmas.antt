@@ -1,0 +1,199 @@
+-- In a cut all items are reached by its exports, and code that is reached stays sound.
+use Rattle.std.proofs.Common.{◌≡◌, ℕ, List, [], ◌∷◌, map, refl, sym, ◌∙◌, ap, subst, Bool, true, false, ◌&&◌, not, cond, Option, Some, None, arith}
+use Rattle.std.proofs.Common.{ltb-true}
+use Rattle.std.specs.Prelude.{Contains, IsTrue, filter}
+use Rattle.std.specs.List.{AllByRecursion, list_all}
+use Rattle.std.specs.Option.{option_map, option_map_or}
+use Rattle.std.proofs.lemmas.Bool.{false≢true, lt-ltb}
+use Rattle.std.proofs.lemmas.List.Elements.{All-contains_itself, recursion_from_All}
+use Rattle.std.proofs.lemmas.Option.{slice_get-map}
+use Rattle.wc_read.specs.Bodies.{BodyValue}
+use Rattle.wc_read.specs.Exports.{ExportValue}
+use Rattle.wc_read.specs.Items.{DefValue, imported, local}
+use Rattle.wc_read.specs.Names.{GlobalNameValue}
+use Rattle.wc_read.specs.Operators.{InstrValue}
+use Rattle.wc_read.specs.Refs.{names_segment}
+use Rattle.wc_read.specs.Renumbering.{Renumbering, renumber_immediates, renumber_instr, renumber_item}
+use Rattle.wc_read.specs.declared.operators.Space.{Space}
+use Rattle.wc_read.specs.declared.operators.Space.TheVariants.{Types, Funcs, Tables, Memories, Globals}
+use Rattle.wc_read.proofs.RenumberingLemmas.{segments_under}
+use Rattle.wc_write.specs.BuiltValues.{def_seen}
+use Rattle.wc_gc.specs.Cut.{part_names}
+use Rattle.wc_gc.specs.Decoded.{DecodedModule, ItemIndex, exported_item, is_in, size_of}
+use Rattle.wc_gc.specs.Entries.{Entry, body_refs, code_refs, def_refs, entry_at, entry_refs, func_entry, global_entry, instr_refs, memory_entry}
+use Rattle.wc_gc.specs.Entries.{no_entry, refs_in, table_entry, type_entry}
+use Rattle.wc_gc.specs.Image.{new_export, rank, renumber_body, renumber_code}
+use Rattle.wc_gc.specs.Reached.{IsPath, IsReached}
+use Rattle.wc_gc.specs.Soundness.{is_sound, is_sound_at, is_sound_code, is_sound_def, is_sound_entry}
+use Rattle.wc_gc.specs.Traces.{AreClosed, CutIsReached}
+use Rattle.wc_gc.specs.Unfolding.{renumber_entry, renumber_func, renumber_global}
+use Rattle.wc_gc.proofs.BuiltPartLemmas.{each_weaker}
+use Rattle.wc_gc.proofs.ChainLemmas.{contains_unmapped, in_all, in_filter}
+use Rattle.wc_gc.proofs.CutFoundLemmas.{cut, cut_is, funcs_kept, globals_kept, memories_kept, tables_kept, types_kept}
+use Rattle.wc_gc.proofs.CutListLemmas.{split_all}
+use Rattle.wc_gc.proofs.EditedIndexLemmas.{both_true}
+use Rattle.wc_gc.proofs.KeptItemLemmas.{get_some, rank_at}
+use Rattle.wc_gc.proofs.LiveItemLemmas.{contains_mapped}
+use Rattle.wc_gc.proofs.RankLawLemmas.{fewer_below}
+use Rattle.wc_gc.proofs.TwiceListLemmas.{of_rank}
+use Rattle.wc_gc.proofs.UnfoldingLemmas.{entry_refs_under, instr_under}
+
+-- lists
+
+all_filter : {A : Type 0} (P : A → Type 0) (p : A → Bool) (xs : List A) → AllByRecursion P xs → AllByRecursion P (filter p xs)
+all_filter P p [] h = tt
+all_filter P p (x ∷ xs) h =
+    elim (p x) as (λ b. AllByRecursion P (cond b (x ∷ filter p xs) (filter p xs))) [
+      | true ↦
+          (h.0, all_filter P p xs h.1)
+      | false ↦ all_filter P p xs h.1
+    ]
+
+pub from_filter : {A : Type 0} (p : A → Bool) (xs : List A) (x : A) → Contains (filter p xs) x → Contains xs x
+from_filter p xs x c =
+    in_all (Contains xs) (filter p xs) x (all_filter (Contains xs) p xs (recursion_from_All (Contains xs) xs (All-contains_itself xs))) c
+
+all_mapped_pass : {A B : Type 0} (p : B → Bool) (f : A → B) (xs : List A) → AllByRecursion (λ x. p (f x) ≡ true) xs → list_all p (map f xs) ≡ true
+all_mapped_pass p f [] h = refl
+all_mapped_pass p f (x ∷ xs) h = ap (λ b. b && list_all p (map f xs)) h.0 ∙ all_mapped_pass p f xs h.1
+
+module _ (m : DecodedModule) (exports : List ExportValue) (live : ItemIndex → Bool) (k : AreClosed m exports live)
+    (names : List GlobalNameValue) where
+  -- the cut, with any names of globals
+  abbrev pub named_cut : DecodedModule
+  named_cut = record (cut m exports live) { global_names = names }
+
+  abbrev r : Renumbering
+  r = rank live
+
+  abbrev moved : ItemIndex → ItemIndex
+  moved = renumber_item r
+
+  -- entries
+
+  pub entry_is : (x : ItemIndex) → live x ≡ true → entry_at named_cut (moved x) ≡ renumber_entry r (entry_at m x)
+  entry_is (Types, n) h =
+      let t = get_some m.types n (k.there (Types, n) h) in
+      ap (λ o. option_map_or type_entry o no_entry) (rank_at (λ i. live (Types, i)) m.types n t.0 t.1 h)
+      ∙ sym (ap (λ o. renumber_entry r (option_map_or type_entry o no_entry)) t.1)
+  entry_is (Funcs, n) h =
+      let t = get_some m.funcs n (k.there (Funcs, n) h) in
+      ap (λ o. option_map_or func_entry o no_entry)
+      (slice_get-map (renumber_func r) _ (r Funcs n) ∙ ap (option_map (renumber_func r)) (rank_at (λ i. live (Funcs, i)) m.funcs n t.0 t.1 h))
+      ∙ sym (ap (λ o. renumber_entry r (option_map_or func_entry o no_entry)) t.1)
+  entry_is (Tables, n) h =
+      let t = get_some m.tables n (k.there (Tables, n) h) in
+      ap (λ o. option_map_or table_entry o no_entry) (rank_at (λ i. live (Tables, i)) m.tables n t.0 t.1 h)
+      ∙ sym (ap (λ o. renumber_entry r (option_map_or table_entry o no_entry)) t.1)
+  entry_is (Memories, n) h =
+      let t = get_some m.memories n (k.there (Memories, n) h) in
+      ap (λ o. option_map_or memory_entry o no_entry) (rank_at (λ i. live (Memories, i)) m.memories n t.0 t.1 h)
+      ∙ sym (ap (λ o. renumber_entry r (option_map_or memory_entry o no_entry)) t.1)
+  entry_is (Globals, n) h =
+      let t = get_some m.globals n (k.there (Globals, n) h) in
+      ap (λ o. option_map_or global_entry o no_entry)
+      (slice_get-map (renumber_global r) _ (r Globals n)
+      ∙ ap (option_map (renumber_global r)) (rank_at (λ i. live (Globals, i)) m.globals n t.0 t.1 h))
+      ∙ sym (ap (λ o. renumber_entry r (option_map_or global_entry o no_entry)) t.1)
+
+  refs_are : (x : ItemIndex) → live x ≡ true → entry_refs (entry_at named_cut (moved x)) ≡ map moved (entry_refs (entry_at m x))
+  refs_are x h = ap entry_refs (entry_is x h) ∙ entry_refs_under r (entry_at m x)
+
+  -- sizes of spaces
+  kept_size : (space : Space) → size_of named_cut space ≡ rank live space (size_of m space)
+  kept_size Types = types_kept m exports live
+  kept_size Funcs = funcs_kept m exports live
+  kept_size Tables = tables_kept m exports live
+  kept_size Memories = memories_kept m exports live
+  kept_size Globals = globals_kept m exports live
+
+  pub moved_in : (x : ItemIndex) → live x ≡ true → is_in named_cut (moved x) ≡ true
+  moved_in x h =
+      let few = fewer_below (λ n. live (x.0, n)) x.1 (size_of m x.0) h (k.there x h) in
+      let size = kept_size x.0 in
+      lt-ltb (r x.0 x.1) (size_of named_cut x.0) (omega (arith, few, size))
+
+  -- the item that came to this index
+  pub of_item : (y : ItemIndex) → is_in named_cut y ≡ true → (x : ItemIndex) × (live x ≡ true) × (moved x ≡ y)
+  of_item y h =
+      let l = ltb-true y.1 (size_of named_cut y.0) h in
+      let size = kept_size y.0 in
+      let n = of_rank (λ n. live (y.0, n)) (size_of m y.0) y.1 (omega (arith, l, size)) in
+      ((y.0, n.0), n.2, ap (λ (i : ℕ). let z : ItemIndex = (y.0, i) in z) n.3)
+
+  -- paths
+
+  live_next : (x z : ItemIndex) → live x ≡ true → Contains (refs_in m x) z → live z ≡ true
+  live_next x z h c = in_all (λ y. live y ≡ true) (entry_refs (entry_at m x)) z (k.named x h) (from_filter (is_in m) (entry_refs (entry_at m x)) z c)
+
+  next_moved : (x z : ItemIndex) → live x ≡ true → Contains (refs_in m x) z → Contains (refs_in named_cut (moved x)) (moved z)
+  next_moved x z h c =
+      in_filter (is_in named_cut) (entry_refs (entry_at named_cut (moved x))) (moved z)
+      (subst (λ ys. Contains ys (moved z)) (sym (refs_are x h))
+      (contains_mapped moved (entry_refs (entry_at m x)) z (from_filter (is_in m) (entry_refs (entry_at m x)) z c)))
+      (moved_in z (live_next x z h c))
+
+  path_moved : (x : ItemIndex) (path : List ItemIndex) (y : ItemIndex) → live x ≡ true → IsPath (refs_in m) x path y
+      → IsPath (refs_in named_cut) (moved x) (map moved path) (moved y)
+  path_moved x [] y h p = ap moved p
+  path_moved x (z ∷ path) y h p = (next_moved x z h p.0, path_moved z path y (live_next x z h p.0) p.1)
+
+  root_moved : (x : ItemIndex) → Contains (map exported_item exports) x
+      → (live x ≡ true) × Contains (map exported_item (map (new_export r) exports)) (moved x)
+  root_moved x c =
+      let e = contains_unmapped exported_item exports x c in (
+        ap live (sym e.2) ∙ in_all (λ e. live (exported_item e) ≡ true) exports e.0 k.exported e.1,
+        subst (Contains (map exported_item (map (new_export r) exports))) (ap moved e.2)
+            (contains_mapped exported_item (map (new_export r) exports) (new_export r e.0) (contains_mapped (new_export r) exports e.0 e.1)),
+      )
+
+  pub reached_moved : (x : ItemIndex) → IsReached m exports x → IsReached named_cut (cut m exports live).exports (moved x)
+  reached_moved x a =
+      let root = root_moved a.0 a.1 in
+      (moved a.0, root.1, map moved a.2, path_moved a.0 a.2 x root.0 a.3)
+
+  -- sound code
+
+  abbrev IsLiveItem : ItemIndex → Type 0
+  IsLiveItem y = live y ≡ true
+
+  instr_sound : (i : InstrValue) → is_sound m i ≡ true → AllByRecursion IsLiveItem (instr_refs i) → is_sound named_cut (renumber_instr r i) ≡ true
+  instr_sound i h all =
+      let both = both_true (list_all (is_in m) (instr_refs i)) (not (names_segment i.immediates)) h in
+      ap (λ ys. list_all (is_in named_cut) ys && not (names_segment (renumber_immediates r i.immediates))) (instr_under r i)
+      ∙ (ap (λ b. b && not (names_segment (renumber_immediates r i.immediates)))
+      (all_mapped_pass (is_in named_cut) moved (instr_refs i)
+      (each_weaker IsLiveItem (λ y. is_in named_cut (moved y) ≡ true) (instr_refs i) moved_in all))
+      ∙ (ap not (segments_under r i.immediates) ∙ both.1))
+
+  code_sound : (is : List InstrValue) → is_sound_code m is ≡ true → AllByRecursion IsLiveItem (code_refs is)
+      → is_sound_code named_cut (renumber_code r is) ≡ true
+  code_sound [] h all = refl
+  code_sound (i ∷ is) h all =
+      let both = both_true (is_sound m i) (is_sound_code m is) h in
+      let parts = split_all IsLiveItem (instr_refs i) (code_refs is) all in
+      ap (λ b. b && is_sound_code named_cut (renumber_code r is)) (instr_sound i both.0 parts.0) ∙ code_sound is both.1 parts.1
+
+  def_sound : (d : DefValue (Option BodyValue)) → is_sound_def m d ≡ true → AllByRecursion IsLiveItem (def_refs body_refs d)
+      → is_sound_def named_cut (def_seen (option_map (renumber_body r)) d) ≡ true
+  def_sound (imported a b) h all = refl
+  def_sound (local None) h all = absurd (false≢true h)
+  def_sound (local (Some b)) h all = code_sound b.operators h all
+
+  entry_sound : (e : Entry) → is_sound_entry m e ≡ true → AllByRecursion IsLiveItem (entry_refs e) → is_sound_entry named_cut (renumber_entry r e)
+      ≡ true
+  entry_sound no_entry h all = refl
+  entry_sound (type_entry t) h all = refl
+  entry_sound (func_entry f) h all = def_sound f.def h all.1
+  entry_sound (table_entry t) h all = refl
+  entry_sound (memory_entry t) h all = refl
+  entry_sound (global_entry g) h all = refl
+
+  pub sound_moved : (x : ItemIndex) → live x ≡ true → is_sound_at m x ≡ true → is_sound_at named_cut (moved x) ≡ true
+  sound_moved x h sound = ap (is_sound_entry named_cut) (entry_is x h) ∙ entry_sound (entry_at m x) sound (k.named x h)
+
+pub cut_is_reached : CutIsReached
+cut_is_reached m exports live k all y h =
+    let x = of_item m exports live k (part_names m live) y (subst (λ d. IsTrue (is_in d y)) (cut_is m exports live) h) in
+    subst (λ d. IsReached d d.exports y) (sym (cut_is m exports live))
+    (subst (IsReached (cut m exports live) (cut m exports live).exports) x.2 (reached_moved m exports live k (part_names m live) x.0 (all x.0 x.1)))

@@ -1,0 +1,20 @@
+use Rattle.std.proofs.Common.{List, false, ap, subst}
+use Rattle.wc_resolve.specs.Contents.{text_rule}
+use Rattle.wc_resolve.specs.Views.{TypeView}
+use Rattle.wc_resolve.specs.World.{ResolveView}
+use Rattle.wc_resolve.specs.Tables.{IsOrder}
+use Rattle.wc_resolve.proofs.TypeRuleLemmas.{value_by_rule_alone, value_by_rule_follows}
+use Rattle.wc_resolve.proofs.ContentLemmas.{text_looks_down}
+use Rattle.wc_resolve.proofs.resolve.Resolve.texts_unique.Goals as goal
+
+pub returns-clause-made : goal.returns-clause-made
+returns-clause-made c = λ lists.
+    value_by_rule_follows (text_rule lists) false c.args.self.now.types c.self.inside.kept.order.items
+    (subst (λ (t : List TypeView). IsOrder t c.self.inside.kept.order.items) (ap (λ (v : ResolveView). v.types) c.self.view_is) c.self.invariant.ordered)
+    (text_looks_down lists c.args.self.now.types)
+
+pub returns-clause-alone : goal.returns-clause-alone
+returns-clause-alone c = λ lists.
+    value_by_rule_alone (text_rule lists) false c.args.self.now.types c.self.inside.kept.order.items
+    (subst (λ (t : List TypeView). IsOrder t c.self.inside.kept.order.items) (ap (λ (v : ResolveView). v.types) c.self.view_is) c.self.invariant.ordered)
+    (text_looks_down lists c.args.self.now.types)

@@ -1,7 +1,0 @@
-use Rattle.std.proofs.Common.{subst}
-use Rattle.wc_names.specs.Laws.{MeaningsUnique}
-use Rattle.wc_validate.proofs.RestrictionLemmas.{restrictions_valid}
-use Rattle.wc_validate.proofs.restriction_laws.restrictions_valid.Goals as goal
-
-pub returns : goal.returns
-returns c = restrictions_valid c.args.encoder.now (subst MeaningsUnique c.metadata-metadata.ensures.resolve c.meanings_unique.ensures) c.exports_unique.ensures
