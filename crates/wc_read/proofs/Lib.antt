@@ -31,6 +31,7 @@ pub mod DistinctNamesLemmas
 pub mod SignedLoopLemmas
 pub mod SignedLemmas
 pub mod OperatorsLemmas
+pub mod BlocksLemmas
 pub mod NestingLemmas
 pub mod NestingLoopLemmas
 pub mod LocalCountLemmas
@@ -39,3 +40,7 @@ pub mod DecodingLemmas
 pub mod RenumberingLemmas
 pub mod BodyOperatorsLemmas
 pub mod FrequentLemmas
+pub mod ShortestTextLemmas
+pub mod PassKindsLemmas
+pub mod PassingLemmas
+pub mod LocalRunsLemmas

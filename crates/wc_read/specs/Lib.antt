@@ -20,6 +20,13 @@ pub mod SectionContents
 pub mod Modules
 pub mod Signed
 pub mod Operators
+pub mod Text
+pub mod OperatorText
+pub mod Blocks
+pub mod PassKinds
+pub mod TextSizes
+pub mod Passing
+pub mod LocalRuns
 pub mod Refs
 pub mod Renumbering
 pub mod Nesting

@@ -1,65 +1,119 @@
 //! The operators of a body, one after another.
 
-ghost use Rattle.std.specs.Prelude.{◌≡◌, ◌≢◌, ◌<◌, None, IfOk, IfErr, IfSome};
+ghost use Rattle.std.specs.Prelude.{◌≡◌, ◌≢◌, ◌<◌, ◌≤◌, ◌↔◌, List, [], Some, None, IsTrue, IfOk, IfErr, IfSome};
 ghost use Rattle.std.specs.Option.{option_map};
 ghost use Rattle.wc_read.specs.Faults.{IfRefused};
-ghost use Rattle.wc_read.specs.Operators.{instr_value};
-ghost use Rattle.wc_read.specs.Decoding.{body_in, body_of, body_operators, bytes_left, locals_read, next_and_left, operators_left};
+ghost use Rattle.wc_read.specs.Operators.{InstrValue, instr_value};
+ghost use Rattle.wc_read.specs.Text.{vector_text, locals_text};
+ghost use Rattle.wc_read.specs.Passing.{IsRunText, may_pass, run_and_left};
+ghost use Rattle.wc_read.specs.Decoding.{body_in, body_of, body_operators, bytes_left, KeepsLocals, locals_read, next_and_left, operators_left};
 
-use crate::bodies::{Locals, are_few};
+use crate::blocks::Blocks;
+use crate::bodies::Locals;
 use crate::fault::ReadFault;
 use crate::nesting::{step, token_of};
 use crate::operators::Instr;
+use crate::pass_kinds::begins_run;
+use crate::passing::pass_operators;
 use crate::reader::Reader;
-use std::alloc::Global;
+use std::alloc::{AllocError, Global};
 
 /// The operators of a function's body (WebAssembly core specification, 5.5.13), read one after another. None of them is
-/// kept, so a body of any length takes the memory of its open blocks.
+/// kept, and a body takes memory only where 64 of its blocks are open at once.
 #[derive(Drop)]
 pub struct Operators<'a> {
-    /// The body's locals in runs, which were read already.
-    locals: Vec<Locals>,
+    /// The bytes of the body's locals in runs, which were read already.
+    locals: &'a [u8],
+    /// Whether these bytes are the fewest.
+    is_shortest: bool,
     reader: Reader<'a>,
-    /// The blocks that are open, the inmost last: whether an `else` may occur in each.
-    blocks: Vec<bool>,
+    blocks: Blocks,
 }
 
 impl<'a> Operators<'a> {
-    /// The operators of the body that bytes spell. Its locals are read here.
+    /// The operators of the body that bytes spell. Its locals are read here. It takes no memory.
     ///
     /// # Errors
     ///
     /// - `Truncated`, `BadNumber`, `BadType`: the bytes end inside the locals, or a count or a type of locals is none.
     /// - `TooLarge`: there are 2^32 locals or more.
-    /// - `Memory`: an allocation failed.
+    #[inline(always)]
     pub fn new(alloc: Global, slice: &'a [u8]) -> Result<Operators<'a>, ReadFault>
         ensures found { IfOk result
             (λ o. operators_left o ≡ body_operators (body_in slice.now)) }
         ensures body { IfOk result
             (λ o. body_in slice.now ≡ option_map (body_of (locals_read o)) (operators_left o)) }
-        // Unless memory runs out, the locals of a body are read.
+        ensures keeps_locals { IfOk result KeepsLocals }
+        // The locals of a body are read.
         ensures refused { IfRefused result (body_in slice.now ≡ None) }
         ensures no_component { IfErr result (λ f. f ≢ ReadFault.Component) }
     {
         let mut reader = Reader::new(slice);
-        let locals = reader.vector::<Locals>(alloc)?;
-        if !are_few(&locals) {
-            return Err(ReadFault::TooLarge);
-        }
-        let mut blocks = Vec::new(alloc);
-        blocks.push(false)?;
+        let is_shortest = reader.pass_locals()?;
+        let (locals, _) = slice.split_at(slice.len() - reader.rest.len());
         Ok(Operators {
             locals,
+            is_shortest,
             reader,
-            blocks,
+            blocks: Blocks::of_body(alloc),
         })
     }
 
-    /// The locals of the body, in runs.
-    pub fn locals(&self) -> &[Locals]
-        ensures { result.now ≡ locals_read self.now }
+    /// Whether the body has ended: no operator is left, and no block is open.
+    #[inline(always)]
+    pub fn is_done(&self) -> bool
+        ensures { IsTrue result ↔ (operators_left self.now ≡ Some []) }
     {
-        &self.locals
+        self.reader.rest.is_empty() && self.blocks.is_empty()
+    }
+
+    /// The bytes of the body's locals, where no fewer bytes spell them; asked before its operators are read.
+    pub fn shortest_locals(&self) -> Option<&'a [u8]>
+        requires { KeepsLocals self.now }
+        ensures { IfSome result (λ b. b.now ≡ vector_text locals_text (locals_read self.now)) }
+    {
+        if self.is_shortest {
+            Some(self.locals)
+        } else {
+            None
+        }
+    }
+
+    /// The locals of the body, in runs; asked before its operators are read.
+    pub fn locals(&self, alloc: Global) -> Result<Vec<Locals>, AllocError>
+        requires { KeepsLocals self.now }
+        ensures { IfOk result (λ v. v.items ≡ locals_read self.now) }
+    {
+        match Reader::new(self.locals).vector::<Locals>(alloc) {
+            Ok(locals) => Ok(locals),
+            Err(ReadFault::Memory) => Err(AllocError),
+            Err(_) => unreachable!(),
+        }
+    }
+
+    /// Whether `pass` may go past the next operator, by its code. Where it may not, a call of `pass` is spared.
+    #[inline(always)]
+    pub fn begins_run(&self) -> bool
+        ensures { result ≡ may_pass self.now }
+    {
+        begins_run(self.reader.rest)
+    }
+
+    /// Goes past operators, and answers their bytes. They name no segment and no item, but memory 0 where `memory` is
+    /// true, and no fewer bytes spell them. It takes no memory and has no faults: all other operators are left to
+    /// `next`, and so are some of these, such as those of rare shapes.
+    #[inline(always)]
+    pub fn pass(&mut self, memory: bool) -> &'a [u8]
+        ensures passed { (run : List InstrValue) × IsRunText memory result.now run
+            × (operators_left self.old ≡ run_and_left run (operators_left self.new)) }
+        ensures locals { locals_read self.new ≡ locals_read self.old }
+        ensures not_longer { bytes_left self.new ≤ bytes_left self.old }
+    {
+        let input = self.reader.rest;
+        let rest = pass_operators(&mut self.blocks, input, memory);
+        self.reader.rest = rest;
+        let (passed, _) = input.split_at(input.len() - rest.len());
+        passed
     }
 
     /// The next operator; `None` after the end of the body, the last of them.

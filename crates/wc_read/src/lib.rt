@@ -34,6 +34,7 @@
 //! This function is proved in `wc_bench`, as `examples::read::exports_memory`.
 #![tactic(auto)]
 
+mod blocks;
 mod bodies;
 mod body_operators;
 pub mod codes;
@@ -52,11 +53,14 @@ mod instructions;
 mod items;
 pub mod laws;
 mod limits;
+mod local_runs;
 mod modules;
 mod names;
 mod nesting;
 mod operators;
 mod order;
+mod pass_kinds;
+mod passing;
 mod producers;
 mod reader;
 mod references;
@@ -64,6 +68,7 @@ mod section_contents;
 mod sections;
 mod signed;
 mod spaces;
+mod text_sizes;
 mod types;
 mod validity;
 

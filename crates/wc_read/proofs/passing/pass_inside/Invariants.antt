@@ -1,0 +1,10 @@
+use Rattle.std.proofs.Common.{◌≢◌, [], length}
+use Rattle.wc_read.specs.Blocks.{open_blocks}
+use Rattle.wc_read.specs.Passing.{AreOperatorsPassed}
+use Rattle.wc_read.proofs.passing.pass_inside.Given as goal
+
+abbrev pub invariant-loop-size : goal.invariant-loop-size
+invariant-loop-size l = AreOperatorsPassed l.memory (open_blocks l.initial.blocks) l.input (open_blocks l.blocks) l.rest × (open_blocks l.blocks ≢ [])
+
+abbrev pub decreases-loop-size : goal.decreases-loop-size
+decreases-loop-size l = length l.rest

@@ -1,0 +1,116 @@
+//! Operators that are passed over: they name no segment and no item but memory 0, and the bytes that spell them are
+//! their text.
+
+ghost use Rattle.std.specs.Prelude.{◌≡◌, ◌≢◌, [], true, Some, None, if◌then◌else◌};
+ghost use Rattle.wc_read.specs.Blocks.{open_blocks};
+ghost use Rattle.wc_read.specs.Passing.{IsPlainType, PassesBlockStart, PassesOperator, AreOperatorsPassed};
+
+use crate::blocks::Blocks;
+use crate::codes::EMPTY_BLOCK;
+use crate::operators::END;
+use crate::pass_kinds::{PassKind, pass_kind};
+use crate::text_sizes::{bytes_size, mem_arg_size, memory_index_size, number_size, signed_size};
+
+/// Goes past operators, as far as it can, and answers the bytes that are left. Operators that name memory 0 are passed
+/// over where `memory` is true.
+#[inline(never)]
+pub fn pass_operators<'a>(blocks: &mut Blocks, input: &'a [u8], memory: bool) -> &'a [u8]
+    ensures { AreOperatorsPassed memory
+        (open_blocks blocks.old) input.now (open_blocks blocks.new) result.now }
+{
+    if blocks.is_empty() {
+        return input;
+    }
+    let rest = pass_inside(blocks, input, memory);
+    match rest.split_first() {
+        Some((first, left)) if *first == END => {
+            blocks.close();
+            left
+        }
+        _ => rest,
+    }
+}
+
+/// Goes past operators that leave a block open.
+#[inline(always)]
+fn pass_inside<'a>(blocks: &mut Blocks, input: &'a [u8], memory: bool) -> &'a [u8]
+    requires { open_blocks blocks.old ≢ [] }
+    ensures passed { AreOperatorsPassed memory
+        (open_blocks blocks.old) input.now (open_blocks blocks.new) result.now }
+    ensures inside { open_blocks blocks.new ≢ [] }
+{
+    let mut rest = input;
+    while let Some(size) = pass_operator(blocks, rest, memory) {
+        let (_, left) = rest.split_at(size);
+        rest = left;
+    }
+    rest
+}
+
+/// Goes past an operator that leaves a block open, and answers how many bytes it has; `None`, and the same blocks,
+/// where it is not passed over.
+#[inline(always)]
+fn pass_operator(blocks: &mut Blocks, input: &[u8], memory: bool) -> Option<usize>
+    requires { open_blocks blocks.old ≢ [] }
+    ensures passed { PassesOperator memory
+        (open_blocks blocks.old) input.now (open_blocks blocks.new) result }
+    ensures inside { open_blocks blocks.new ≢ [] }
+{
+    let (first, rest) = input.split_first()?;
+    match pass_kind(*first) {
+        PassKind::Never => None,
+        PassKind::CodeOnly => Some(1),
+        PassKind::Index => Some(1 + number_size(rest, 32)?),
+        PassKind::I32 => Some(1 + signed_size(rest, 32)?),
+        PassKind::I64 => Some(1 + signed_size(rest, 64)?),
+        PassKind::FourBytes => Some(1 + bytes_size(rest, 4)?),
+        PassKind::EightBytes => Some(1 + bytes_size(rest, 8)?),
+        PassKind::MemArg => Some(1 + mem_arg_size(rest, memory)?),
+        PassKind::Memory => Some(1 + memory_index_size(rest, memory)?),
+        PassKind::Block => pass_block_start(blocks, rest, false),
+        PassKind::If => pass_block_start(blocks, rest, true),
+        PassKind::Else => one_byte_if(blocks.begin_else_in_word()),
+        PassKind::End => one_byte_if(blocks.close_in_word()),
+    }
+}
+
+/// The size of an operator that is its code alone, where it was passed over.
+#[inline(always)]
+fn one_byte_if(passed: bool) -> Option<usize>
+    ensures { result ≡ (if passed then Some 1 else None) }
+{
+    if passed { Some(1) } else { None }
+}
+
+/// Opens a block whose type is one byte, where it is not the last of a word, and answers the size of the operator that
+/// opens it.
+#[inline(always)]
+fn pass_block_start(blocks: &mut Blocks, input: &[u8], is_if: bool) -> Option<usize>
+    ensures { PassesBlockStart is_if
+        (open_blocks blocks.old) input.now (open_blocks blocks.new) result }
+{
+    let (first, _) = input.split_first()?;
+    if is_plain_type(*first) && blocks.open_in_word(is_if) {
+        Some(2)
+    } else {
+        None
+    }
+}
+
+/// Whether a byte is a block's type by itself, one that names no item.
+#[inline(always)]
+fn is_plain_type(byte: u8) -> bool
+    ensures { result ≡ true → IsPlainType byte }
+{
+    match byte {
+        EMPTY_BLOCK => true,
+        0x7f => true,
+        0x7e => true,
+        0x7d => true,
+        0x7c => true,
+        0x7b => true,
+        0x70 => true,
+        0x6f => true,
+        _ => false,
+    }
+}
