@@ -22,7 +22,7 @@ use Rattle.wc_gc.specs.Faults.{of_read}
 use Rattle.wc_gc.specs.KeptExports.{kept_exports, missing_name, export_entries}
 use Rattle.wc_gc.specs.Reached.{IsReachedFrom}
 use Rattle.wc_gc.specs.Soundness.{is_sound_at}
-use Rattle.wc_gc.specs.Liveness.{IsCount, HasLiveBody, HasUnsupported, IsSupported, IsLivenessOf, IsLiveness, IsFaultOf, Wanted, IsCause, IsFault, order_of}
+use Rattle.wc_gc.specs.Liveness.{IsCount, HasLiveBody, HasUnsupported, IsSupported, IsLive, IsLivenessOf, IsLiveness, IsFaultOf, Wanted, IsCause, IsFault, order_of}
 use Rattle.wc_gc.specs.declared.fault.GcFault.{GcFault}
 use Rattle.wc_gc.specs.declared.fault.GcFault.TheVariants.{Memory, Read, MissingExport, UnsupportedSection, LiveBody}
 use Rattle.wc_gc.proofs.ExportLemmas.{all_kept}
@@ -172,3 +172,12 @@ not_read w g h c = c.2
 pub read_fault : {T : Type 0} (w : Wanted) (f : ReadFault) → (f ≢ read_memory → SpellsNothing SpellsModule w.bytes) → (IsErrOf {T = T} (Err f) Component ↔ IsComponent w.bytes) → IsFault w (of_read f)
 read_fault w read_memory nothing component = inl refl
 read_fault w f nothing component = inr ((nothing (λ e. absurd cc), (λ e. absurd cc), ((λ e. component.0 (ap Err e)), (λ h. let is = component.1 h in cc))), not_read w)
+
+-- what is live is live by any test of the same answers
+pub same_live : (required : List (List ℕ)) (m : ModuleValue) (live other : ItemIndex → Bool) (turns : ℕ) → ((x : ItemIndex) → live x ≡ other x) → IsLivenessOf required m other turns → IsLivenessOf required m live turns
+same_live required m live other turns same h = record {
+  is_live = λ x. subst (λ (b : Bool). IsTrue b ↔ IsLive required m x) (sym (same x)) (h.is_live x);
+  counted = h.counted;
+  supported = h.supported;
+  sound = h.sound;
+}

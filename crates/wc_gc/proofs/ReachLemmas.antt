@@ -14,7 +14,7 @@ use Rattle.wc_read.specs.declared.core_module.Module.{Module}
 use Rattle.wc_read.specs.declared.items.Item.{Item}
 use Rattle.wc_read.specs.declared.types.GlobalType.{GlobalType}
 use Rattle.wc_read.specs.declared.operators.Space.{Space}
-use Rattle.wc_read.specs.declared.operators.Space.TheVariants.{Funcs, Globals}
+use Rattle.wc_read.specs.declared.operators.Space.TheVariants.{Funcs, Globals, Memories}
 use Rattle.wc_write.specs.BuiltValues.{item_seen}
 use Rattle.std.specs.Option.{option_map, option_map_or, option_to_list}
 use Rattle.std.proofs.lemmas.List.Folds.{list_all-append}
@@ -23,6 +23,7 @@ use Rattle.wc_read.specs.Operators.{InstrValue, instr_value, instr_values}
 use Rattle.wc_read.specs.Bodies.{BodyValue}
 use Rattle.wc_read.specs.Decoding.{body_operators}
 use Rattle.wc_read.specs.Refs.{refs_of}
+use Rattle.wc_read.specs.Passing.{ArePassable, IsPassable, IsPassableCode, run_and_left}
 use Rattle.wc_read.specs.declared.operators.Refs.{Refs}
 use Rattle.wc_read.specs.declared.operators.Instr.{Instr}
 use Rattle.wc_gc.specs.Decoded.{DecodedModule, FuncCode, GlobalCode, ItemIndex, decoded_module, func_code, is_in, size_of}
@@ -31,10 +32,10 @@ use Rattle.wc_gc.specs.Reached.{IsPath, IsReachedFrom}
 use Rattle.wc_gc.specs.Searches.{IsTied, HasGrown, IsGrown}
 use Rattle.wc_gc.specs.Soundness.{is_sound, is_sound_code, is_sound_body, is_sound_at}
 use Rattle.wc_gc.specs.Liveness.{IsCount}
-use Rattle.wc_gc.specs.Searches.{Finds}
+use Rattle.wc_gc.specs.Searches.{Finds, IsKnownCode, finds}
 use Rattle.wc_gc.specs.declared.search.Search.{Search}
 use Rattle.wc_gc.specs.Entries.{present, refs_list, instr_refs, code_refs, init_refs, body_refs}
-use Rattle.wc_gc.proofs.SearchLemmas.{IsSearched, grown_none, only_if_tied, search_start, search_turn, search_end, false_true}
+use Rattle.wc_gc.proofs.SearchLemmas.{IsSearched, grown_none, grown_old, items_decided, only_if_tied, search_start, search_turn, search_end, false_true}
 
 -- what was found, of which so many were passed and are sound
 pub record IsAt (m : DecodedModule) (roots : List ItemIndex) (has : ItemIndex → Bool) (found : List ItemIndex) (next : ℕ) : Type 0 where
@@ -184,6 +185,42 @@ body_more has m body a b c left after i s e f good = record {
   split = s.split ∙ ap (option_map (λ is. s.before ++ is)) e ∙ map_push s.before i after;
   found = finds_code has m a b c s.before i s.found f;
   sound = sound_push m s.before i ∙ (ap (λ (z : Bool). z && (is_sound m i && true)) s.sound ∙ ap (λ (z : Bool). true && (z && true)) good);
+}
+
+-- operators were passed over that name nothing, or memory 0, which was found
+
+finds_old : {L : Type 0} (has : L → ℕ → Bool) (a : Search L) (x : ItemIndex) → finds has a x ≡ true → Finds has a a (x ∷ [])
+finds_old has a x old = grown_old items_decided (finds has a) (finds has a) a.order.items x old (record { present = old; others = λ y new. refl })
+
+finds_passable : {L : Type 0} (has : L → ℕ → Bool) (m : DecodedModule) (a : Search L) (memory : Bool) (i : InstrValue) → (memory ≡ true → (finds has a (Memories, 0) ≡ true) × (is_in m (Memories, 0) ≡ true))
+    → ArePassable memory (refs_of i.immediates) → Finds has a a (present m (instr_refs i))
+finds_passable has m a memory i known (inl e) = rw e (finds_none has a)
+finds_passable has m a memory i known (inr (may, e)) = let k = known may in rw (e, k.1) (finds_old has a (Memories, 0) k.0)
+
+sound_passable : (m : DecodedModule) (memory : Bool) (i : InstrValue) → (memory ≡ true → is_in m (Memories, 0) ≡ true) → IsPassable memory i → is_sound m i ≡ true
+sound_passable m memory i known (inl e, segment) = rw (e, segment) refl
+sound_passable m memory i known (inr (may, e), segment) = rw (e, known may, segment) refl
+
+pub known_code : {L : Type 0} (has : L → ℕ → Bool) (m : DecodedModule) (a : Search L) (memory : Bool) (is : List InstrValue) → (memory ≡ true → (finds has a (Memories, 0) ≡ true) × (is_in m (Memories, 0) ≡ true))
+    → IsPassableCode memory is → IsKnownCode has m a is
+known_code has m a memory [] known n = (finds_none has a, refl)
+known_code has m a memory (i ∷ is) known n =
+    let rest = known_code has m a memory is known n.1 in (
+      finds_present has m a a a (instr_refs i) (code_refs is) (finds_passable has m a memory i known n.0.0) rest.0,
+      rw (sound_passable m memory i (λ may. (known may).1) n.0, rest.1) refl,
+    )
+
+map_those : (before is : List InstrValue) (o : Option (List InstrValue)) → option_map (λ xs. before ++ xs) (run_and_left is o) ≡ option_map (λ xs. (before ++ is) ++ xs) o
+map_those before is None = refl
+map_those before is (Some xs) = ap Some (sym (append_assoc before is xs))
+
+pub body_passed : {L : Type 0} (has : L → ℕ → Bool) (m : DecodedModule) (body : Option BodyValue) (a b : Search L) (left after : Option (List InstrValue)) (is : List InstrValue)
+    → IsBodyFound has m body a b left → left ≡ run_and_left is after → IsKnownCode has m b is → IsBodyFound has m body a b after
+body_passed has m body a b left after is s e n = record {
+  before = s.before ++ is;
+  split = s.split ∙ (ap (option_map (λ xs. s.before ++ xs)) e ∙ map_those s.before is after);
+  found = subst (λ (z : List ItemIndex). Finds has a b (present m z)) (sym (flat_map-append instr_refs s.before is)) (finds_present has m a b b (code_refs s.before) (code_refs is) s.found n.0);
+  sound = list_all-append (is_sound m) s.before is ∙ (ap (λ (z : Bool). z && is_sound_code m is) s.sound ∙ n.1);
 }
 
 whole_body : {L : Type 0} (has : L → ℕ → Bool) (m : DecodedModule) (body : Option BodyValue) (a b : Search L) (left : Option (List InstrValue)) (s : IsBodyFound has m body a b left) → left ≡ Some [] → body_operators body ≡ Some s.before

@@ -1,6 +1,10 @@
 -- A search: a set, and the list of what is in it, in the order in which it was found.
-use Rattle.std.specs.Prelude.{◌≡◌, ◌≢◌, ℕ, List, ◌++◌, Bool, IsTrue, Contains, AllPairs, ◌⊎◌}
-use Rattle.wc_gc.specs.Decoded.{ItemIndex}
+use Rattle.std.specs.Prelude.{◌≡◌, ◌≢◌, ℕ, List, ◌++◌, Bool, true, Option, IsTrue, Contains, AllPairs, ◌⊎◌}
+use Rattle.wc_read.specs.Operators.{InstrValue}
+use Rattle.wc_read.specs.Passing.{run_and_left}
+use Rattle.wc_gc.specs.Decoded.{DecodedModule, ItemIndex}
+use Rattle.wc_gc.specs.Entries.{present, code_refs}
+use Rattle.wc_gc.specs.Soundness.{is_sound_code}
 use Rattle.wc_gc.specs.LiveSets.{has_item}
 use Rattle.wc_gc.specs.declared.search.Search.{Search}
 
@@ -30,3 +34,11 @@ IsConsistent has s = IsTied (finds has s) s.order.items
 -- these items were found, and no others
 abbrev pub Finds : {L : Type 0} → (L → ℕ → Bool) → Search L → Search L → List ItemIndex → Type 0
 Finds has old new xs = IsGrown (finds has old) old.order.items (finds has new) new.order.items xs
+
+-- operators are sound, and the items that they name were found
+abbrev pub IsKnownCode : {L : Type 0} → (L → ℕ → Bool) → DecodedModule → Search L → List InstrValue → Type 0
+IsKnownCode has m s is = Finds has s s (present m (code_refs is)) × (is_sound_code m is ≡ true)
+
+-- such operators are passed over, up to those that are left
+abbrev pub PassesKnown : {L : Type 0} → (L → ℕ → Bool) → DecodedModule → Search L → Option (List InstrValue) → Option (List InstrValue) → Type 0
+PassesKnown has m s old left = (run : List InstrValue) × IsKnownCode has m s run × (old ≡ run_and_left run left)

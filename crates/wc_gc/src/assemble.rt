@@ -175,10 +175,12 @@ fn append_funcs<'a, 'n, L: LiveSet>(
     ensures { OnOk result (written_funcs items.new.items ≡ written_funcs items.old.items
         ++ live_funcs edit.entry (L.has kept.now) (L.has exported.now) funcs.now) }
 {
+    let mut place: usize = 0;
+    let mut exported_place: usize = 0;
     for index in 0..funcs.len() {
-        if kept.contains(index as u32) {
+        if kept.contains_from(index as u32, &mut place) {
             let func = func_at(funcs, index);
-            let exported = exported.contains(index as u32);
+            let exported = exported.contains_from(index as u32, &mut exported_place);
             items.push(edit.edited_func(&func, exported))?;
         }
     }
@@ -205,8 +207,9 @@ fn kept_items<T: Copy, L: LiveSet>(
         ≡ kept_items (L.has live.now) (length items.now) items.now) }
 {
     let mut kept = Vec::new(alloc);
+    let mut place: usize = 0;
     for index in 0..items.len() {
-        if live.contains(index as u32) {
+        if live.contains_from(index as u32, &mut place) {
             kept.push(items[index])?;
         }
     }
@@ -224,8 +227,9 @@ fn kept_types<L: LiveSet>(
         ≡ kept_items (L.has live.now) (length types.now) (map func_type_value types.now)) }
 {
     let mut kept = Vec::new(alloc);
+    let mut place: usize = 0;
     for index in 0..types.len() {
-        if live.contains(index as u32) {
+        if live.contains_from(index as u32, &mut place) {
             kept.push(types[index].clone(alloc)?)?;
         }
     }

@@ -85,7 +85,7 @@ fn live_named<L: LiveSet>(
         (range_with_len 0 (length adapter.now.globals.items))) }
 {
     (0..adapter.globals.len() as u32)
-        .filter(|index| live.contains(*index) && is_named(adapter, *index, name))
+        .filter(|index| is_named(adapter, *index, name) && live.contains(*index))
         .collect(alloc)
 }
 
@@ -101,7 +101,7 @@ fn live_reallocs<L: LiveSet>(
         (range_with_len 0 (length adapter.now.funcs.items))) }
 {
     (0..adapter.funcs.len() as u32)
-        .filter(|index| live.contains(*index) && is_realloc(adapter, *index))
+        .filter(|index| is_realloc(adapter, *index) && live.contains(*index))
         .collect(alloc)
 }
 
@@ -117,7 +117,7 @@ fn live_empties<L: LiveSet>(
         (range_with_len 0 (length adapter.now.types.items))) }
 {
     (0..adapter.types.len() as u32)
-        .filter(|index| live.contains(*index) && has_empty_type(adapter, *index))
+        .filter(|index| has_empty_type(adapter, *index) && live.contains(*index))
         .collect(alloc)
 }
 

@@ -1,6 +1,6 @@
 //! The live functions of an edited adapter: those that are imported, and those that are defined.
 
-ghost use Rattle.std.specs.Prelude.{◌≡◌, ◌<◌, ◌^◌, ℕ, ◌&&◌, ◌||◌, nat_eq, map, length, IfOk, OnOk};
+ghost use Rattle.std.specs.Prelude.{◌≡◌, ◌<◌, ◌^◌, ℕ, ◌&&◌, map, length, IfOk};
 ghost use Rattle.wc_read.specs.Exports.{export_value};
 ghost use Rattle.wc_gc.specs.Decoded.{func_code};
 ghost use Rattle.wc_gc.specs.Edited.{is_exported_func, is_func};
@@ -8,7 +8,7 @@ ghost use Rattle.wc_gc.specs.FuncGroups.{AreGroups, has_func, is_import_after, i
 ghost use Rattle.wc_gc.specs.Parts.{settings_value};
 
 use crate::found::imports_realloc;
-use crate::live::LiveSet;
+use crate::live::{LiveSet, insert_if};
 use crate::settings::Settings;
 use std::alloc::{AllocError, Global};
 use wc_read::{Def, Export, ExportKind, Func};
@@ -58,8 +58,9 @@ fn group<L: LiveSet>(
         && has_func (is_in_group (settings_value settings.entry) imported) funcs.now n)) }
 {
     let mut set = L::new(alloc);
+    let mut place: usize = 0;
     for index in 0..funcs.len() {
-        let member = is_live_in_group(live, funcs, index as u32, settings, imported);
+        let member = is_live_in_group(live, &mut place, funcs, index as u32, settings, imported);
         insert_if(&mut set, index as u32, member)?;
     }
     Ok(set)
@@ -68,6 +69,7 @@ fn group<L: LiveSet>(
 /// Whether a function is live, and imported after the edit or not.
 fn is_live_in_group<L: LiveSet>(
     live: &L,
+    place: &mut usize,
     funcs: &[Func<'_>],
     index: u32,
     settings: Settings<'_>,
@@ -76,7 +78,7 @@ fn is_live_in_group<L: LiveSet>(
     ensures { result ≡ (L.has live.now index
         && has_func (is_in_group (settings_value settings.entry) imported) funcs.now index) }
 {
-    live.contains(index) && has_func_in_group(funcs, index, settings, imported)
+    has_func_in_group(funcs, index, settings, imported) && live.contains_from(index, place)
 }
 
 /// Whether the function of an index is imported after the edit, or whether it is not.
@@ -100,18 +102,6 @@ fn exported_funcs<L: LiveSet>(alloc: Global, exports: &[Export<'_>]) -> Result<L
         insert_if(&mut funcs, export.index, is_func(export.kind))?;
     }
     Ok(funcs)
-}
-
-/// Puts an index in, if it is wanted.
-fn insert_if<L: LiveSet>(set: &mut L, index: u32, wanted: bool) -> Result<(), AllocError>
-    ensures { OnOk result ((n : ℕ) →
-        L.has set.new n ≡ (L.has set.old n || (wanted && nat_eq n index))) }
-{
-    if !wanted {
-        return Ok(());
-    }
-    set.insert(index)?;
-    Ok(())
 }
 
 fn is_func(kind: ExportKind) -> bool

@@ -1,7 +1,7 @@
 //! Trimming of adapter modules: an adapter cut to what its wanted exports reach, under new indices, with imported
 //! reallocs replaced and code added that allocates a stack (`run`); that code alone (`realloc_via_memory_grow`,
 //! `allocate_stack_via_realloc`); the items that exports reach (`liveness_counted`), and the sets that these are in
-//! (`LiveSet`, `LiveSets`, `BitVec`, `Ranks`).
+//! (`LiveSet`, `LiveSets`, `RangeSet`, `BitVec`, `Ranks`).
 //!
 //! An item is a type, function, table, memory or global. An export names an item, a function its type and what the
 //! operators of its body name, a global what its initialiser names. What is reached is the end of a list of items that
@@ -37,14 +37,17 @@ mod exports;
 mod fault;
 mod found;
 mod func_groups;
+mod gathered;
 pub mod laws;
 mod live;
 mod live_items;
 mod machine_laws;
 mod machine_operators;
+mod merging;
 mod new_bodies;
 mod new_indices;
 mod parts;
+mod range_set;
 mod ranks;
 mod restriction_laws;
 mod rewrite;
@@ -58,5 +61,6 @@ pub use added_code::{allocate_stack_via_realloc, realloc_via_memory_grow};
 pub use fault::GcFault;
 pub use live::{BitVec, LiveSet, LiveSets};
 pub use live_items::{Liveness, liveness_counted};
+pub use range_set::RangeSet;
 pub use ranks::Ranks;
 pub use trim::run;

@@ -1,13 +1,16 @@
 //! Sets of live items.
 
-ghost use Rattle.std.specs.Prelude.{◌≡◌, ◌<◌, ◌/◌, ◌^◌, ℕ, Bool, not, false, true, length, slice_index, IfOk, IsOk, OnOk, OnErr};
+ghost use Rattle.std.specs.Prelude.{◌≡◌, ◌≤◌, ◌<◌, ◌&&◌, ◌||◌, nat_eq, nat_lt, All, ◌/◌, ◌^◌, ℕ, Bool, not, false, true, length, slice_index, IfOk, IsOk, OnOk, OnErr};
+ghost use Rattle.std.specs.List.Sorted.{IsSortedBy};
 ghost use Rattle.wc_gc.specs.Decoded.{ItemIndex};
 ghost use Rattle.wc_gc.specs.Bits.{bit_of};
 ghost use Rattle.wc_gc.specs.Counts.{count_below};
 ghost use Rattle.wc_gc.specs.LiveSets.{Inserts, has_item};
+ghost use Rattle.wc_gc.specs.Ranges.{holds};
 ghost use Rattle.wc_gc.specs.Ranks.{has_number, rank_of};
 
-use crate::ranks::{Ranks, has_bit};
+use crate::range_set::RangeSet;
+use crate::ranks::Ranks;
 use std::alloc::{AllocError, Global};
 use wc_read::Space;
 
@@ -31,8 +34,24 @@ pub trait LiveSet: Sized + Drop {
         ensures there { has self.old x ≡ true → IsOk result }
         ensures err { OnErr result ((y : ℕ) → has self.new y ≡ has self.old y) };
 
+    /// Puts in numbers that are in ascending order.
+    ///
+    /// # Errors
+    ///
+    /// `AllocError`: an allocation failed. The set is as before.
+    fn insert_sorted(&mut self, alloc: Global, numbers: &[u32]) -> Result<(), AllocError>
+        requires { IsSortedBy nat_lt numbers.now }
+        ensures has { OnOk result ((y : ℕ) →
+            has self.new y ≡ (has self.old y || holds numbers.now y)) }
+        ensures refused { OnErr result ((y : ℕ) → has self.new y ≡ has self.old y) };
+
     /// Whether a number is in the set.
     fn contains(&self, x: u32) -> bool
+        ensures { result ≡ has self.now x };
+
+    /// Whether a number is in the set, for one number after another in ascending order. `place` is 0 at first, and what
+    /// the call before left in it. With any other place and in any other order the answer is the same, but takes longer.
+    fn contains_from(&self, x: u32, place: &mut usize) -> bool
         ensures { result ≡ has self.now x };
 
     /// How many numbers of the set are below each number.
@@ -50,6 +69,7 @@ pub trait LiveSet: Sized + Drop {
 #[derive(Debug, Drop)]
 pub struct BitVec {
     words: Vec<u64>,
+    ghost few: { length words.items ≤ 2 ^ 26 },
 }
 
 impl LiveSet for BitVec {
@@ -66,19 +86,36 @@ impl LiveSet for BitVec {
         Ok(set_bit(&mut self.words, x))
     }
 
+    fn insert_sorted(&mut self, _alloc: Global, numbers: &[u32]) -> Result<(), AllocError> {
+        let Some(last) = numbers.last() else {
+            return Ok(());
+        };
+        self.make_room((*last / 64) as usize)?;
+        set_bits(&mut self.words, numbers);
+        Ok(())
+    }
+
     fn contains(&self, x: u32) -> bool {
         has_bit(&self.words, x)
     }
 
+    fn contains_from(&self, x: u32, _place: &mut usize) -> bool {
+        has_bit(&self.words, x)
+    }
+
     fn ranks(&self, alloc: Global) -> Result<Ranks, AllocError> {
-        Ranks::of_words(alloc, &self.words)
+        let mut ranges = RangeSet::new(alloc);
+        for x in 0..self.words.len() * 64 {
+            insert_if(&mut ranges, x as u32, has_bit(&self.words, x as u32))?;
+        }
+        ranges.ranks(alloc)
     }
 }
 
 impl BitVec {
     /// Makes room for a word. It takes no memory where there is room.
     fn make_room(&mut self, index: usize) -> Result<(), AllocError>
-        requires { index < 2 ^ 32 }
+        requires { index < 2 ^ 26 }
         ensures room { OnOk result (index < length self.new.words.items) }
         ensures there { index < length self.old.words.items → IsOk result }
         ensures same { (i : ℕ) →
@@ -102,6 +139,16 @@ fn set_bit(words: &mut [u64], x: u32) -> bool
     let word = words[index];
     words[index] = word | mask;
     word & mask == 0
+}
+
+/// Sets the bits of numbers.
+fn set_bits(words: &mut [u64], numbers: &[u32])
+    requires { All (λ x. x / 64 < length words.old) numbers.now }
+    ensures { (y : ℕ) → bit_of words.new y ≡ (bit_of words.old y || holds numbers.now y) }
+{
+    for number in numbers {
+        set_bit(words, *number);
+    }
 }
 
 /// A set for each space.
@@ -167,4 +214,36 @@ impl<L: LiveSet> LiveSets<L> {
             Space::Globals => self.globals.contains(item.1),
         }
     }
+}
+
+/// Whether a bit of words is set.
+fn has_bit(words: &[u64], x: u32) -> bool
+    ensures { result ≡ bit_of words.now x }
+{
+    match words.get((x / 64) as usize) {
+        Some(word) => (*word >> (x % 64)) & 1 == 1,
+        None => false,
+    }
+}
+
+/// Puts a number in, if it is wanted.
+pub fn insert_if<L: LiveSet>(set: &mut L, index: u32, wanted: bool) -> Result<(), AllocError>
+    ensures { OnOk result ((n : ℕ) →
+        L.has set.new n ≡ (L.has set.old n || (wanted && nat_eq n index))) }
+{
+    if !wanted {
+        return Ok(());
+    }
+    set.insert(index)?;
+    Ok(())
+}
+
+/// Puts numbers in, in any order.
+pub fn insert_all<L: LiveSet>(set: &mut L, numbers: &[u32]) -> Result<(), AllocError>
+    ensures { OnOk result ((y : ℕ) → L.has set.new y ≡ (L.has set.old y || holds numbers.now y)) }
+{
+    for number in numbers {
+        insert_if(set, *number, true)?;
+    }
+    Ok(())
 }

@@ -4,14 +4,17 @@ ghost use Rattle.std.specs.Prelude.{◌≡◌, map, IsTrue, IsOk, IfOk, IfErr, �
 ghost use Rattle.indexmap.specs.IndexMap.{values};
 ghost use Rattle.wc_read.specs.Exports.{export_value};
 ghost use Rattle.wc_read.specs.Modules.{IsModule, module_value};
-ghost use Rattle.wc_gc.specs.Decoded.{exported_item};
+ghost use Rattle.wc_gc.specs.Decoded.{ItemIndex, exported_item};
+ghost use Rattle.wc_gc.specs.Gathering.{gathers};
 ghost use Rattle.wc_gc.specs.KeptExports.{kept_exports};
 ghost use Rattle.wc_gc.specs.LiveSets.{has_item};
 ghost use Rattle.wc_gc.specs.Liveness.{HasUnsupported, IsCause, IsFault, IsFaultOf, IsLiveness, IsLivenessOf, IsSupported, names_of, wanted};
 
 use crate::exports::{check_required, drop_exports, exports_by_name};
 use crate::fault::GcFault;
-use crate::live::{BitVec, LiveSet, LiveSets};
+use crate::gathered::Gathered;
+use crate::live::{LiveSet, LiveSets};
+use crate::range_set::RangeSet;
 use crate::search::Search;
 use indexmap::{IndexMap, IndexSet};
 use std::alloc::{AllocError, Global};
@@ -43,17 +46,17 @@ pub fn liveness_counted(
     alloc: Global,
     wasm: &[u8],
     required: &IndexSet<String>,
-) -> Result<Liveness<BitVec>, GcFault>
+) -> Result<Liveness<RangeSet>, GcFault>
     // What is live is what is reached.
     ensures live { IfOk result (λ l. IsLiveness (wanted wasm.now required.now.keys)
-        (has_item ⟦<BitVec as LiveSet>⟧.has l.live) l.turns) }
+        (has_item ⟦<RangeSet as LiveSet>⟧.has l.live) l.turns) }
     // A fault has its cause, and no fault before it has.
     ensures fault { IfErr result (IsFault (wanted wasm.now required.now.keys)) }
     // Without a fault there is no cause.
     ensures no_cause { IsOk result →
         (f : GcFault) → ¬ (IsCause (wanted wasm.now required.now.keys) f) }
 {
-    find_live::<BitVec>(alloc, wasm, required)
+    find_live::<RangeSet>(alloc, wasm, required)
 }
 
 /// The same in sets of any kind.
@@ -85,10 +88,25 @@ pub fn find_live_in<L: LiveSet>(
         (IsFaultOf (names_of required.now.keys) (module_value adapter.now)) }
 {
     let roots = roots_of(alloc, adapter, required)?;
-    let mut search = Search::new(alloc);
+    let mut search = Search::<Gathered<L>>::new(alloc);
     let turns = search.reach_all(alloc, adapter, &roots)?;
     let Search { live, order: _ } = search;
+    let live = settled(live)?;
     Ok(Liveness { live, turns })
+}
+
+/// The sets of all that was gathered.
+fn settled<L: LiveSet>(gathered: LiveSets<Gathered<L>>) -> Result<LiveSets<L>, AllocError>
+    ensures { IfOk result (λ s. (x : ItemIndex) →
+        has_item L.has s x ≡ has_item (gathers L.has) gathered x) }
+{
+    Ok(LiveSets {
+        types: gathered.types.settled()?,
+        funcs: gathered.funcs.settled()?,
+        tables: gathered.tables.settled()?,
+        memories: gathered.memories.settled()?,
+        globals: gathered.globals.settled()?,
+    })
 }
 
 /// The items that kept exports name.

@@ -1,16 +1,18 @@
 //! Code under new indices.
 
-ghost use Rattle.std.specs.Prelude.{◌≡◌, ◌++◌, [], is_some, unwrap_or, true, IfOk, IfSome, OnOk, ◌<◌};
+ghost use Rattle.std.specs.Prelude.{◌≡◌, ◌++◌, [], is_some, unwrap_or, true, IfOk, IfSome, OnOk, ◌<◌, ◌≤◌};
 ghost use Rattle.std.specs.List.{flat_map};
 ghost use Rattle.std.specs.Option.{option_map};
 ghost use Rattle.wc_read.specs.Operators.{instr_value, instr_values};
 ghost use Rattle.wc_read.specs.Inits.{init_value};
 ghost use Rattle.wc_read.specs.Renumbering.{Renumbering, renumber_instr};
-ghost use Rattle.wc_read.specs.Decoding.{body_in, body_of, bytes_left, init_in, locals_read, next_and_left, operators_left};
-ghost use Rattle.wc_write.specs.BodyText.{body_text};
+ghost use Rattle.wc_read.specs.Decoding.{body_in, body_of, bytes_left, init_in, KeepsLocals, locals_read, next_and_left, operators_left};
+ghost use Rattle.wc_write.specs.BodyText.{locals_text, body_text};
+ghost use Rattle.wc_write.specs.Text.{vector_text};
 ghost use Rattle.wc_gc.specs.Image.{new_init, renumber_code};
 ghost use Rattle.wc_gc.specs.NewBodies.{calls_of, old_body_written, text_left};
 ghost use Rattle.wc_gc.specs.NewIndices.{new_of};
+ghost use Rattle.wc_gc.specs.Rewriting.{WritesRun};
 ghost use Rattle.wc_gc.specs.AddedCode.{call};
 ghost use Rattle.wc_write.specs.OperatorText.{instr_text};
 
@@ -31,9 +33,27 @@ pub fn append_old_body(out: &mut Vec<u8>, body: &OldBody<'_, '_>) -> Result<(), 
 {
     let alloc = *out.allocator();
     let mut operators = operators_of(alloc, body.bytes)?;
-    append_locals(out, operators.locals())?;
+    append_old_locals(out, &operators)?;
     append_call(out, body.call)?;
     append_operators(out, alloc, &mut operators, body.new)
+}
+
+/// Appends the locals of a body, by one copy where no fewer bytes spell them.
+fn append_old_locals(out: &mut Vec<u8>, operators: &Operators<'_>) -> Result<(), AllocError>
+    requires { KeepsLocals operators.now }
+    ensures { OnOk result (out.new.items
+        ≡ out.old.items ++ vector_text locals_text (locals_read operators.now)) }
+{
+    match operators.shortest_locals() {
+        Some(bytes) => {
+            out.extend_from_slice(bytes)?;
+            Ok(())
+        }
+        None => {
+            let alloc = *out.allocator();
+            append_locals(out, &operators.locals(alloc)?)
+        }
+    }
 }
 
 /// Appends the operators that are left, under new indices.
@@ -47,8 +67,42 @@ fn append_operators(
     ensures { OnOk result (out.new.items ≡ out.old.items
         ++ text_left (new_of new.now) (operators_left operators.old)) }
 {
-    while let Some(operator) = next_of(operators, alloc)? {
+    while let Some(operator) = next_after_run(out, operators, alloc)? {
         append_renumbered(out, operator, new)?;
+    }
+    Ok(())
+}
+
+/// Appends operators that are the same under all indices under which memory 0 is memory 0, and answers the next one.
+#[inline(always)]
+fn next_after_run<'a>(
+    out: &mut Vec<u8>,
+    operators: &mut Operators<'a>,
+    alloc: Global,
+) -> Result<Option<Instr<'a>>, AllocError>
+    requires { is_some (operators_left operators.old) ≡ true }
+    ensures written { IfOk result (λ i. WritesRun out.old.items (operators_left operators.old)
+        out.new.items (next_and_left (option_map instr_value i) (operators_left operators.new))) }
+    ensures some { IfOk result (λ i. is_some
+        (next_and_left (option_map instr_value i) (operators_left operators.new)) ≡ true) }
+    ensures shorter { IfOk result (λ i.
+        IfSome i (λ _. bytes_left operators.new < bytes_left operators.old)) }
+{
+    append_run(out, operators)?;
+    next_of(operators, alloc)
+}
+
+/// Appends operators that are the same under such indices, all by one copy.
+#[inline(always)]
+fn append_run(out: &mut Vec<u8>, operators: &mut Operators<'_>) -> Result<(), AllocError>
+    requires { is_some (operators_left operators.old) ≡ true }
+    ensures written { OnOk result (WritesRun out.old.items (operators_left operators.old)
+        out.new.items (operators_left operators.new)) }
+    ensures some { is_some (operators_left operators.new) ≡ true }
+    ensures not_longer { bytes_left operators.new ≤ bytes_left operators.old }
+{
+    if operators.begins_run() {
+        out.extend_from_slice(operators.pass(true))?;
     }
     Ok(())
 }
@@ -106,10 +160,12 @@ fn call_of<'a>(func: u32) -> Instr<'a>
 }
 
 /// The operators of a body that is code.
+#[inline(always)]
 fn operators_of(alloc: Global, bytes: &[u8]) -> Result<Operators<'_>, AllocError>
     requires { is_some (body_in bytes.now) ≡ true }
-    ensures { IfOk result (λ o. body_in bytes.now
+    ensures body { IfOk result (λ o. body_in bytes.now
         ≡ option_map (body_of (locals_read o)) (operators_left o)) }
+    ensures keeps_locals { IfOk result KeepsLocals }
 {
     match Operators::new(alloc, bytes) {
         Ok(operators) => Ok(operators),
@@ -130,6 +186,9 @@ fn next_of<'a>(
     ensures shorter { IfOk result (λ i.
         IfSome i (λ _. bytes_left operators.new < bytes_left operators.old)) }
 {
+    if operators.is_done() {
+        return Ok(None);
+    }
     match operators.next(alloc) {
         Ok(next) => Ok(next),
         Err(ReadFault::Memory) => Err(AllocError),

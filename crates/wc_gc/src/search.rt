@@ -1,15 +1,16 @@
 //! The search for the items that exports reach.
 
-ghost use Rattle.std.specs.Prelude.{◌≡◌, ◌⊎◌, [], ◌∷◌, map, All, Bool, true, false, IsTrue, None, IsOk, IfOk, IfErr, IfSome, OnOk, ◌↔◌, ◌<◌};
+ghost use Rattle.std.specs.Prelude.{◌≡◌, ◌⊎◌, [], ◌∷◌, map, All, Bool, true, false, IsTrue, None, IsOk, IfOk, IfErr, IfSome, OnOk, ◌↔◌, ◌<◌, ◌≤◌};
 ghost use Rattle.std.specs.List.{list_all};
 ghost use Rattle.std.specs.Option.{option_map, option_to_list};
 ghost use Rattle.wc_read.specs.Operators.{instr_value, instr_values};
+ghost use Rattle.wc_read.specs.declared.operators.Space.TheVariants.{Memories};
 ghost use Rattle.wc_read.specs.Inits.{init_value};
 ghost use Rattle.wc_read.specs.Decoding.{body_in, body_operators, bytes_left, init_in, next_and_left, operators_left};
 ghost use Rattle.wc_gc.specs.Decoded.{ItemIndex, decoded_module, func_code, init_code, is_in};
 ghost use Rattle.wc_gc.specs.Entries.{body_refs, code_refs, def_refs, func_refs, init_refs, instr_refs, present, refs_in};
 ghost use Rattle.wc_gc.specs.Reached.{IsReachedFrom};
-ghost use Rattle.wc_gc.specs.Searches.{Finds, IsConsistent, finds};
+ghost use Rattle.wc_gc.specs.Searches.{Finds, IsConsistent, PassesKnown, finds};
 ghost use Rattle.wc_gc.specs.Soundness.{is_sound, is_sound_at, is_sound_body, is_sound_def};
 ghost use Rattle.wc_gc.specs.Liveness.{IsCount};
 
@@ -100,6 +101,56 @@ impl<L: LiveSet> Search<L> {
         Ok(first && second && !names_segment(instr))
     }
 
+    /// The next operator of a body that may name an item that was not found. Operators that name nothing are passed
+    /// over, and once memory 0 is found, so are those that name nothing else.
+    #[inline(always)]
+    fn next_unknown<'a>(
+        &self,
+        alloc: Global,
+        adapter: &Module<'_>,
+        operators: &mut Operators<'a>,
+    ) -> Result<Option<Instr<'a>>, GcFault>
+        ensures found { IfOk result (λ i. PassesKnown L.has (decoded_module adapter.now) self.now
+            (operators_left operators.old)
+            (next_and_left (option_map instr_value i) (operators_left operators.new))) }
+        ensures shorter { IfOk result (λ i.
+            IfSome i (λ _. bytes_left operators.new < bytes_left operators.old)) }
+        ensures fault { IfErr result (λ f. (f ≡ GcFault.Memory)
+            ⊎ ((f ≡ GcFault.LiveBody) × (operators_left operators.old ≡ None))) }
+    {
+        self.pass_known(adapter, operators);
+        if operators.is_done() {
+            return Ok(None);
+        }
+        match operators.next(alloc) {
+            Ok(next) => Ok(next),
+            Err(ReadFault::Memory) => Err(GcFault::Memory),
+            Err(_) => Err(GcFault::LiveBody),
+        }
+    }
+
+    /// Goes past operators that name no item that was not found.
+    #[inline(always)]
+    fn pass_known(&self, adapter: &Module<'_>, operators: &mut Operators<'_>)
+        ensures passed { PassesKnown L.has (decoded_module adapter.now) self.now
+            (operators_left operators.old) (operators_left operators.new) }
+        ensures not_longer { bytes_left operators.new ≤ bytes_left operators.old }
+    {
+        if operators.begins_run() {
+            operators.pass(self.has_memory(adapter));
+        }
+    }
+
+    /// Whether memory 0 is the adapter's and was found.
+    #[inline(always)]
+    fn has_memory(&self, adapter: &Module<'_>) -> bool
+        ensures { result ≡ true → (finds L.has self.now (Memories, 0) ≡ true)
+            × (is_in (decoded_module adapter.now) (Memories, 0) ≡ true) }
+    {
+        let memory = (Space::Memories, 0);
+        self.live.contains(memory) && has_item(adapter, memory)
+    }
+
     /// Finds the items that a body names.
     fn reach_body(
         &mut self,
@@ -115,7 +166,7 @@ impl<L: LiveSet> Search<L> {
             × (is_sound_body (decoded_module adapter.now) (body_in bytes.now) ≡ false))) }
     {
         let mut operators = operators_of(alloc, bytes)?;
-        while let Some(instr) = next_of(&mut operators, alloc)? {
+        while let Some(instr) = self.next_unknown(alloc, adapter, &mut operators)? {
             if !self.reach_operator(adapter, &instr)? {
                 return Err(GcFault::LiveBody);
             }
@@ -242,6 +293,7 @@ impl<L: LiveSet> Search<L> {
 }
 
 /// The operators of a body.
+#[inline(always)]
 fn operators_of(alloc: Global, bytes: &[u8]) -> Result<Operators<'_>, GcFault>
     ensures found { IfOk result (λ o. operators_left o ≡ body_operators (body_in bytes.now)) }
     ensures fault { IfErr result (λ f. (f ≡ GcFault.Memory)
@@ -249,22 +301,6 @@ fn operators_of(alloc: Global, bytes: &[u8]) -> Result<Operators<'_>, GcFault>
 {
     match Operators::new(alloc, bytes) {
         Ok(operators) => Ok(operators),
-        Err(ReadFault::Memory) => Err(GcFault::Memory),
-        Err(_) => Err(GcFault::LiveBody),
-    }
-}
-
-/// The next operator of a body.
-fn next_of<'a>(operators: &mut Operators<'a>, alloc: Global) -> Result<Option<Instr<'a>>, GcFault>
-    ensures found { IfOk result (λ i. operators_left operators.old
-        ≡ next_and_left (option_map instr_value i) (operators_left operators.new)) }
-    ensures shorter { IfOk result (λ i.
-        IfSome i (λ _. bytes_left operators.new < bytes_left operators.old)) }
-    ensures fault { IfErr result (λ f. (f ≡ GcFault.Memory)
-        ⊎ ((f ≡ GcFault.LiveBody) × (operators_left operators.old ≡ None))) }
-{
-    match operators.next(alloc) {
-        Ok(next) => Ok(next),
         Err(ReadFault::Memory) => Err(GcFault::Memory),
         Err(_) => Err(GcFault::LiveBody),
     }

@@ -24,8 +24,9 @@ use crate::edited_text::edited_text;
 use crate::exports::{drop_exports, exports_by_name};
 use crate::fault::GcFault;
 use crate::found::find_parts;
-use crate::live::{BitVec, LiveSet, LiveSets};
+use crate::live::{LiveSet, LiveSets};
 use crate::live_items::find_live_in;
+use crate::range_set::RangeSet;
 use crate::settings::Settings;
 use indexmap::{IndexMap, IndexSet};
 use std::alloc::{AllocError, Global};
@@ -103,7 +104,7 @@ pub fn run(
         realloc: main_module_realloc,
         page_size_log2,
     };
-    trim::<BitVec>(alloc, wasm, required, settings)
+    trim::<RangeSet>(alloc, wasm, required, settings)
 }
 
 /// The same with sets of any kind.

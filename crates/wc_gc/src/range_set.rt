@@ -1,0 +1,218 @@
+//! Sets of numbers as sorted ranges.
+
+ghost use Rattle.std.specs.Prelude.{◌≡◌, ◌≤◌, ◌<◌, ◌+◌, ◌-◌, ℕ, IsTrue, not, false, length, slice_index_or, IfOk, OnOk, OnErr};
+ghost use Rattle.wc_gc.specs.Ranges.{AreRanges, in_ranges};
+ghost use Rattle.wc_gc.specs.LiveSets.{Inserts};
+ghost use Rattle.wc_gc.specs.Positions.{IsCut, joined_at};
+ghost use Rattle.wc_gc.specs.Ranks.{has_number};
+
+use crate::live::LiveSet;
+use crate::merging::merged;
+use crate::ranks::Ranks;
+use std::alloc::{AllocError, Global};
+
+/// A set of numbers as sorted ranges, each from its first number to its last, that neither overlap nor touch.
+#[derive(Debug, Drop)]
+pub struct RangeSet {
+    ranges: Vec<(u32, u32)>,
+    ghost sorted: { AreRanges ranges.items },
+}
+
+impl LiveSet for RangeSet {
+    ghost has = { λ s. in_ranges s.ranges.items };
+
+    fn new(alloc: Global) -> RangeSet {
+        RangeSet {
+            ranges: Vec::new(alloc),
+        }
+    }
+
+    fn insert(&mut self, x: u32) -> Result<bool, AllocError> {
+        let index = range_near(&self.ranges, self.ranges.len(), x);
+        if has_at(&self.ranges, index, x) {
+            return Ok(false);
+        }
+        put_at(&mut self.ranges, index, x)?;
+        Ok(true)
+    }
+
+    fn insert_sorted(&mut self, alloc: Global, numbers: &[u32]) -> Result<(), AllocError> {
+        self.ranges = merged(alloc, &self.ranges, numbers)?;
+        Ok(())
+    }
+
+    fn contains(&self, x: u32) -> bool {
+        let index = range_near(&self.ranges, self.ranges.len(), x);
+        has_at(&self.ranges, index, x)
+    }
+
+    fn contains_from(&self, x: u32, place: &mut usize) -> bool {
+        let index = range_near(&self.ranges, *place, x);
+        *place = index;
+        has_at(&self.ranges, index, x)
+    }
+
+    fn ranks(&self, alloc: Global) -> Result<Ranks, AllocError> {
+        Ranks::of_ranges(alloc, &self.ranges)
+    }
+}
+
+impl RangeSet {
+    /// The ranges, in their order.
+    pub fn ranges(&self) -> &[(u32, u32)]
+        ensures sorted { AreRanges result.now }
+        ensures same { (x : ℕ) → in_ranges result.now x
+            ≡ ⟦<RangeSet as LiveSet>⟧.has self.now x }
+    {
+        &self.ranges
+    }
+
+    /// The set of the numbers that are ranked.
+    pub(crate) fn of_ranks(alloc: Global, ranks: &Ranks) -> Result<RangeSet, AllocError>
+        ensures { IfOk result (λ s. (x : ℕ) → in_ranges s.ranges.items x ≡ has_number ranks.now x) }
+    {
+        Ok(RangeSet {
+            ranges: Vec::from_slice(alloc, ranks.ranges())?,
+        })
+    }
+}
+
+/// The index of the first range that does not end before a number; sooner where that is at a place or the next.
+fn range_near(ranges: &[(u32, u32)], place: usize, x: u32) -> usize
+    requires { AreRanges ranges.now }
+    ensures cut { IsCut x ranges.now result }
+    ensures within { result ≤ length ranges.now }
+{
+    if is_cut(ranges, place, x) {
+        return place;
+    }
+    if place < ranges.len() && is_cut(ranges, place + 1, x) {
+        return place + 1;
+    }
+    range_from(ranges, x)
+}
+
+/// Whether an index is that of the first range that does not end before a number.
+fn is_cut(ranges: &[(u32, u32)], index: usize, x: u32) -> bool
+    requires { AreRanges ranges.now }
+    ensures { IsTrue result → IsCut x ranges.now index × (index ≤ length ranges.now) }
+{
+    if index > ranges.len() {
+        return false;
+    }
+    ends_below(ranges, index, x) && ends_after(ranges, index, x)
+}
+
+/// Whether the ranges before an index end before a number.
+fn ends_below(ranges: &[(u32, u32)], index: usize, x: u32) -> bool
+    requires sorted { AreRanges ranges.now }
+    requires within { index ≤ length ranges.now }
+    ensures { IsTrue result → (k : ℕ) (d : ℕ × ℕ) → k < index
+        → (slice_index_or ranges.now k d).1 < x }
+{
+    index == 0 || ranges[index - 1].1 < x
+}
+
+/// Whether the ranges from an index on do not end before a number.
+fn ends_after(ranges: &[(u32, u32)], index: usize, x: u32) -> bool
+    requires sorted { AreRanges ranges.now }
+    requires within { index ≤ length ranges.now }
+    ensures { IsTrue result → (k : ℕ) (d : ℕ × ℕ) → index ≤ k → k < length ranges.now
+        → x ≤ (slice_index_or ranges.now k d).1 }
+{
+    index == ranges.len() || x <= ranges[index].1
+}
+
+/// The index of the first range that does not end before a number.
+pub(crate) fn range_from(ranges: &[(u32, u32)], x: u32) -> usize
+    requires { AreRanges ranges.now }
+    ensures cut { IsCut x ranges.now result }
+    ensures within { result ≤ length ranges.now }
+{
+    let mut low: usize = 0;
+    let mut high = ranges.len();
+    while low < high {
+        let middle = low + (high - low) / 2;
+        if ranges[middle].1 < x {
+            low = middle + 1;
+        } else {
+            high = middle;
+        }
+    }
+    low
+}
+
+/// Puts in a number that is in no range, before the ranges that end after it.
+fn put_at(ranges: &mut Vec<(u32, u32)>, index: usize, x: u32) -> Result<(), AllocError>
+    requires sorted { AreRanges ranges.old.items }
+    requires cut { IsCut x ranges.old.items index }
+    requires within { index ≤ length ranges.old.items }
+    requires absent { in_ranges ranges.old.items x ≡ false }
+    ensures sorted { OnOk result (AreRanges ranges.new.items) }
+    ensures inserts { OnOk result
+        (Inserts (in_ranges ranges.old.items) (in_ranges ranges.new.items) x) }
+    ensures err { OnErr result (ranges.new.items ≡ ranges.old.items) }
+{
+    if ends_before(ranges, index, x) {
+        if begins_after(ranges, index, x) {
+            join(ranges, index);
+            Ok(())
+        } else {
+            ranges[index - 1].1 = x;
+            Ok(())
+        }
+    } else if begins_after(ranges, index, x) {
+        ranges[index].0 = x;
+        Ok(())
+    } else {
+        ranges.insert(index, (x, x))?;
+        Ok(())
+    }
+}
+
+/// Makes one range of the one at an index and the one before it.
+fn join(ranges: &mut Vec<(u32, u32)>, index: usize)
+    requires after { 0 < index }
+    requires within { index < length ranges.old.items }
+    ensures { ranges.new.items ≡ joined_at ranges.old.items index }
+{
+    ranges[index - 1].1 = ranges[index].1;
+    ranges.remove(index);
+}
+
+/// Whether the range before an index ends just before a number.
+fn ends_before(ranges: &[(u32, u32)], index: usize, x: u32) -> bool
+    requires cut { IsCut x ranges.now index }
+    requires within { index ≤ length ranges.now }
+    ensures ends { IsTrue result → (d : ℕ × ℕ)
+        → (0 < index) × ((slice_index_or ranges.now (index - 1) d).1 + 1 ≡ x) }
+    ensures apart { result ≡ false → (d : ℕ × ℕ)
+        → 0 < index → (slice_index_or ranges.now (index - 1) d).1 + 1 < x }
+{
+    index > 0 && ranges[index - 1].1 + 1 == x
+}
+
+/// Whether the range at an index begins just after a number.
+fn begins_after(ranges: &[(u32, u32)], index: usize, x: u32) -> bool
+    requires sorted { AreRanges ranges.now }
+    requires cut { IsCut x ranges.now index }
+    requires absent { in_ranges ranges.now x ≡ false }
+    ensures begins { IsTrue result → (d : ℕ × ℕ)
+        → (index < length ranges.now) × (x + 1 ≡ (slice_index_or ranges.now index d).0) }
+    ensures apart { result ≡ false → (d : ℕ × ℕ)
+        → index < length ranges.now → x + 1 < (slice_index_or ranges.now index d).0 }
+{
+    index < ranges.len() && ranges[index].0 - x == 1
+}
+
+/// Whether the first range that does not end before a number has it.
+pub(crate) fn has_at(ranges: &[(u32, u32)], index: usize, x: u32) -> bool
+    requires sorted { AreRanges ranges.now }
+    requires cut { IsCut x ranges.now index }
+    ensures { result ≡ in_ranges ranges.now x }
+{
+    match ranges.get(index) {
+        Some(range) => range.0 <= x,
+        None => false,
+    }
+}
