@@ -9,6 +9,7 @@ pub mod KindLemmas
 pub mod RangeLemmas
 pub mod MeaningRangeLemmas
 pub mod PayloadLemmas
+pub mod InterfaceEntryLemmas
 pub mod InterfaceIdLemmas
 pub mod ResolveLemmas
 pub mod MemberLemmas

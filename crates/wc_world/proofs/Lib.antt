@@ -18,3 +18,5 @@ pub mod AdapterLemmas
 pub mod WorldLemmas
 pub mod RestrictedLemmas
 pub mod ExclusionLemmas
+pub mod ServedLemmas
+pub mod FunctionsLoweredLemmas

@@ -110,13 +110,13 @@ outcome_there n f h = h.1.1
 
 -- what imports of three kinds name
 own_function : (r : ResolveView) (w : WorldView) (key : KeyView) (name : List ℕ) (abi : AbiVariant) → IsImportIn r w (world_func key name abi) → IfSome (item_under w.imports key) (IsItemIn r)
-own_function r w key name abi (f, at, named, usable) = subst (λ o. IfSome o (IsItemIn r)) (sym at) usable.0
+own_function r w key name abi (f, at, named, usable, call) = subst (λ o. IfSome o (IsItemIn r)) (sym at) usable.0
 
 own_interface : (r : ResolveView) (w : WorldView) (key : KeyView) (k : ℕ) (name : List ℕ) (abi : AbiVariant) → IsImportIn r w (interface_func key k name abi) → k < length r.interfaces
-own_interface r w key k name abi (f, small, at, usable) = small
+own_interface r w key k name abi (f, small, at, usable, named, entry, call) = small
 
 interface_function : (r : ResolveView) (w : WorldView) (key : KeyView) (k : ℕ) (name : List ℕ) (abi : AbiVariant) → IsImportIn r w (interface_func key k name abi) → IfSome (under_name (functions_of r k) name) (IsFunctionIn (length r.types))
-interface_function r w key k name abi (f, small, at, usable) = function_there r k name f at usable.0
+interface_function r w key k name abi (f, small, at, usable, named, entry, call) = function_there r k name f at usable.0
 
 own_outcome : (r : ResolveView) (w : WorldView) (key : KeyView) (interface : Option ℕ) (f : FunctionView) → IsImportIn r w (exported_task_return key interface f) → IfSome f.outcome (IsTypeIn (length r.types))
 own_outcome r w key interface f (scope, usable) = outcome_there (length r.types) f usable.0
@@ -156,8 +156,8 @@ payload_in r unit_future h = below_none (length r.types)
 payload_in r unit_stream h = below_none (length r.types)
 
 pub import_in : (r : ResolveView) (w : WorldView) (i : ImportView) → IsImportIn r w i → AreBelow (length r.types) (import_roots r w.imports i)
-import_in r w (world_func key name abi) (f, at, named, usable) = subst (λ o. AreBelow (length r.types) (option_map_or (item_roots r) o [])) (sym at) (function_in (length r.types) f usable.0)
-import_in r w (interface_func key i name abi) (f, small, at, usable) = subst (λ o. AreBelow (length r.types) (option_map_or function_roots o [])) (function_found r i name f at) (function_in (length r.types) f usable.0)
+import_in r w (world_func key name abi) (f, at, named, usable, call) = subst (λ o. AreBelow (length r.types) (option_map_or (item_roots r) o [])) (sym at) (function_in (length r.types) f usable.0)
+import_in r w (interface_func key i name abi) (f, small, at, usable, named, entry, call) = subst (λ o. AreBelow (length r.types) (option_map_or function_roots o [])) (function_found r i name f at) (function_in (length r.types) f usable.0)
 import_in r w (imported_resource_drop a b t) h = below_one (length r.types) t (kind_in r.types t _ h.1)
 import_in r w (exported_resource_drop a t) h = below_one (length r.types) t (kind_in r.types t _ h)
 import_in r w (exported_resource_new a t) h = below_one (length r.types) t (kind_in r.types t _ h)

@@ -11,4 +11,5 @@ pub mod World
 pub mod Causes
 pub mod Given
 pub mod Restricted
+pub mod FunctionsLowered
 pub mod Laws

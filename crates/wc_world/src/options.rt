@@ -107,7 +107,7 @@ fn holds_text(resolve: &Resolve, ty: WitType, lists: bool) -> bool
     }
 }
 
-/// Whether there is a type, and it does.
+/// Whether there is a type, and its values hold a string (or, where `lists` is true, a list).
 fn optional_holds_text(resolve: &Resolve, ty: Option<WitType>, lists: bool) -> bool
     ensures { result ≡ option_map_or (holds_text lists resolve.now) ty false }
 {
@@ -117,7 +117,7 @@ fn optional_holds_text(resolve: &Resolve, ty: Option<WitType>, lists: bool) -> b
     }
 }
 
-/// Whether a parameter does.
+/// Whether one of the parameters holds a string (or, where `lists` is true, a list).
 fn params_hold_text(resolve: &Resolve, params: &[(String, WitType)], lists: bool) -> bool
     ensures { result ≡ list_any (λ p. holds_text lists resolve.now p.1) params.now }
 {
@@ -126,14 +126,14 @@ fn params_hold_text(resolve: &Resolve, params: &[(String, WitType)], lists: bool
         .any(|param| holds_text(resolve, param.1, lists))
 }
 
-/// Whether a parameter of a function does.
+/// Whether one of a function's parameters holds a string (or, where `lists` is true, a list).
 fn takes_text(resolve: &Resolve, function: &Function, lists: bool) -> bool
     ensures { result ≡ any_param (holds_text lists resolve.now) (function_view function.now) }
 {
     params_hold_text(resolve, &function.params, lists)
 }
 
-/// Whether a parameter or the result of a function does.
+/// Whether a parameter or the result of a function holds a string (or, where `lists` is true, a list).
 fn passes_text(resolve: &Resolve, function: &Function, lists: bool) -> bool
     ensures { result ≡ (any_param (holds_text lists resolve.now) (function_view function.now)
         || outcome_does (holds_text lists resolve.now) (function_view function.now)) }
