@@ -38,3 +38,7 @@ pub mod RestrictedExportLemmas
 pub mod RestrictedRecordLemmas
 pub mod RestrictionLemmas
 pub mod MemoryTypeLemmas
+pub mod FirstByKeyLemmas
+pub mod FirstPositionLemmas
+pub mod FirstExportLemmas
+pub mod FirstFunctionLemmas

@@ -9,22 +9,20 @@ use Rattle.std.specs.declared.alloc.Global.{Global}
 use Rattle.std.proofs.lemmas.List.{map-append}
 use Rattle.std.proofs.lemmas.List.Elements.{filter-append}
 use Rattle.indexmap.specs.IndexMap.{insert_entry}
-use Rattle.wc_read.specs.declared.types.FuncType.{FuncType}
-use Rattle.wc_read.specs.Types.{FuncTypeValue, func_type_value}
+use Rattle.wc_read.specs.Types.{FuncTypeValue}
 use Rattle.wc_resolve.proofs.LookupLemmas.{name_viewed}
-use Rattle.wc_names.specs.declared.imports.Import.{Import}
-use Rattle.wc_names.specs.Views.{ImportView, import_view}
+use Rattle.wc_names.specs.Views.{ImportView}
 use Rattle.wc_validate.specs.declared.records.ImportInstance.{ImportInstance}
 use Rattle.wc_validate.specs.Entries.{Records}
-use Rattle.wc_validate.specs.ImportMaps.{first_of_names, function_of, functions_in, required_entry, required_in}
-use Rattle.wc_validate.specs.Records.{import_entry, instance_entry, instance_view}
+use Rattle.wc_validate.specs.ImportMaps.{first_of_names, function_of, functions_in, required_in}
+use Rattle.wc_validate.specs.Records.{instance_entry, instance_view}
 use Rattle.wc_validate.specs.Required.{HasFirsts, functions_of}
 use Rattle.wc_validate.proofs.IndexLemmas.{index_kept, index_more}
 use Rattle.wc_validate.proofs.PutLemmas.{insert_new, is_called, record_found, record_none}
 use Rattle.wc_validate.proofs.RecordLemmas.{other, same, self}
 
 module _ {X : Type 0} where
-  abbrev others : List ℕ → List (List ℕ × X) → List (List ℕ × X)
+  abbrev pub others : List ℕ → List (List ℕ × X) → List (List ℕ × X)
   others m ys = filter (λ (y : List ℕ × X). not (bytes_eq m y.0)) ys
 
   abbrev one_unless : Bool → List ℕ × X → List (List ℕ × X)
@@ -51,7 +49,7 @@ module _ {X : Type 0} where
 abbrev Functions : Type 0
 Functions = List (List ℕ × FuncTypeValue)
 
-module _ (functions passed : Functions) (k : List ℕ) (v : FuncTypeValue) (h : HasFirsts functions passed) where
+module _ {X : Type 0} (functions passed : List (List ℕ × X)) (k : List ℕ) (v : X) (h : HasFirsts functions passed) where
   found_alike : (b : Bool) → is_some (lookup (bytes_eq k) functions) ≡ b → is_some (lookup (bytes_eq k) passed) ≡ b
   found_alike b is = ap is_some (sym (h.1 k)) ∙ is
 
@@ -71,45 +69,51 @@ is_some_map : {X Y : Type 0} (f : X → Y) (o : Option X) → is_some (option_ma
 is_some_map f None = refl
 is_some_map f (Some x) = refl
 
-called : (es : List (String Global × FuncType)) (name : List ℕ) (there b : Bool) → there ≡ is_some (lookup (is_called name) es) → there ≡ b → is_some (lookup (bytes_eq name) (map required_entry es)) ≡ b
-called es name there b is test = ap is_some (sym (name_viewed func_type_value es name)) ∙ (is_some_map func_type_value (lookup (is_called name) es) ∙ (sym is ∙ test))
+-- values by names, of which something is seen
+module _ {V X : Type 0} (view : V → X) where
+  abbrev entry : String Global × V → List ℕ × X
+  entry e = (string_bytes e.0, view e.1)
 
-pub function_kept : (es : List (String Global × FuncType)) (name : List ℕ) (ty : FuncTypeValue) (there : Bool) (passed : Functions) → there ≡ is_some (lookup (is_called name) es) → there ≡ true → HasFirsts (map required_entry es) passed
-    → HasFirsts (map required_entry es) (passed ++ (name, ty) ∷ [])
-function_kept es name ty there passed is test h = firsts_kept (map required_entry es) passed name ty h (called es name there true is test)
+  called : (es : List (String Global × V)) (name : List ℕ) (there b : Bool) → there ≡ is_some (lookup (is_called name) es) → there ≡ b → is_some (lookup (bytes_eq name) (map entry es)) ≡ b
+  called es name there b is test = ap is_some (sym (name_viewed view es name)) ∙ (is_some_map view (lookup (is_called name) es) ∙ (sym is ∙ test))
 
-pub function_added : (es new : List (String Global × FuncType)) (k : String Global) (v : FuncType) (name : List ℕ) (ty : FuncTypeValue) (there : Bool) (passed : Functions) → new ≡ insert_entry string_eq es k v → string_bytes k ≡ name → func_type_value v ≡ ty
-    → there ≡ is_some (lookup (is_called name) es) → there ≡ false → HasFirsts (map required_entry es) passed → HasFirsts (map required_entry new) (passed ++ (name, ty) ∷ [])
-function_added es new k v name ty there passed put key same is test h =
-    let free : is_some (lookup (is_called (string_bytes k)) es) ≡ false = subst (λ z. is_some (lookup (is_called z) es) ≡ false) (sym key) (sym is ∙ test) in
-    let entries : map required_entry new ≡ map required_entry es ++ (name, ty) ∷ [] =
-    ap (map required_entry) (put ∙ insert_new es k v free) ∙ (map-append required_entry es ((k, v) ∷ []) ∙ (ap (λ z. map required_entry es ++ (z, func_type_value v) ∷ []) key ∙ ap (λ z. map required_entry es ++ (name, z) ∷ []) same)) in
-    subst (λ z. HasFirsts z (passed ++ (name, ty) ∷ [])) (sym entries) (firsts_added (map required_entry es) passed name ty h (called es name there false is test))
+  pub name_kept : (es : List (String Global × V)) (name : List ℕ) (x : X) (there : Bool) (passed : List (List ℕ × X)) → there ≡ is_some (lookup (is_called name) es) → there ≡ true → HasFirsts (map entry es) passed
+      → HasFirsts (map entry es) (passed ++ (name, x) ∷ [])
+  name_kept es name x there passed is test h = firsts_kept (map entry es) passed name x h (called es name there true is test)
 
--- the functions of imports that are gone through
-pub record Gathered (all rest : List (String Global × Import)) (functions : Functions) : Type 0 where
+  pub name_added : (es new : List (String Global × V)) (k : String Global) (v : V) (name : List ℕ) (x : X) (there : Bool) (passed : List (List ℕ × X)) → new ≡ insert_entry string_eq es k v → string_bytes k ≡ name → view v ≡ x
+      → there ≡ is_some (lookup (is_called name) es) → there ≡ false → HasFirsts (map entry es) passed → HasFirsts (map entry new) (passed ++ (name, x) ∷ [])
+  name_added es new k v name x there passed put key same is test h =
+      let free : is_some (lookup (is_called (string_bytes k)) es) ≡ false = subst (λ z. is_some (lookup (is_called z) es) ≡ false) (sym key) (sym is ∙ test) in
+      let entries : map entry new ≡ map entry es ++ (name, x) ∷ [] =
+      ap (map entry) (put ∙ insert_new es k v free) ∙ (map-append entry es ((k, v) ∷ []) ∙ (ap (λ z. map entry es ++ (z, view v) ∷ []) key ∙ ap (λ z. map entry es ++ (name, z) ∷ []) same)) in
+      subst (λ z. HasFirsts z (passed ++ (name, x) ∷ [])) (sym entries) (firsts_added (map entry es) passed name x h (called es name there false is test))
+
+-- the functions that are gathered from a list that is gone through
+pub record Gathered {E : Type 0} (gives : E → Option (List ℕ × FuncTypeValue)) (all rest : List E) (functions : Functions) : Type 0 where
   pub passed : Functions
   pub firsts : HasFirsts functions passed
-  pub split : passed ++ filter_map function_of (map import_entry rest) ≡ filter_map function_of (map import_entry all)
-
-pub gathered_start : (all rest : List (String Global × Import)) (functions : Functions) → rest ≡ all → functions ≡ [] → Gathered all rest functions
-gathered_start all rest functions is none = record { passed = []; firsts = (none, λ name. ap (lookup (bytes_eq name)) none); split = ap (λ z. filter_map function_of (map import_entry z)) is }
+  pub split : passed ++ filter_map gives rest ≡ filter_map gives all
 
 option_cons : {X : Type 0} (passed : List X) (o : Option X) (rest : List X) → (passed ++ cons_option o []) ++ rest ≡ passed ++ cons_option o rest
 option_cons [] None rest = refl
 option_cons [] (Some x) rest = refl
 option_cons (p ∷ passed) o rest = ap (λ z. p ∷ z) (option_cons passed o rest)
 
-pub gathered_next : (all left rest : List (String Global × Import)) (e : String Global × Import) (old new : Functions) → (g : Gathered all left old) → left ≡ e ∷ rest → HasFirsts new (g.passed ++ functions_of (import_view e.1)) → Gathered all rest new
-gathered_next all left rest e old new g is firsts = record {
-  passed = g.passed ++ functions_of (import_view e.1);
-  firsts = firsts;
-  split = option_cons g.passed (function_of (import_entry e)) (filter_map function_of (map import_entry rest)) ∙ (ap (λ z. g.passed ++ filter_map function_of (map import_entry z)) (sym is) ∙ g.split);
-}
+module _ {E : Type 0} (gives : E → Option (List ℕ × FuncTypeValue)) where
+  pub gathered_start : (all rest : List E) (functions : Functions) → rest ≡ all → functions ≡ [] → Gathered gives all rest functions
+  gathered_start all rest functions is none = record { passed = []; firsts = (none, λ name. ap (lookup (bytes_eq name)) none); split = ap (filter_map gives) is }
 
-pub gathered_end : (all left : List (String Global × Import)) (functions : Functions) → Gathered all left functions → left ≡ [] → functions ≡ first_of_names (filter_map function_of (map import_entry all))
-gathered_end all left functions g none =
-    g.firsts.0 ∙ ap first_of_names (sym (append-nil g.passed) ∙ (ap (λ z. g.passed ++ filter_map function_of (map import_entry z)) (sym none) ∙ g.split))
+  pub gathered_next : (all left rest : List E) (e : E) (old new : Functions) → (g : Gathered gives all left old) → left ≡ e ∷ rest → HasFirsts new (g.passed ++ cons_option (gives e) []) → Gathered gives all rest new
+  gathered_next all left rest e old new g is firsts = record {
+    passed = g.passed ++ cons_option (gives e) [];
+    firsts = firsts;
+    split = option_cons g.passed (gives e) (filter_map gives rest) ∙ (ap (λ z. g.passed ++ filter_map gives z) (sym is) ∙ g.split);
+  }
+
+  pub gathered_end : (all left : List E) (functions : Functions) → Gathered gives all left functions → left ≡ [] → functions ≡ first_of_names (filter_map gives all)
+  gathered_end all left functions g none =
+      g.firsts.0 ∙ ap first_of_names (sym (append-nil g.passed) ∙ (ap (λ z. g.passed ++ filter_map gives z) (sym none) ∙ g.split))
 
 pub required_passed : (functions passed : Functions) (i : ImportView) → None ≡ function_of ([], i) → HasFirsts functions passed → HasFirsts functions (passed ++ functions_of i)
 required_passed functions passed i none h = subst (HasFirsts functions) (sym (append-nil passed) ∙ ap (λ z. passed ++ cons_option z []) none) h

@@ -22,6 +22,10 @@ pub mod Restriction
 pub mod MemoryTypes
 pub mod SingleImports
 pub mod ExportMaps
+pub mod FirstPositions
+pub mod FirstByKey
+pub mod FirstExports
+pub mod FirstFunctions
 pub mod SingleExports
 pub mod ExportVerdicts
 pub mod ExportContexts

@@ -7,9 +7,10 @@ ghost use Rattle.wc_resolve.specs.Views.{function_view, key_view};
 ghost use Rattle.wc_validate.specs.ExportMaps.{abi_of, asked, export_entry, first_name, first_that, is_adapter_realloc, is_callback, is_destructor, is_export_realloc, is_function, is_function_table, is_import_realloc, is_initialize, is_memory, is_post_return, is_realloc, is_task_hook, memory_of, own_or_general, realloc_names};
 ghost use Rattle.wc_validate.specs.SingleExports.{exports_left, reallocs_left};
 
+use crate::first_exports::FirstExports;
 use crate::single_exports::{Exports, Reallocs};
 use indexmap::IndexMap;
-use std::alloc::Global;
+use std::alloc::{AllocError, Global};
 use std::marker::Model;
 use wc_names::Export;
 use wc_read::MemoryType;
@@ -33,47 +34,11 @@ pub(crate) enum Query<'a> {
     AdapterRealloc,
 }
 
-/// Whether an export is what is looked up.
-fn is_asked(query: Query<'_>, export: &Export) -> bool
-    ensures { result ≡ asked query.entry (export_view export.now) }
-{
-    match query {
-        Query::Function(key, name) => match export {
-            Export::WorldFunc(own, function, _) => own == key && name == function.as_str(),
-            Export::InterfaceFunc(own, _, function, _) => own == key && name == function.as_str(),
-            _ => false,
-        },
-        Query::PostReturn(key, name) => match export {
-            Export::WorldFuncPostReturn(own) => own == key,
-            Export::InterfaceFuncPostReturn(own, function) => {
-                own == key && name == function.as_str()
-            }
-            _ => false,
-        },
-        Query::Callback(key, name) => match export {
-            Export::WorldFuncCallback(own) => own == key,
-            Export::InterfaceFuncCallback(own, function) => own == key && name == function.as_str(),
-            _ => false,
-        },
-        Query::Destructor(id) => match export {
-            Export::ResourceDtor(own) => *own == id,
-            _ => false,
-        },
-        Query::Memory => matches!(export, Export::Memory(_)),
-        Query::FunctionTable => matches!(export, Export::IndirectFunctionTable),
-        Query::TaskHook => matches!(export, Export::WasmTaskHook),
-        Query::Initialize => matches!(export, Export::Initialize),
-        Query::Realloc => matches!(export, Export::GeneralPurposeRealloc),
-        Query::ExportRealloc => matches!(export, Export::GeneralPurposeExportRealloc),
-        Query::ImportRealloc => matches!(export, Export::GeneralPurposeImportRealloc),
-        Query::AdapterRealloc => matches!(export, Export::ReallocForAdapter),
-    }
-}
-
-/// The exports of a core module, by their names.
+/// The exports of a core module, by their names, with the positions of the first ones for all that is looked up.
 #[derive(Drop)]
 pub struct ExportMap {
     names: IndexMap<String, Export>,
+    positions: FirstExports,
 }
 
 impl Model for ExportMap {
@@ -82,7 +47,11 @@ impl Model for ExportMap {
 
     ghost Value = { ExportRecord };
 
+    ghost use Rattle.wc_validate.specs.FirstExports.{HasFirstPositions};
+
     ghost view = { λ m. map export_entry m.names.entries };
+
+    ghost invariant = { λ m. HasFirstPositions m.positions (map export_entry m.names.entries) };
 }
 
 impl ExportMap {
@@ -92,14 +61,23 @@ impl ExportMap {
     {
         ExportMap {
             names: IndexMap::new(alloc),
+            positions: FirstExports::new(alloc),
         }
     }
 
     /// The exports that are recorded.
-    pub(crate) fn from_names(names: IndexMap<String, Export>) -> ExportMap
-        ensures { result ≡ map export_entry names.entries }
+    ///
+    /// # Errors
+    ///
+    /// `AllocError`: an allocation failed.
+    pub(crate) fn from_names(
+        alloc: Global,
+        names: IndexMap<String, Export>,
+    ) -> Result<ExportMap, AllocError>
+        ensures { IfOk result (λ exports. exports ≡ map export_entry names.entries) }
     {
-        ExportMap { names }
+        let positions = FirstExports::among(alloc, &names)?;
+        Ok(ExportMap { names, positions })
     }
 
     /// The first export that is what is looked up, and its name.
@@ -107,12 +85,8 @@ impl ExportMap {
         ensures { option_map (λ e. (e.0.now, export_view e.1.now)) result
             ≡ first_that (asked query.entry) self.now }
     {
-        for (name, export) in self.names.iter() {
-            if is_asked(query, export) {
-                return Some((name.as_str(), export));
-            }
-        }
-        None
+        let (name, export) = self.names.get_index(self.positions.position(query)?)?;
+        Some((name.as_str(), export))
     }
 
     /// The name of the first export that is what is looked up.

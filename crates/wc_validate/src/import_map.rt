@@ -5,11 +5,13 @@ ghost use Rattle.std.specs.List.{filter_map};
 ghost use Rattle.std.specs.Option.{option_map};
 ghost use Rattle.wc_read.specs.Types.{FuncTypeValue, func_type_value};
 ghost use Rattle.wc_names.specs.Views.{import_view};
+ghost use Rattle.wc_validate.specs.FirstFunctions.{function_at};
 ghost use Rattle.wc_validate.specs.ImportMaps.{first_of_names, function_of, imports_in, memory_in, required_entry, required_in};
 ghost use Rattle.wc_validate.specs.Records.{import_entry, instance_entry};
 ghost use Rattle.wc_validate.specs.Required.{HasFirsts, functions_of};
 ghost use Rattle.wc_validate.specs.SingleImports.{imports_left};
 
+use crate::first_functions::FirstFunctions;
 use crate::recorder::Recorder;
 use crate::records::ImportInstance;
 use crate::single_imports::Imports;
@@ -19,11 +21,13 @@ use std::marker::Model;
 use wc_names::Import;
 use wc_read::{FuncType, MemoryType};
 
-/// The imports of a core module, by the names of the modules that they are imported from.
+/// The imports of a core module, by the names of the modules that they are imported from, with the memory's type and
+/// the positions of the first imports of functions of adapters.
 #[derive(Drop)]
 pub struct ImportMap {
     instances: IndexMap<String, ImportInstance>,
     memory: Option<MemoryType>,
+    functions: FirstFunctions,
 }
 
 impl Model for ImportMap {
@@ -33,12 +37,14 @@ impl Model for ImportMap {
     ghost Value = { List (List ℕ × InstanceRecord) };
 
     ghost use Rattle.std.specs.Prelude.{◌≡◌, map};
+    ghost use Rattle.wc_validate.specs.FirstFunctions.{HasFirstFunctions};
     ghost use Rattle.wc_validate.specs.ImportMaps.{memory_in};
     ghost use Rattle.wc_validate.specs.Records.{instance_entry};
 
     ghost view = { λ m. map instance_entry m.instances.entries };
 
-    ghost invariant = { λ m. memory_in (map instance_entry m.instances.entries) ≡ m.memory };
+    ghost invariant = { λ m. (memory_in (map instance_entry m.instances.entries) ≡ m.memory)
+        × HasFirstFunctions m.functions (map instance_entry m.instances.entries) };
 }
 
 /// Adds a function with its type, if none of its name is there.
@@ -61,7 +67,7 @@ fn add_function(
 }
 
 /// The function and its type, if an import is a function of an adapter.
-fn adapter_function(import: &Import) -> Option<(&str, &FuncType)>
+pub(crate) fn adapter_function(import: &Import) -> Option<(&str, &FuncType)>
     ensures { option_map (λ f. (f.0.now, func_type_value f.1.now)) result
         ≡ function_of ([], import_view import.now) }
 {
@@ -88,17 +94,21 @@ fn add_required(
     }
 }
 
-/// The functions of adapters among imports of one module: of each name the first.
+/// The functions of adapters that are imported at these positions, among imports of one module: of each name the first.
 fn required_among(
     alloc: Global,
     names: &IndexMap<String, Import>,
+    positions: &IndexMap<String, usize>,
 ) -> Result<IndexMap<String, FuncType>, AllocError>
     ensures { IfOk result (λ functions. map required_entry functions.entries
-        ≡ first_of_names (filter_map function_of (map import_entry names.now.entries))) }
+        ≡ first_of_names (filter_map (λ e. function_at (map import_entry names.now.entries) e.1)
+        positions.now.entries)) }
 {
     let mut functions = IndexMap::new(alloc);
-    for (_name, import) in names.iter() {
-        add_required(alloc, &mut functions, import)?;
+    for (_name, position) in positions.iter() {
+        if let Some((_, import)) = names.get_index(*position) {
+            add_required(alloc, &mut functions, import)?;
+        }
     }
     Ok(functions)
 }
@@ -111,18 +121,25 @@ impl ImportMap {
         ImportMap {
             instances: IndexMap::new(alloc),
             memory: None,
+            functions: FirstFunctions::new(alloc),
         }
     }
 
     /// The imports that a recorder has.
-    pub(crate) fn from_recorder(recorder: Recorder) -> ImportMap
+    ///
+    /// # Errors
+    ///
+    /// `AllocError`: an allocation failed.
+    pub(crate) fn from_recorder(alloc: Global, recorder: Recorder) -> Result<ImportMap, AllocError>
         requires { memory_in (map instance_entry recorder.instances.entries) ≡ recorder.memory }
-        ensures { result ≡ map instance_entry recorder.instances.entries }
+        ensures { IfOk result (λ imports. imports ≡ map instance_entry recorder.instances.entries) }
     {
-        ImportMap {
+        let functions = FirstFunctions::among(alloc, &recorder.instances)?;
+        Ok(ImportMap {
             instances: recorder.instances,
             memory: recorder.memory,
-        }
+            functions,
+        })
     }
 
     /// The functions that are imported from the adapter of this name, with their types, in the order of the first
@@ -140,7 +157,10 @@ impl ImportMap {
             ≡ required_in self.now name.now) }
     {
         match self.instances.get(name) {
-            Some(ImportInstance::Names(names)) => required_among(alloc, names),
+            Some(ImportInstance::Names(names)) => match self.functions.modules.get(name) {
+                Some(positions) => required_among(alloc, names, positions),
+                None => Ok(IndexMap::new(alloc)),
+            },
             Some(ImportInstance::Whole(_)) => Ok(IndexMap::new(alloc)),
             None => Ok(IndexMap::new(alloc)),
         }

@@ -34,7 +34,7 @@ fn one_import(
 }
 
 /// A map of one entry.
-fn one_entry<V: Drop>(
+pub(crate) fn one_entry<V: Drop>(
     alloc: Global,
     name: String,
     value: V,

@@ -118,7 +118,7 @@ fn module_imports(
 {
     let context = import_context(alloc, encoder, module, renames, library)?;
     let recorder = record_imports(alloc, &context, &module.imports)?;
-    Ok(ImportMap::from_recorder(recorder))
+    Ok(ImportMap::from_recorder(alloc, recorder)?)
 }
 
 /// What the names of exports are looked up in, for an encoder and an export set.
@@ -179,7 +179,7 @@ fn exports_by(
         &module.exports,
         required,
     )?;
-    Ok(ExportMap::from_names(names))
+    Ok(ExportMap::from_names(alloc, names)?)
 }
 
 /// The exports of a module, recorded, where all that is required is among them.

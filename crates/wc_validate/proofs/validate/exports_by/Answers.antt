@@ -20,6 +20,10 @@ returns-in_err-check_exports-clause-fault c = λ e has.
     passed (IsExportsCause e (map key_view c.args.keys.now.keys) (map required_entry c.args.required.now.entries) (module_value c.args.module.now)) _ _ c.from_residual-in_err-check_exports.ensures.1
     (missing_cause e (map key_view c.args.keys.now.keys) (map required_entry c.args.required.now.entries) c.args.module.now c.args.context.now has c.requires.keys c.deref.result.now c.deref.ensures.value (map export_entry c.in_ok-names.names.entries) c.deref-2.result.now _ c.deref-2.ensures.value c.in_ok-names.ensures.recorded c.in_err-check_exports.ensures.fault)
 
+pub returns-in_err-from_names-clause-fault : goal.returns-in_err-from_names-clause-fault
+returns-in_err-from_names-clause-fault c = λ e has.
+    passed (IsExportsCause e (map key_view c.args.keys.now.keys) (map required_entry c.args.required.now.entries) (module_value c.args.module.now)) _ _ c.from_residual-in_err-from_names.ensures.1 tt
+
 pub returns-clause-recorded : goal.returns-clause-recorded
 returns-clause-recorded c = λ e has.
-    exports_record e (map key_view c.args.keys.now.keys) (map required_entry c.args.required.now.entries) c.args.module.now c.args.context.now has c.requires.keys c.deref.result.now c.deref.ensures.value (map export_entry c.in_ok-names.names.entries) _ c.deref-2.result.now c.deref-2.ensures.value c.in_ok-names.ensures.recorded c.in_ok-check_exports.ensures.met c.from_names.ensures
+    exports_record e (map key_view c.args.keys.now.keys) (map required_entry c.args.required.now.entries) c.args.module.now c.args.context.now has c.requires.keys c.deref.result.now c.deref.ensures.value (map export_entry c.in_ok-names.names.entries) _ c.deref-2.result.now c.deref-2.ensures.value c.in_ok-names.ensures.recorded c.in_ok-check_exports.ensures.met c.in_ok-from_names.ensures

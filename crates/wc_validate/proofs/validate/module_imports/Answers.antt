@@ -26,8 +26,11 @@ from_recorder-requires c =
     let library = option_map (λ (l : Bor LibraryInfo). library_view l.now) c.args.library in
     recorded_memory (import_setting c.in_ok-context.context library) (import_values c.deref.result.now) c.in_ok-recorder.recorder (c.in_ok-recorder.ensures.recorded library c.in_ok-context.ensures.arguments)
 
+pub returns-in_err-from_recorder-clause-fault : goal.returns-in_err-from_recorder-clause-fault
+returns-in_err-from_recorder-clause-fault c = passed (IsImportsCause c.args.encoder.now (option_copied c.args.renames) (option_map (λ (l : Bor LibraryInfo). library_view l.now) c.args.library) (map func_type_value c.args.module.now.types.items) (import_values c.args.module.now.imports.items)) _ _ c.from_residual-in_err-from_recorder.ensures.1 tt
+
 pub returns-clause-recorded : goal.returns-clause-recorded
 returns-clause-recorded c =
     let library = option_map (λ (l : Bor LibraryInfo). library_view l.now) c.args.library in
     record_is c.args.encoder.now c.in_ok-context.context _ library c.args.module.now.types.items _ c.args.module.now.imports.items c.in_ok-context.ensures.setting c.in_ok-context.ensures.renames c.in_ok-context.ensures.types c.deref.ensures.value c.in_ok-recorder.recorder _
-    (c.in_ok-recorder.ensures.recorded library c.in_ok-context.ensures.arguments) c.from_recorder.ensures
+    (c.in_ok-recorder.ensures.recorded library c.in_ok-context.ensures.arguments) c.in_ok-from_recorder.ensures
