@@ -25,6 +25,7 @@ use wc_rows::input::{Stop, answered, bad_row, bytes_of};
 use wc_rows::lines::Lines;
 use wc_rows::rows::Row;
 use wc_rows::values::{put_bytes_lines, put_fault};
+use wc_tool::ToolFault;
 
 /// Appends the answer of an example, and says whether the row's call is one.
 pub(crate) fn answer(alloc: Global, row: &Row<'_>, out: &mut Lines) -> Result<bool, AllocError> {
@@ -195,6 +196,8 @@ fn answer_printed_lines(alloc: Global, row: &Row<'_>, out: &mut Lines) -> Result
     match tool::printed_lines(alloc, &arguments, &input) {
         Ok(Some(lines)) => put_lines(out, &lines),
         Ok(None) => out.push_str("usage\n"),
+        // The lines are put into memory, which ran out.
+        Err(ToolFault::Output) => return Err(Stop::Memory),
         Err(fault) => put_fault(out, fault),
     }
     Ok(())

@@ -7,11 +7,12 @@ use crate::shown_names::put_id;
 use crate::stop::Stop;
 use crate::types::{type_id, wit_type};
 use crate::words::Words;
-use std::alloc::Global;
-use wc_resolve::{LiveTypes, Resolve, WitType, WorldItem};
+use std::alloc::{AllocError, Global};
+use wc_resolve::{LiveTypes, Resolve, ResolveFault, TypeId, WitType, WorldItem};
 use wc_rows::lines::Lines;
 
 fn add_type_id<'a>(
+    alloc: Global,
     resolve: &Resolve,
     live: &mut LiveTypes,
     words: &mut Words,
@@ -20,8 +21,36 @@ fn add_type_id<'a>(
     if !resolve.has_type(id) {
         return Err(Stop::Missing("no such type"));
     }
+    let old = ids_of(alloc, live)?;
+    if live.add_type_id(resolve, id).is_ok() {
+        return Ok(());
+    }
+    let kept = ids_of(alloc, live)?;
     live.add_type_id(resolve, id)?;
-    Ok(())
+    let whole = ids_of(alloc, live)?;
+    Err(memory_ran_out(&old, &kept, &whole))
+}
+
+/// Why the types are not all there, which were `old`, are `kept`, and were to become `whole`: memory ran out, if `kept`
+/// begins with `old`, and `whole` with `kept`.
+fn memory_ran_out<'a>(old: &[TypeId], kept: &[TypeId], whole: &[TypeId]) -> Stop<'a> {
+    if begins_with(kept, old) && begins_with(whole, kept) {
+        Stop::Resolve(ResolveFault::Memory)
+    } else {
+        Stop::Missing("types were lost")
+    }
+}
+
+fn begins_with(whole: &[TypeId], front: &[TypeId]) -> bool {
+    front.len() <= whole.len() && front.iter().zip(whole.iter()).all(|(a, b)| a == b)
+}
+
+fn ids_of(alloc: Global, live: &LiveTypes) -> Result<Vec<TypeId>, AllocError> {
+    let mut ids = Vec::new(alloc);
+    for id in live.iter() {
+        ids.push(id)?;
+    }
+    Ok(ids)
 }
 
 fn add_type<'a>(
@@ -90,13 +119,14 @@ fn put_count(live: &LiveTypes, out: &mut Lines) {
 
 /// A line of the script, after `do`.
 fn step<'a>(
+    alloc: Global,
     resolve: &Resolve,
     live: &mut LiveTypes,
     words: &mut Words,
     out: &mut Lines,
 ) -> Result<(), Stop<'a>> {
     if words.take("add_type_id") {
-        add_type_id(resolve, live, words)?;
+        add_type_id(alloc, resolve, live, words)?;
     } else if words.take("add_type") {
         add_type(resolve, live, words)?;
     } else if words.take("add_func") {
@@ -127,7 +157,7 @@ pub fn live_call<'a>(
     for line in input {
         if let Some(line) = line.strip_prefix("do ") {
             let mut words = Words::of(alloc, line, 0)?;
-            step(resolve, &mut live, &mut words, out)?;
+            step(alloc, resolve, &mut live, &mut words, out)?;
         }
     }
     Ok(())

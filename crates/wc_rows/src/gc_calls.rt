@@ -5,10 +5,11 @@ ghost use Rattle.std.specs.Prelude.{IfSome, ◌≤◌};
 use crate::input::{Stop, answered, bad_row, bytes_of};
 use crate::lines::Lines;
 use crate::rows::Row;
+use crate::set_calls::answer_set;
 use crate::values::put_bytes_lines;
 use indexmap::IndexSet;
 use std::alloc::{AllocError, Global};
-use wc_gc::{BitVec, GcFault, LiveSet, Liveness, liveness_counted, run};
+use wc_gc::{GcFault, LiveSet, Liveness, RangeSet, liveness_counted, run};
 
 /// Appends the answer of a call of `wc_gc`, and says whether the row's is one.
 pub fn answer(alloc: Global, row: &Row<'_>, out: &mut Lines) -> Result<bool, AllocError> {
@@ -22,10 +23,8 @@ fn answer_call(alloc: Global, row: &Row<'_>, out: &mut Lines) -> Result<bool, St
         answer_trim(alloc, row, out)?;
     } else if row.call == "trim_for" {
         answer_trim_for(alloc, row, out)?;
-    } else if row.call == "bit_vec" {
-        answer_bit_vec(alloc, row, out)?;
     } else {
-        return Ok(false);
+        return answer_set(alloc, row, out);
     }
     Ok(true)
 }
@@ -51,7 +50,7 @@ fn answer_liveness(alloc: Global, row: &Row<'_>, out: &mut Lines) -> Result<(), 
     Ok(())
 }
 
-fn put_answer(found: Result<Liveness<BitVec>, GcFault>, out: &mut Lines) {
+fn put_answer(found: Result<Liveness<RangeSet>, GcFault>, out: &mut Lines) {
     match found {
         Ok(found) => put_liveness(&found, out),
         Err(fault) => writeln!(out, "fault {fault}"),
@@ -107,7 +106,7 @@ fn put_trimmed(trimmed: Result<Vec<u8>, GcFault>, out: &mut Lines) {
 /// The live items below this index are shown.
 const SHOWN: u32 = 256;
 
-fn put_liveness(found: &Liveness<BitVec>, out: &mut Lines) {
+fn put_liveness(found: &Liveness<RangeSet>, out: &mut Lines) {
     put_set("types", &found.live.types, out);
     put_set("functions", &found.live.funcs, out);
     put_set("tables", &found.live.tables, out);
@@ -118,7 +117,7 @@ fn put_liveness(found: &Liveness<BitVec>, out: &mut Lines) {
 }
 
 /// A line for a set that has something: its numbers.
-fn put_set(name: &str, set: &BitVec, out: &mut Lines) {
+fn put_set(name: &str, set: &RangeSet, out: &mut Lines) {
     let mut is_empty = true;
     for number in 0..SHOWN {
         if set.contains(number) {
@@ -132,34 +131,4 @@ fn put_set(name: &str, set: &BitVec, out: &mut Lines) {
     if !is_empty {
         out.push('\n');
     }
-}
-
-/// `bit_vec`, with lines `insert NUMBER` and `contains NUMBER`: a line for what each answers.
-fn answer_bit_vec(alloc: Global, row: &Row<'_>, out: &mut Lines) -> Result<(), Stop> {
-    let mut set = BitVec::new(alloc);
-    for line in &row.input {
-        if !put_step(&mut set, line, out)? {
-            return Err(bad_row(out, "no step of a set", line));
-        }
-    }
-    Ok(())
-}
-
-/// What a step answers. False where the line is none.
-fn put_step(set: &mut BitVec, line: &str, out: &mut Lines) -> Result<bool, AllocError> {
-    if let Some(number) = number_after(line, "insert ") {
-        let is_new = set.insert(number)?;
-        writeln!(out, "{is_new}");
-        return Ok(true);
-    }
-    let Some(number) = number_after(line, "contains ") else {
-        return Ok(false);
-    };
-    let is_there = set.contains(number);
-    writeln!(out, "{is_there}");
-    Ok(true)
-}
-
-fn number_after(line: &str, word: &str) -> Option<u32> {
-    line.strip_prefix(word)?.parse::<u32>().ok()
 }

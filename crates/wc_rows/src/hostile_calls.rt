@@ -1,4 +1,4 @@
-//! Calls on modules that are cut off or have long chains of calls.
+//! Calls on modules that are cut off or have long chains of calls, and on sets for which memory runs out.
 
 use crate::gc_calls::names_from;
 use crate::input::{Stop, answered, bad_row, bytes_of};
@@ -6,7 +6,7 @@ use crate::lines::Lines;
 use crate::rows::Row;
 use indexmap::IndexSet;
 use std::alloc::{AllocError, Global};
-use wc_gc::{BitVec, GcFault, LiveSet, Liveness, liveness_counted, run};
+use wc_gc::{BitVec, GcFault, LiveSet, Liveness, RangeSet, liveness_counted, run};
 use wc_read::read_module;
 
 /// Appends the answer of a call on such modules, and says whether the row's is one.
@@ -19,6 +19,8 @@ fn answer_call(alloc: Global, row: &Row<'_>, out: &mut Lines) -> Result<bool, St
         answer_fronts(alloc, row, out)?;
     } else if row.call == "call_chain" {
         answer_call_chain(alloc, row, out)?;
+    } else if row.call == "inserted" {
+        answer_inserted(alloc, row, out)?;
     } else {
         return Ok(false);
     }
@@ -72,14 +74,14 @@ fn count_of(row: &Row<'_>) -> Option<u32> {
     row.arguments.first()?.parse::<u32>().ok()
 }
 
-fn put_live(found: Result<Liveness<BitVec>, GcFault>, count: u32, out: &mut Lines) {
+fn put_live(found: Result<Liveness<RangeSet>, GcFault>, count: u32, out: &mut Lines) {
     match found {
         Ok(found) => put_count(&found, count, out),
         Err(fault) => writeln!(out, "fault {fault}"),
     }
 }
 
-fn put_count(found: &Liveness<BitVec>, count: u32, out: &mut Lines) {
+fn put_count(found: &Liveness<RangeSet>, count: u32, out: &mut Lines) {
     let mut live = 0u32;
     for index in 0..count {
         if found.live.funcs.contains(index) {
@@ -139,4 +141,40 @@ fn put_number(out: &mut Vec<u8>, number: u64) -> Result<(), AllocError> {
     }
     out.push((rest % 128) as u8)?;
     Ok(())
+}
+
+/// Numbers from here on are in no set of a row.
+const NUMBERS: u32 = 1024;
+
+/// `inserted NUMBER..`: what `insert` answers for each number, in a set that has those before it. Where memory runs out
+/// the answer ends with that, if the set has the numbers that it had.
+fn answer_inserted(alloc: Global, row: &Row<'_>, out: &mut Lines) -> Result<(), Stop> {
+    let mut set = RangeSet::new(alloc);
+    let mut had = BitVec::new(alloc);
+    // So all of its room is there.
+    had.insert(NUMBERS)?;
+    for text in row.arguments.iter() {
+        let Ok(number) = text.parse::<u32>() else {
+            return Err(bad_row(out, "no number", text));
+        };
+        match set.insert(number) {
+            Ok(is_new) => writeln!(out, "{is_new}"),
+            Err(_) => {
+                put_kept(&set, &had, out);
+                return Ok(());
+            }
+        }
+        had.insert(number)?;
+    }
+    Ok(())
+}
+
+/// That memory ran out, or the first number that is in one of two sets alone.
+fn put_kept(set: &RangeSet, had: &BitVec, out: &mut Lines) {
+    for number in 0..NUMBERS {
+        if set.contains(number) != had.contains(number) {
+            return writeln!(out, "{number} was changed");
+        }
+    }
+    out.push_str("fault out of memory\n");
 }

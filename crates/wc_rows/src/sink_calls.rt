@@ -19,6 +19,8 @@ fn answer_call(alloc: Global, row: &Row<'_>, out: &mut Lines) -> Result<bool, St
         answer_writer(alloc, row, out)?;
     } else if row.call == "execute_failing" {
         answer_failing(alloc, row, out)?;
+    } else if row.call == "each_put_failing" {
+        answer_each_failing(alloc, row, out)?;
     } else {
         return Ok(false);
     }
@@ -65,7 +67,8 @@ fn number_at(row: &Row<'_>, index: usize, out: &mut Lines) -> Result<u32, Stop> 
     }
 }
 
-/// The sink over a writer that fails at the write and the flush that the arguments name.
+/// The sink over a writer that fails at the write and the flush that the arguments name, and at no other: it has room
+/// for 4,096 bytes.
 fn failing_sink(
     alloc: Global,
     row: &Row<'_>,
@@ -78,7 +81,7 @@ fn failing_sink(
         failing_flush,
         writes: 0,
         flushes: 0,
-        taken: Vec::new(alloc),
+        taken: Vec::with_capacity(alloc, 4096)?,
     }))
 }
 
@@ -155,5 +158,26 @@ fn answer_failing(alloc: Global, row: &Row<'_>, out: &mut Lines) -> Result<(), S
     put_answer(out, &answer);
     let failed = sink.failed;
     writeln!(out, "failed {failed}");
+    Ok(())
+}
+
+/// `each_put_failing COMMAND`: the command, over sinks that fail after no put, after one, after two, and so on, until
+/// all puts pass. A line for each, and the answer.
+fn answer_each_failing(alloc: Global, row: &Row<'_>, out: &mut Lines) -> Result<(), Stop> {
+    let command = named_command(row, out)?;
+    let input = bytes_of(alloc, &row.input, out)?;
+    for puts in 0..1000u32 {
+        let mut sink = FailingSink {
+            puts,
+            failed: false,
+        };
+        let answer = execute(alloc, &command, &input, &mut sink);
+        let failed = sink.failed;
+        write!(out, "{puts}: failed {failed}, ");
+        put_answer(out, &answer);
+        if !failed {
+            return Ok(());
+        }
+    }
     Ok(())
 }

@@ -3,14 +3,15 @@ use Rattle.std.specs.Prelude.{ℕ, List, ◌++◌, codes}
 use Rattle.std.specs.List.{flat_map}
 use Rattle.wc_dedupe.specs.Renaming.{RenameValue}
 
--- between a module's name and an import's (and between the names of faults), between an import's name and its new one, between the parts of a line, and
--- the end of a line
+-- between a module's name and an import's, and between the names of faults
 abbrev pub colon : List ℕ
 colon = codes ": "
 
+-- between an import's name and its new one
 abbrev pub arrow : List ℕ
 arrow = codes " -> "
 
+-- between the parts of a line
 abbrev pub space : List ℕ
 space = codes " "
 

@@ -88,7 +88,7 @@ fn page_option(arguments: &[String]) -> Result<(u32, &[String]), Usage>
     }
 }
 
-/// The exponent that a argument spells.
+/// The exponent that an argument spells.
 fn page_exponent(argument: &str) -> Result<u32, Usage>
     ensures page { IfOk result (λ page. page_of argument.now ≡ Some page) }
     ensures none { IsErr result → page_of argument.now ≡ None }
@@ -102,7 +102,7 @@ fn page_exponent(argument: &str) -> Result<u32, Usage>
     }
 }
 
-/// Whether there is a argument, and the first is no option.
+/// Whether there is an argument, and the first is no option.
 fn are_exports(arguments: &[String]) -> bool
     ensures { result ≡ are_exports_in (map string_bytes arguments.now) }
 {

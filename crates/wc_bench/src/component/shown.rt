@@ -5,7 +5,7 @@ use std::alloc::{AllocError, Global};
 use std::borrow::CowSlice;
 use std::collections::HashSet;
 use wc_fixtures::shown_names::{put_id, put_name, put_optional_name};
-use wc_module_rows::validation::export_calls::put_exports;
+use wc_module_rows::validation::export_calls::{put_exports, put_found_reallocs};
 use wc_module_rows::validation::shown_modules::put_modules;
 use wc_resolve::{AbiVariant, InterfaceId, Resolve};
 use wc_rows::lines::Lines;
@@ -46,6 +46,14 @@ fn put_adapter_bytes(world: &ComponentWorld<'_>, out: &mut Lines) {
             CowSlice::Owned(_) => "owned",
         };
         put_bytes_lines(out, word, adapter.wasm.as_slice());
+    }
+}
+
+/// The adapters and libraries, each with the reallocs that are found among its exports.
+fn put_adapter_reallocs(world: &ComponentWorld<'_>, out: &mut Lines) {
+    for (name, adapter) in world.adapters.iter() {
+        put_adapter_name(name, adapter, out);
+        put_found_reallocs(&adapter.info.exports, out);
     }
 }
 
@@ -132,6 +140,8 @@ pub(crate) fn put_part(
         put_modules(alloc, &world.info.imports, out)?;
     } else if part == "adapters" {
         put_adapters(alloc, world, out)?;
+    } else if part == "reallocs" {
+        put_adapter_reallocs(world, out);
     } else if part == "bytes" {
         put_adapter_bytes(world, out);
     } else if part == "imports" {

@@ -2,7 +2,7 @@
 
 use crate::names::shown_imports::put_copy;
 use crate::validation::described_modules::{DescribedModule, described_of};
-use crate::validation::export_calls::{classify_exports, put_recorded};
+use crate::validation::export_calls::{classify_exports, put_found_reallocs, put_recorded};
 use crate::validation::shown_modules::{put_imports, put_memory, put_modules, put_required};
 use std::alloc::{AllocError, Global};
 use std::borrow::CowSlice;
@@ -17,13 +17,16 @@ use wc_read::ReadFault;
 use wc_rows::lines::Lines;
 use wc_rows::rows::Row;
 use wc_validate::{
-    ImportInstance, ImportMap, ValidateFault, ValidatedModule, validate_adapter_module,
-    validate_module,
+    ImportInstance, ValidateFault, ValidatedModule, validate_adapter_module, validate_module,
 };
 
-/// What the words after a call ask of the imports: `imports`, `memory`, `required ADAPTER`, or all that is recorded.
-fn put_asked(imports: &ImportMap, words: &mut Words, out: &mut Lines) -> Result<(), Bad> {
-    if words.take("imports") {
+/// What the words after a call ask: of the exports `reallocs`; of the imports `imports`, `memory`, `required ADAPTER`,
+/// or all that is recorded.
+fn put_asked(validated: &ValidatedModule, words: &mut Words, out: &mut Lines) -> Result<(), Bad> {
+    let imports = &validated.imports;
+    if words.take("reallocs") {
+        put_found_reallocs(&validated.exports, out);
+    } else if words.take("imports") {
         put_imports(words.alloc, imports, out)?;
     } else if words.take("memory") {
         put_memory(imports, out);
@@ -43,7 +46,13 @@ fn put_validated(
     out: &mut Lines,
 ) -> Result<(), Bad> {
     match validated {
-        Ok(validated) => put_asked(&validated.imports, words, out),
+        Ok(validated) => put_asked(validated, words, out),
+        // a copy of it has the same text
+        Err(ValidateFault::AdapterModuleDidNotExport(missing)) => {
+            let copy = missing.clone(words.alloc)?;
+            writeln!(out, "fault {copy}");
+            Ok(())
+        }
         Err(fault) => {
             writeln!(out, "fault {fault}");
             Ok(())

@@ -47,6 +47,19 @@ fn put_memory(exports: &ExportMap, out: &mut Lines) {
     }
 }
 
+/// The reallocs that are found, a line for each query: `QUERY: NAME`, or `none`.
+pub fn put_found_reallocs(exports: &ExportMap, out: &mut Lines) {
+    out.push_str("general_purpose_realloc:");
+    put_found(exports.general_purpose_realloc(), out);
+    out.push_str("\nimport_realloc_fallback:");
+    put_found(exports.import_realloc_fallback(), out);
+    out.push_str("\nrealloc_to_import_into_adapter:");
+    put_found(exports.realloc_to_import_into_adapter(), out);
+    out.push_str("\nreallocs:");
+    put_reallocs(exports, out);
+    out.push('\n');
+}
+
 /// What the exports of one kind are asked.
 fn put_of_kind(exports: &ExportMap, question: &str, out: &mut Lines) -> Result<(), Bad> {
     match question {
