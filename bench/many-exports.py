@@ -1,39 +1,52 @@
 #!/usr/bin/env python3
 """Writes a row that validates a module of many exports over a world of many interfaces, to standard output.
 
-    many-exports.py [EXPORTS] [INTERFACES] | crates/wc_bench/out/wc_bench - > answers
+    many-exports.py [EXPORTS] [INTERFACES] [asked] | crates/wc_bench/out/wc_bench - > answers
 
 50,000 exports and 2,000 interfaces, unless other numbers are given. Each interface is in a package of its own, has ten
 functions, and has to be exported: so the first exports are its functions, and the others mean nothing. The row answers
 each export that is recorded. Beside it is a row of the same fixture with one export, which is refused.
+
+With `asked` the interfaces have as many functions as there are exports, so that each export is one of them, and each of
+them is asked for: how it is lifted, what runs after it, and its callback.
 """
 import sys
 
 from many_interfaces import FUNCTIONS, fixture
 
+QUESTIONS = "abi", "post_return", "callback"
 
-def row(exports, interfaces):
-    print("row %d exports over %d interfaces" % (exports, interfaces))
+
+def row(exports, interfaces, functions, asked):
+    print("row of %d exports over %d interfaces" % (exports, interfaces))
     print("call validated_exports")
     print("with world")
     for number in range(exports):
-        interface, function = number // FUNCTIONS, number % FUNCTIONS
+        interface, function = number // functions, number % functions
         if interface < interfaces:
             name = "my:demo%d/face@1.2.%d#f%d" % (interface, interface, function)
         else:
             name = "x%d" % number
         print("in do export %s func i32 -> i32" % name)
+    if asked:
+        for number in range(exports):
+            for question in QUESTIONS:
+                interface, function = number // functions, number % functions
+                print("in do ask %s i%d func f%d: (v: u32) -> u32" % (question, interface, function))
     print()
 
 
 def main():
-    exports = int(sys.argv[1]) if len(sys.argv) > 1 else 50000
-    interfaces = int(sys.argv[2]) if len(sys.argv) > 2 else 2000
-    fixture(interfaces, "export")
+    asked = sys.argv[-1] == "asked"
+    numbers = [int(word) for word in sys.argv[1:] if word != "asked"]
+    exports = numbers[0] if numbers else 50000
+    interfaces = numbers[1] if len(numbers) > 1 else 2000
+    functions = exports // interfaces if asked else FUNCTIONS
+    fixture(interfaces, "export", functions)
     print("in module-exports " + " ".join("i%d" % number for number in range(interfaces)))
     print()
-    row(1, interfaces)
-    row(exports, interfaces)
+    row(1, interfaces, functions, False)
+    row(exports, interfaces, functions, asked)
 
 
 if __name__ == "__main__":

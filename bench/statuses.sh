@@ -1,13 +1,21 @@
 #!/bin/sh
-# Runs the built program on files of its own making, and compares what it prints, its status, and what it writes
-# with what docs/MODEL.md says of the program.
+# Runs the built program, or the one that is named, on files of its own making, and compares what it prints, its status,
+# and what it writes with what docs/MODEL.md says of the program: where a file can't be read or written and output can't
+# be printed too.
+#
+#     bench/statuses.sh [PROGRAM]
 set -e
 top=$(CDPATH='' cd -P -- "$(dirname -- "$0")/.." && pwd -P)
 . "$top/bench/need.sh"
 need python3 python3
-"$top/wctrim" --build
-exec python3 - "$top/wctrim" "$top/examples" <<'END_OF_PYTHON'
+program=${1-}
+if [ -z "$program" ]; then
+    "$top/wctrim" --build
+    program=$top/wctrim
+fi
+exec python3 - "$program" "$top/examples" <<'END_OF_PYTHON'
 import os
+import stat
 import subprocess
 import sys
 import tempfile
@@ -50,38 +58,116 @@ import my:demo/store [method]file.entry func
 import my:demo/store [resource-drop]file func
 export size_of func 4
 """
+NOBODY = 65534
 failed = 0
 
 
-def run(folder, words, stdout=subprocess.PIPE):
-    done = subprocess.run([program, *words], cwd=folder, stdin=subprocess.DEVNULL, stdout=stdout)
+def run(folder, words, stdout=subprocess.PIPE, **more):
+    done = subprocess.run([program, *words], cwd=folder, stdin=subprocess.DEVNULL, stdout=stdout, **more)
     return done.returncode, (done.stdout or b"").decode()
 
 
-def check(folder, words, status, lines, out=None):
-    """One run: its status, its lines, and the bytes of the file `out`, or that there is none."""
+def held(folder):
+    """The bytes of each file of a folder that can be read, but of `out`."""
+    files = [it for it in os.scandir(folder) if it.name != "out" and stat.S_ISREG(it.stat(follow_symlinks=False).st_mode)]
+    return {it.name: open(it.path, "rb").read() for it in files}
+
+
+def differs(words, found, wanted):
+    """Counts and prints a run that is not as wanted."""
     global failed
+    failed += 1
+    print(f"{words}: {found}; wanted {wanted}")
+
+
+def check(folder, words, status, lines, out=None, before=None, **more):
+    """One run: its status, its lines, the bytes of the file `out`, or that there is none, and that all other files stay.
+    `before` is what `out` has before the run, if it is there."""
     path = os.path.join(folder, "out")
     if os.path.exists(path):
         os.remove(path)
-    found = run(folder, words)
+    if before is not None:
+        with open(path, "wb") as file:
+            file.write(before)
+    others = held(folder)
+    found = run(folder, words, **more)
     written = open(path, "rb").read() if os.path.exists(path) else None
-    if found != (status, lines) or written != out:
-        failed += 1
-        print(f"{words}: {found}, out {written}; wanted {(status, lines)}, out {out}")
+    if (*found, written) != (status, lines, out):
+        differs(words, (*found, written), (status, lines, out))
+    if held(folder) != others:
+        differs(words, "other files changed", "none")
+
+
+def check_fault(folder, words, line, **more):
+    """A run with a fault that comes before the file `out` is written: one line, status 1, and `out` is as it was, there
+    or not."""
+    check(folder, words, 1, line + "\n", **more)
+    check(folder, words, 1, line + "\n", b"as it was", b"as it was", **more)
+
+
+def check_unprinted(folder, words, stdout, name):
+    """A run whose lines can't be printed: status 1, and no file."""
+    path = os.path.join(folder, "out")
+    if os.path.exists(path):
+        os.remove(path)
+    others = held(folder)
+    status, _ = run(folder, words, stdout=stdout)
+    if status != 1 or os.path.exists(path) or held(folder) != others:
+        differs(words, f"into {name}: status {status}, out is there: {os.path.exists(path)}", "1, False")
 
 
 def check_full(folder, words):
-    """One run whose lines can't be printed: status 1, and no file."""
-    global failed
-    path = os.path.join(folder, "out")
-    if os.path.exists(path):
-        os.remove(path)
+    """The same, into a full device, and into a pipe that nobody reads."""
     with open("/dev/full", "wb") as full:
-        status, _ = run(folder, words, stdout=full)
-    if status != 1 or os.path.exists(path):
-        failed += 1
-        print(f"{words} into a full device: status {status}, out is there: {os.path.exists(path)}")
+        check_unprinted(folder, words, full, "a full device")
+    reading, writing = os.pipe()
+    os.close(reading)
+    check_unprinted(folder, words, writing, "a closed pipe")
+    os.close(writing)
+
+
+def check_vanishing(folder, words, front, line):
+    """A run over a pipe `pipe` whose name is gone once it is open, and which ends after these bytes: one line, status 1,
+    and no file `out`."""
+    path, out = os.path.join(folder, "pipe"), os.path.join(folder, "out")
+    if os.path.exists(out):
+        os.remove(out)
+    os.mkfifo(path)
+    running = subprocess.Popen([program, *words], cwd=folder, stdin=subprocess.DEVNULL, stdout=subprocess.PIPE)
+    with open(path, "wb") as file:
+        os.remove(path)
+        file.write(front)
+    printed = running.communicate()[0].decode()
+    if (running.returncode, printed, os.path.exists(out)) != (1, line + "\n", False):
+        differs(words, (running.returncode, printed, os.path.exists(out)), (1, line + "\n", False))
+
+
+def check_refused_by_system(folder):
+    """Files that can't be read or written, though they are there."""
+    for command, more in (("dedupe", []), ("trim", ["f"])):
+        check_fault(folder, [command, "folder", "out", *more], "wctrim: cannot read folder")
+        check_fault(folder, [command, "gone", "out", *more], "wctrim: cannot read gone")
+        check_fault(folder, [command, "/proc/self/mem", "out", *more], "wctrim: cannot read /proc/self/mem")
+        for path in ("folder", "function/out", "/dev/full"):
+            check_fault(folder, [command, "function", path, *more], "wctrim: cannot write " + path)
+    check_fault(folder, ["scan", "folder"], "wctrim: cannot read folder")
+    check_fault(folder, ["scan", "gone"], "wctrim: cannot read gone")
+    check(folder, ["dedupe", "three", "/dev/full"], 1, LINES + "wctrim: cannot write /dev/full\n")
+    # the system refuses nobody's reading and writing, where root's it does not
+    user = {"user": NOBODY} if os.getuid() == 0 else {}
+    os.chmod(folder, 0o777)
+    os.chmod(os.path.join(folder, "locked"), 0)
+    for words in (["dedupe", "locked", "out"], ["trim", "locked", "out", "f"], ["scan", "locked"]):
+        line = "wctrim: cannot read locked\n"
+        found = run(folder, words, **user)
+        if found != (1, line) or os.path.exists(os.path.join(folder, "out")):
+            differs(words, found, (1, line))
+    os.chmod(os.path.join(folder, "locked"), 0o444)
+    words, line = ["dedupe", "three", "locked"], LINES + "wctrim: cannot write locked\n"
+    others = held(folder)
+    found = run(folder, words, **user)
+    if found != (1, line) or held(folder) != others:
+        differs(words, found, (1, line))
 
 
 with tempfile.TemporaryDirectory() as folder:
@@ -93,9 +179,12 @@ with tempfile.TemporaryDirectory() as folder:
         "function": HEADER + b"".join(FUNCTION),
         "data": WITH_DATA,
         "table": WITH_TABLE,
+        "locked": THREE,
     }.items():
         with open(os.path.join(folder, name), "wb") as file:
             file.write(content)
+    os.mkdir(os.path.join(folder, "folder"))
+    os.symlink("nothing", os.path.join(folder, "gone"))
     check(folder, [], 0, USAGE)
     for words in (["dedupe"], ["dedupe", "three"], ["dedupe", "three", "out", "more"], ["scan"], ["scan", "three", "out"],
                   ["trim", "three", "out"], ["--help"], [b"\xff"], ["dedupe", b"\xff", "out"]):
@@ -137,6 +226,20 @@ with tempfile.TemporaryDirectory() as folder:
     check_full(folder, ["scan", "three"])
     check_full(folder, ["scan", "text"])
     check_full(folder, ["dedupe", "three", "out"])
+    check_full(folder, ["dedupe", "text", "out"])
+    check_full(folder, ["trim", "text", "out", "f"])
+    # IN is OUT: it stays where it is refused
+    check(folder, ["dedupe", "out", "out"], 0, LINES, RENAMED, THREE)
+    check(folder, ["dedupe", "out", "out"], 1, "wctrim: Dedupe: Read: NotWasm\n", b"(module)", b"(module)")
+    check(folder, ["trim", "out", "out", "f"], 1, "wctrim: Trim: Read: NotWasm\n", b"(module)", b"(module)")
+    # what was in OUT stays where the fault comes before it is written, and is replaced where all is well
+    check(folder, ["dedupe", "three", "out"], 0, LINES, RENAMED, b"longer than what is written: " + 9 * THREE)
+    check_fault(folder, ["dedupe", "text", "out"], "wctrim: Dedupe: Read: NotWasm")
+    check_fault(folder, ["trim", "table", "out", "f"], "wctrim: Trim: LiveTable")
+    check_vanishing(folder, ["dedupe", "pipe", "out"], THREE[:12], "wctrim: Dedupe: Read: Truncated")
+    check_vanishing(folder, ["trim", "pipe", "out", "f"], THREE[:12], "wctrim: Trim: Read: Truncated")
+    check_vanishing(folder, ["scan", "pipe"], b"", "wctrim: Read: NotWasm")
+    check_refused_by_system(folder)
 print("all as wanted" if failed == 0 else f"{failed} not as wanted")
 sys.exit(failed != 0)
 END_OF_PYTHON

@@ -1,0 +1,197 @@
+#!/usr/bin/env python3
+"""Prints, for each fault of each library, a row of tests that reaches it, as the table of docs/ROWS.md.
+
+    fault-rows.py            prints the table
+    fault-rows.py --write    writes it into docs/ROWS.md
+    fault-rows.py --check    compares it with that of docs/ROWS.md; status 1 where they differ
+
+The faults and their texts are those of the enums in the sources. A row reaches a fault where it wants the fault's text of
+a call that answers faults of this enum (CALLS), or that of another fault which carries it. No row can reach those of BARRED,
+and Memory is reached where an allocation fails (failing-allocations.py). The status is 1 where any other fault has no row.
+"""
+import pathlib
+import re
+import sys
+
+TOP = pathlib.Path(__file__).resolve().parent.parent
+PAGE = TOP / "docs" / "ROWS.md"
+BEGIN, END = "<!-- fault-rows.py: begin -->\n", "<!-- fault-rows.py: end -->\n"
+
+# The enum of the faults that a call answers.
+CALLS = {
+    "frames": "ReadFault", "read_imports": "ReadFault", "read_module": "ReadFault", "read_body": "ReadFault",
+    "read_init": "ReadFault", "example exports_memory": "ReadFault",
+    "dedupe": "DedupeFault", "dedupe_owned": "DedupeFault", "example original_name": "DedupeFault",
+    "resolve_build": "ResolveFault", "encoder_build": "EncoderFault", "example encoder_for": "EncoderFault",
+    "classify": "ValidateFault", "classify_export": "ValidateFault", "validate_module": "ValidateFault",
+    "validate_adapter_module": "ValidateFault", "validated_exports": "ValidateFault",
+    "example imported_memory": "ValidateFault",
+    "liveness_counted": "GcFault", "trim": "GcFault", "trim_for": "GcFault", "unfolding_trimmed": "GcFault",
+    "call_chain": "GcFault", "example reaches_memory": "GcFault", "example trim_both": "GcFault",
+    "component_world": "WorldFault", "example can_use_slot_1": "WorldFault", "example summary": "WorldFault",
+    "execute": "ToolFault", "execute_failing": "ToolFault", "each_put_failing": "ToolFault",
+    "writer_sink": "PutFailed", "run_program": "RunFault", "parse": "Usage",
+}
+# What no row of any input can reach, and why.
+BARRED = {
+    ("WriteFault", "TooLarge"): "a section, or a body, of 2^32 bytes",
+    ("DedupeFault", "TooLarge"): "a section of 2^32 bytes",
+    ("GcFault", "TooLarge"): "a section of 2^32 bytes",
+    ("ValidateFault", "WholeDiffers"): "of the arguments of a name the first counts",
+    ("ValidateFault", "Mixed"): "of the arguments of a name the first counts",
+}
+FAILED = "where an allocation fails"
+
+
+def sources():
+    """The sources of the libraries, crate by crate, in the order of crates.txt."""
+    for line in (TOP / "crates.txt").read_text().splitlines():
+        name = re.match(r"(wc_\w+)", line)
+        if name and not name.group(1).endswith(("rows", "fixtures", "bench")):
+            for path in sorted((TOP / "crates" / name.group(1) / "src").rglob("*.rt")):
+                yield name.group(1), re.sub(r"^\s*//.*\n", "", path.read_text(), flags=re.M)
+
+
+def variants_of(body):
+    """Of an enum's body each variant: its name, its text with `{0}`, None where that is its only field's, and its fields."""
+    found = []
+    for text, name, fields in re.findall(r"#\[error\((.*?)\)\]\s*(\w+)(?:\(([^)]*)\))?,", body, re.S):
+        fields = [field.strip() for field in fields.split(",")] if fields else []
+        found.append((name, None if text == "transparent" else text.strip('"'), fields))
+    return found
+
+
+def run_fault(text):
+    """The variants of `RunFault`, which has no `Display`: the texts that it puts."""
+    put = dict(re.findall(r'RunFault::(\w+)\(path\) => put_after\(out, b"([^"]*)", path\)', text))
+    return [(name, start + "{0}", ["String"]) for name, start in put.items()] + [("Tool", "{0}", ["ToolFault"])]
+
+
+def faults():
+    """Each enum of faults, and each struct that is one: its crate, and its variants."""
+    found = {}
+    for crate, text in sources():
+        for name, body in re.findall(r"pub enum (\w*Fault)\b[^{]*\{(.*?)\n\}", text, re.S):
+            found[name] = (crate, variants_of(body) if "#[error" in body else run_fault(text))
+        for shown, name in re.findall(r'#\[error\("(.*?)"\)\]\s*pub struct (\w+);', text):
+            found[name] = (crate, [(name, shown, [])])
+        if "pub struct Usage;" in text:
+            found["Usage"] = (crate, [("Usage", "usage", [])])
+        for name in re.findall(r"pub struct (\w+)\(String\);\s", text):
+            shown = re.search(r"impl fmt::Display for %s .*?write!\(f, \"(.*?)\", self\.0\)" % name, text, re.S)
+            if shown:
+                found[name] = (crate, [(name, shown.group(1).replace("{}", "{0}"), ["String"])])
+    return found
+
+
+def readings(known, enum, text):
+    """The faults that a text of this enum shows, as pairs of an enum and a variant: the fault, and those that it carries."""
+    for name, shown, fields in known[enum][1]:
+        pattern = re.escape(shown if shown is not None else "{0}")
+        for number in range(len(fields)):
+            pattern = pattern.replace(re.escape("{%d}" % number), "(?P<f%d>.*)" % number)
+        match = re.fullmatch(pattern, text, re.S)
+        if not match:
+            continue
+        inner = [readings(known, field, match.group("f%d" % number))
+                 for number, field in enumerate(fields) if field in known]
+        if all(inner):
+            return [(enum, name)] + [fault for part in inner for fault in part]
+    return None
+
+
+def rows():
+    """Each row: its file, its name, its call and its lines of answer."""
+    for path in sorted((TOP / "crates" / "wc_bench" / "data").glob("*.rows")):
+        row = None
+        for line in path.read_text().splitlines():
+            word, _, rest = line.partition(" ")
+            if word in ("row", "fixture"):
+                if row and row[2]:
+                    yield row
+                row = (path.name, rest, [], [])
+            elif row and word == "call":
+                row[2].extend(rest.split())
+            elif row and word == "out":
+                row[3].append(rest)
+        if row and row[2]:
+            yield row
+
+
+def texts(call, lines):
+    """The texts of faults among a row's lines of answer."""
+    for line in lines:
+        if call == "run_program" and line.startswith("printed wctrim: "):
+            yield line[len("printed wctrim: "):]
+        elif call == "parse" and line == "usage":
+            yield line
+        elif call == "writer_sink" and line.startswith("fault "):
+            yield line[len("fault "):].split(",")[0]
+        else:
+            match = re.match(r"(?:.*[:,] )?fault (.*)", line)
+            if match and call not in ("run_program", "parse", "writer_sink"):
+                yield match.group(1)
+
+
+def reached(known):
+    """Of each fault the row that reaches it: the first whose call answers it, else the first that answers one that carries
+    it. And lines on texts that are those of no fault of the call."""
+    found, unread = {}, []
+    for file, name, words, lines in rows():
+        call = " ".join(words[:2]) if words[0] == "example" else words[0]
+        if call not in CALLS:
+            continue
+        for text in texts(call, lines):
+            faults_shown = readings(known, CALLS[call], text)
+            if not faults_shown:
+                unread.append("%s: %s: no fault of `%s`: %s" % (file, name, call, text))
+            for depth, fault in enumerate(faults_shown or []):
+                if fault not in found or depth < found[fault][0]:
+                    found[fault] = (depth, file, name)
+    return found, unread
+
+
+def table():
+    """The lines of the table, and lines on what is wrong: faults that have no row, and texts that are those of no fault."""
+    known = faults()
+    found, wrong = reached(known)
+    lines = ["| Fault | Row |\n", "|---|---|\n"]
+    for enum, (crate, variants) in known.items():
+        for name, _, _ in variants:
+            if name == "Memory":
+                where = FAILED
+            elif (enum, name) in found:
+                _, file, row = found[enum, name]
+                where = "%s: %s" % (file, row)
+            elif (enum, name) in BARRED:
+                where = "none: " + BARRED[enum, name]
+            else:
+                wrong.append("no row reaches `%s::%s`" % (enum, name))
+                where = "none"
+            fault = "`%s`" % enum if len(variants) == 1 and name == enum else "`%s::%s`" % (enum, name)
+            lines.append("| %s of `%s` | %s |\n" % (fault, crate, where))
+    return "".join(lines), wrong
+
+
+def main():
+    text, wrong = table()
+    page = PAGE.read_text()
+    front, begin, rest = page.partition(BEGIN)
+    old, end, back = rest.partition(END)
+    if "--write" in sys.argv or "--check" in sys.argv:
+        if not begin or not end:
+            sys.exit("docs/ROWS.md has no place for the table: the lines\n" + BEGIN + END)
+    if "--write" in sys.argv:
+        PAGE.write_text(front + BEGIN + text + END + back)
+    elif "--check" in sys.argv:
+        if old != text:
+            wrong.append("docs/ROWS.md has another table: bench/fault-rows.py --write")
+    else:
+        print(text, end="")
+    for line in wrong:
+        print(line)
+    sys.exit(1 if wrong else 0)
+
+
+if __name__ == "__main__":
+    main()
