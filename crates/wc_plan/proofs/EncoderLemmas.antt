@@ -1,0 +1,50 @@
+-- The plan of an encoder's world, and the faults of that world and its plan, are those of the encoder.
+use Rattle.std.proofs.Common.{◌≡◌, ◌⊎◌, inl, inr, Result, Ok, Err, IfErr, IfOk, OnOk, refl, sym, subst}
+use Rattle.wc_encoder.specs.EncoderParts.{EncoderView}
+use Rattle.wc_world.specs.Causes.{IsCause, IsMemory}
+use Rattle.wc_world.specs.Options.{OptionsOf}
+use Rattle.wc_world.specs.Views.{ComponentWorldView}
+use Rattle.wc_world.specs.World.{IsWorldOf}
+use Rattle.wc_world.specs.declared.fault.WorldFault.{WorldFault}
+use Rattle.wc_world.specs.declared.fault.WorldFault.TheVariants.{Memory as world_memory, Main, Adapter, Trim, Minimized, PageSize}
+use Rattle.wc_plan.specs.EncoderFaults.{IsEncoderFault, of_world}
+use Rattle.wc_plan.specs.Faults.{HasNoFault, IsFaultNamed, IsFirstFault, UseFault, no_lowering, no_memory, no_realloc}
+use Rattle.wc_plan.specs.PlanViews.{plan_view}
+use Rattle.wc_plan.specs.Plans.{plan_of}
+use Rattle.wc_plan.specs.Progress.{IsPlanFault}
+use Rattle.wc_plan.specs.declared.fault.PlanFault.{PlanFault}
+use Rattle.wc_plan.specs.declared.fault.PlanFault.TheVariants.{Memory, World}
+use Rattle.wc_plan.specs.declared.uses.Plan.{Plan}
+
+pub each_fault : {T : Type 0} (P Q : PlanFault → Type 0) → ((f : PlanFault) → P f → Q f) → (r : Result T PlanFault) → IfErr r P → IfErr r Q
+each_fault P Q g (Ok x) h = tt
+each_fault P Q g (Err f) h = g f h
+
+module _ (options : OptionsOf) (e : EncoderView) where
+  pub world_fault : (f : WorldFault) → IsMemory e f ⊎ IsCause e f → IsEncoderFault options e (of_world f)
+  world_fault world_memory h = tt
+  world_fault (Main v) h = (λ (is : Main v ≡ world_memory). cc is, h)
+  world_fault (Adapter name v) h = (λ (is : Adapter name v ≡ world_memory). cc is, h)
+  world_fault (Trim name g) h = (λ (is : Trim name g ≡ world_memory). cc is, h)
+  world_fault (Minimized name v) h = (λ (is : Minimized name v ≡ world_memory). cc is, h)
+  world_fault (PageSize name own main) h = (λ (is : PageSize name own main ≡ world_memory). cc is, h)
+
+  module _ (w : ComponentWorldView) (made : IsWorldOf options e w) where
+    pub planned : (r : Result Plan PlanFault) → IfOk r (λ p. plan_view p ≡ plan_of w) → OnOk r (HasNoFault w)
+        → IfOk r (λ p. (x : ComponentWorldView) × IsWorldOf options e x × HasNoFault x × (plan_view p ≡ plan_of x))
+    planned (Ok p) h sound = (w, made, sound, h)
+    planned (Err f) h sound = tt
+
+    no_world_fault : (g : WorldFault) (p : IsFirstFault w (World g)) (k : UseFault) → p.kind ≡ k → ⊥
+    no_world_fault g p no_memory is = subst (λ k. IsFaultNamed k p.at.0.name (World g)) is p.named
+    no_world_fault g p no_realloc is = subst (λ k. IsFaultNamed k p.at.0.name (World g)) is p.named
+    no_world_fault g p no_lowering is = subst (λ k. IsFaultNamed k p.at.0.name (World g)) is p.named
+
+    first_fault : (f : PlanFault) → IsFirstFault w f → IsEncoderFault options e f
+    first_fault Memory p = tt
+    first_fault (World g) p = absurd (no_world_fault g p p.kind refl)
+    first_fault f p = (w, made, p)
+
+    pub plan_fault : (f : PlanFault) → IsPlanFault w f → IsEncoderFault options e f
+    plan_fault f (inl is) = subst (IsEncoderFault options e) (sym is) tt
+    plan_fault f (inr p) = first_fault f p

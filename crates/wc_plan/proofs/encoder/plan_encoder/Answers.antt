@@ -1,0 +1,33 @@
+use Rattle.wc_world.specs.WorldViews.{world_view}
+use Rattle.wc_plan.specs.EncoderFaults.{IsEncoderFault, IsLowered}
+use Rattle.wc_plan.specs.Progress.{IsPlanFault}
+use Rattle.wc_plan.proofs.EncoderLemmas.{each_fault, plan_fault, planned, world_fault}
+use Rattle.wc_plan.proofs.LoweredLemmas.{fault_is_lowered}
+use Rattle.wc_plan.proofs.ProgressLemmas.{passed_on}
+use Rattle.wc_plan.proofs.encoder.plan_encoder.Goals as goal
+
+pub returns-in_err-world-clause-fault : goal.returns-in_err-world-clause-fault
+returns-in_err-world-clause-fault g c =
+    passed_on (IsEncoderFault (g.O.ImportOptions.options_of c.args.options.now) c.args.encoder.now) c.from_residual.result _ c.from_residual.ensures.1
+    (world_fault (g.O.ImportOptions.options_of c.args.options.now) c.args.encoder.now c.in_err-world.field-0.0 c.in_err-world.ensures.fault)
+
+pub plan-requires : goal.plan-requires
+plan-requires g c = c.worlds_nameable.ensures (g.O.ImportOptions.options_of c.args.options.now) (world_view c.in_ok-world.world) c.in_ok-world.ensures.world
+
+pub returns-clause-plan : goal.returns-clause-plan
+returns-clause-plan g c =
+    planned (g.O.ImportOptions.options_of c.args.options.now) c.args.encoder.now (world_view c.in_ok-world.world) c.in_ok-world.ensures.world
+    c.plan.result c.plan.ensures.plan c.plan.ensures.sound
+
+pub returns-clause-fault : goal.returns-clause-fault
+returns-clause-fault g c =
+    each_fault (IsPlanFault (world_view c.in_ok-world.world)) (IsEncoderFault (g.O.ImportOptions.options_of c.args.options.now) c.args.encoder.now)
+    (plan_fault (g.O.ImportOptions.options_of c.args.options.now) c.args.encoder.now (world_view c.in_ok-world.world) c.in_ok-world.ensures.world)
+    c.plan.result c.plan.ensures.fault
+
+pub returns-clause-lowered : goal.returns-clause-lowered
+returns-clause-lowered g c =
+    each_fault (IsPlanFault (world_view c.in_ok-world.world)) IsLowered
+    (λ f fault. fault_is_lowered (world_view c.in_ok-world.world) f
+    (c.recorded_functions_lowered.ensures (g.O.ImportOptions.options_of c.args.options.now) (world_view c.in_ok-world.world) c.in_ok-world.ensures.world) fault)
+    c.plan.result c.plan.ensures.fault

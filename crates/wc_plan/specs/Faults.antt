@@ -1,0 +1,54 @@
+-- Why a component's world has no plan.
+use Rattle.std.specs.Prelude.{◌≡◌, ℕ, List, ◌∷◌, ◌++◌, not, ◌&&◌, All, Option, Some, None, is_none, cond, string_bytes}
+use Rattle.wc_world.specs.Slots.{all_imports, imports_of}
+use Rattle.wc_world.specs.Views.{ComponentWorldView, LoweringView}
+use Rattle.wc_plan.specs.Calls.{IsNameable, Wanted, wanted}
+use Rattle.wc_plan.specs.Plans.{has_memory, import_realloc, lowering_of, needs}
+use Rattle.wc_plan.specs.declared.fault.PlanFault.{PlanFault}
+use Rattle.wc_plan.specs.declared.fault.PlanFault.TheVariants.{NoMemory, NoRealloc, NoLowering}
+
+-- the kinds of faults of a function
+pub data UseFault : Type 0 where
+  no_memory : UseFault
+  no_realloc : UseFault
+  no_lowering : UseFault
+
+-- the first that a function has: it has no lowering; it needs a memory, and there is none; or it needs a realloc, and its
+-- module has none
+abbrev pub lowered_fault : ComponentWorldView → Wanted → Option LoweringView → Option UseFault
+lowered_fault w x None = Some no_lowering
+lowered_fault w x (Some l) =
+    cond (needs 1 l && not (has_memory w.info)) (Some no_memory)
+    (cond (needs 2 l && is_none (import_realloc x.1)) (Some no_realloc) None)
+
+abbrev pub fault_of : ComponentWorldView → Wanted → Option UseFault
+fault_of w x = lowered_fault w x (lowering_of w x.0)
+
+abbrev pub IsSound : ComponentWorldView → Wanted → Type 0
+IsSound w x = fault_of w x ≡ None
+
+-- no function has one
+abbrev pub HasNoFault : ComponentWorldView → Type 0
+HasNoFault w = All (IsSound w) (wanted w)
+
+-- a fault carries a function's name
+abbrev pub IsFaultNamed : UseFault → List ℕ → PlanFault → Type 0
+IsFaultNamed no_memory name (NoMemory n) = string_bytes n ≡ name
+IsFaultNamed no_realloc name (NoRealloc n) = string_bytes n ≡ name
+IsFaultNamed no_lowering name (NoLowering n) = string_bytes n ≡ name
+IsFaultNamed kind name f = ⊥
+
+-- that of the first function that has one
+pub record IsFirstFault (w : ComponentWorldView) (f : PlanFault) : Type 0 where
+  pub front : List Wanted
+  pub at : Wanted
+  pub back : List Wanted
+  pub kind : UseFault
+  pub cut : wanted w ≡ front ++ at ∷ back
+  pub sound : All (IsSound w) front
+  pub stopped : fault_of w at ≡ Some kind
+  pub named : IsFaultNamed kind at.0.name f
+
+-- what is imported can be named
+abbrev pub AreNameable : ComponentWorldView → Type 0
+AreNameable w = All (IsNameable w.encoder.resolve) (imports_of (all_imports w.info w.adapters))

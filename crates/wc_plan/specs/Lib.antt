@@ -1,0 +1,9 @@
+pub mod Calls
+pub mod EncoderFaults
+pub mod Faults
+pub mod Laws
+pub mod Lines
+pub mod Plans
+pub mod PlanViews
+pub mod Progress
+pub mod Views

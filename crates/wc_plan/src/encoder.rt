@@ -1,0 +1,44 @@
+//! Plans of encoders.
+
+ghost use Rattle.std.specs.Prelude.{◌≡◌, IfErr, IfOk};
+ghost use Rattle.wc_plan.specs.EncoderFaults.{IsEncoderFault, IsLowered};
+ghost use Rattle.wc_plan.specs.Faults.{HasNoFault};
+ghost use Rattle.wc_plan.specs.PlanViews.{plan_view};
+ghost use Rattle.wc_plan.specs.Plans.{plan_of};
+ghost use Rattle.wc_world.specs.Views.{ComponentWorldView};
+ghost use Rattle.wc_world.specs.World.{IsWorldOf};
+
+use crate::fault::PlanFault;
+use crate::laws::worlds_nameable;
+use crate::planner::plan;
+use crate::uses::Plan;
+use std::alloc::Global;
+use wc_encoder::ComponentEncoder;
+use wc_world::laws::recorded_functions_lowered;
+use wc_world::{ComponentWorld, ImportOptions};
+
+/// The plan of the component's world that an encoder and options make (`ComponentWorld::new`).
+///
+/// # Errors
+///
+/// `World` is before all others. `Memory` may come in place of any.
+///
+/// - `World`: `ComponentWorld::new` answers this fault.
+/// - `NoMemory`, `NoRealloc`: as of `plan`. `NoLowering` is never answered.
+/// - `Memory`: an allocation failed.
+pub fn plan_encoder<O: ImportOptions>(
+    alloc: Global,
+    encoder: &ComponentEncoder,
+    options: &O,
+) -> Result<Plan, PlanFault>
+    ensures plan { IfOk result (λ p. (w : ComponentWorldView)
+        × IsWorldOf (O.options_of options.now) encoder.now w × HasNoFault w
+        × (plan_view p ≡ plan_of w)) }
+    ensures fault { IfErr result (IsEncoderFault (O.options_of options.now) encoder.now) }
+    ensures lowered { IfErr result IsLowered }
+{
+    worlds_nameable(encoder);
+    recorded_functions_lowered(encoder);
+    let world = ComponentWorld::new(alloc, encoder, options)?;
+    plan(alloc, &world)
+}

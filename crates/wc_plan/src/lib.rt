@@ -1,0 +1,19 @@
+//! The plan of a component: what each function that its modules import needs, in the order in which an encoder serves
+//! it. `plan` makes it of a component's world (`wc_world::ComponentWorld`), `plan_encoder` of an encoder
+//! (`wc_encoder::ComponentEncoder`), and `write_plan` prints it.
+#![tactic(auto)]
+
+mod calls;
+mod encoder;
+mod fault;
+pub mod laws;
+mod lines;
+mod lowerings;
+mod planner;
+mod uses;
+
+pub use encoder::plan_encoder;
+pub use fault::PlanFault;
+pub use lines::write_plan;
+pub use planner::plan;
+pub use uses::{Owner, Plan, Use};

@@ -1,0 +1,57 @@
+//! How functions are lowered, and what that needs.
+
+ghost use Rattle.std.specs.Prelude.{◌≡◌, string_bytes};
+ghost use Rattle.std.specs.Option.{option_map};
+ghost use Rattle.wc_world.specs.FunctionsLowered.{lowering_at};
+ghost use Rattle.wc_world.specs.WorldViews.{import_map_view, lowering_view};
+ghost use Rattle.wc_plan.specs.Plans.{is_indirect, needs, options_of};
+
+use crate::calls::Call;
+use bitflags::Flags;
+use indexmap::IndexMap;
+use wc_world::{ImportedInterface, Lowering, RequiredOptions};
+
+/// The lowering of a function, if there is one.
+pub(crate) fn lowering_of<'a>(
+    import_map: &'a IndexMap<Option<String>, ImportedInterface>,
+    call: &Call,
+) -> Option<&'a Lowering>
+    ensures { option_map (λ l. lowering_view l.now) result ≡ lowering_at
+        (import_map_view import_map.now) (option_map string_bytes call.now.0)
+        (string_bytes call.now.1.0) call.now.1.1 }
+{
+    let imported = import_map.get(&call.0)?;
+    imported.lowerings.get(&call.1)
+}
+
+/// The options of a lowered function. A resource that is dropped has none.
+fn options_of(lowering: &Lowering) -> RequiredOptions
+    ensures { result.0 ≡ options_of (lowering_view lowering.now) }
+{
+    match lowering {
+        Lowering::Direct { options } => *options,
+        Lowering::Indirect { options, .. } => *options,
+        Lowering::ResourceDrop(_) => RequiredOptions::empty(),
+    }
+}
+
+/// Whether these have a memory.
+pub(crate) fn needs_memory(lowering: &Lowering) -> bool
+    ensures { result ≡ needs 1 (lowering_view lowering.now) }
+{
+    options_of(lowering).contains(RequiredOptions::MEMORY)
+}
+
+/// Whether these have a realloc.
+pub(crate) fn needs_realloc(lowering: &Lowering) -> bool
+    ensures { result ≡ needs 2 (lowering_view lowering.now) }
+{
+    options_of(lowering).contains(RequiredOptions::REALLOC)
+}
+
+/// Whether another function stands in for the lowered one.
+pub(crate) fn is_indirect(lowering: &Lowering) -> bool
+    ensures { result ≡ is_indirect (lowering_view lowering.now) }
+{
+    matches!(lowering, Lowering::Indirect { .. })
+}

@@ -1,0 +1,316 @@
+//! Plans, function by function.
+
+ghost use Rattle.std.specs.Prelude.{◌≡◌, ◌+◌, ◌++◌, ◌∷◌, [], All, IfErr, IfOk, List, None, OnOk, cond, if◌then◌else◌, is_some, string_bytes};
+ghost use Rattle.std.specs.List.{cons_option};
+ghost use Rattle.std.specs.Option.{option_map};
+ghost use Rattle.wc_names.specs.Views.{import_view};
+ghost use Rattle.wc_validate.specs.Validated.{module_record};
+ghost use Rattle.wc_world.specs.WorldViews.{lowering_view, world_view};
+ghost use Rattle.wc_plan.specs.Calls.{IsNameable, Wanted, all_wanted, wanted_by};
+ghost use Rattle.wc_plan.specs.Plans.{has_memory, import_realloc, needs, plan_of, use_of};
+ghost use Rattle.wc_plan.specs.PlanViews.{call_view, owner_view, plan_view, use_view};
+ghost use Rattle.wc_plan.specs.Faults.{AreNameable, HasNoFault, IsSound};
+ghost use Rattle.wc_plan.specs.Views.{OwnerView};
+ghost use Rattle.wc_plan.specs.Progress.{AreModuleNameable, IsCallFault, IsContext, IsCounted, IsPlanFault, IsPlanned, owner_in, wanted_by_adapters, wanted_call, wanted_import, world_in};
+
+use crate::calls::{Call, call_of};
+use crate::fault::PlanFault;
+use crate::lowerings::{is_indirect, lowering_of, needs_memory, needs_realloc};
+use crate::uses::{Owner, Plan, Use};
+use indexmap::IndexSet;
+use std::alloc::{AllocError, AllocFailed, Global};
+use wc_names::Import;
+use wc_validate::{ExportMap, ValidatedModule};
+use wc_world::{ComponentWorld, Lowering};
+
+/// The world that a plan is made of, and whether its main module has a memory.
+#[derive(Clone, Copy)]
+struct Context<'a, 'w> {
+    world: &'a ComponentWorld<'w>,
+    has_memory: bool,
+}
+
+/// A module whose imports are planned.
+#[derive(Clone, Copy)]
+struct Importer<'a> {
+    /// The name of an adapter; `None` for the main module.
+    owner: Option<&'a str>,
+    exports: &'a ExportMap,
+}
+
+/// A plan, as far as it is made.
+#[derive(Drop)]
+struct Planner<'a> {
+    /// The functions that were found, with the owners of their modules.
+    seen: IndexSet<(Option<&'a str>, Call)>,
+    uses: Vec<Use>,
+    /// The position of the next function that stands in for another.
+    slots: u64,
+}
+
+/// Whether the main module imports its memory, or exports one.
+fn has_memory(main: &ValidatedModule) -> bool
+    ensures { result ≡ has_memory (module_record main.now) }
+{
+    main.imports.imported_memory().is_some() || main.exports.memory().is_some()
+}
+
+/// The owner of this name.
+fn owner_of(alloc: Global, name: Option<&str>) -> Result<Owner, AllocError>
+    ensures { IfOk result (λ o. owner_view o ≡ owner_in name.entry) }
+{
+    match name {
+        Some(name) => Ok(Owner::Adapter(String::from_str(alloc, name)?)),
+        None => Ok(Owner::Main),
+    }
+}
+
+/// The same function again.
+fn copy_of(alloc: Global, call: &Call) -> Result<Call, AllocError>
+    ensures { (owner : OwnerView) → IfOk result (λ c. call_view owner c
+        ≡ call_view owner call.now) }
+{
+    let interface = match &call.0 {
+        Some(interface) => Some(String::from_str(alloc, interface)?),
+        None => None,
+    };
+    let name = String::from_str(alloc, &call.1.0)?;
+    Ok((interface, (name, call.1.1)))
+}
+
+/// The realloc that a lowered function needs, of those that its module exports.
+fn realloc_for(
+    alloc: Global,
+    exports: &ExportMap,
+    lowering: &Lowering,
+) -> Result<Option<String>, AllocError>
+    ensures { IfOk result (λ r. option_map string_bytes r
+        ≡ cond (needs 2 (lowering_view lowering.now)) (import_realloc exports.now) None) }
+{
+    if !needs_realloc(lowering) {
+        return Ok(None);
+    }
+    match exports.import_realloc_for(None, "") {
+        Some(name) => Ok(Some(String::from_str(alloc, name)?)),
+        None => Ok(None),
+    }
+}
+
+/// What a function needs, after so many that others stand in for.
+fn use_of(
+    alloc: Global,
+    context: Context<'_, '_>,
+    importer: Importer<'_>,
+    slots: u64,
+    call: Call,
+) -> Result<Use, PlanFault>
+    requires { IsContext context }
+    ensures made { IfOk result (λ u. use_view u
+        ≡ use_of (world_in context.entry) slots (wanted_call importer.entry call)) }
+    ensures sound { OnOk result (IsSound (world_in context.entry)
+        (wanted_call importer.entry call)) }
+    ensures fault { IfErr result (IsCallFault (world_in context.entry)
+        (wanted_call importer.entry call)) }
+{
+    let Some(lowering) = lowering_of(&context.world.import_map, &call) else {
+        return Err(PlanFault::NoLowering(call.1.0));
+    };
+    let (interface, (name, abi)) = call;
+    if needs_memory(lowering) && !context.has_memory {
+        return Err(PlanFault::NoMemory(name));
+    }
+    let realloc = realloc_for(alloc, importer.exports, lowering)?;
+    if needs_realloc(lowering) && realloc.is_none() {
+        return Err(PlanFault::NoRealloc(name));
+    }
+    let slot = if is_indirect(lowering) {
+        Some(slots)
+    } else {
+        None
+    };
+    Ok(Use {
+        module: owner_of(alloc, importer.owner)?,
+        interface,
+        name,
+        abi,
+        slot,
+        realloc,
+    })
+}
+
+/// Adds a use, and counts its slot.
+fn push_use(planner: &mut Planner<'_>, one: Use) -> Result<(), AllocFailed<Use>>
+    requires { IsCounted planner.old }
+    ensures uses { OnOk result (planner.new.uses.items ≡ planner.old.uses.items ++ one ∷ []) }
+    ensures slots { OnOk result (planner.new.slots
+        ≡ planner.old.slots + (if is_some one.slot then 1 else 0)) }
+    ensures seen { OnOk result (planner.new.seen.keys ≡ planner.old.seen.keys) }
+{
+    let has_slot = one.slot.is_some();
+    planner.uses.push(one)?;
+    if has_slot {
+        planner.slots += 1;
+    }
+    Ok(())
+}
+
+/// Adds what a function needs, unless it was found before.
+fn add_call<'a>(
+    alloc: Global,
+    context: Context<'_, '_>,
+    importer: Importer<'a>,
+    planner: &mut Planner<'a>,
+    call: Call,
+) -> Result<(), PlanFault>
+    requires world { IsContext context }
+    requires counted { IsCounted planner.old }
+    ensures counted { OnOk result (IsCounted planner.new) }
+    ensures made { (rest : List Wanted) → IsPlanned (world_in context.entry)
+        (wanted_call importer.entry call ∷ rest) planner.old
+        → OnOk result (IsPlanned (world_in context.entry) rest planner.new) }
+    ensures fault { (rest : List Wanted) → IsPlanned (world_in context.entry)
+        (wanted_call importer.entry call ∷ rest) planner.old
+        → IfErr result (IsPlanFault (world_in context.entry)) }
+{
+    let copy = copy_of(alloc, &call)?;
+    let is_new = planner.seen.insert((importer.owner, copy))?;
+    if !is_new {
+        return Ok(());
+    }
+    let one = use_of(alloc, context, importer, planner.slots, call)?;
+    push_use(planner, one)?;
+    Ok(())
+}
+
+/// Adds what an import needs, if it is a function that was not found before.
+fn add_import<'a>(
+    alloc: Global,
+    context: Context<'_, '_>,
+    importer: Importer<'a>,
+    planner: &mut Planner<'a>,
+    import: &Import,
+) -> Result<(), PlanFault>
+    requires nameable { IsNameable (world_in context).encoder.resolve
+        (import_view import.now) }
+    requires world { IsContext context }
+    requires counted { IsCounted planner.old }
+    ensures counted { OnOk result (IsCounted planner.new) }
+    ensures made { (rest : List Wanted) → IsPlanned (world_in context.entry)
+        (cons_option (wanted_import (world_in context.entry).encoder.resolve importer.entry
+        (import_view import.now)) rest) planner.old
+        → OnOk result (IsPlanned (world_in context.entry) rest planner.new) }
+    ensures fault { (rest : List Wanted) → IsPlanned (world_in context.entry)
+        (cons_option (wanted_import (world_in context.entry).encoder.resolve importer.entry
+        (import_view import.now)) rest) planner.old
+        → IfErr result (IsPlanFault (world_in context.entry)) }
+{
+    let metadata = context.world.encoder.metadata();
+    match call_of(alloc, &metadata.resolve, import)? {
+        Some(call) => add_call(alloc, context, importer, planner, call),
+        None => Ok(()),
+    }
+}
+
+/// Adds what the imports of a module need.
+fn add_module<'a>(
+    alloc: Global,
+    context: Context<'_, '_>,
+    owner: Option<&'a str>,
+    info: &'a ValidatedModule,
+    planner: &mut Planner<'a>,
+) -> Result<(), PlanFault>
+    requires nameable { AreModuleNameable (world_in context).encoder.resolve
+        (module_record info.now) }
+    requires world { IsContext context }
+    requires counted { IsCounted planner.old }
+    ensures counted { OnOk result (IsCounted planner.new) }
+    ensures made { (rest : List Wanted) → IsPlanned (world_in context.entry)
+        (wanted_by (world_in context.entry).encoder.resolve (owner_in owner.entry)
+        (module_record info.now) ++ rest) planner.old
+        → OnOk result (IsPlanned (world_in context.entry) rest planner.new) }
+    ensures fault { (rest : List Wanted) → IsPlanned (world_in context.entry)
+        (wanted_by (world_in context.entry).encoder.resolve (owner_in owner.entry)
+        (module_record info.now) ++ rest) planner.old
+        → IfErr result (IsPlanFault (world_in context.entry)) }
+{
+    let importer = Importer {
+        owner,
+        exports: &info.exports,
+    };
+    for (_module, _name, import) in info.imports.imports() {
+        add_import(alloc, context, importer, planner, import)?;
+    }
+    Ok(())
+}
+
+/// Adds what the imports of the adapters need.
+fn add_adapters<'a>(
+    alloc: Global,
+    context: Context<'a, '_>,
+    planner: &mut Planner<'a>,
+) -> Result<(), PlanFault>
+    requires nameable { All (λ a. AreModuleNameable (world_in context).encoder.resolve
+        a.1.info) (world_in context).adapters }
+    requires world { IsContext context }
+    requires counted { IsCounted planner.old }
+    ensures made { (rest : List Wanted) → IsPlanned (world_in context.entry)
+        (wanted_by_adapters (world_in context.entry) ++ rest) planner.old
+        → OnOk result (IsPlanned (world_in context.entry) rest planner.new) }
+    ensures fault { (rest : List Wanted) → IsPlanned (world_in context.entry)
+        (wanted_by_adapters (world_in context.entry) ++ rest) planner.old
+        → IfErr result (IsPlanFault (world_in context.entry)) }
+{
+    for (name, adapter) in context.world.adapters.iter() {
+        add_module(alloc, context, Some(name), &adapter.info, planner)?;
+    }
+    Ok(())
+}
+
+/// Adds what the imports of the main module and of the adapters need.
+fn add_modules<'a>(
+    alloc: Global,
+    context: Context<'a, '_>,
+    planner: &mut Planner<'a>,
+) -> Result<(), PlanFault>
+    requires nameable { AreNameable (world_in context) }
+    requires world { IsContext context }
+    requires counted { IsCounted planner.old }
+    ensures made { IsPlanned (world_in context.entry) (all_wanted (world_in context.entry))
+        planner.old → OnOk result (IsPlanned (world_in context.entry) [] planner.new) }
+    ensures fault { IsPlanned (world_in context.entry) (all_wanted (world_in context.entry))
+        planner.old → IfErr result (IsPlanFault (world_in context.entry)) }
+{
+    add_module(alloc, context, None, &context.world.info, planner)?;
+    add_adapters(alloc, context, planner)
+}
+
+/// What each function that the main module and the adapters of a component's world import needs: first those of the main
+/// module, and then those of each adapter, in order. A function that a module imports twice, of one interface and called
+/// in one way, is there once.
+///
+/// The interfaces of these functions must be in range and have names (`Resolve::name_world_key`); those of a world that
+/// `ComponentWorld::new` makes are and do.
+///
+/// # Errors
+///
+/// The fault of the first function that has one, and of this the first in this order. `Memory` may come in place of any.
+///
+/// - `NoLowering`: the world has no lowering for it.
+/// - `NoMemory`: its options have a memory, and the main module neither imports nor exports one.
+/// - `NoRealloc`: its options have a realloc, and its module exports none for the results of imports.
+/// - `Memory`: an allocation failed.
+pub fn plan(alloc: Global, world: &ComponentWorld<'_>) -> Result<Plan, PlanFault>
+    requires { AreNameable (world_view world.now) }
+    ensures plan { IfOk result (λ p. plan_view p ≡ plan_of (world_view world.now)) }
+    ensures sound { OnOk result (HasNoFault (world_view world.now)) }
+    ensures fault { IfErr result (IsPlanFault (world_view world.now)) }
+{
+    let mut planner = Planner {
+        seen: IndexSet::new(alloc),
+        uses: Vec::new(alloc),
+        slots: 0,
+    };
+    let has_memory = has_memory(&world.info);
+    add_modules(alloc, Context { world, has_memory }, &mut planner)?;
+    Ok(Plan { uses: planner.uses })
+}
