@@ -40,7 +40,7 @@ WHOLE = {
     "frames", "read_imports", "read_module", "read_body", "read_init", "write_import_section", "append_import_section",
     "rewrite_import_section", "write_body", "write_module", "raw_section", "append_raw_section", "dedupe",
     "dedupe_owned", "read_deduped", "dedupe_imports", "execute", "run_program", "liveness_counted", "trim", "trim_for",
-    "realloc_via_memory_grow", "allocate_stack_via_realloc", "component_world", "validate_module",
+    "realloc_via_memory_grow", "allocate_stack_via_realloc", "component_world", "plan", "validate_module",
     "validate_adapter_module", "resolve_build", "encoder_build", "live_types",
 }
 

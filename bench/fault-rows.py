@@ -29,6 +29,8 @@ CALLS = {
     "liveness_counted": "GcFault", "trim": "GcFault", "trim_for": "GcFault", "unfolding_trimmed": "GcFault",
     "call_chain": "GcFault", "example reaches_memory": "GcFault", "example trim_both": "GcFault",
     "component_world": "WorldFault", "example can_use_slot_1": "WorldFault", "example summary": "WorldFault",
+    "plan": "PlanFault", "plan_failing": "PlanFault", "plan_without_lowerings": "PlanFault",
+    "example printed_plan": "PlanFault",
     "execute": "ToolFault", "execute_failing": "ToolFault", "each_put_failing": "ToolFault",
     "writer_sink": "PutFailed", "run_program": "RunFault", "parse": "Usage",
 }

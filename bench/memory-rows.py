@@ -16,6 +16,8 @@ import sys
 TOP = pathlib.Path(__file__).resolve().parent.parent
 
 REACHED = {
+    "wc_calls::dedupe": "dedupe_into",
+    "wc_calls::trim": "trim_into",
     "wc_dedupe::ModuleImportMap::new": "dedupe",
     "wc_encoder::ComponentEncoder::build": "encoder_build",
     "wc_encoder::Item::clone": "item_clone",
@@ -68,6 +70,9 @@ REACHED = {
     "wc_resolve::Resolve::name_world_key": "name_world_key",
     "wc_resolve::Resolve::wasm_signature": "wasm_signature",
     "wc_resolve::WorldKey::clone": "key_clone",
+    "wc_plan::plan": "plan",
+    "wc_plan::plan_encoder": "plan",
+    "wc_plan::write_plan": "plan",
     "wc_tool::execute": "execute",
     "wc_tool::run": "run_program",
     "wc_tool::run_command": "run_program",
@@ -90,9 +95,12 @@ REACHED = {
 }
 
 
+# Functions whose status says that memory ran out.
+OTHERS = {("wc_tool", "run"), ("wc_calls", "dedupe"), ("wc_calls", "trim")}
+
+
 def functions():
-    """The public functions that answer AllocError or a fault, with their crates and types; and `run`, whose status says
-    it."""
+    """The public functions that answer AllocError or a fault, with their crates and types, and those of OTHERS."""
     for line in (TOP / "crates.txt").read_text().splitlines():
         crate = re.match(r"wc_\w+", line)
         if not crate or crate.group().endswith(("rows", "fixtures", "bench")):
@@ -113,7 +121,7 @@ def functions_of(crate, text, exported):
             block = (found.group(1) or "").strip()
             continue
         answer = re.split(r"\n\s*(?:requires|ensures)\b", found.group(5))[0].rpartition("->")[2]
-        can_fail = "AllocError" in answer or "Fault" in answer or (crate, found.group(4)) == ("wc_tool", "run")
+        can_fail = "AllocError" in answer or "Fault" in answer or (crate, found.group(4)) in OTHERS
         if not can_fail or not (found.group(3) or block.startswith("pub trait")):
             continue
         owner = re.match(r"(?:impl(?:<[^>]*>)?|pub trait) (?:.* for )?(\w+)", block) if found.group(2) else None

@@ -1,0 +1,81 @@
+//! The calls of `wc_calls` as a static library for programs in other languages: functions of numbers and slices, each of
+//! which is one call. A slice is passed as a pointer and then a length, a slice of slices as a pointer to such pairs and
+//! then how many they are; for `alloc` nothing is passed. The answer is a struct by value.
+//!
+//! No function requires anything of its arguments, but what their types say: a pointer with a length is to so many bytes,
+//! those of `out` are the caller's alone for the call, and nothing is null. Calls may run on several threads at once.
+//!
+//! Memory comes from three functions that the program has to define: `rattle_alloc`, `rattle_realloc` and
+//! `rattle_dealloc`. After each call all of it was given back.
+#![tactic(auto)]
+
+ghost use Rattle.std.specs.Prelude.{◌≡◌, ◌≢◌, ◌≤◌, []};
+ghost use Rattle.std.specs.Option.{option_map};
+ghost use Rattle.wc_read.specs.Sections.{IsComponent};
+ghost use Rattle.wc_dedupe.specs.Dedupe.{IsDeduped};
+ghost use Rattle.wc_calls.specs.Answers.{IsPut, IsTooLong, done, failed, too_small, same, bad_argument};
+ghost use Rattle.wc_calls.specs.Renaming.{IsRenamed, IsRenamingFault};
+ghost use Rattle.wc_calls.specs.Required.{texts, wanted_of};
+ghost use Rattle.wc_calls.specs.Trimming.{AreArguments, IsRun, IsTrimmingFault};
+ghost use Rattle.nuigatre.specs.Arguments.{optional_name, settings_of};
+
+use std::alloc::Global;
+use wc_calls::{Answer, dedupe, trim};
+
+/// Renames the imports of a module so that no two share a module and a name: `wc_calls::dedupe`.
+#[unsafe(no_mangle)]
+pub extern "C" fn nuigatre_dedupe(alloc: Global, wasm: &[u8], out: &mut [u8]) -> Answer
+    ensures done { result.status ≡ done
+        → IsPut (IsRenamed wasm.now result.module_length) result.length out.old out.new }
+    ensures too_small { result.status ≡ too_small
+        → IsTooLong (IsRenamed wasm.now result.module_length) result.length out.old }
+    ensures same { result.status ≡ same → IsDeduped wasm.now wasm.now [] }
+    ensures fault { result.status ≡ failed → IsRenamingFault wasm.now result.fault }
+    ensures component { IsComponent wasm.now → result.status ≡ same }
+    ensures unchanged { result.status ≢ done → out.new ≡ out.old }
+    ensures statuses { (result.status ≤ 5) × (result.status ≢ bad_argument) }
+{
+    dedupe(alloc, wasm, out)
+}
+
+/// Trims an adapter to what its exports of these names reach: `wc_calls::trim`. The main module exports a realloc as
+/// `realloc`, where `has_realloc`; else `realloc` is not looked at.
+#[unsafe(no_mangle)]
+pub extern "C" fn nuigatre_trim(
+    alloc: Global,
+    wasm: &[u8],
+    required: &[&[u8]],
+    has_realloc: bool,
+    realloc: &[u8],
+    page_size_log2: u32,
+    out: &mut [u8],
+) -> Answer
+    ensures done { result.status ≡ done
+        → IsPut (IsRun (settings_of has_realloc realloc.now page_size_log2)
+        (wanted_of wasm.now (texts required.now))) result.length out.old out.new }
+    ensures too_small { result.status ≡ too_small
+        → IsTooLong (IsRun (settings_of has_realloc realloc.now page_size_log2)
+        (wanted_of wasm.now (texts required.now))) result.length out.old }
+    ensures fault { result.status ≡ failed
+        → IsTrimmingFault (settings_of has_realloc realloc.now page_size_log2) wasm.now
+        (texts required.now) result.fault result.position }
+    ensures module_length { result.module_length ≡ result.length }
+    ensures bad_argument { result.status ≡ bad_argument
+        → ¬ (AreArguments (settings_of has_realloc realloc.now page_size_log2)
+        (texts required.now)) }
+    ensures arguments { result.status ≢ bad_argument
+        → AreArguments (settings_of has_realloc realloc.now page_size_log2)
+        (texts required.now) }
+    ensures unchanged { result.status ≢ done → out.new ≡ out.old }
+    ensures statuses { (result.status ≤ 5) × (result.status ≢ same) }
+{
+    let realloc = optional_name(has_realloc, realloc);
+    trim(alloc, wasm, required, realloc, page_size_log2, out)
+}
+
+/// The name, where there is one.
+fn optional_name(has_name: bool, name: &[u8]) -> Option<&[u8]>
+    ensures { option_map (λ n. n.now) result ≡ optional_name has_name name.now }
+{
+    if has_name { Some(name) } else { None }
+}

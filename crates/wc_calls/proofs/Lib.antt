@@ -1,0 +1,3 @@
+mod RequiredLemmas
+mod MissingLemmas
+mod TrimmingLemmas

@@ -1,0 +1,94 @@
+-- The name of a missing export is at its position among the names that are passed.
+use Rattle.std.proofs.Common.{◌≡◌, ◌≢◌, ◌⊎◌, ℕ, Bool, true, false, List, [], ◌∷◌, ◌++◌, ◌||◌, cond, if◌then◌else◌, fold, Some, refl, sym, ◌∙◌, ap, subst, inl, inr}
+use Rattle.std.proofs.Math.Bool.{or-true}
+use Rattle.std.proofs.lemmas.Bool.{cases_Bool, or_cases}
+use Rattle.std.proofs.lemmas.List.Folds.{list_any-append}
+use Rattle.std.proofs.lemmas.Slice.Eq.{bytes_eq-Decides}
+use Rattle.std.specs.Prelude.{string_bytes}
+use Rattle.std.specs.List.{find, list_any, slice_get}
+use Rattle.std.specs.Str.{bytes_eq}
+use Rattle.indexmap.specs.IndexSet.{insert_key}
+use Rattle.wc_gc.specs.Parts.{SettingsValue}
+use Rattle.wc_gc.specs.Trimming.{IsTrimFault}
+use Rattle.wc_gc.specs.declared.fault.GcFault.{GcFault}
+use Rattle.wc_gc.specs.declared.fault.GcFault.TheVariants.{Memory, MissingExport}
+use Rattle.wc_calls.specs.Required.{distinct_names, position_of, wanted_of}
+use Rattle.wc_calls.specs.Trimming.{IsPosition, position_in}
+
+-- what is found is among the names
+found_among : (p : List ℕ → Bool) (xs : List (List ℕ)) (x : List ℕ) → find p xs ≡ Some x → list_any (bytes_eq x) xs ≡ true
+found_among p [] x e = absurd cc
+found_among p (y ∷ ys) x e =
+    elim (cases_Bool (p y)) [
+      | inl passes ↦
+          (let first : Some y ≡ Some x = subst (λ b. cond b (Some y) (find p ys) ≡ Some x) passes e in
+          let same : x ≡ y = cc in
+          rw ((bytes_eq-Decides x y).1 same) refl)
+      | inr fails ↦
+          (let rest : find p ys ≡ Some x = subst (λ b. cond b (Some y) (find p ys) ≡ Some x) fails e in
+          rw (found_among p ys x rest) (or-true _))
+    ]
+
+-- what is in a set after a name was put into it was there, or is that name
+key_among : (keys : List (List ℕ)) (n x : List ℕ) → list_any (bytes_eq x) (insert_key bytes_eq keys n) ≡ true → (list_any (bytes_eq x) keys ≡ true) ⊎ (bytes_eq x n ≡ true)
+key_among keys n x e =
+    elim (cases_Bool (list_any (bytes_eq n) keys)) [
+      | inl there ↦ inl (subst (λ b. list_any (bytes_eq x) (if b then keys else keys ++ n ∷ []) ≡ true) there e)
+      | inr new ↦
+          (let more : list_any (bytes_eq x) (keys ++ n ∷ []) ≡ true = subst (λ b. list_any (bytes_eq x) (if b then keys else keys ++ n ∷ []) ≡ true) new e in
+          elim (or_cases (list_any (bytes_eq x) keys) (bytes_eq x n || false) (sym (list_any-append (bytes_eq x) keys (n ∷ [])) ∙ more)) [
+            | inl old ↦ inl old
+            | inr one ↦
+                elim (or_cases (bytes_eq x n) false one) [
+                  | inl is ↦ inr is
+                  | inr fails ↦ absurd cc
+                ]
+          ])
+    ]
+
+inserted_among : (names keys : List (List ℕ)) (x : List ℕ) → list_any (bytes_eq x) (fold (insert_key bytes_eq) keys names) ≡ true → (list_any (bytes_eq x) keys ≡ true) ⊎ (list_any (bytes_eq x) names ≡ true)
+inserted_among [] keys x e = inl e
+inserted_among (n ∷ names) keys x e =
+    elim (inserted_among names (insert_key bytes_eq keys n) x e) [
+      | inl there ↦
+          elim (key_among keys n x there) [
+            | inl old ↦ inl old
+            | inr new ↦ inr (rw new refl)
+          ]
+      | inr rest ↦ inr (rw rest (or-true _))
+    ]
+
+-- what is among the names is at its position
+position_there : (names : List (List ℕ)) (x : List ℕ) → list_any (bytes_eq x) names ≡ true → slice_get names (position_of names x) ≡ Some x
+position_there [] x e = absurd cc
+position_there (n ∷ names) x e =
+    elim (cases_Bool (bytes_eq n x)) [
+      | inl passes ↦ rw passes (ap Some ((bytes_eq-Decides n x).0 passes))
+      | inr fails ↦
+          (let other : list_any (bytes_eq x) names ≡ true =
+          elim (or_cases (bytes_eq x n) (list_any (bytes_eq x) names) e) [
+            | inl is ↦ absurd (let same : bytes_eq n x ≡ true = (bytes_eq-Decides n x).1 (sym ((bytes_eq-Decides x n).0 is)) in cc)
+            | inr rest ↦ rest
+          ] in
+          rw fails (position_there names x other))
+    ]
+
+missing_there : (names : List (List ℕ)) (p : List ℕ → Bool) (x : List ℕ) → find p (distinct_names names) ≡ Some x → slice_get names (position_of names x) ≡ Some x
+missing_there names p x e =
+    elim (inserted_among names [] x (found_among p (distinct_names names) x e)) [
+      | inl none ↦ absurd cc
+      | inr among ↦ position_there names x among
+    ]
+
+-- the position that an answer has for a fault that has its cause
+pub named_position : (s : SettingsValue) (wasm : List ℕ) (names : List (List ℕ)) (f : GcFault) → f ≢ Memory → IsTrimFault s (wanted_of wasm names) f → IsPosition names f (position_in names f)
+named_position s wasm names (MissingExport name) other fault =
+    elim fault [
+      | inl memory ↦ absurd (other memory)
+      | inr cause ↦
+          elim cause.0 [
+            | inl is ↦ (refl, missing_there names _ (string_bytes name) is.2)
+            | inr later ↦ absurd later.4
+          ]
+    ]
+named_position s wasm names f other fault = refl

@@ -1,0 +1,7 @@
+use Rattle.std.proofs.Common.{◌≡◌, take}
+use Rattle.wc_gc.specs.Liveness.{names_of}
+use Rattle.wc_calls.specs.Required.{texts, distinct_names}
+use Rattle.wc_calls.proofs.required.name_set.Given as goal
+
+abbrev pub invariant-loop-bytes : goal.invariant-loop-bytes
+invariant-loop-bytes l = names_of l.set.keys ≡ distinct_names (texts (take l.bytes-index l.names))

@@ -1,0 +1,6 @@
+pub mod Answers
+pub mod FaultNumbers
+pub mod Renames
+pub mod Renaming
+pub mod Required
+pub mod Trimming

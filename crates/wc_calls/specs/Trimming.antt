@@ -1,0 +1,47 @@
+-- What the call that trims an adapter answers.
+use Rattle.std.specs.Prelude.{◌≡◌, ◌≢◌, ◌≤◌, ℕ, List, [], IfSome, Some, string_bytes}
+use Rattle.std.specs.List.{All, slice_get}
+use Rattle.std.specs.Str.{IsUtf8}
+use Rattle.wc_gc.specs.Liveness.{Wanted}
+use Rattle.wc_gc.specs.Parts.{SettingsValue}
+use Rattle.wc_gc.specs.Trimming.{IsTrimmed, IsTrimCause, IsTrimFault}
+use Rattle.wc_gc.specs.TrimmedText.{IsTrimmedRead}
+use Rattle.wc_gc.specs.declared.fault.GcFault.{GcFault}
+use Rattle.wc_gc.specs.declared.fault.GcFault.TheVariants.{Memory, MissingExport}
+use Rattle.wc_calls.specs.FaultNumbers.{gc_fault_number}
+use Rattle.wc_calls.specs.Required.{position_of, wanted_of}
+
+-- for a main module that exports a realloc of this name, and has pages of 2^16 bytes
+abbrev pub with_realloc : List ℕ → SettingsValue
+with_realloc name = record { realloc = Some name; exponent = 16 }
+
+-- there is a name at least, all of them are text, and pages have 2^16 bytes at most
+pub record AreArguments (s : SettingsValue) (names : List (List ℕ)) : Type 0 where
+  pub paged : s.exponent ≤ 16
+  pub realloc_is_text : IfSome s.realloc IsUtf8
+  pub some : names ≢ []
+  pub are_texts : All IsUtf8 names
+
+-- all that `run` promises of the bytes that it answers: they are the text of the trimmed adapter, for which there is no
+-- cause of a fault; they spell its image, and what is kept or added unfolds there as in the edited adapter
+pub record IsRun (s : SettingsValue) (w : Wanted) (text : List ℕ) : Type 0 where
+  pub trimmed : IsTrimmed s w text
+  pub no_cause : (f : GcFault) → ¬ (IsTrimCause s w f)
+  pub read : IsTrimmedRead s w text
+
+-- the position of the name that a fault carries
+abbrev pub position_in : List (List ℕ) → GcFault → ℕ
+position_in names (MissingExport name) = position_of names (string_bytes name)
+position_in names f = 0
+
+-- the position is that of the name that a fault carries: there it is first among the names
+abbrev pub IsPosition : List (List ℕ) → GcFault → ℕ → Type 0
+IsPosition names (MissingExport name) position =
+    (position ≡ position_of names (string_bytes name)) × (slice_get names position ≡ Some (string_bytes name))
+IsPosition names f position = position ≡ 0
+
+-- the numbers are those of a fault that has its cause, and is not Memory
+abbrev pub IsTrimmingFault : SettingsValue → List ℕ → List (List ℕ) → ℕ → ℕ → Type 0
+IsTrimmingFault s wasm names number position =
+    (f : GcFault) × IsTrimFault s (wanted_of wasm names) f × (f ≢ Memory)
+    × (number ≡ gc_fault_number f) × IsPosition names f position

@@ -1,0 +1,33 @@
+//! The calls on modules as calls on slices, for a caller that shares no other types: `dedupe` renames the repeated
+//! imports of a module, and `trim` cuts an adapter to what its exports reach. Each writes its answer to the front of a
+//! buffer of the caller's, and returns an `Answer`, which is numbers alone. No call requires anything of its arguments.
+//!
+//! ```rust
+//! use std::alloc::Global;
+//! use wc_calls::{Answer, trim};
+//!
+//! /// Trims an adapter to what its export `write` reaches, for a main module that exports a realloc as
+//! /// `realloc`.
+//! pub fn trim_to_write(alloc: Global, adapter: &[u8], out: &mut [u8]) -> Answer
+//!     ensures done { result.status ≡ done → IsPut (IsRun (with_realloc (codes "realloc"))
+//!         (wanted_of adapter.now (codes "write" ∷ []))) result.length out.old out.new }
+//!     ensures unchanged { result.status ≢ done → out.new ≡ out.old }
+//! {
+//!     trim(alloc, adapter, &[b"write"], Some(b"realloc"), 16, out)
+//! }
+//! ```
+//!
+//! This function is proved in `wc_bench`, as `examples::calls::trim_to_write`.
+#![tactic(auto)]
+
+mod answers;
+mod fault_numbers;
+mod renames;
+mod renaming;
+mod required;
+mod trimming;
+
+pub use answers::{Answer, BAD_ARGUMENT, DONE, FAULT, MEMORY, SAME, TOO_SMALL};
+pub use fault_numbers::{dedupe_fault_number, gc_fault_number, read_fault_number};
+pub use renaming::dedupe;
+pub use trimming::trim;

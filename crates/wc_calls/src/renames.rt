@@ -1,0 +1,67 @@
+//! Renames as bytes.
+
+ghost use Rattle.std.specs.Prelude.{◌≡◌, ◌++◌, OnOk, IfOk, [], length};
+ghost use Rattle.std.specs.List.{flat_map};
+ghost use Rattle.wc_write.specs.Text.{number_text, name_text};
+ghost use Rattle.wc_dedupe.specs.Renames.{rename_value, rename_values};
+ghost use Rattle.wc_calls.specs.Renames.{rename_text, renames_text};
+
+use std::alloc::{AllocError, Global};
+use wc_dedupe::Rename;
+use wc_read::codes::MORE_BYTES;
+
+/// How many numbers have seven bits.
+const SEVEN_BITS: u64 = 128;
+
+/// The text of renames: how many they are, and of each the module, the original name and the new one.
+pub(crate) fn renames_text(alloc: Global, renames: &[Rename]) -> Result<Vec<u8>, AllocError>
+    ensures { IfOk result (λ text. text.items ≡ renames_text (rename_values renames.now)) }
+{
+    let mut text = Vec::new(alloc);
+    put_number(&mut text, renames.len() as u64)?;
+    put_renames(&mut text, renames)?;
+    Ok(text)
+}
+
+/// Appends renames, one after another.
+fn put_renames(out: &mut Vec<u8>, renames: &[Rename]) -> Result<(), AllocError>
+    ensures { OnOk result (out.new.items
+        ≡ out.old.items ++ flat_map rename_text (rename_values renames.now)) }
+{
+    for rename in renames {
+        put_rename(out, rename)?;
+    }
+    Ok(())
+}
+
+/// Appends a rename.
+fn put_rename(out: &mut Vec<u8>, rename: &Rename) -> Result<(), AllocError>
+    ensures { OnOk result (out.new.items
+        ≡ out.old.items ++ rename_text (rename_value rename.now)) }
+{
+    put_name(out, rename.module.as_str())?;
+    put_name(out, rename.original.as_str())?;
+    put_name(out, rename.name.as_str())
+}
+
+/// Appends a name: its length in bytes, and its bytes.
+fn put_name(out: &mut Vec<u8>, name: &str) -> Result<(), AllocError>
+    ensures { OnOk result (out.new.items ≡ out.old.items ++ name_text name.now) }
+{
+    put_number(out, name.len() as u64)?;
+    out.extend_from_slice(name.as_bytes())?;
+    Ok(())
+}
+
+/// Appends an unsigned number as minimal LEB128, the low seven bits first.
+fn put_number(out: &mut Vec<u8>, number: u64) -> Result<(), AllocError>
+    ensures { OnOk result (out.new.items ≡ out.old.items ++ number_text number) }
+{
+    let mut rest = number;
+    while rest >= SEVEN_BITS {
+        out.push(MORE_BYTES + (rest % SEVEN_BITS) as u8)?;
+        rest /= SEVEN_BITS;
+    }
+    out.push(rest as u8)?;
+    Ok(())
+}

@@ -1,0 +1,70 @@
+//! The call that renames repeated imports.
+
+ghost use Rattle.std.specs.Prelude.{◌≡◌, ◌≢◌, ◌≤◌, ◌⊎◌, ◌<◌, ◌++◌, [], length};
+ghost use Rattle.wc_read.specs.Sections.{IsComponent};
+ghost use Rattle.wc_dedupe.specs.Dedupe.{IsDeduped};
+ghost use Rattle.wc_dedupe.specs.Renames.{rename_values};
+ghost use Rattle.wc_calls.specs.Renames.{renames_text};
+ghost use Rattle.wc_calls.specs.Answers.{IsFront, IsBytesStatus, IsPut, IsTooLong, done, failed, too_small, same, bad_argument};
+ghost use Rattle.wc_calls.specs.Renaming.{IsRenamed, IsRenamingFault};
+
+use crate::answers::{Answer, MEMORY, SAME, answer_without_bytes, fault_answer, put};
+use crate::fault_numbers::dedupe_fault_number;
+use crate::renames::renames_text;
+use std::alloc::Global;
+use std::borrow::CowSlice;
+use wc_dedupe::{DedupeFault, ModuleImportMap, Rename};
+
+/// Renames the imports of a module so that no two share a module and a name, as `ModuleImportMap::new` does.
+///
+/// - `DONE`: the front of `out` has the bytes of the renamed module, `module_length` of them, and then the renames;
+///   `length` is how many bytes both have. The renames, one at least, are encoded as a vector of the binary format
+///   (WebAssembly core specification, 5.1.3): how many they are, and of each the name of its module, its original name
+///   and its new name, in the order of the module's imports. Numbers are minimal LEB128 (5.2.2), a name is its length
+///   and its bytes (5.2.4).
+/// - `TOO_SMALL`: the same would have `length` bytes, and `out` has fewer.
+/// - `SAME`: no import repeats, or the bytes are a component's. So it is for every component.
+/// - `FAULT`: the fault of `ModuleImportMap::new`, by its number (`dedupe_fault_number`), never `Memory`.
+/// - `MEMORY`: an allocation failed.
+///
+/// It is never `BAD_ARGUMENT`. `out` is as it was but for `DONE`, and then after the first `length` bytes.
+pub fn dedupe(alloc: Global, wasm: &[u8], out: &mut [u8]) -> Answer
+    ensures done { result.status ≡ done
+        → IsPut (IsRenamed wasm.now result.module_length) result.length out.old out.new }
+    ensures too_small { result.status ≡ too_small
+        → IsTooLong (IsRenamed wasm.now result.module_length) result.length out.old }
+    ensures same { result.status ≡ same → IsDeduped wasm.now wasm.now [] }
+    ensures fault { result.status ≡ failed → IsRenamingFault wasm.now result.fault }
+    ensures component { IsComponent wasm.now → result.status ≡ same }
+    ensures unchanged { result.status ≢ done → out.new ≡ out.old }
+    ensures statuses { (result.status ≤ 5) × (result.status ≢ bad_argument) }
+{
+    match ModuleImportMap::new(alloc, CowSlice::Borrowed(wasm)) {
+        Ok((module, map)) => match map {
+            Some(map) => put_renamed(alloc, module.as_slice(), map.renames(), out),
+            None => answer_without_bytes(SAME),
+        },
+        Err(fault) => match fault {
+            DedupeFault::Memory => answer_without_bytes(MEMORY),
+            _ => fault_answer(dedupe_fault_number(fault), 0),
+        },
+    }
+}
+
+/// Writes a renamed module, and then its renames.
+fn put_renamed(alloc: Global, bytes: &[u8], renames: &[Rename], out: &mut [u8]) -> Answer
+    ensures length { (result.status ≡ done) ⊎ (result.status ≡ too_small)
+        → result.length ≡ length (bytes.now ++ renames_text (rename_values renames.now)) }
+    ensures module_length { (result.status ≡ done) ⊎ (result.status ≡ too_small)
+        → result.module_length ≡ length bytes.now }
+    ensures done { result.status ≡ done
+        → IsFront (bytes.now ++ renames_text (rename_values renames.now)) out.old out.new }
+    ensures too_small { result.status ≡ too_small → length out.old < result.length }
+    ensures unchanged { result.status ≢ done → out.new ≡ out.old }
+    ensures statuses { IsBytesStatus result.status }
+{
+    match renames_text(alloc, renames) {
+        Ok(text) => put(bytes, text.as_slice(), out),
+        Err(_) => answer_without_bytes(MEMORY),
+    }
+}

@@ -1,0 +1,130 @@
+//! The call that trims an adapter.
+
+ghost use Rattle.std.specs.Prelude.{◌≡◌, ◌≢◌, ◌<◌, ◌≤◌, [], length, IfOk, IfErr};
+ghost use Rattle.std.specs.List.{All};
+ghost use Rattle.std.specs.Str.{IsUtf8};
+ghost use Rattle.wc_gc.specs.Parts.{settings};
+ghost use Rattle.wc_calls.specs.Answers.{IsBytesStatus, IsFront, IsPut, IsTooLong, done, failed, too_small, same, bad_argument, out_of_memory};
+ghost use Rattle.wc_calls.specs.FaultNumbers.{gc_fault_number};
+ghost use Rattle.wc_calls.specs.Required.{texts, wanted_of};
+ghost use Rattle.wc_calls.specs.Trimming.{AreArguments, IsRun, IsTrimmingFault, position_in};
+
+use crate::answers::{Answer, BAD_ARGUMENT, MEMORY, answer_without_bytes, fault_answer, put};
+use crate::fault_numbers::gc_fault_number;
+use crate::required::{are_texts, name_set, optional_text, position_of};
+use std::alloc::Global;
+use wc_gc::{GcFault, run};
+
+/// The largest exponent of a page size: a page has 2^16 bytes at most.
+const MAX_PAGE_SIZE_LOG2: u32 = 16;
+
+/// Trims an adapter to what its exports of the names `required` reach, as `wc_gc::run` does. A repeated name counts
+/// once. The main module exports a realloc as `realloc`, where that is a name, and a page of its memory has
+/// 2^`page_size_log2` bytes.
+///
+/// - `DONE`: the front of `out` has the bytes of the trimmed adapter, `length` of them, which are all a module.
+/// - `TOO_SMALL`: the trimmed adapter has `length` bytes, and `out` has fewer.
+/// - `BAD_ARGUMENT`: exactly where `required` is empty, a name is no text (UTF-8), or `page_size_log2` is more than 16.
+/// - `FAULT`: the fault of `run`, by its number (`gc_fault_number`), never `Memory`. Of a missing export `position` is
+///   where its name is first in `required`.
+/// - `MEMORY`: an allocation failed.
+///
+/// It is never `SAME`. `out` is as it was but for `DONE`, and then after the first `length` bytes.
+pub fn trim(
+    alloc: Global,
+    wasm: &[u8],
+    required: &[&[u8]],
+    realloc: Option<&[u8]>,
+    page_size_log2: u32,
+    out: &mut [u8],
+) -> Answer
+    ensures done { result.status ≡ done → IsPut (IsRun (settings realloc.entry page_size_log2)
+        (wanted_of wasm.now (texts required.now))) result.length out.old out.new }
+    ensures too_small { result.status ≡ too_small
+        → IsTooLong (IsRun (settings realloc.entry page_size_log2)
+        (wanted_of wasm.now (texts required.now))) result.length out.old }
+    ensures fault { result.status ≡ failed
+        → IsTrimmingFault (settings realloc.entry page_size_log2) wasm.now (texts required.now)
+        result.fault result.position }
+    ensures module_length { result.module_length ≡ result.length }
+    ensures bad_argument { result.status ≡ bad_argument
+        → ¬ (AreArguments (settings realloc.entry page_size_log2) (texts required.now)) }
+    ensures arguments { result.status ≢ bad_argument
+        → AreArguments (settings realloc.entry page_size_log2) (texts required.now) }
+    ensures unchanged { result.status ≢ done → out.new ≡ out.old }
+    ensures statuses { (result.status ≤ 5) × (result.status ≢ same) }
+{
+    if page_size_log2 > MAX_PAGE_SIZE_LOG2 || required.is_empty() || !are_texts(required) {
+        return answer_without_bytes(BAD_ARGUMENT);
+    }
+    match optional_text(realloc) {
+        Ok(realloc) => trim_for_names(alloc, wasm, required, realloc, page_size_log2, out),
+        Err(_) => answer_without_bytes(BAD_ARGUMENT),
+    }
+}
+
+/// The same for arguments that `run` takes.
+fn trim_for_names(
+    alloc: Global,
+    wasm: &[u8],
+    required: &[&[u8]],
+    realloc: Option<&str>,
+    page_size_log2: u32,
+    out: &mut [u8],
+) -> Answer
+    requires some { required.now ≢ [] }
+    requires are_texts { All IsUtf8 (texts required.now) }
+    requires paged { page_size_log2 ≤ 16 }
+    ensures done { result.status ≡ done → IsPut (IsRun (settings realloc.entry page_size_log2)
+        (wanted_of wasm.now (texts required.now))) result.length out.old out.new }
+    ensures too_small { result.status ≡ too_small
+        → IsTooLong (IsRun (settings realloc.entry page_size_log2)
+        (wanted_of wasm.now (texts required.now))) result.length out.old }
+    ensures fault { result.status ≡ failed
+        → IsTrimmingFault (settings realloc.entry page_size_log2) wasm.now (texts required.now)
+        result.fault result.position }
+    ensures module_length { result.module_length ≡ result.length }
+    ensures unchanged { result.status ≢ done → out.new ≡ out.old }
+    ensures statuses { (result.status ≤ 5) × (result.status ≢ same)
+        × (result.status ≢ bad_argument) }
+{
+    let Ok(names) = name_set(alloc, required) else {
+        return answer_without_bytes(MEMORY);
+    };
+    let trimmed = run(alloc, wasm, &names, realloc, page_size_log2);
+    put_trimmed(&trimmed, required, out)
+}
+
+/// Writes what trimming answered.
+fn put_trimmed(trimmed: &Result<Vec<u8>, GcFault>, required: &[&[u8]], out: &mut [u8]) -> Answer
+    ensures module_length { result.module_length ≡ result.length }
+    ensures length { IfOk trimmed.now (λ v. result.length ≡ length v.items) }
+    ensures done { IfOk trimmed.now (λ v. result.status ≡ done
+        → IsFront v.items out.old out.new) }
+    ensures too_small { IfOk trimmed.now (λ v. result.status ≡ too_small
+        → length out.old < result.length) }
+    ensures ok { IfOk trimmed.now (λ v. IsBytesStatus result.status) }
+    ensures refused { IfErr trimmed.now (λ _. (result.status ≢ done)
+        × (result.status ≢ too_small)) }
+    ensures memory { IfErr trimmed.now (λ f. f ≡ GcFault.Memory → result.status ≡ out_of_memory) }
+    ensures fault { IfErr trimmed.now (λ f. f ≢ GcFault.Memory → (result.status ≡ failed)
+        × (result.fault ≡ gc_fault_number f)
+        × (result.position ≡ position_in (texts required.now) f)) }
+    ensures unchanged { result.status ≢ done → out.new ≡ out.old }
+{
+    match trimmed {
+        Ok(bytes) => put(bytes.as_slice(), &[], out),
+        Err(GcFault::Memory) => answer_without_bytes(MEMORY),
+        Err(fault) => fault_answer(gc_fault_number(fault), missing_position(fault, required)),
+    }
+}
+
+/// Where the name that a fault carries is first among the names; 0 of a fault that carries none.
+fn missing_position(fault: &GcFault, required: &[&[u8]]) -> usize
+    ensures { result ≡ position_in (texts required.now) fault.now }
+{
+    match fault {
+        GcFault::MissingExport(name) => position_of(required, name),
+        _ => 0,
+    }
+}

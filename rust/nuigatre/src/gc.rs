@@ -1,0 +1,52 @@
+//! Trimming of adapters.
+
+use crate::error::{Error, GcFault};
+use crate::ffi::{self, Answered, Slice, TrimArguments};
+
+/// How many bytes a trimmed adapter may have beside those of the adapter, and of the realloc's name, before a call is
+/// made twice: those of the code that is added.
+const ADDED: usize = 1024;
+
+/// Trims an adapter: its exports of the names `required`, and what they reach, under new indices. A repeated name
+/// counts once.
+///
+/// The main module exports a realloc of the name `main_module_realloc`, if there is one, and its memory has pages of
+/// 2^`page_size_log2` bytes; 16 is the usual exponent. Imported reallocs take that name, or are replaced by a function
+/// that grows memory; where the adapter has a stack pointer, code is added that allocates its stack.
+///
+/// # Errors
+///
+/// - `BadArgument`: `required` is empty, or `page_size_log2` is more than 16.
+/// - `Trim`: the adapter is no module, or has what is not supported.
+/// - `Memory`: an allocation failed.
+///
+/// # Panics
+///
+/// The archive is of another version than this crate, and answers the number of an unknown fault.
+pub fn run(
+    wasm: &[u8],
+    required: &[&str],
+    main_module_realloc: Option<&str>,
+    page_size_log2: u32,
+) -> Result<Vec<u8>, Error> {
+    let mut names = Vec::new();
+    names
+        .try_reserve_exact(required.len())
+        .map_err(|_| Error::Memory)?;
+    names.extend(required.iter().map(|name| Slice::new(name.as_bytes())));
+    let arguments = TrimArguments {
+        wasm,
+        required: &names,
+        realloc: main_module_realloc,
+        page_size_log2,
+    };
+    let room = wasm.len() + main_module_realloc.unwrap_or_default().len() + ADDED;
+    match ffi::trim(arguments, room)? {
+        Answered::Bytes { bytes, .. } => Ok(bytes),
+        Answered::Same => unreachable!("a trim always has bytes of its own"),
+        Answered::Fault { number, position } => {
+            let fault = GcFault::from_number(number, required.get(position).copied());
+            Err(Error::Trim(fault.expect("a fault of trimming")))
+        }
+    }
+}

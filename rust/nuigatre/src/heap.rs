@@ -1,0 +1,113 @@
+//! The heap of the archive: the three functions that it calls, over the C library's allocator.
+//!
+//! They owe a block of the size that is asked for, aligned to `align`, which is 16 at most, as all blocks of `malloc`
+//! are on 64-bit Linux. Where there is none, `ok` is false, and `block` is any pointer but null. A size of 0 asks for a
+//! block too.
+
+use std::ffi::c_void;
+use std::ptr;
+
+unsafe extern "C" {
+    fn malloc(size: usize) -> *mut c_void;
+    fn realloc(block: *mut c_void, size: usize) -> *mut c_void;
+    fn free(block: *mut c_void);
+}
+
+/// An allocation that may have failed.
+#[repr(C)]
+pub struct Allocated {
+    ok: bool,
+    block: *mut c_void,
+}
+
+impl Allocated {
+    fn failed() -> Self {
+        Allocated {
+            ok: false,
+            block: ptr::dangling_mut::<u8>().cast(),
+        }
+    }
+
+    /// What the C library answered.
+    fn of(block: *mut c_void) -> Self {
+        if block.is_null() {
+            Allocated::failed()
+        } else {
+            Allocated { ok: true, block }
+        }
+    }
+}
+
+#[unsafe(no_mangle)]
+extern "C" fn rattle_alloc(size: usize, align: usize) -> Allocated {
+    if !counts::may_allocate() {
+        return Allocated::failed();
+    }
+    // SAFETY: `malloc` requires nothing.
+    let allocated = Allocated::of(unsafe { malloc(size.max(align)) });
+    counts::add(i64::from(allocated.ok));
+    allocated
+}
+
+#[unsafe(no_mangle)]
+extern "C" fn rattle_realloc(
+    block: *mut c_void,
+    _kept: usize,
+    size: usize,
+    align: usize,
+) -> Allocated {
+    if !counts::may_allocate() {
+        return Allocated::failed();
+    }
+    // SAFETY: the block is one that `rattle_alloc` or this function gave and that was not given back, as is proved of
+    // the archive.
+    Allocated::of(unsafe { realloc(block, size.max(align)) })
+}
+
+#[unsafe(no_mangle)]
+extern "C" fn rattle_dealloc(block: *mut c_void) {
+    counts::add(-1);
+    // SAFETY: as above.
+    unsafe { free(block) }
+}
+
+/// Nothing is counted but in tests.
+#[cfg(not(test))]
+mod counts {
+    pub(super) fn may_allocate() -> bool {
+        true
+    }
+
+    pub(super) fn add(_blocks: i64) {}
+}
+
+/// The blocks of this thread, and how many more of its allocations may succeed.
+#[cfg(test)]
+pub(crate) mod counts {
+    use std::cell::Cell;
+
+    thread_local! {
+        static HELD: Cell<i64> = const { Cell::new(0) };
+        static LEFT: Cell<u64> = const { Cell::new(u64::MAX) };
+    }
+
+    /// How many blocks the archive has allocated on this thread and not given back.
+    pub(crate) fn held() -> i64 {
+        HELD.get()
+    }
+
+    /// The next `count` allocations of this thread may succeed, and all after them fail.
+    pub(crate) fn fail_after(count: u64) {
+        LEFT.set(count);
+    }
+
+    pub(super) fn may_allocate() -> bool {
+        let left = LEFT.get();
+        LEFT.set(left.saturating_sub(1));
+        left > 0
+    }
+
+    pub(super) fn add(blocks: i64) {
+        HELD.set(HELD.get() + blocks);
+    }
+}

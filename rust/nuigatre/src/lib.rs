@@ -1,0 +1,42 @@
+//! Core WebAssembly modules made ready to be parts of a component: repeated imports renamed
+//! ([`ModuleImportMap`]), adapters trimmed to what is used of them ([`gc::run`]). The names are those of the Rust crate
+//! `wit-component`, and so is what they do.
+//!
+//! The work is done by `libnuigatre.a`, whose functions are proved: each ends on all bytes, and answers what its
+//! contract says. This crate is the way there, and is tested: a heap, two calls, and the reading of their answers. It
+//! has no dependency but the standard library. Calls keep nothing, and may run on several threads at once.
+//!
+//! ```
+//! use nuigatre::{ModuleImportMap, gc};
+//! use std::borrow::Cow;
+//!
+//! // a module that imports the function `f` of the module `a` twice
+//! let module = b"\0asm\x01\0\0\0\x01\x04\x01\x60\0\0\x02\x0d\x02\x01a\x01f\0\0\x01a\x01f\0\0";
+//! let (renamed, map) = ModuleImportMap::new(Cow::Borrowed(module))?;
+//! let map = map.expect("an import repeats");
+//! assert_eq!(map.original_name("a", "f [v2]"), Some("f"));
+//! assert!(renamed.ends_with(b"\x01a\x01f\0\0\x01a\x06f [v2]\0\0"));
+//!
+//! // an adapter of two functions, exported as `a` and `b`, without the first
+//! let adapter = b"\0asm\x01\0\0\0\x01\x04\x01\x60\0\0\x03\x03\x02\0\0\x07\x09\x02\x01a\0\0\x01b\0\x01\x0a\x07\x02\x02\0\x0b\x02\0\x0b";
+//! let trimmed = gc::run(adapter, &["b"], None, 16)?;
+//! assert!(trimmed.len() < adapter.len());
+//! # Ok::<(), nuigatre::Error>(())
+//! ```
+#![deny(unsafe_code)]
+#![warn(missing_docs)]
+
+mod error;
+#[allow(unsafe_code)]
+mod ffi;
+pub mod gc;
+#[allow(unsafe_code)]
+mod heap;
+mod module_import_map;
+mod renames;
+
+#[cfg(test)]
+mod allocation_tests;
+
+pub use error::{DedupeFault, Error, GcFault, ReadFault};
+pub use module_import_map::{ModuleImportMap, Rename};

@@ -1,0 +1,85 @@
+//! Each call with arguments that are all different, and the answers that no row has.
+
+use nuigatre::{DedupeFault, Error, GcFault, ModuleImportMap, ReadFault, gc};
+use std::borrow::Cow;
+use std::error::Error as _;
+
+/// Three functions, of which `a` is the first, and `b` the second, which calls the third.
+const THREE: &[u8] = b"\0asm\x01\0\0\0\x01\x04\x01\x60\0\0\x03\x04\x03\0\0\0\x07\x09\x02\x01a\0\0\x01b\0\x01\x0a\x0c\x03\x02\0\x0b\x04\0\x10\x02\x0b\x02\0\x0b";
+
+/// The same without the first.
+const TWO: &[u8] = b"\0asm\x01\0\0\0\x01\x04\x01\x60\0\0\x03\x03\x02\0\0\x07\x05\x01\x01b\0\0\x0a\x09\x02\x04\0\x10\x01\x0b\x02\0\x0b";
+
+/// An adapter whose export `f` calls an imported realloc of the main module's, and which imports its memory.
+const REALLOC: &[u8] = b"\0asm\x01\0\0\0\x01\x0c\x02\x60\x04\x7f\x7f\x7f\x7f\x01\x7f\x60\0\0\x02\x2e\x02\x0f__main_module__\x0ccabi_realloc\0\0\x03env\x06memory\x02\0\x01\x03\x02\x01\x01\x07\x05\x01\x01f\0\x01\x0a\x12\x01\x10\0\x41\0\x41\0\x41\0\x41\0\x10\0\x1a\x3f\0\x1a\x0b";
+
+#[test]
+fn names_are_passed() {
+    assert_eq!(gc::run(THREE, &["b"], None, 16), Ok(TWO.to_vec()));
+    assert_eq!(gc::run(THREE, &["b", "b"], None, 16), Ok(TWO.to_vec()));
+    assert_eq!(gc::run(THREE, &["b", "a"], None, 0), Ok(THREE.to_vec()));
+}
+
+#[test]
+fn the_realloc_is_passed() {
+    let named = gc::run(REALLOC, &["f"], Some("grow_it"), 16).expect("an adapter");
+    let is_named = |name: &[u8]| named.windows(name.len()).any(|at| at == name);
+    assert!(is_named(b"\x0f__main_module__\x07grow_it\0\0") && !is_named(b"cabi_realloc"));
+    let grown = gc::run(REALLOC, &["f"], None, 16).expect("an adapter");
+    assert!(!grown.windows(15).any(|at| at == b"__main_module__"));
+    // its memory has pages of 2^16 bytes
+    let fault = gc::run(REALLOC, &["f"], None, 0).expect_err("pages of one byte");
+    assert_eq!(fault, Error::Trim(GcFault::ReallocMemory));
+}
+
+#[test]
+fn arguments_that_are_none() {
+    assert_eq!(gc::run(THREE, &[], None, 16), Err(Error::BadArgument));
+    assert_eq!(gc::run(THREE, &["b"], None, 17), Err(Error::BadArgument));
+    assert_eq!(
+        gc::run(b"", &["b"], None, u32::MAX),
+        Err(Error::BadArgument)
+    );
+}
+
+#[test]
+fn faults_carry_what_they_are_about() {
+    let fault = gc::run(THREE, &["b", "b", "x", "y"], None, 16).expect_err("x");
+    assert_eq!(fault, Error::Trim(GcFault::MissingExport("x".to_owned())));
+    let fault = gc::run(b"\0asm\x0d\0\x01\0", &["b"], None, 16).expect_err("a component");
+    assert_eq!(fault, Error::Trim(GcFault::Read(ReadFault::Component)));
+    assert_eq!(
+        fault.source().map(|it| it.to_string()),
+        Some("Read: Component".to_owned())
+    );
+    let fault = ModuleImportMap::new(Cow::Borrowed(b"\0asm")).expect_err("no module");
+    assert_eq!(fault, Error::Dedupe(DedupeFault::Read(ReadFault::NotWasm)));
+}
+
+#[test]
+fn a_buffer_that_is_too_small() {
+    // the names alone take more than the first buffer has
+    let import = [b"\x7f".as_slice(), &[b'a'; 127], b"\x01f\0\0"].concat();
+    let content = [b"\x03".as_slice(), &import, &import, &import].concat();
+    let mut module = b"\0asm\x01\0\0\0\x02".to_vec();
+    module.extend([
+        (content.len() % 128) as u8 | 128,
+        (content.len() / 128) as u8,
+    ]);
+    module.extend(content);
+    // a custom section, so that the module is no small one
+    let large = [
+        module.clone(),
+        b"\0\x80\x80\x04\0".to_vec(),
+        vec![1; 65_535],
+    ]
+    .concat();
+    for (module, repeated) in [(&module, 3), (&large, 3)] {
+        let (bytes, map) = ModuleImportMap::new(Cow::Borrowed(module)).expect("a module");
+        let map = map.expect("renames");
+        assert_eq!(map.renames().len(), repeated - 1);
+        assert_eq!(map.original_name(&"a".repeat(127), "f [v3]"), Some("f"));
+        assert_eq!(map.original_name("a", "f [v3]"), None);
+        assert_eq!(bytes.len(), module.len() + 2 * " [v2]".len());
+    }
+}
