@@ -1,7 +1,7 @@
 //! A row's answer, from the library whose call it names.
 
-use crate::component::calls as component_calls;
-use crate::examples;
+use crate::component::{calls as component_calls, plans as plan_calls};
+use crate::{examples, library_calls};
 use std::alloc::{AllocError, Global};
 use wc_fixtures::{encoder_calls, resolve_calls};
 use wc_module_rows::names::calls as name_calls;
@@ -41,7 +41,7 @@ fn answer_on_bytes(alloc: Global, row: &Row<'_>, out: &mut Lines) -> Result<bool
     if unfolding::answer(alloc, row, out)? || hostile_calls::answer(alloc, row, out)? {
         return Ok(true);
     }
-    if fault_calls::answer(alloc, row, out)? {
+    if fault_calls::answer(alloc, row, out)? || library_calls::answer(alloc, row, out)? {
         return Ok(true);
     }
     tool_calls::answer(alloc, row, out)
@@ -58,7 +58,10 @@ fn answer_on_worlds(alloc: Global, row: &Row<'_>, out: &mut Lines) -> Result<boo
     if validate_calls::answer(alloc, row, out)? {
         return Ok(true);
     }
-    component_calls::answer(alloc, row, out)
+    if component_calls::answer(alloc, row, out)? {
+        return Ok(true);
+    }
+    plan_calls::answer(alloc, row, out)
 }
 
 /// The laws, sinks and examples. False where the call is none.

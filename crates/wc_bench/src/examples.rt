@@ -1,10 +1,12 @@
 //! Examples of calling each library, and the rows' call of them: `example NAME ARGUMENT..`.
 
+pub(crate) mod calls;
 mod dedupe;
 mod demo;
 mod encoder;
 mod gc;
 mod names;
+mod plan;
 mod read;
 mod resolve;
 mod tool;
@@ -18,6 +20,7 @@ use std::alloc::{AllocError, Global};
 use std::str;
 use wc_encoder::{ComponentEncoder, EncoderFault};
 use wc_gc::GcFault;
+use wc_plan::PlanFault;
 use wc_resolve::{Parts, Resolve, ResolveFault, World, WorldId};
 use wc_rows::gc_calls::names_from;
 use wc_rows::imports::imports_of;
@@ -64,6 +67,8 @@ fn answer_on_module(alloc: Global, row: &Row<'_>, out: &mut Lines) -> Result<(),
         answer_trim_both(alloc, row, out)
     } else if argument(row, 0) == "summary" {
         answer_summary(alloc, row, out)
+    } else if argument(row, 0) == "printed_plan" {
+        answer_printed_plan(alloc, row, out)
     } else if is_on_encoder(argument(row, 0)) {
         answer_on_encoder(alloc, row, out)
     } else {
@@ -288,6 +293,33 @@ fn answer_summary(alloc: Global, row: &Row<'_>, out: &mut Lines) -> Result<(), S
     let adapter = bytes_beside(alloc, row, "adapter", true, out)?;
     match demo::demo_encoder(alloc, &main, &adapter) {
         Ok(encoder) => put_summary(alloc, &encoder, out),
+        Err(fault) => put_fault(out, fault),
+    }
+    Ok(())
+}
+
+/// `example printed_plan`: of the component of a main module and an adapter, as for `summary`.
+fn answer_printed_plan(alloc: Global, row: &Row<'_>, out: &mut Lines) -> Result<(), Stop> {
+    let main = bytes_beside(alloc, row, "adapter", false, out)?;
+    let adapter = bytes_beside(alloc, row, "adapter", true, out)?;
+    match demo::demo_encoder(alloc, &main, &adapter) {
+        Ok(encoder) => put_printed_plan(alloc, &encoder, out),
+        Err(fault) => {
+            put_fault(out, fault);
+            Ok(())
+        }
+    }
+}
+
+fn put_printed_plan(
+    alloc: Global,
+    encoder: &ComponentEncoder,
+    out: &mut Lines,
+) -> Result<(), Stop> {
+    match plan::printed_plan(alloc, encoder) {
+        Ok(lines) => put_lines(out, &lines),
+        // The lines are put into memory, which ran out.
+        Err(PlanFault::Output) => return Err(Stop::Memory),
         Err(fault) => put_fault(out, fault),
     }
     Ok(())

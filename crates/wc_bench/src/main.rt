@@ -4,6 +4,7 @@
 mod answers;
 mod component;
 mod examples;
+mod library_calls;
 mod program;
 
 use std::process::ExitCode;

@@ -68,7 +68,10 @@ fn set_main<'a>(alloc: Global, input: &[&'a str], fixture: &mut Fixture) -> Resu
 }
 
 /// The encoder that the input describes.
-fn described_encoder<'a>(alloc: Global, input: &[&'a str]) -> Result<ComponentEncoder, Stop<'a>> {
+pub(crate) fn described_encoder<'a>(
+    alloc: Global,
+    input: &[&'a str],
+) -> Result<ComponentEncoder, Stop<'a>> {
     let mut fixture = fixture_of(alloc, input)?;
     set_main(alloc, input, &mut fixture)?;
     encoder_of(alloc, fixture)

@@ -1,0 +1,170 @@
+//! The calls of `wc_plan`.
+
+use crate::component::calls::described_encoder;
+use indexmap::IndexMap;
+use std::alloc::{AllocError, Global};
+use std::str;
+use wc_encoder::ComponentEncoder;
+use wc_fixtures::resolve_calls::argument_words;
+use wc_fixtures::stop::Stop;
+use wc_plan::laws::worlds_nameable;
+use wc_plan::{Plan, PlanFault, plan, plan_encoder, write_plan};
+use wc_rows::lines::Lines;
+use wc_rows::rows::Row;
+use wc_validate::ValidateFault;
+use wc_world::{ComponentWorld, PlainOptions, WorldFault};
+use wc_write::{PutFailed, Sink};
+
+/// What the lines of a plan are printed to. It takes some puts, and fails at the next.
+#[derive(Drop)]
+struct Printed {
+    lines: Lines,
+    puts: u32,
+    failed: bool,
+}
+
+impl Sink for Printed {
+    ghost use Rattle.std.specs.Prelude.{None};
+
+    ghost written = { λ _. None };
+
+    ghost is_failed = { λ s. s.failed };
+
+    fn put(&mut self, bytes: &[u8]) -> Result<(), PutFailed> {
+        if self.failed || self.puts == 0 {
+            self.failed = true;
+            return Err(PutFailed);
+        }
+        let Ok(text) = str::from_utf8(bytes) else {
+            self.failed = true;
+            return Err(PutFailed);
+        };
+        self.puts -= 1;
+        self.lines.push_str(text);
+        Ok(())
+    }
+
+    fn failed(&self) -> bool {
+        self.failed
+    }
+}
+
+/// A fault; and after that of a function the function's name.
+fn put_fault(fault: &PlanFault, out: &mut Lines) {
+    writeln!(out, "fault {fault}");
+    match fault {
+        PlanFault::NoMemory(name) => writeln!(out, "of {name}"),
+        PlanFault::NoRealloc(name) => writeln!(out, "of {name}"),
+        PlanFault::NoLowering(name) => writeln!(out, "of {name}"),
+        _ => {}
+    }
+}
+
+/// The lines of a plan, over a sink that fails after so many puts; or why there is no plan.
+fn put_plan(
+    alloc: Global,
+    plan: &Result<Plan, PlanFault>,
+    puts: u32,
+    out: &mut Lines,
+) -> Result<(), AllocError> {
+    let plan = match plan {
+        Ok(plan) => plan,
+        Err(fault) => {
+            put_fault(fault, out);
+            return Ok(());
+        }
+    };
+    let mut printed = Printed {
+        lines: Lines::new(alloc),
+        puts,
+        failed: false,
+    };
+    match write_plan(plan, &mut printed) {
+        Ok(()) => out.push_str(printed.lines.text()?),
+        Err(fault) => put_fault(&fault, out),
+    }
+    Ok(())
+}
+
+/// The plan of the encoder's world, all of whose lowerings are taken away.
+fn plan_without_lowerings(alloc: Global, encoder: &ComponentEncoder) -> Result<Plan, PlanFault> {
+    let mut world = ComponentWorld::new(alloc, encoder, &PlainOptions)?;
+    // So what is imported can be named.
+    worlds_nameable(encoder);
+    world.import_map = IndexMap::new(alloc);
+    plan(alloc, &world)
+}
+
+/// A fault of the function `f`, by its number.
+fn function_fault(alloc: Global, number: u32) -> Result<PlanFault, AllocError> {
+    let name = String::from_str(alloc, "f")?;
+    Ok(match number {
+        0 => PlanFault::NoMemory(name),
+        1 => PlanFault::NoRealloc(name),
+        _ => PlanFault::NoLowering(name),
+    })
+}
+
+/// The text of each fault, in the order of `PlanFault`.
+fn put_faults(alloc: Global, out: &mut Lines) -> Result<(), AllocError> {
+    let memory = PlanFault::Memory;
+    writeln!(out, "{memory}");
+    for number in 0..3 {
+        let fault = function_fault(alloc, number)?;
+        writeln!(out, "{fault}");
+    }
+    for fault in &[
+        PlanFault::World(WorldFault::Main(ValidateFault::NotAModule)),
+        PlanFault::Output,
+    ] {
+        writeln!(out, "{fault}");
+    }
+    Ok(())
+}
+
+fn answered<'a>(alloc: Global, row: &'a Row<'a>, out: &mut Lines) -> Result<(), Stop<'a>> {
+    if row.call == "plan_faults" {
+        put_faults(alloc, out)?;
+        return Ok(());
+    }
+    let mut words = argument_words(alloc, row)?;
+    let puts = if row.call == "plan_failing" {
+        words.number()?
+    } else {
+        u32::MAX
+    };
+    words.end()?;
+    let encoder = described_encoder(alloc, &row.input)?;
+    let plan = if row.call == "plan_without_lowerings" {
+        plan_without_lowerings(alloc, &encoder)
+    } else {
+        plan_encoder(alloc, &encoder, &PlainOptions)
+    };
+    put_plan(alloc, &plan, puts, out)?;
+    Ok(())
+}
+
+/// The calls of `wc_plan`.
+const OWN: [&str; 4] = [
+    "plan",
+    "plan_failing",
+    "plan_without_lowerings",
+    "plan_faults",
+];
+
+fn is_own(call: &str) -> bool {
+    OWN.iter().any(|name| *name == call)
+}
+
+/// The answer of a call of `wc_plan`. False where the call is none.
+pub(crate) fn answer(alloc: Global, row: &Row<'_>, out: &mut Lines) -> Result<bool, AllocError> {
+    if !is_own(row.call) {
+        return Ok(false);
+    }
+    let mut lines = Lines::new(alloc);
+    match answered(alloc, row, &mut lines) {
+        Ok(()) => out.push_str(lines.text()?),
+        Err(stop) => stop.put(out)?,
+    }
+    Ok(true)
+}

@@ -1,0 +1,147 @@
+//! Calls of `wc_calls`, on a buffer whose bytes are all `ee` before.
+
+use crate::examples::calls::trim_to_write;
+use std::alloc::{AllocError, Global};
+use wc_calls::{Answer, MEMORY, dedupe, trim};
+use wc_rows::input::{Stop, answered, bad_row, bytes_of};
+use wc_rows::lines::Lines;
+use wc_rows::rows::Row;
+use wc_rows::values::put_bytes_lines;
+
+/// Each byte of a buffer before a call.
+const UNTOUCHED: u8 = 0xee;
+
+/// Appends the answer of a call of `wc_calls`, and says whether the row's is one.
+pub(crate) fn answer(alloc: Global, row: &Row<'_>, out: &mut Lines) -> Result<bool, AllocError> {
+    answered(answer_call(alloc, row, out))
+}
+
+fn answer_call(alloc: Global, row: &Row<'_>, out: &mut Lines) -> Result<bool, Stop> {
+    if row.call == "dedupe_into" {
+        answer_dedupe(alloc, row, out)?;
+    } else if row.call == "trim_into" {
+        answer_trim(alloc, row, out)?;
+    } else if row.call == "trim_to_write" {
+        answer_trim_to_write(alloc, row, out)?;
+    } else {
+        return Ok(false);
+    }
+    Ok(true)
+}
+
+/// `dedupe_into ROOM`: a module, its repeated imports renamed, in a buffer of so many bytes.
+fn answer_dedupe(alloc: Global, row: &Row<'_>, out: &mut Lines) -> Result<(), Stop> {
+    let wasm = bytes_of(alloc, &row.input, out)?;
+    let mut buffer = buffer_of(alloc, row, out)?;
+    let answer = dedupe(alloc, &wasm, &mut buffer);
+    put_answer(&answer, &buffer, out);
+    Ok(())
+}
+
+/// `trim_into ROOM PAGE REALLOC NAME..`: an adapter, trimmed, in a buffer of so many bytes. The realloc, none by `-`,
+/// and the names are bytes as those of input.
+fn answer_trim(alloc: Global, row: &Row<'_>, out: &mut Lines) -> Result<(), Stop> {
+    let wasm = bytes_of(alloc, &row.input, out)?;
+    let names = names_of(alloc, row, out)?;
+    let buffer = buffer_of(alloc, row, out)?;
+    put_trimmed(alloc, row, &wasm, &names, buffer, out)
+}
+
+fn put_trimmed(
+    alloc: Global,
+    row: &Row<'_>,
+    wasm: &[u8],
+    names: &[Vec<u8>],
+    buffer: Vec<u8>,
+    out: &mut Lines,
+) -> Result<(), Stop> {
+    let Some(page) = exponent_of(row) else {
+        return Err(bad_row(out, "no exponent", row.call));
+    };
+    let Some((realloc, required)) = names.split_first() else {
+        return Err(bad_row(out, "no realloc", row.call));
+    };
+    let required = slices_of(alloc, required)?;
+    let realloc = if has_realloc(row) {
+        Some(realloc.as_slice())
+    } else {
+        None
+    };
+    let mut buffer = buffer;
+    let answer = trim(alloc, wasm, &required, realloc, page, &mut buffer);
+    put_answer(&answer, &buffer, out);
+    Ok(())
+}
+
+/// `trim_to_write ROOM`: an adapter, trimmed to its export `write`, for a main module that exports a realloc as
+/// `realloc`.
+fn answer_trim_to_write(alloc: Global, row: &Row<'_>, out: &mut Lines) -> Result<(), Stop> {
+    let wasm = bytes_of(alloc, &row.input, out)?;
+    let mut buffer = buffer_of(alloc, row, out)?;
+    let answer = trim_to_write(alloc, &wasm, &mut buffer);
+    put_answer(&answer, &buffer, out);
+    Ok(())
+}
+
+fn exponent_of(row: &Row<'_>) -> Option<u32> {
+    row.arguments.get(1)?.parse::<u32>().ok()
+}
+
+fn has_realloc(row: &Row<'_>) -> bool {
+    row.arguments.get(2) != Some(&"-")
+}
+
+/// A buffer of as many bytes as the first argument says.
+fn buffer_of(alloc: Global, row: &Row<'_>, out: &mut Lines) -> Result<Vec<u8>, Stop> {
+    let room = row.arguments.first().copied().unwrap_or("");
+    let Ok(room) = room.parse::<u16>() else {
+        return Err(bad_row(out, "no room", room));
+    };
+    let buffer = vec![in alloc; UNTOUCHED; room as usize]?;
+    Ok(buffer)
+}
+
+/// The bytes of the arguments from the third on. `-` has none.
+fn names_of(alloc: Global, row: &Row<'_>, out: &mut Lines) -> Result<Vec<Vec<u8>>, Stop> {
+    let mut names = Vec::new(alloc);
+    for word in row.arguments.iter().skip(2) {
+        names.push(name_of(alloc, word, out)?)?;
+    }
+    Ok(names)
+}
+
+fn name_of(alloc: Global, word: &str, out: &mut Lines) -> Result<Vec<u8>, Stop> {
+    if word == "-" {
+        return Ok(Vec::new(alloc));
+    }
+    bytes_of(alloc, &[word], out)
+}
+
+fn slices_of(alloc: Global, names: &[Vec<u8>]) -> Result<Vec<&[u8]>, AllocError> {
+    let mut slices = Vec::new(alloc);
+    for name in names {
+        slices.push(name.as_slice())?;
+    }
+    Ok(slices)
+}
+
+/// The numbers of an answer, and all of the buffer.
+fn put_answer(answer: &Answer, buffer: &[u8], out: &mut Lines) {
+    let Answer {
+        status,
+        fault,
+        length,
+        module_length,
+        position,
+    } = *answer;
+    if status == MEMORY {
+        writeln!(out, "out of memory");
+        return;
+    }
+    writeln!(
+        out,
+        "status {status} fault {fault} length {length} module {module_length}"
+    );
+    writeln!(out, "position {position}");
+    put_bytes_lines(out, "buffer", buffer);
+}
