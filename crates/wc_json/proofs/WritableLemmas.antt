@@ -1,0 +1,143 @@
+-- Values that can be printed and parsed again: their numbers are numbers, no object repeats a member, and they nest no
+-- deeper than a bound.
+use Rattle.std.proofs.Common.{◌≡◌, ℕ, suc, ◌≤◌, List, [], ◌∷◌, length, map, Option, Some, None, All, IfSome, Bool, true, false, refl, sym, ap, ◌∙◌, arith}
+use Rattle.std.specs.Bool.{Decides}
+use Rattle.std.specs.List.{AllByRecursion, IsDistinct}
+use Rattle.std.specs.Set.{distinct_count}
+use Rattle.std.specs.Str.{bytes_eq}
+use Rattle.std.proofs.lemmas.Cmp.{nat_list_eq_equiv}
+use Rattle.std.proofs.lemmas.List.Elements.{All-head, All-tail}
+use Rattle.std.proofs.lemmas.Map.Keys.{IsDistinct-cons, IsDistinct-head, IsDistinct-tail}
+use Rattle.std.proofs.lemmas.Map.Made.{AllPairs-from_IsDistinct, IsDistinct-from_AllPairs, IsDistinct-from_count}
+use Rattle.std.proofs.lemmas.Slice.Eq.{bytes_eq-Decides}
+use Rattle.json.specs.Json.{Json, null, string, object, Items, Members, no_members, member}
+use Rattle.json.specs.Strict.{AreDistinct, HasUniqueKeys, ItemsHaveUniqueKeys, MembersHaveUniqueKeys, keys}
+use Rattle.json.specs.Tree.{HasNumbers, ItemsHaveNumbers, MembersHaveNumbers, depth, items_depth, members_depth}
+use Rattle.json.proofs.Printed.Decimals.{IsNumber-decimal}
+use Rattle.wc_json.specs.Fits.{FitsU32, HasDistinctKeys}
+use Rattle.wc_json.specs.ToJson.{index_json, items_json, list_json, members_json, nullable_json, variant_json}
+
+pub record IsWritable (bound : ℕ) (j : Json) : Type 0 where
+  pub numbers : HasNumbers j
+  pub unique : HasUniqueKeys j
+  pub shallow : depth j ≤ bound
+
+pub record AreWritableItems (bound : ℕ) (js : Items) : Type 0 where
+  pub numbers : ItemsHaveNumbers js
+  pub unique : ItemsHaveUniqueKeys js
+  pub shallow : items_depth js ≤ bound
+
+pub record AreWritable (bound : ℕ) (ms : Members) : Type 0 where
+  pub numbers : MembersHaveNumbers ms
+  pub unique : MembersHaveUniqueKeys ms
+  pub shallow : members_depth ms ≤ bound
+
+-- a larger bound
+pub IsWritable-le : {bound : ℕ} {j : Json} (larger : ℕ) → bound ≤ larger → IsWritable bound j → IsWritable larger j
+IsWritable-le larger order w = record { numbers = w.numbers; unique = w.unique; shallow = let shallow = w.shallow in omega (arith, order, shallow) }
+
+pub IsWritable-string : (bound : ℕ) (s : List ℕ) → IsWritable bound (string s)
+IsWritable-string bound s = record { numbers = tt; unique = tt; shallow = omega arith }
+
+pub IsWritable-null : (bound : ℕ) → IsWritable bound null
+IsWritable-null bound = record { numbers = tt; unique = tt; shallow = omega arith }
+
+pub IsWritable-index_json : (bound n : ℕ) → FitsU32 n → IsWritable bound (index_json n)
+IsWritable-index_json bound n fits = record { numbers = IsNumber-decimal n (omega (arith, fits)); unique = tt; shallow = omega arith }
+
+pub IsWritable-nullable_json : {A : Type 0} (bound : ℕ) (write : A → Json) (Fits : A → Type 0) → ((x : A) → Fits x → IsWritable bound (write x))
+    → (o : Option A) → IfSome o Fits → IsWritable bound (nullable_json write o)
+IsWritable-nullable_json bound write Fits each None fits = IsWritable-null bound
+IsWritable-nullable_json bound write Fits each (Some x) fits = each x fits
+
+pub IsWritable-nullable_string : (bound : ℕ) (o : Option (List ℕ)) → IsWritable bound (nullable_json string o)
+IsWritable-nullable_string bound None = IsWritable-null bound
+IsWritable-nullable_string bound (Some s) = IsWritable-string bound s
+
+-- lists
+
+AreWritableItems-items_json : {A : Type 0} (bound : ℕ) (write : A → Json) (Fits : A → Type 0) → ((x : A) → Fits x → IsWritable bound (write x))
+    → (xs : List A) → All Fits xs → AreWritableItems bound (items_json write xs)
+AreWritableItems-items_json bound write Fits each [] fits = record { numbers = tt; unique = tt; shallow = omega arith }
+AreWritableItems-items_json bound write Fits each (x ∷ xs) fits =
+    let first = each x (All-head Fits x xs fits) in
+    let rest = AreWritableItems-items_json bound write Fits each xs (All-tail Fits x xs fits) in
+    let one = first.shallow in
+    let others = rest.shallow in
+    record { numbers = (first.numbers, rest.numbers); unique = (first.unique, rest.unique); shallow = omega (arith, one, others) }
+
+pub IsWritable-list_json : {A : Type 0} (bound : ℕ) (write : A → Json) (Fits : A → Type 0) → ((x : A) → Fits x → IsWritable bound (write x))
+    → (xs : List A) → All Fits xs → IsWritable (suc bound) (list_json write xs)
+IsWritable-list_json bound write Fits each xs fits =
+    let w = AreWritableItems-items_json bound write Fits each xs fits in
+    let shallow = w.shallow in
+    record { numbers = w.numbers; unique = w.unique; shallow = omega (arith, shallow) }
+
+-- objects
+
+pub AreWritable-nil : {bound : ℕ} → AreWritable bound no_members
+AreWritable-nil = record { numbers = tt; unique = tt; shallow = omega arith }
+
+pub AreWritable-cons : {bound : ℕ} {name : List ℕ} {j : Json} {ms : Members} → IsWritable bound j → AreWritable bound ms → AreWritable bound (member name j ms)
+AreWritable-cons first rest =
+    let one = first.shallow in
+    let others = rest.shallow in
+    record { numbers = (first.numbers, rest.numbers); unique = (first.unique, rest.unique); shallow = omega (arith, one, others) }
+
+pub IsWritable-object : {bound : ℕ} {ms : Members} → AreWritable bound ms → AreDistinct (keys ms) → IsWritable (suc bound) (object ms)
+IsWritable-object w distinct =
+    let shallow = w.shallow in
+    record { numbers = w.numbers; unique = (distinct, w.unique); shallow = omega (arith, shallow) }
+
+-- names that are counted as different are so
+pub AreDistinct_counted : (names : List (List ℕ)) → distinct_count bytes_eq names ≡ length names → AreDistinct names
+AreDistinct_counted names counted = AllPairs-from_IsDistinct bytes_eq-Decides names (IsDistinct-from_count nat_list_eq_equiv names counted)
+
+IsDistinct-none : IsDistinct bytes_eq []
+unfolding IsDistinct
+IsDistinct-none = tt
+
+IsDistinct-one : (name : List ℕ) → IsDistinct bytes_eq (name ∷ [])
+IsDistinct-one name = IsDistinct-cons bytes_eq name [] tt IsDistinct-none
+
+pub IsWritable-variant_json : {bound : ℕ} {j : Json} (name : List ℕ) → IsWritable bound j → IsWritable (suc bound) (variant_json name j)
+IsWritable-variant_json name w = IsWritable-object (AreWritable-cons w AreWritable-nil)
+    (AllPairs-from_IsDistinct bytes_eq-Decides (name ∷ []) (IsDistinct-one name))
+
+-- maps whose keys are read back
+module _ {L A : Type 0} (same : L → L → Bool) (decides : (a b : L) → Decides (same a b) (a ≡ b)) (text : L → List ℕ) (key : List ℕ → L)
+    (write : A → Json) (Fits : L × A → Type 0) (key_back : (e : L × A) → Fits e → key (text e.0) ≡ e.0) where
+  bytes_eq-false : (d e : L × A) (t : Bool) → bytes_eq (text d.0) (text e.0) ≡ t → Fits d → Fits e → same d.0 e.0 ≡ false → t ≡ false
+  bytes_eq-false d e true h fits_d fits_e differ =
+      let equal : d.0 ≡ e.0 = sym (key_back d fits_d) ∙ ap key ((bytes_eq-Decides (text d.0) (text e.0)).0 h) ∙ key_back e fits_e in
+      let bad : ⊥ = cc ((decides d.0 e.0).1 equal, differ) in absurd bad
+  bytes_eq-false d e false h fits_d fits_e differ = refl
+
+  differs : (d : L × A) (es : List (L × A)) → Fits d → All Fits es → AllByRecursion (λ y. same d.0 y ≡ false) (map (λ (e : L × A). e.0) es)
+      → AllByRecursion (λ y. bytes_eq (text d.0) y ≡ false) (keys (members_json text write es))
+  differs d [] fits_d fits h = tt
+  differs d (e ∷ es) fits_d fits h = (
+    bytes_eq-false d e (bytes_eq (text d.0) (text e.0)) refl fits_d (All-head Fits e es fits) h.0,
+    differs d es fits_d
+        (All-tail Fits e es fits) h.1,
+  )
+
+  IsDistinct-keys : (es : List (L × A)) → All Fits es → IsDistinct same (map (λ (e : L × A). e.0) es) → IsDistinct bytes_eq (keys (members_json text write es))
+  IsDistinct-keys [] fits h = IsDistinct-none
+  IsDistinct-keys (e ∷ es) fits h =
+      let later = map (λ (e : L × A). e.0) es in
+      IsDistinct-cons bytes_eq (text e.0) (keys (members_json text write es))
+      (differs e es (All-head Fits e es fits) (All-tail Fits e es fits) (IsDistinct-head same e.0 later h))
+      (IsDistinct-keys es (All-tail Fits e es fits) (IsDistinct-tail same e.0 later h))
+
+  AreWritable-members_json : (bound : ℕ) → ((e : L × A) → Fits e → IsWritable bound (write e.1)) → (es : List (L × A)) → All Fits es
+      → AreWritable bound (members_json text write es)
+  AreWritable-members_json bound each [] fits = AreWritable-nil
+  AreWritable-members_json bound each (e ∷ es) fits =
+      AreWritable-cons (each e (All-head Fits e es fits)) (AreWritable-members_json bound each es (All-tail Fits e es fits))
+
+  pub IsWritable-map : (bound : ℕ) → ((e : L × A) → Fits e → IsWritable bound (write e.1)) → (es : List (L × A)) → HasDistinctKeys es → All Fits es
+      → IsWritable (suc bound) (object (members_json text write es))
+  IsWritable-map bound each es distinct fits =
+      let texts = IsDistinct-keys es fits (IsDistinct-from_AllPairs decides (map (λ (e : L × A). e.0) es) distinct) in
+      IsWritable-object (AreWritable-members_json bound each es fits) (AllPairs-from_IsDistinct bytes_eq-Decides (keys (members_json text write es)) texts)

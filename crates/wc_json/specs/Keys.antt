@@ -1,0 +1,32 @@
+-- What the keys of a world's items are.
+use Rattle.std.specs.Prelude.{ℕ, List, cond, codes, length, take, drop, Option, Some, None, Ok, Err, decimal}
+use Rattle.std.specs.Str.{bytes_eq}
+use Rattle.std.specs.Str.Parse.{without_leading_plus}
+use Rattle.wc_resolve.specs.Views.{KeyView, plain_key, interface_key}
+use Rattle.wc_json.specs.Faults.{Reading}
+use Rattle.wc_json.specs.Ids.{index_of_digits}
+
+-- what comes after a prefix
+abbrev pub rest_after : List ℕ → List ℕ → Option (List ℕ)
+rest_after prefix text = cond (bytes_eq (take (length prefix) text) prefix) (Some (drop (length prefix) text)) None
+
+-- the index that is read, if this text is how it is written
+abbrev pub index_written_as : List ℕ → Reading ℕ → Option ℕ
+index_written_as text (Ok n) = cond (bytes_eq (decimal n) text) (Some n) None
+index_written_as text (Err fault) = None
+
+-- the index below 2^32 whose decimal text this is
+abbrev pub canonical_index : List ℕ → Option ℕ
+canonical_index text = index_written_as text (index_of_digits (without_leading_plus text))
+
+abbrev pub key_of_index : List ℕ → Option ℕ → KeyView
+key_of_index text None = plain_key text
+key_of_index text (Some n) = interface_key n
+
+abbrev pub key_of_rest : List ℕ → Option (List ℕ) → KeyView
+key_of_rest text None = plain_key text
+key_of_rest text (Some digits) = key_of_index text (canonical_index digits)
+
+-- `interface-3` is the key of the interface 3, any other text a plain key
+abbrev pub world_key : List ℕ → KeyView
+world_key text = key_of_rest text (rest_after (codes "interface-") text)

@@ -1,0 +1,39 @@
+-- Paths of faults, from the whole text to a value: names of members after dots, indices and keys in brackets.
+use Rattle.std.specs.Prelude.{◌≡◌, ℕ, List, [], ◌∷◌, ◌++◌, ◌==◌, cond, decimal, ⊤, Result, Ok, Err, string_bytes}
+use Rattle.wc_json.specs.Faults.{Fault, Reading}
+use Rattle.wc_json.specs.declared.fault.JsonFault.{JsonFault}
+use Rattle.wc_json.specs.declared.fault.JsonFault.TheVariants.{Memory, Wrong}
+
+-- a path with a step before it; 91 is `[` and 46 is the dot
+abbrev pub join : List ℕ → List ℕ → List ℕ
+join step [] = step ++ []
+join step (c ∷ path) = cond (c == 91) (step ++ (c ∷ path)) (step ++ (46 ∷ (c ∷ path)))
+
+-- `[3]`
+abbrev pub index_step : ℕ → List ℕ
+index_step index = 91 ∷ (decimal index ++ (93 ∷ []))
+
+-- `["key"]`, the key as it is
+abbrev pub key_step : List ℕ → List ℕ
+key_step key = 91 ∷ (34 ∷ (key ++ (34 ∷ (93 ∷ []))))
+
+abbrev pub fault_at : List ℕ → Fault → Fault
+fault_at step fault = record { path = join step fault.path; problem = fault.problem }
+
+-- a reading of what is at this step
+abbrev pub at_step : {A : Type 0} → List ℕ → Reading A → Reading A
+at_step step (Ok a) = Ok a
+at_step step (Err fault) = Err (fault_at step fault)
+
+-- the same fault with a step before its path, or memory ran out
+abbrev pub IsFaultAt : List ℕ → JsonFault → JsonFault → Type 0
+IsFaultAt step fault Memory = ⊤
+IsFaultAt step (Wrong p a) (Wrong q b) = (string_bytes q ≡ join step (string_bytes p)) × (b ≡ a)
+IsFaultAt step fault moved = moved ≡ fault
+
+-- the same value, or the same fault with a step before its path
+abbrev pub IsReadAt : {A : Type 0} → List ℕ → Result A JsonFault → Result A JsonFault → Type 0
+IsReadAt step (Ok x) (Ok y) = y ≡ x
+IsReadAt step (Ok x) (Err f) = ⊥
+IsReadAt step (Err e) (Ok y) = ⊥
+IsReadAt step (Err e) (Err f) = IsFaultAt step e f

@@ -1,0 +1,83 @@
+//! Functions and their kinds.
+
+ghost use Rattle.std.specs.Prelude.{◌≡◌};
+ghost use Rattle.wc_json.specs.Faults.{Reads};
+ghost use Rattle.wc_json.specs.Functions.{kind_of_resource, kind_without_resource};
+
+use crate::from_json::FromJson;
+use crate::members::{only_member, optional_member, refuse_member, required_member};
+use crate::paths::{at_member, fault_here};
+use crate::{JsonFault, Problem};
+use json::Value;
+use std::alloc::Global;
+use wc_resolve::{Function, FunctionKind, TypeId};
+
+/// The kind of this name of a function that belongs to no resource.
+fn kind_without_resource(alloc: Global, name: &str) -> Result<FunctionKind, JsonFault>
+    ensures { Reads (λ k. k) result (kind_without_resource name.now) }
+{
+    match name {
+        "freestanding" => Ok(FunctionKind::Freestanding),
+        "async-freestanding" => Ok(FunctionKind::AsyncFreestanding),
+        _ => Err(fault_here(alloc, Problem::Unknown)),
+    }
+}
+
+/// The kind of this name of a function that belongs to a resource.
+fn kind_of_resource(alloc: Global, name: &str, resource: TypeId) -> Result<FunctionKind, JsonFault>
+    ensures { Reads (λ k. k) result (kind_of_resource name.now resource.0) }
+{
+    match name {
+        "method" => Ok(FunctionKind::Method(resource)),
+        "async-method" => Ok(FunctionKind::AsyncMethod(resource)),
+        "static" => Ok(FunctionKind::Static(resource)),
+        "async-static" => Ok(FunctionKind::AsyncStatic(resource)),
+        "constructor" => Ok(FunctionKind::Constructor(resource)),
+        _ => Err(fault_here(alloc, Problem::Unknown)),
+    }
+}
+
+impl FromJson for FunctionKind {
+    ghost use Rattle.wc_resolve.specs.declared.functions.FunctionKind.{FunctionKind};
+    ghost use Rattle.wc_json.specs.Functions.{function_kind};
+
+    ghost View = { FunctionKind };
+
+    ghost view = { λ k. k };
+
+    ghost reading = { function_kind };
+
+    fn from_json(alloc: Global, value: &Value<'_>) -> Result<FunctionKind, JsonFault> {
+        if let Some(name) = value.as_str() {
+            return kind_without_resource(alloc, name);
+        }
+        let member = only_member(alloc, value)?;
+        let resource = at_member(alloc, member.0, TypeId::from_json(alloc, &member.1))?;
+        at_member(alloc, member.0, kind_of_resource(alloc, member.0, resource))
+    }
+}
+
+impl FromJson for Function {
+    ghost use Rattle.wc_resolve.specs.Views.{FunctionView, function_view};
+    ghost use Rattle.wc_json.specs.Functions.{function};
+
+    ghost View = { FunctionView };
+
+    ghost view = { function_view };
+
+    ghost reading = { function };
+
+    fn from_json(alloc: Global, value: &Value<'_>) -> Result<Function, JsonFault> {
+        let name = required_member(alloc, value, "name")?;
+        let kind = required_member(alloc, value, "kind")?;
+        let params = required_member(alloc, value, "params")?;
+        refuse_member(alloc, value, "results")?;
+        let result = optional_member(alloc, value, "result")?;
+        Ok(Function {
+            name,
+            kind,
+            params,
+            result,
+        })
+    }
+}

@@ -1,0 +1,86 @@
+//! Ids: indices in the lists of the text.
+
+ghost use Rattle.std.specs.Prelude.{◌≡◌, ℕ};
+ghost use Rattle.json.specs.Value.{value_view};
+ghost use Rattle.wc_json.specs.Faults.{Reads};
+ghost use Rattle.wc_json.specs.Ids.{index};
+
+use crate::from_json::FromJson;
+use crate::paths::fault_here;
+use crate::{JsonFault, Problem};
+use json::Value;
+use std::alloc::Global;
+use wc_resolve::{InterfaceId, PackageId, TypeId, WorldId};
+
+/// A number of decimal digits alone, below 2^32.
+fn index(alloc: Global, value: &Value<'_>) -> Result<u32, JsonFault>
+    ensures { Reads (λ n. n) result (index (value_view value.now)) }
+{
+    let Some(number) = value.as_u64() else {
+        return Err(fault_here(alloc, Problem::NotAnIndex));
+    };
+    match u32::try_from(number) {
+        Ok(index) => Ok(index),
+        Err(_) => Err(fault_here(alloc, Problem::NotAnIndex)),
+    }
+}
+
+impl FromJson for TypeId {
+    ghost use Rattle.std.specs.Prelude.{ℕ};
+    ghost use Rattle.wc_json.specs.Ids.{index};
+
+    ghost View = { ℕ };
+
+    ghost view = { λ id. id.0 };
+
+    ghost reading = { index };
+
+    fn from_json(alloc: Global, value: &Value<'_>) -> Result<TypeId, JsonFault> {
+        Ok(TypeId(index(alloc, value)?))
+    }
+}
+
+impl FromJson for InterfaceId {
+    ghost use Rattle.std.specs.Prelude.{ℕ};
+    ghost use Rattle.wc_json.specs.Ids.{index};
+
+    ghost View = { ℕ };
+
+    ghost view = { λ id. id.0 };
+
+    ghost reading = { index };
+
+    fn from_json(alloc: Global, value: &Value<'_>) -> Result<InterfaceId, JsonFault> {
+        Ok(InterfaceId(index(alloc, value)?))
+    }
+}
+
+impl FromJson for WorldId {
+    ghost use Rattle.std.specs.Prelude.{ℕ};
+    ghost use Rattle.wc_json.specs.Ids.{index};
+
+    ghost View = { ℕ };
+
+    ghost view = { λ id. id.0 };
+
+    ghost reading = { index };
+
+    fn from_json(alloc: Global, value: &Value<'_>) -> Result<WorldId, JsonFault> {
+        Ok(WorldId(index(alloc, value)?))
+    }
+}
+
+impl FromJson for PackageId {
+    ghost use Rattle.std.specs.Prelude.{ℕ};
+    ghost use Rattle.wc_json.specs.Ids.{index};
+
+    ghost View = { ℕ };
+
+    ghost view = { λ id. id.0 };
+
+    ghost reading = { index };
+
+    fn from_json(alloc: Global, value: &Value<'_>) -> Result<PackageId, JsonFault> {
+        Ok(PackageId(index(alloc, value)?))
+    }
+}

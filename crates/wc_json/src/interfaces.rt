@@ -1,0 +1,34 @@
+//! Interfaces.
+
+use crate::JsonFault;
+use crate::from_json::FromJson;
+use crate::members::{optional_member, required_member};
+use json::Value;
+use std::alloc::Global;
+use wc_resolve::Interface;
+
+impl FromJson for Interface {
+    ghost use Rattle.wc_resolve.specs.Views.{InterfaceView, interface_view};
+    ghost use Rattle.wc_json.specs.Interfaces.{interface};
+
+    ghost View = { InterfaceView };
+
+    ghost view = { interface_view };
+
+    ghost reading = { interface };
+
+    fn from_json(alloc: Global, value: &Value<'_>) -> Result<Interface, JsonFault> {
+        let name = optional_member(alloc, value, "name")?;
+        let types = required_member(alloc, value, "types")?;
+        let functions = required_member(alloc, value, "functions")?;
+        let package = optional_member(alloc, value, "package")?;
+        let clone_of = optional_member(alloc, value, "clone_of")?;
+        Ok(Interface {
+            name,
+            types,
+            functions,
+            package,
+            clone_of,
+        })
+    }
+}

@@ -1,0 +1,45 @@
+//! The keys of a world's imports and exports.
+
+ghost use Rattle.std.specs.Prelude.{◌≡◌, IfOk};
+ghost use Rattle.std.specs.Option.{option_map};
+ghost use Rattle.wc_resolve.specs.Views.{key_view};
+ghost use Rattle.wc_json.specs.Keys.{canonical_index, rest_after, world_key};
+
+use std::alloc::{AllocError, Global};
+use wc_resolve::{InterfaceId, WorldKey};
+
+/// What comes after a prefix.
+fn rest_after<'a>(text: &'a str, prefix: &str) -> Option<&'a str>
+    ensures { option_map (λ rest. rest.now) result ≡ rest_after prefix.now text.now }
+{
+    text.strip_prefix(prefix)
+}
+
+/// The index below 2^32 whose decimal text this is, without leading zeros.
+fn canonical_index(text: &str) -> Option<u32>
+    ensures { result ≡ canonical_index text.now }
+{
+    match text.parse::<u32>() {
+        Ok(index) => {
+            if itoa::Buffer::new().format(index) == text {
+                Some(index)
+            } else {
+                None
+            }
+        }
+        Err(_) => None,
+    }
+}
+
+/// The key that a text is: `interface-3` that of the interface 3 under its own id, any other text a
+/// plain one.
+pub(crate) fn world_key(alloc: Global, text: &str) -> Result<WorldKey, AllocError>
+    ensures { IfOk result (λ k. key_view k ≡ world_key text.now) }
+{
+    if let Some(digits) = rest_after(text, "interface-") {
+        if let Some(index) = canonical_index(digits) {
+            return Ok(WorldKey::Interface(InterfaceId(index)));
+        }
+    }
+    Ok(WorldKey::Name(String::from_str(alloc, text)?))
+}

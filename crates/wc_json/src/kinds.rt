@@ -1,0 +1,133 @@
+//! Kinds of defined types: what a type is.
+
+ghost use Rattle.std.specs.Prelude.{◌≡◌, map, string_bytes};
+ghost use Rattle.json.specs.Value.{value_view};
+ghost use Rattle.wc_json.specs.Faults.{Reads};
+ghost use Rattle.wc_json.specs.FromJson.{list};
+ghost use Rattle.wc_json.specs.Kinds.{handle_of, kind_of, label, plain_kind};
+ghost use Rattle.wc_json.specs.Members.{required_member};
+ghost use Rattle.wc_resolve.specs.Views.{kind_view};
+
+use crate::from_json::FromJson;
+use crate::members::{only_member, optional_member, required_member};
+use crate::paths::{at_member, fault_here};
+use crate::{JsonFault, Problem};
+use json::Value;
+use std::alloc::Global;
+use wc_resolve::{Handle, TypeDefKind, TypeId, WitType};
+
+/// A flag, or a case of an enum: an object with its name.
+#[derive(Drop)]
+struct Label(String);
+
+impl FromJson for Label {
+    ghost use Rattle.std.specs.Prelude.{List, ℕ, string_bytes};
+    ghost use Rattle.wc_json.specs.Kinds.{label};
+
+    ghost View = { List ℕ };
+
+    ghost view = { λ l. string_bytes l.0 };
+
+    ghost reading = { label };
+
+    fn from_json(alloc: Global, value: &Value<'_>) -> Result<Label, JsonFault> {
+        let name = required_member(alloc, value, "name")?;
+        Ok(Label(name))
+    }
+}
+
+/// The names of the labels that the member of this name of an object lists.
+fn label_names(alloc: Global, object: &Value<'_>, name: &str) -> Result<Vec<String>, JsonFault>
+    ensures { Reads (λ v. map string_bytes v.items) result
+        (required_member name.now (list label) (value_view object.now)) }
+{
+    let labels: Vec<Label> = required_member(alloc, object, name)?;
+    let mut names = Vec::with_capacity(alloc, labels.len())?;
+    for label in labels {
+        let Label(name) = label;
+        names.push(name)?;
+    }
+    Ok(names)
+}
+
+impl FromJson for Handle {
+    ghost use Rattle.wc_resolve.specs.declared.types.Handle.{Handle};
+    ghost use Rattle.wc_json.specs.Kinds.{handle};
+
+    ghost View = { Handle };
+
+    ghost view = { λ h. h };
+
+    ghost reading = { handle };
+
+    fn from_json(alloc: Global, value: &Value<'_>) -> Result<Handle, JsonFault> {
+        let member = only_member(alloc, value)?;
+        at_member(alloc, member.0, handle_of(alloc, member.0, &member.1))
+    }
+}
+
+/// The handle of this kind, of the resource that the value names.
+fn handle_of(alloc: Global, kind: &str, resource: &Value<'_>) -> Result<Handle, JsonFault>
+    ensures { Reads (λ h. h) result (handle_of kind.now (value_view resource.now)) }
+{
+    match kind {
+        "own" => Ok(Handle::Own(TypeId::from_json(alloc, resource)?)),
+        "borrow" => Ok(Handle::Borrow(TypeId::from_json(alloc, resource)?)),
+        _ => Err(fault_here(alloc, Problem::Unknown)),
+    }
+}
+
+/// The kind that is written as this text alone.
+fn plain_kind(alloc: Global, name: &str) -> Result<TypeDefKind, JsonFault>
+    ensures { Reads kind_view result (plain_kind name.now) }
+{
+    match name {
+        "resource" => Ok(TypeDefKind::Resource),
+        "unknown" => Err(fault_here(alloc, Problem::LeftOut)),
+        _ => Err(fault_here(alloc, Problem::Unknown)),
+    }
+}
+
+/// The kind of this name, which is made of what the value has.
+fn kind_of(alloc: Global, name: &str, value: &Value<'_>) -> Result<TypeDefKind, JsonFault>
+    ensures { Reads kind_view result (kind_of name.now (value_view value.now)) }
+{
+    match name {
+        "record" => Ok(TypeDefKind::Record(required_member(alloc, value, "fields")?)),
+        "handle" => Ok(TypeDefKind::Handle(Handle::from_json(alloc, value)?)),
+        "flags" => Ok(TypeDefKind::Flags(label_names(alloc, value, "flags")?)),
+        "tuple" => Ok(TypeDefKind::Tuple(required_member(alloc, value, "types")?)),
+        "variant" => Ok(TypeDefKind::Variant(required_member(alloc, value, "cases")?)),
+        "enum" => Ok(TypeDefKind::Enum(label_names(alloc, value, "cases")?)),
+        "option" => Ok(TypeDefKind::Option(WitType::from_json(alloc, value)?)),
+        "result" => Ok(TypeDefKind::Result {
+            ok: optional_member(alloc, value, "ok")?,
+            err: optional_member(alloc, value, "err")?,
+        }),
+        "list" => Ok(TypeDefKind::List(WitType::from_json(alloc, value)?)),
+        "future" => Ok(TypeDefKind::Future(Option::from_json(alloc, value)?)),
+        "stream" => Ok(TypeDefKind::Stream(Option::from_json(alloc, value)?)),
+        "type" => Ok(TypeDefKind::Alias(WitType::from_json(alloc, value)?)),
+        "fixed-length-list" | "fixed-size-list" | "map" => Err(fault_here(alloc, Problem::LeftOut)),
+        _ => Err(fault_here(alloc, Problem::Unknown)),
+    }
+}
+
+impl FromJson for TypeDefKind {
+    ghost use Rattle.wc_resolve.specs.Views.{KindView, kind_view};
+    ghost use Rattle.wc_json.specs.Kinds.{kind};
+
+    ghost View = { KindView };
+
+    ghost view = { kind_view };
+
+    ghost reading = { kind };
+
+    fn from_json(alloc: Global, value: &Value<'_>) -> Result<TypeDefKind, JsonFault> {
+        if let Some(name) = value.as_str() {
+            return plain_kind(alloc, name);
+        }
+        let member = only_member(alloc, value)?;
+        at_member(alloc, member.0, kind_of(alloc, member.0, &member.1))
+    }
+}

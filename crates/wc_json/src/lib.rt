@@ -1,0 +1,33 @@
+//! A resolved world as JSON, read: the serde form of wit-parser's `Resolve`, as
+//! `wasm-tools component wit --json` prints it. `document_from_json` makes of a text the `Parts` of
+//! `wc_resolve`, and beside them says which package each world is of.
+//!
+//! The text is one object with the lists `worlds`, `interfaces`, `types` and `packages`; an id is an
+//! index in its list. The order of an object's members is the order of the world's, the interface's
+//! or the package's map. Members that the format doesn't name are passed over, as `docs`,
+//! `stability` and `span`; they have to be well-formed JSON all the same. A member that is missing or
+//! wrong is a fault with its path, as `types[3].kind.record.fields[0].type: missing`.
+//!
+//! Whether the parts are well-formed is left to `wc_resolve::Resolve::build`; no id is known to be in
+//! range before.
+#![tactic(auto, using(crate::proofs::FaultLemmas::IsFaultOf_bind, crate::proofs::PathLemmas::Reads_at_step))]
+
+mod document;
+mod fault;
+mod from_json;
+mod functions;
+mod ids;
+mod interfaces;
+mod keys;
+mod kinds;
+pub mod laws;
+mod maps;
+mod members;
+mod packages;
+mod paths;
+mod types;
+mod wit_types;
+mod worlds;
+
+pub use document::{Document, document_from_json};
+pub use fault::{JsonFault, Problem};

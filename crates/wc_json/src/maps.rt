@@ -1,0 +1,34 @@
+//! Maps from names, of objects.
+
+ghost use Rattle.std.specs.Prelude.{◌≡◌};
+
+use crate::from_json::FromJson;
+use crate::paths::{at_key, fault_here};
+use crate::{JsonFault, Problem};
+use indexmap::IndexMap;
+use json::Value;
+use std::alloc::Global;
+
+/// A map from names, in the order of the object's members.
+impl<T: FromJson> FromJson for IndexMap<String, T> {
+    ghost use Rattle.std.specs.Prelude.{List, ℕ, map, string_bytes};
+    ghost use Rattle.wc_json.specs.Maps.{name_map};
+
+    ghost View = { List (List ℕ × T.View) };
+
+    ghost view = { λ m. map (λ e. (string_bytes e.0, T.view e.1)) m.entries };
+
+    ghost reading = { name_map T.reading };
+
+    fn from_json(alloc: Global, value: &Value<'_>) -> Result<IndexMap<String, T>, JsonFault> {
+        let Value::Object(members) = value else {
+            return Err(fault_here(alloc, Problem::NotAnObject));
+        };
+        let mut map = IndexMap::new(alloc);
+        for member in members {
+            let entry = at_key(alloc, member.0, T::from_json(alloc, &member.1))?;
+            map.insert(String::from_str(alloc, member.0)?, entry)?;
+        }
+        Ok(map)
+    }
+}

@@ -1,0 +1,86 @@
+//! The members of objects: those that have to be there, those that may be missing, and the only one
+//! of a variant.
+
+ghost use Rattle.std.specs.Prelude.{◌≡◌};
+ghost use Rattle.std.specs.Option.{option_map};
+ghost use Rattle.json.specs.Value.{value_view};
+ghost use Rattle.wc_json.specs.Faults.{Reads};
+ghost use Rattle.wc_json.specs.Members.{absent_member, find_member, only_member, optional_member, required_member};
+
+use crate::from_json::FromJson;
+use crate::paths::{at_member, fault_at_member, fault_here};
+use crate::{JsonFault, Problem};
+use json::Value;
+use std::alloc::Global;
+
+/// The member of this name of an object, if it has one.
+fn find_member<'v, 'a>(
+    alloc: Global,
+    object: &'v Value<'a>,
+    name: &str,
+) -> Result<Option<&'v Value<'a>>, JsonFault>
+    ensures { Reads (λ found. option_map (λ v. value_view v.now) found) result
+        (find_member name.now (value_view object.now)) }
+{
+    let Value::Object(_) = object else {
+        return Err(fault_here(alloc, Problem::NotAnObject));
+    };
+    Ok(object.get(name))
+}
+
+/// Reads the member of this name of an object, which has to be there.
+pub(crate) fn required_member<T: FromJson>(
+    alloc: Global,
+    object: &Value<'_>,
+    name: &str,
+) -> Result<T, JsonFault>
+    ensures { Reads T.view result (required_member name.now T.reading (value_view object.now)) }
+{
+    match find_member(alloc, object, name)? {
+        Some(value) => at_member(alloc, name, T::from_json(alloc, value)),
+        None => Err(fault_at_member(alloc, name, fault_here(alloc, Problem::Missing))),
+    }
+}
+
+/// Reads the member of this name of an object; `None` where it is missing or null.
+pub(crate) fn optional_member<T: FromJson>(
+    alloc: Global,
+    object: &Value<'_>,
+    name: &str,
+) -> Result<Option<T>, JsonFault>
+    ensures { Reads (option_map T.view) result
+        (optional_member name.now T.reading (value_view object.now)) }
+{
+    match find_member(alloc, object, name)? {
+        Some(value) => at_member(alloc, name, Option::<T>::from_json(alloc, value)),
+        None => Ok(None),
+    }
+}
+
+/// Refuses an object that has a member of this name, which is one of an older form of the format.
+pub(crate) fn refuse_member(alloc: Global, object: &Value<'_>, name: &str) -> Result<(), JsonFault>
+    ensures { Reads (λ nothing. nothing) result
+        (absent_member name.now (value_view object.now)) }
+{
+    match find_member(alloc, object, name)? {
+        Some(_) => Err(fault_at_member(alloc, name, fault_here(alloc, Problem::Outdated))),
+        None => Ok(()),
+    }
+}
+
+/// The only member of an object: the name of a variant, and its value.
+pub(crate) fn only_member<'v, 'a>(
+    alloc: Global,
+    value: &'v Value<'a>,
+) -> Result<&'v (&'a str, Value<'a>), JsonFault>
+    ensures { Reads (λ m. (m.now.0.now, value_view m.now.1)) result
+        (only_member (value_view value.now)) }
+{
+    let Value::Object(members) = value else {
+        return Err(fault_here(alloc, Problem::NotAnObject));
+    };
+    if members.len() != 1 {
+        return Err(fault_here(alloc, Problem::NotOneMember));
+    }
+    Ok(&members[0])
+}

@@ -1,0 +1,59 @@
+//! Defined types and their owners.
+
+ghost use Rattle.std.specs.Prelude.{◌≡◌};
+ghost use Rattle.json.specs.Value.{value_view};
+ghost use Rattle.wc_json.specs.Faults.{Reads};
+ghost use Rattle.wc_json.specs.Types.{owner_of};
+
+use crate::from_json::FromJson;
+use crate::members::{only_member, optional_member, required_member};
+use crate::paths::{at_member, fault_here};
+use crate::{JsonFault, Problem};
+use json::Value;
+use std::alloc::Global;
+use wc_resolve::{InterfaceId, TypeDef, TypeOwner, WorldId};
+
+impl FromJson for TypeOwner {
+    ghost use Rattle.wc_resolve.specs.declared.types.TypeOwner.{TypeOwner};
+    ghost use Rattle.wc_json.specs.Types.{owner};
+
+    ghost View = { TypeOwner };
+
+    ghost view = { λ o. o };
+
+    ghost reading = { owner };
+
+    fn from_json(alloc: Global, value: &Value<'_>) -> Result<TypeOwner, JsonFault> {
+        let member = only_member(alloc, value)?;
+        at_member(alloc, member.0, owner_of(alloc, member.0, &member.1))
+    }
+}
+
+/// The owner of this kind, whose id the value is.
+fn owner_of(alloc: Global, kind: &str, id: &Value<'_>) -> Result<TypeOwner, JsonFault>
+    ensures { Reads (λ o. o) result (owner_of kind.now (value_view id.now)) }
+{
+    match kind {
+        "world" => Ok(TypeOwner::World(WorldId::from_json(alloc, id)?)),
+        "interface" => Ok(TypeOwner::Interface(InterfaceId::from_json(alloc, id)?)),
+        _ => Err(fault_here(alloc, Problem::Unknown)),
+    }
+}
+
+impl FromJson for TypeDef {
+    ghost use Rattle.wc_resolve.specs.Views.{TypeView, type_view};
+    ghost use Rattle.wc_json.specs.Types.{defined_type};
+
+    ghost View = { TypeView };
+
+    ghost view = { type_view };
+
+    ghost reading = { defined_type };
+
+    fn from_json(alloc: Global, value: &Value<'_>) -> Result<TypeDef, JsonFault> {
+        let name = optional_member(alloc, value, "name")?;
+        let kind = required_member(alloc, value, "kind")?;
+        let owner = optional_member(alloc, value, "owner")?.unwrap_or(TypeOwner::None);
+        Ok(TypeDef { name, kind, owner })
+    }
+}

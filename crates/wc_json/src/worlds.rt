@@ -1,0 +1,131 @@
+//! Worlds, and the items that they import and export.
+
+ghost use Rattle.std.specs.Prelude.{◌≡◌};
+ghost use Rattle.json.specs.Value.{value_view};
+ghost use Rattle.wc_json.specs.Faults.{Reads};
+ghost use Rattle.wc_json.specs.Worlds.{interface_item_of, item_of, type_item_of};
+ghost use Rattle.wc_resolve.specs.Views.{item_view};
+
+use crate::from_json::FromJson;
+use crate::keys::world_key;
+use crate::members::{only_member, optional_member, required_member};
+use crate::paths::{at_key, at_member, fault_here};
+use crate::{JsonFault, Problem};
+use indexmap::IndexMap;
+use json::Value;
+use std::alloc::Global;
+use wc_resolve::{Function, InterfaceId, PackageId, TypeId, World, WorldItem, WorldKey};
+
+/// An interface as an item: its id, alone or as a member of an object.
+fn interface_item_of(alloc: Global, value: &Value<'_>) -> Result<WorldItem, JsonFault>
+    ensures { Reads item_view result (interface_item_of (value_view value.now)) }
+{
+    let Value::Object(_) = value else {
+        return Ok(WorldItem::Interface {
+            id: InterfaceId::from_json(alloc, value)?,
+            external_id: None,
+        });
+    };
+    let id = required_member(alloc, value, "id")?;
+    let external_id = optional_member(alloc, value, "external_id")?;
+    Ok(WorldItem::Interface { id, external_id })
+}
+
+/// A type as an item: its id, alone or as a member of an object.
+fn type_item_of(alloc: Global, value: &Value<'_>) -> Result<WorldItem, JsonFault>
+    ensures { Reads item_view result (type_item_of (value_view value.now)) }
+{
+    let Value::Object(_) = value else {
+        return Ok(WorldItem::TypeItem {
+            id: TypeId::from_json(alloc, value)?,
+        });
+    };
+    Ok(WorldItem::TypeItem {
+        id: required_member(alloc, value, "id")?,
+    })
+}
+
+/// The item of this kind, which is made of what the value has.
+fn item_of(alloc: Global, kind: &str, value: &Value<'_>) -> Result<WorldItem, JsonFault>
+    ensures { Reads item_view result (item_of kind.now (value_view value.now)) }
+{
+    match kind {
+        "interface" => interface_item_of(alloc, value),
+        "function" => Ok(WorldItem::Function(Function::from_json(alloc, value)?)),
+        "type" => type_item_of(alloc, value),
+        _ => Err(fault_here(alloc, Problem::Unknown)),
+    }
+}
+
+impl FromJson for WorldItem {
+    ghost use Rattle.wc_resolve.specs.Views.{ItemView, item_view};
+    ghost use Rattle.wc_json.specs.Worlds.{item};
+
+    ghost View = { ItemView };
+
+    ghost view = { item_view };
+
+    ghost reading = { item };
+
+    fn from_json(alloc: Global, value: &Value<'_>) -> Result<WorldItem, JsonFault> {
+        let member = only_member(alloc, value)?;
+        at_member(alloc, member.0, item_of(alloc, member.0, &member.1))
+    }
+}
+
+/// What a world imports or exports, by its keys, in the order of the object's members.
+#[derive(Drop)]
+struct Items(IndexMap<WorldKey, WorldItem>);
+
+impl FromJson for Items {
+    ghost use Rattle.std.specs.Prelude.{List, map};
+    ghost use Rattle.wc_resolve.specs.Views.{ItemView, KeyView, world_entry};
+    ghost use Rattle.wc_json.specs.Worlds.{items};
+
+    ghost View = { List (KeyView × ItemView) };
+
+    ghost view = { λ m. map world_entry m.0.entries };
+
+    ghost reading = { items };
+
+    fn from_json(alloc: Global, value: &Value<'_>) -> Result<Items, JsonFault> {
+        let Value::Object(members) = value else {
+            return Err(fault_here(alloc, Problem::NotAnObject));
+        };
+        let mut items = IndexMap::new(alloc);
+        for member in members {
+            let item = at_key(alloc, member.0, WorldItem::from_json(alloc, &member.1))?;
+            items.insert(world_key(alloc, member.0)?, item)?;
+        }
+        Ok(Items(items))
+    }
+}
+
+/// A world, and the package that it says to be of.
+impl FromJson for (World, Option<PackageId>) {
+    ghost use Rattle.std.specs.Prelude.{ℕ, Option};
+    ghost use Rattle.wc_resolve.specs.Views.{WorldView};
+    ghost use Rattle.wc_json.specs.Worlds.{world, world_and_package_view};
+
+    ghost View = { WorldView × Option ℕ };
+
+    ghost view = { world_and_package_view };
+
+    ghost reading = { world };
+
+    fn from_json(
+        alloc: Global,
+        value: &Value<'_>,
+    ) -> Result<(World, Option<PackageId>), JsonFault> {
+        let name = required_member(alloc, value, "name")?;
+        let imports: Items = required_member(alloc, value, "imports")?;
+        let exports: Items = required_member(alloc, value, "exports")?;
+        let package = optional_member(alloc, value, "package")?;
+        let world = World {
+            name,
+            imports: imports.0,
+            exports: exports.0,
+        };
+        Ok((world, package))
+    }
+}
