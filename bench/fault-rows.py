@@ -22,7 +22,7 @@ CALLS = {
     "frames": "ReadFault", "read_imports": "ReadFault", "read_module": "ReadFault", "read_body": "ReadFault",
     "read_init": "ReadFault", "example exports_memory": "ReadFault",
     "dedupe": "DedupeFault", "dedupe_owned": "DedupeFault", "example original_name": "DedupeFault",
-    "resolve_build": "ResolveFault", "encoder_build": "EncoderFault", "example encoder_for": "EncoderFault",
+    "resolve_build": "ResolveFault", "document": "JsonFault", "encoder_build": "EncoderFault", "example encoder_for": "EncoderFault",
     "classify": "ValidateFault", "classify_export": "ValidateFault", "validate_module": "ValidateFault",
     "validate_adapter_module": "ValidateFault", "validated_exports": "ValidateFault",
     "example imported_memory": "ValidateFault",
@@ -69,12 +69,24 @@ def run_fault(text):
     return [(name, start + "{0}", ["String"]) for name, start in put.items()] + [("Tool", "{0}", ["ToolFault"])]
 
 
+def written(name, text):
+    """The variants of an enum whose `Display` writes a text of its own for each, or what it carries."""
+    shown = re.findall(r'%s::(\w+) => f\.write_str\("(.*?)"\)' % name, text)
+    carried = re.findall(r"%s::(\w+) \{ path, (\w+) \} =>" % name, text)
+    return [(own, words, []) for own, words in shown] + [(own, "{0}", [field.capitalize()]) for own, field in carried]
+
+
 def faults():
     """Each enum of faults, and each struct that is one: its crate, and its variants."""
     found = {}
     for crate, text in sources():
         for name, body in re.findall(r"pub enum (\w*Fault)\b[^{]*\{(.*?)\n\}", text, re.S):
-            found[name] = (crate, variants_of(body) if "#[error" in body else run_fault(text))
+            if "#[error" in body:
+                found[name] = (crate, variants_of(body))
+            else:
+                found[name] = (crate, run_fault(text) if name == "RunFault" else written(name, text))
+        if "pub enum Problem {" in text:
+            found["Problem"] = (crate, written("Problem", text))
         for shown, name in re.findall(r'#\[error\("(.*?)"\)\]\s*pub struct (\w+);', text):
             found[name] = (crate, [(name, shown, [])])
         if "pub struct Usage;" in text:
@@ -88,6 +100,9 @@ def faults():
 
 def readings(known, enum, text):
     """The faults that a text of this enum shows, as pairs of an enum and a variant: the fault, and those that it carries."""
+    if enum == "Problem":
+        # after the path to the value
+        text = text.rpartition(": ")[2]
     for name, shown, fields in known[enum][1]:
         pattern = re.escape(shown if shown is not None else "{0}")
         for number in range(len(fields)):

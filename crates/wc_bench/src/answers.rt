@@ -1,7 +1,7 @@
 //! A row's answer, from the library whose call it names.
 
 use crate::component::{calls as component_calls, plans as plan_calls};
-use crate::{examples, library_calls};
+use crate::{examples, json_calls, library_calls};
 use std::alloc::{AllocError, Global};
 use wc_fixtures::{encoder_calls, resolve_calls};
 use wc_module_rows::names::calls as name_calls;
@@ -52,7 +52,7 @@ fn answer_on_worlds(alloc: Global, row: &Row<'_>, out: &mut Lines) -> Result<boo
     if resolve_calls::answer(alloc, row, out)? || encoder_calls::answer(alloc, row, out)? {
         return Ok(true);
     }
-    if name_calls::answer(alloc, row, out)? {
+    if json_calls::answer(alloc, row, out)? || name_calls::answer(alloc, row, out)? {
         return Ok(true);
     }
     if validate_calls::answer(alloc, row, out)? {

@@ -4,6 +4,7 @@
 mod answers;
 mod component;
 mod examples;
+mod json_calls;
 mod library_calls;
 mod program;
 
