@@ -4,9 +4,10 @@ use Rattle.std.specs.Prelude.{All, IfSome}
 use Rattle.std.specs.List.{flat_map, AllByRecursion as ByRecursion}
 use Rattle.std.proofs.Math.Nat.{div-le_self}
 use Rattle.std.proofs.lemmas.List.{length-append}
-use Rattle.std.proofs.lemmas.List.Elements.{All-append, All-weaker, All-head, All-tail, All-from_recursion}
+use Rattle.std.proofs.lemmas.List.Elements.{All-append, All-weaker, All-head, All-nil, All-tail, All-from_recursion}
 use Rattle.wc_read.specs.Operators.{WithBlock, WithIndex, InstrValue, index_of, byte_form}
 use Rattle.wc_read.specs.Nesting.{tokens, IsRun, empty_run, plain_run, if_run, IsExpression}
+use Rattle.wc_read.specs.declared.bodies.Locals.{Locals}
 use Rattle.wc_read.specs.declared.nesting.Token.{Token}
 use Rattle.wc_read.specs.declared.nesting.Token.TheVariants.{Plain, If, End}
 use Rattle.wc_read.specs.declared.operators.Space.TheVariants.{Funcs, Memories, Globals}
@@ -17,7 +18,7 @@ use Rattle.wc_read.specs.declared.operators.Form.TheVariants.{None as form_none,
 use Rattle.wc_write.specs.Text.{digits, signed_digits, signed_digit, vector_text, FitsSize}
 use Rattle.wc_write.specs.OperatorText.{immediates_text, instr_text}
 use Rattle.wc_write.specs.BodyText.{locals_text, body_text}
-use Rattle.wc_write.specs.Values.{IsU32, IsInstr, IsBody}
+use Rattle.wc_write.specs.Values.{IsU32, IsInstr, IsBody, IsValType}
 use Rattle.wc_gc.specs.AddedCode.{with, plain, const, get_global, set_global, end, trap_if, trap_unless, growth, shifted, growing_body, allocation, stack_code, stack_body}
 
 -- lengths
@@ -170,6 +171,7 @@ unfolding growing_body body_text digits
 growing_is_body e small = (
   record {
     few_locals = lit< tt;
+    has_locals = All-from_recursion (λ (l : Locals). IsValType l.ty) (growing_body e 0).locals (tt, tt);
     has_operators = can_be (growing_body e 0).operators (growing_fine e small);
     nests = growing_nests e;
   },
@@ -193,6 +195,12 @@ unfolding stack_body body_text digits
 stack_is_body realloc stack state few_realloc few_stack few_state =
     let code = stack_code realloc stack state ++ (end ∷ []) in
     let all = All-append IsFine (stack_code realloc stack state) (end ∷ []) (stack_is realloc stack state few_realloc few_stack few_state) (fine (end ∷ []) (end_is, tt)) in (
-      record { few_locals = lit< tt; has_operators = can_be code all; nests = stack_nests realloc stack state },
+      record {
+        few_locals = lit< tt;
+        has_locals = All-nil
+            (λ (l : Locals). IsValType l.ty);
+        has_operators = can_be code all;
+        nests = stack_nests realloc stack state;
+      },
       omega (arith, code_few code all, stack_count realloc stack state, length-append (vector_text locals_text []) (flat_map instr_text code)),
     )

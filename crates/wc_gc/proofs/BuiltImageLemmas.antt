@@ -5,15 +5,15 @@ use Rattle.std.specs.List.{AllByRecursion, slice_get}
 use Rattle.std.specs.Option.{option_map, option_map_or}
 use Rattle.std.proofs.lemmas.Bool.{lt-ltb}
 use Rattle.std.proofs.lemmas.List.{length-map, map-id}
-use Rattle.std.proofs.lemmas.List.Elements.{All-append, All-map, All-weaker, All-contains, All-contains_itself, recursion_from_All}
+use Rattle.std.proofs.lemmas.List.Elements.{All-append, All-map, All-weaker, All-contains, All-contains_itself, All-from_recursion, recursion_from_All}
 use Rattle.std.proofs.lemmas.Option.{slice_get-map, slice_get_within, IfSome_then}
 use Rattle.wc_read.specs.Bodies.{BodyValue}
-use Rattle.wc_read.specs.Types.{FuncTypeValue}
+use Rattle.wc_read.specs.Types.{FuncTypeValue, HasTypeIndex, HaveTypeIndices}
 use Rattle.wc_read.specs.Decoding.{body_in, init_in}
 use Rattle.wc_read.specs.Exports.{ExportValue}
 use Rattle.wc_read.specs.InitTypes.{AreTyped}
 use Rattle.wc_read.specs.Items.{ItemValue, FuncValue, GlobalValue, TableValue, MemoryValue}
-use Rattle.wc_read.specs.Modules.{ModuleValue, IsModule, IsStart, AreFew, count_of}
+use Rattle.wc_read.specs.Modules.{ModuleValue, IsModule, IsStart, AreFew, NameTypes, count_of}
 use Rattle.wc_read.specs.Operators.{InstrValue}
 use Rattle.wc_read.specs.Renumbering.{Renumbering}
 use Rattle.wc_read.specs.declared.exports.ExportKind.{ExportKind}
@@ -21,19 +21,21 @@ use Rattle.wc_read.specs.declared.exports.ExportKind.TheVariants.{Func as func_k
 use Rattle.wc_read.specs.declared.operators.Space.{Space}
 use Rattle.wc_read.specs.declared.operators.Space.TheVariants.{Types, Funcs, Tables, Memories, Globals}
 use Rattle.wc_read.specs.declared.types.GlobalType.{GlobalType}
+use Rattle.wc_read.specs.declared.types.ValType.{ValType}
+use Rattle.wc_read.specs.declared.types.ValType.TheVariants.{I32, I64, F32, F64, V128, FuncRef, ExternRef, FuncRefNonNull, ExternRefNonNull, TypeRef}
 use Rattle.wc_read.specs.declared.types.ImportType.TheVariants.{Func, Table, Memory, Global}
 use Rattle.wc_write.specs.BodyText.{body_text}
 use Rattle.wc_write.specs.BuiltValues.{item_seen, written_module, IsExport, IsWritableMemory, IsInitialiser, HasInitialiser, HasImportsFirst, IsBuilt, IsWritable}
 use Rattle.wc_write.specs.ModuleText.{BuiltValue, built_imports, init_text}
 use Rattle.wc_write.specs.Spaces.{imports_of, defined_contents}
-use Rattle.wc_write.specs.Values.{IsU32, IsTable, IsImport, IsBody}
+use Rattle.wc_write.specs.Values.{IsU32, IsBody, IsFuncType, IsImport, IsTable, IsValType}
 use Rattle.wc_write.proofs.SpaceLemmas.{map_again}
 use Rattle.wc_gc.specs.Decoded.{ItemIndex, decode, exported_item, is_in, space_of}
 use Rattle.wc_gc.specs.Entries.{entry_at, entry_refs, func_entry, global_entry, no_entry, refs_in}
 use Rattle.wc_gc.specs.Image.{rank, kept_items, new_export}
 use Rattle.wc_gc.specs.Laws.{KeepsBits}
 use Rattle.wc_gc.specs.Soundness.{is_sound_at, is_sound_def, is_sound_entry}
-use Rattle.wc_gc.proofs.BuiltPartLemmas.{global_written, all_at, kept_imports, kept_imports_same, global_has_import, global_imported, contents_can, types_can, global_can, HasShortInit, kept_item_at}
+use Rattle.wc_gc.proofs.BuiltPartLemmas.{global_written, all_at, each_weaker, kept_imports, kept_imports_same, global_has_import, global_imported, contents_can, types_can, global_can, HasShortInit, kept_item_at}
 use Rattle.wc_gc.proofs.ImageLemmas.{all_kept, kept_mapped}
 use Rattle.wc_gc.proofs.InitTypeLemmas.{Follows}
 use Rattle.wc_gc.proofs.KeptExportLemmas.{names_of_pairs}
@@ -43,9 +45,34 @@ use Rattle.wc_gc.proofs.SpelledItemLemmas.{HasImport, IfLocal, HaveItems}
 use Rattle.wc_gc.proofs.TypedGlobalLemmas.{CanMove, kept_typed, scope_after}
 use Rattle.wc_gc.proofs.WrittenGlobalLemmas.{def_moves}
 
+-- a value type that can be spelled names no type, so what it names is there
+
+val_type_names : (count : ℕ) (t : ValType) → IsValType t → HasTypeIndex count t
+val_type_names count I32 h = refl
+val_type_names count I64 h = refl
+val_type_names count F32 h = refl
+val_type_names count F64 h = refl
+val_type_names count V128 h = refl
+val_type_names count FuncRef h = refl
+val_type_names count ExternRef h = refl
+val_type_names count FuncRefNonNull h = refl
+val_type_names count ExternRefNonNull h = refl
+val_type_names count (TypeRef nullable index) h = absurd h
+
+func_type_names : (count : ℕ) (f : FuncTypeValue) → IsFuncType f → HaveTypeIndices count f
+func_type_names count f h = (
+  All-weaker IsValType (HasTypeIndex count) (val_type_names count) f.params h.0,
+  All-weaker IsValType (HasTypeIndex count)
+      (val_type_names count) f.results h.1,
+)
+
 -- the kept items of a space
 abbrev pub kept_in : {A : Type 0} → (ItemIndex → Bool) → Space → List A → List A
 kept_in kept space xs = kept_items (λ n. kept (space, n)) (length xs) xs
+
+pub kept_types_spelled : (m : ModuleValue) (kept : ItemIndex → Bool) → IsWritable m → All IsFuncType (kept_in kept Types m.types)
+kept_types_spelled m kept w = all_kept IsFuncType (λ n. kept (Types, n)) m.types
+    (λ n t h e. all_at IsFuncType m.types n t (recursion_from_All IsFuncType m.types w.types) e) (length m.types)
 
 -- an image by the items that were read: its types, functions and start function are given, and what is kept besides has
 -- new indices
@@ -74,9 +101,10 @@ pub record AreKept (m : ModuleValue) (exports : List ExportValue) (kept : ItemIn
 abbrev pub AreSound : ModuleValue → (ItemIndex → Bool) → Type 0
 AreSound m kept = (n : ℕ) → IsTrue (kept (Funcs, n)) → is_sound_at (decode m) (Funcs, n) ≡ true
 
--- new indices: those of functions are below a number of them, those of tables, memories and globals are ranks
-pub record AreNew (m : ModuleValue) (kept : ItemIndex → Bool) (new : Renumbering) (functions : ℕ) : Type 0 where
+-- new indices: those of types and functions are below a number of them, those of tables, memories and globals are ranks
+pub record AreNew (m : ModuleValue) (kept : ItemIndex → Bool) (new : Renumbering) (type_count functions : ℕ) : Type 0 where
   pub keeps : KeepsBits new
+  pub types : (n : ℕ) → n < length m.types → IsTrue (kept (Types, n)) → new Types n < type_count
   pub funcs : (n : ℕ) → n < length m.funcs → IsTrue (kept (Funcs, n)) → new Funcs n < functions
   pub tables : (n : ℕ) → IsTrue (kept (Tables, n)) → new Tables n ≡ rank kept Tables n
   pub memories : (n : ℕ) → IsTrue (kept (Memories, n)) → new Memories n ≡ rank kept Memories n
@@ -122,33 +150,40 @@ module _ (m : ModuleValue) (kept : ItemIndex → Bool) where
   global_there : (n : ℕ) → n < length m.globals → IsTrue (is_in (decode m) (Globals, n))
   global_there n h = let l = length-map m.globals (item_seen init_in) in lt-ltb n (length (map (item_seen init_in) m.globals)) (omega arith)
 
-  -- globals under new indices, in an image of so many functions
-  module _ (w : IsWritable m) (v : IsModule m) (named : (x y : ItemIndex) → IsTrue (kept x) → Contains (refs_in (decode m) x) y → IsTrue (kept y)) (new : Renumbering) (functions : ℕ) (are_new : AreNew m kept new functions) where
+  -- globals under new indices, in an image of so many types and functions
+  module _ (w : IsWritable m) (v : IsModule m) (named : (x y : ItemIndex) → IsTrue (kept x) → Contains (refs_in (decode m) x) y → IsTrue (kept y))
+      (new : Renumbering) (types functions : ℕ) (are_new : AreNew m kept new types functions) where
     has_initialiser : (n : ℕ) (g : GlobalValue) → slice_get m.globals n ≡ Some g → HasInitialiser g.def
     has_initialiser n g e = all_at (λ (g : GlobalValue). HasInitialiser g.def) m.globals n g (recursion_from_All (λ (g : GlobalValue). HasInitialiser g.def) m.globals w.initialisers) e
 
     can_move : AllByRecursion HasShortInit (map (global_written new) (kept_in kept Globals m.globals)) → (n : ℕ) (g : GlobalValue) → kept (Globals, n) ≡ true → slice_get m.globals n ≡ Some g
-        → CanMove (length m.funcs) functions new (λ k. kept (Globals, k)) are_new.globals (λ g. item_seen init_text (global_written new g)) (λ g. refl) n g
+        → CanMove (length m.types) types (length m.funcs) functions new (λ k. kept (Globals, k)) are_new.globals
+        (λ g. item_seen init_text (global_written new g)) (λ g. refl) n g
     can_move short n g h e done done' long moved typed =
         let can = has_initialiser n g e in
         let below = slice_get_within m.globals n g e in
-        let follows : Follows May (scope_after (length m.funcs) done) (scope_after functions done') new = record {
+        let follows : Follows May (scope_after (length m.types) (length m.funcs) done) (scope_after types functions done') new = record {
+          types = λ k may under. are_new.types k under (may (lt-ltb k (length m.types) under));
           funcs = λ k may under. are_new.funcs k under (may (func_there k under));
           globals = λ k t may at. moved k t (may (global_there k (let under = slice_get_within done k t at in omega (arith, below, long, under)))) at;
         } in
         let refs = subst (λ z. AllByRecursion May (entry_refs z)) (global_at m n g e) (named_kept (decode m) kept named (Globals, n) h) in
-        def_moves May (scope_after (length m.funcs) done) (scope_after functions done') new follows g.ty.content_type g.def can refs (global_can new are_new.keeps g.def can)
+        def_moves May (scope_after (length m.types) (length m.funcs) done) (scope_after types functions done') new follows g.ty.content_type g.def can refs
+        (global_can new are_new.keeps g.def can)
         (kept_item_at HasShortInit (global_written new) (λ k. kept (Globals, k)) m.globals n g short h e) typed
 
-    pub globals_typed : AllByRecursion HasShortInit (map (global_written new) (kept_in kept Globals m.globals)) → AreTyped functions (map (item_seen init_text) (map (global_written new) (kept_in kept Globals m.globals)))
+    pub globals_typed : AllByRecursion HasShortInit (map (global_written new) (kept_in kept Globals m.globals))
+        → AreTyped types functions (map (item_seen init_text) (map (global_written new) (kept_in kept Globals m.globals)))
     globals_typed short =
-        subst (AreTyped functions) (sym (map_again (item_seen init_text) (global_written new) (kept_in kept Globals m.globals)))
-        (kept_typed (length m.funcs) functions new (λ k. kept (Globals, k)) are_new.globals (λ g. item_seen init_text (global_written new g)) (λ g. refl) m.globals v.initialised (can_move short))
+        subst (AreTyped types functions) (sym (map_again (item_seen init_text) (global_written new) (kept_in kept Globals m.globals)))
+        (kept_typed (length m.types) types (length m.funcs) functions new (λ k. kept (Globals, k)) are_new.globals
+        (λ g. item_seen init_text (global_written new g)) (λ g. refl) m.globals v.initialised (can_move short))
 
 -- an image whose functions can be spelled
 
 module _ (m : ModuleValue) (exports : List ExportValue) (kept : ItemIndex → Bool) (w : IsWritable m) (items : HaveItems m) (v : IsModule m) (k : AreKept m exports kept) (x : AreExports m exports)
-    (new : Renumbering) (types : List FuncTypeValue) (funcs : List (ItemValue ℕ BodyValue)) (start : Option ℕ) (are_new : AreNew m kept new (length funcs)) (f : AreFuncs types funcs) where
+    (new : Renumbering) (types : List FuncTypeValue) (funcs : List (ItemValue ℕ BodyValue)) (start : Option ℕ)
+    (are_new : AreNew m kept new (length types) (length funcs)) (spelled : All IsFuncType types) (f : AreFuncs types funcs) where
   abbrev image : BuiltValue
   image = image_with m exports kept new types funcs start
 
@@ -164,7 +199,7 @@ module _ (m : ModuleValue) (exports : List ExportValue) (kept : ItemIndex → Bo
       (All-append IsImport (imports_of Table image.tables) _ tables (All-append IsImport (imports_of Global image.globals) _ globals f.imports))
 
   global_can_be : (n : ℕ) (g : GlobalValue) → live Globals n ≡ true → slice_get m.globals n ≡ Some g → IfLocal IsInitialiser (global_written new g).def
-  global_can_be n g h e = global_can new are_new.keeps g.def (has_initialiser m kept w v k.named new (length funcs) are_new n g e)
+  global_can_be n g h e = global_can new are_new.keeps g.def (has_initialiser m kept w v k.named new (length types) (length funcs) are_new n g e)
 
   initialisers_can : All IsInitialiser (defined_contents image.globals)
   initialisers_can =
@@ -235,22 +270,48 @@ module _ (m : ModuleValue) (exports : List ExportValue) (kept : ItemIndex → Bo
   start_fits : (n : ℕ) → IsStartOf types funcs n → IsU32 n
   start_fits n s = let below = slice_get_within funcs n s.func s.is_func in omega (arith, below, f.few)
 
+  global_types_can : AllByRecursion (λ (g : ItemValue GlobalType (List InstrValue)). IsValType g.ty.content_type) image.globals
+  global_types_can =
+      let P : ItemValue GlobalType (List InstrValue) → Type 0 = λ g. IsValType g.ty.content_type in
+      let ks = kept_in kept Globals m.globals in
+      recursion_from_All P image.globals (All-map P (global_written new) ks (All-from_recursion (λ (g : GlobalValue). IsValType g.ty.content_type) ks
+      (same_kept (λ (g : GlobalValue). IsValType g.ty.content_type) Globals m.globals w.globals)))
+
+  -- no value type that can be spelled names a type
+  named : NameTypes (written_module image)
+  named =
+      let Q : ItemValue GlobalType (List InstrValue) → Type 0 = λ g. HasTypeIndex (length types) g.ty.content_type in
+      record {
+        types = All-weaker IsFuncType (HaveTypeIndices (length types)) (func_type_names (length types)) types spelled;
+        tables = All-from_recursion (λ (t : TableValue). HasTypeIndex (length types) t.ty.element_type) image.tables
+            (each_weaker (λ (t : TableValue). IsTable t.ty) (λ (t : TableValue). HasTypeIndex (length types) t.ty.element_type) image.tables
+            (λ t h. val_type_names (length types) t.ty.element_type h.element_fits)
+            (same_kept (λ (t : TableValue). IsTable t.ty) Tables m.tables w.tables));
+        globals = All-map (λ (g : GlobalValue). HasTypeIndex (length types) g.ty.content_type) (item_seen init_text) image.globals
+            (All-from_recursion Q image.globals
+            (each_weaker (λ (g : ItemValue GlobalType (List InstrValue)). IsValType g.ty.content_type) Q image.globals
+            (λ g h. val_type_names (length types) g.ty.content_type h) global_types_can));
+      }
+
   valid : IfSome start (IsStartOf types funcs) → AllByRecursion HasShortInit image.globals → IsModule (written_module image)
   valid starts short = record {
     typed = All-map (λ (f : FuncValue). f.ty < length types) (item_seen body_text) funcs f.typed;
+    named = named;
     exported = each_export (λ e. e.index < count_of (written_module image) e.kind) export_there;
     distinct = names_distinct;
     started = IfSome_then start starts is_start;
-    initialised = rw (length-map funcs (item_seen body_text)) (globals_typed m kept w v k.named new (length funcs) are_new short);
+    initialised = rw (length-map funcs (item_seen body_text)) (globals_typed m kept w v k.named new (length types) (length funcs) are_new short);
     few = few;
   }
 
   pub image_built : IfSome start (IsStartOf types funcs) → AllByRecursion HasShortInit image.globals → IsBuilt image
   image_built starts short = record {
+    types = spelled;
     imports = imports_can;
     func_types = types_can IsU32 funcs (recursion_from_All (λ (f : ItemValue ℕ BodyValue). IsU32 f.ty) funcs f.indices);
     tables = types_can IsTable image.tables (same_kept (λ (t : TableValue). IsTable t.ty) Tables m.tables w.tables);
     memories = types_can IsWritableMemory image.memories (same_kept (λ (t : MemoryValue). IsWritableMemory t.ty) Memories m.memories w.memories);
+    globals = types_can (λ (g : GlobalType). IsValType g.content_type) image.globals global_types_can;
     initialisers = initialisers_can;
     exports = each_export IsExport export_can;
     start = IfSome_then start starts start_fits;

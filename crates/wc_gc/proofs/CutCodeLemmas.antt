@@ -1,22 +1,26 @@
 -- Code that is renumbered twice is renumbered once, where the two renumberings agree with one on what it names.
-use Rattle.std.proofs.Common.{◌≡◌, ℕ, List, [], ◌∷◌, refl, ◌∙◌, ap, Option, Some, None}
-use Rattle.std.specs.List.{AllByRecursion}
+use Rattle.std.proofs.Common.{◌≡◌, ℕ, List, [], ◌∷◌, ◌++◌, map, refl, ◌∙◌, ap, Option, Some, None}
+use Rattle.std.specs.List.{AllByRecursion, cons_option}
 use Rattle.std.specs.Option.{option_map, option_to_list}
 use Rattle.wc_read.specs.Bodies.{BodyValue}
 use Rattle.wc_read.specs.Items.{DefValue, ItemValue, imported, local}
 use Rattle.wc_read.specs.Operators.{ImmediatesValue, WithNone, WithBlock, WithIndex, WithIndices, WithLabels, WithValTypes, WithRefType, WithMemArg}
 use Rattle.wc_read.specs.Operators.{WithMemArgLane, WithI32, WithI64, WithBytes, WithLane, InstrValue}
-use Rattle.wc_read.specs.Refs.{in_space, reference, one_ref, two_refs, refs_of}
-use Rattle.wc_read.specs.Renumbering.{Renumbering, renumber, renumber_index, renumber_immediates, renumber_instr}
+use Rattle.wc_read.specs.Refs.{in_space, reference, one_ref, two_refs, refs_of, type_reference, type_refs_of}
+use Rattle.wc_read.specs.Renumbering.{Renumbering, renumber, renumber_index, renumber_immediates, renumber_instr, renumber_val_type}
+use Rattle.wc_read.specs.Types.{type_index, type_indices}
 use Rattle.wc_read.specs.declared.operators.Index.{Index}
 use Rattle.wc_read.specs.declared.operators.IndexKind.{IndexKind}
 use Rattle.wc_read.specs.declared.operators.IndexKind.TheVariants.{In, Elem, Data, Local, Label}
 use Rattle.wc_read.specs.declared.operators.BlockType.TheVariants.{Empty, Value, FuncType}
 use Rattle.wc_read.specs.declared.operators.MemArg.{MemArg}
+use Rattle.wc_read.specs.declared.operators.Space.TheVariants.{Types}
+use Rattle.wc_read.specs.declared.types.ValType.{ValType}
+use Rattle.wc_read.specs.declared.types.ValType.TheVariants.{I32, I64, F32, F64, V128, FuncRef, ExternRef, FuncRefNonNull, ExternRefNonNull, TypeRef}
 use Rattle.wc_read.specs.declared.types.GlobalType.{GlobalType}
 use Rattle.wc_write.specs.BuiltValues.{def_seen}
 use Rattle.wc_gc.specs.Decoded.{GlobalCode, ItemIndex}
-use Rattle.wc_gc.specs.Entries.{code_refs, def_refs, init_refs, instr_refs, refs_list}
+use Rattle.wc_gc.specs.Entries.{code_refs, def_refs, init_refs, instr_refs, refs_list, type_items, val_type_refs}
 use Rattle.wc_gc.specs.Image.{new_global, new_init, renumber_body, renumber_code}
 use Rattle.wc_gc.specs.Unfolding.{renumber_global}
 use Rattle.wc_gc.proofs.CutListLemmas.{split_all}
@@ -56,11 +60,37 @@ module _ (first second both : Renumbering) where
   abbrev mem_arg_with : MemArg → ℕ → MemArg
   mem_arg_with m n = record { align = m.align; memory = n; offset = m.offset }
 
-  immediates_agree : (v : ImmediatesValue) → Agree (refs_list (refs_of v)) → renumber_immediates second (renumber_immediates first v)
+  type_agrees : (t : ValType) → Agree (option_to_list (type_reference t)) → renumber_val_type second (renumber_val_type first t) ≡ renumber_val_type both t
+  type_agrees I32 h = refl
+  type_agrees I64 h = refl
+  type_agrees F32 h = refl
+  type_agrees F64 h = refl
+  type_agrees V128 h = refl
+  type_agrees FuncRef h = refl
+  type_agrees ExternRef h = refl
+  type_agrees FuncRefNonNull h = refl
+  type_agrees ExternRefNonNull h = refl
+  type_agrees (TypeRef nullable index) h = ap (λ k. TypeRef nullable k) h.0
+
+  first_type : (o : Option ℕ) (ns : List ℕ) → Agree (type_items (cons_option o ns))
+      → Agree (option_to_list (option_map (λ n. (Types, n)) o)) × Agree (type_items ns)
+  first_type None ns h = (tt, h)
+  first_type (Some n) ns h = ((h.0, tt), h.1)
+
+  types_agree : (ts : List ValType) → Agree (val_type_refs ts)
+      → map (renumber_val_type second) (map (renumber_val_type first) ts) ≡ map (renumber_val_type both) ts
+  types_agree [] h = refl
+  types_agree (t ∷ ts) h =
+      let p = first_type (type_index t) (type_indices ts) h in
+      ap (λ u. u ∷ map (renumber_val_type second) (map (renumber_val_type first) ts)) (type_agrees t p.0)
+      ∙ ap (λ us. renumber_val_type both t ∷ us) (types_agree ts p.1)
+
+  immediates_agree : (v : ImmediatesValue) → Agree (type_items (type_refs_of v) ++ refs_list (refs_of v))
+      → renumber_immediates second (renumber_immediates first v)
       ≡ renumber_immediates both v
   immediates_agree WithNone h = refl
   immediates_agree (WithBlock Empty) h = refl
-  immediates_agree (WithBlock (Value t)) h = refl
+  immediates_agree (WithBlock (Value t)) h = ap (λ u. WithBlock (Value u)) (type_agrees t (one_part (type_reference t) h))
   immediates_agree (WithBlock (FuncType n)) h = ap (λ k. WithBlock (FuncType k)) h.0
   immediates_agree (WithIndex i) h = ap WithIndex (index_agrees i (one_part (reference i) h))
   immediates_agree (WithIndices i j) h =
@@ -68,8 +98,8 @@ module _ (first second both : Renumbering) where
       ap (λ k. WithIndices k (renumber_index second (renumber_index first j))) (index_agrees i p.0)
       ∙ ap (WithIndices (renumber_index both i)) (index_agrees j p.1)
   immediates_agree (WithLabels ls d) h = refl
-  immediates_agree (WithValTypes ts) h = refl
-  immediates_agree (WithRefType t) h = refl
+  immediates_agree (WithValTypes ts) h = ap WithValTypes (types_agree ts (split_all (Agrees first second both) (val_type_refs ts) [] h).0)
+  immediates_agree (WithRefType t) h = ap WithRefType (type_agrees t (one_part (type_reference t) h))
   immediates_agree (WithMemArg m) h = ap (λ k. WithMemArg (mem_arg_with m k)) h.0
   immediates_agree (WithMemArgLane m lane) h = ap (λ k. WithMemArgLane (mem_arg_with m k) lane) h.0
   immediates_agree (WithI32 n) h = refl

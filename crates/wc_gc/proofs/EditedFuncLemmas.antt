@@ -1,12 +1,12 @@
 -- The functions of an edited adapter's image can be spelled.
 use Rattle.std.proofs.Common.{◌≡◌, ℕ, suc, ◌+◌, ◌-◌, ◌<◌, ◌≤◌, ◌^◌, List, [], ◌∷◌, ◌++◌, length, map, refl, sym, ◌∙◌, ap, subst, Bool, true, false, cond, Option, Some, None, append_assoc, arith, lit<}
-use Rattle.std.specs.Prelude.{IfSome, IsUtf8, ◌&&◌, not, nat_lt, unwrap_or}
+use Rattle.std.specs.Prelude.{All, IfSome, IsUtf8, ◌&&◌, not, nat_lt, unwrap_or}
 use Rattle.std.specs.List.{AllByRecursion, slice_get}
 use Rattle.std.specs.Option.{option_map, option_map_or}
 use Rattle.std.proofs.lemmas.Bool.{eqb-true, le-ltb}
 use Rattle.std.proofs.lemmas.Str.{IsUtf8-from_ascii}
 use Rattle.std.proofs.lemmas.List.{length-map, length-append, map-append}
-use Rattle.std.proofs.lemmas.List.Elements.{All-map, All-from_recursion, recursion_from_All}
+use Rattle.std.proofs.lemmas.List.Elements.{All-map, All-nil, All-from_recursion, recursion_from_All}
 use Rattle.std.proofs.lemmas.Option.{slice_get-map, slice_get_within}
 use Rattle.wc_read.specs.Bodies.{BodyValue, SpellsBody}
 use Rattle.wc_read.specs.Types.{FuncTypeValue}
@@ -20,7 +20,7 @@ use Rattle.wc_read.specs.declared.types.ImportType.TheVariants.{Func, Table, Mem
 use Rattle.wc_read.specs.declared.operators.Space.TheVariants.{Types, Funcs, Memories, Globals}
 use Rattle.wc_read.proofs.DecodingLemmas.{body_spelled}
 use Rattle.wc_write.specs.Text.{FitsSize, import_text, name_text, import_type_text, number_text}
-use Rattle.wc_write.specs.Values.{AreBytes, IsU32, IsName, IsImport, IsBody}
+use Rattle.wc_write.specs.Values.{AreBytes, IsU32, IsName, IsFuncType, IsImport, IsBody, IsValType}
 use Rattle.wc_write.specs.Spaces.{imports_of, import_by}
 use Rattle.wc_write.specs.ModuleText.{BuiltValue, SizesFit, SizeFits, OptionalSection, built_imports, optional_sections}
 use Rattle.wc_write.specs.BuiltValues.{def_seen, item_seen, is_imported, is_defined, HasImportsFirst, IsWritable}
@@ -107,6 +107,22 @@ funcs_from types gs few room all short first = record {
 pub all_only : {A : Type 0} (P : A → Type 0) (b : Bool) (x : A) → (b ≡ true → P x) → AllByRecursion P (only_if b x)
 all_only P true x h = (h refl, tt)
 all_only P false x h = tt
+
+-- types that are added can be spelled
+
+empty_spelled : IsFuncType empty_type
+empty_spelled = (All-nil IsValType, All-nil IsValType)
+
+realloc_spelled : IsFuncType realloc_type
+realloc_spelled = (All-from_recursion IsValType realloc_type.params (tt, (tt, (tt, (tt, tt)))), All-from_recursion IsValType realloc_type.results (tt, tt))
+
+pub added_types_spelled : (p : Parts) (no_empty : Bool) → All IsFuncType (types_added p no_empty)
+added_types_spelled p no_empty =
+    All-from_recursion IsFuncType (types_added p no_empty)
+    (all_joined IsFuncType (only_if p.import_realloc realloc_type) _ (all_only IsFuncType p.import_realloc realloc_type (λ h. realloc_spelled))
+    (all_joined IsFuncType (only_if p.lazy empty_type) _ (all_only IsFuncType p.lazy empty_type (λ h. empty_spelled))
+    (all_joined IsFuncType (only_if p.growing realloc_type) _ (all_only IsFuncType p.growing realloc_type (λ h. realloc_spelled))
+    (all_only IsFuncType (p.start && no_empty) empty_type (λ h. empty_spelled)))))
 
 pub only_count : {A : Type 0} (b : Bool) (x : A) → length (only_if b x) ≡ one_if b
 only_count true x = refl

@@ -206,9 +206,13 @@ module _ (s : SettingsValue) (m : ModuleValue) (exports : List ExportValue) (liv
     new_keeps Memories n h = ranks_keep live Memories n h
     new_keeps Globals n h = ranks_keep live Globals n h
 
-    pub are_new : AreNew m live new (length funcs_written)
-    are_new = record { keeps = new_keeps; funcs = below; tables = λ n h. refl; memories = λ n h. refl; globals = λ n h. refl }
+    -- in an image that has the live types, and maybe more
+    pub are_new : (types : ℕ) → length (kept_items (λ n. live (Types, n)) (length m.types) m.types) ≤ types → AreNew m live new types (length funcs_written)
+    are_new types most = record { keeps = new_keeps; types = type_below; funcs = below; tables = λ n h. refl; memories = λ n h. refl; globals = λ n h. refl }
       where
+        type_below : (n : ℕ) → n < length m.types → IsTrue (live (Types, n)) → new Types n < types
+        type_below n h l = let r = rank_below (λ k. live (Types, k)) m.types n h l in omega (arith, old_type n h, r, most)
+
         below : (n : ℕ) → n < length m.funcs → IsTrue (live (Funcs, n)) → new Funcs n < length funcs_written
         below n h l =
             let item = get_some m.funcs n h in

@@ -9,12 +9,11 @@ use Rattle.std.proofs.lemmas.List.Elements.{recursion_from_All}
 use Rattle.std.proofs.lemmas.Option.{slice_get_within}
 use Rattle.wc_read.specs.Decoding.{body_in, init_in}
 use Rattle.wc_read.specs.Inits.{constant_byte, constant_of, end_value}
-use Rattle.wc_read.specs.InitTypes.{InitScope, type_named, given_by, integer_type, integers_type, LeavesOne, alone, joined, IsTyped, IsTypedDef, types_of}
+use Rattle.wc_read.specs.InitTypes.{InitScope, class_of, is_non_null, class_named, given_by, integer_class, integers_class, LeavesOne, alone, joined, IsTyped, IsTypedDef, types_of}
 use Rattle.wc_read.specs.Items.{DefValue, imported, local, GlobalValue}
 use Rattle.wc_read.specs.Modules.{ModuleValue, IsModule}
-use Rattle.wc_read.specs.Operators.{byte_form, vector_form, form_of, ImmediatesValue, WithNone, WithBlock, WithIndex, WithIndices, WithLabels, WithValTypes, WithRefType, WithMemArg, WithMemArgLane, WithI32, WithI64, WithBytes, WithLane, InstrValue, index_of}
+use Rattle.wc_read.specs.Operators.{byte_form, vector_form, form_of, ImmediatesValue, WithNone, WithBlock, WithIndex, WithIndices, WithLabels, WithValTypes, WithRefType, WithMemArg, WithMemArgLane, WithI32, WithI64, WithBytes, WithLane, InstrValue}
 use Rattle.wc_read.specs.Options.{◌>>=◌}
-use Rattle.wc_read.specs.Refs.{refs_of}
 use Rattle.wc_read.specs.declared.inits.Constant.{Constant}
 use Rattle.wc_read.specs.declared.inits.Constant.TheVariants.{Value, Null, Func, Global, Integer}
 use Rattle.wc_read.specs.declared.operators.Form.{Form}
@@ -22,16 +21,18 @@ use Rattle.wc_read.specs.declared.operators.Form.TheVariants.{None as form_none,
 use Rattle.wc_read.specs.declared.operators.IndexKind.TheVariants.{In}
 use Rattle.wc_read.specs.declared.operators.Opcode.{Opcode}
 use Rattle.wc_read.specs.declared.operators.Opcode.TheVariants.{Byte, Misc, Vector, Atomic}
-use Rattle.wc_read.specs.declared.operators.Space.TheVariants.{Funcs, Globals}
+use Rattle.wc_read.specs.declared.operators.Space.TheVariants.{Types, Funcs, Globals}
 use Rattle.wc_read.specs.declared.types.GlobalType.{GlobalType}
 use Rattle.wc_read.specs.declared.types.ValType.{ValType}
-use Rattle.wc_read.specs.declared.types.ValType.TheVariants.{FuncRef, V128}
+use Rattle.wc_read.specs.declared.types.ValType.TheVariants.{I32, I64, F32, F64, V128, FuncRef, ExternRef, FuncRefNonNull, ExternRefNonNull, TypeRef}
+use Rattle.wc_read.specs.declared.inits.ValueClass.{ValueClass}
+use Rattle.wc_read.specs.declared.inits.ValueClass.TheVariants.{Func as FuncClass}
 use Rattle.wc_read.proofs.DecodingLemmas.{init_found}
 use Rattle.wc_read.proofs.OptionsLemmas.{some_same}
 use Rattle.wc_write.specs.BuiltValues.{def_seen, item_seen, HasInitialiser, IsInitialiser, IsWritable}
 use Rattle.wc_write.specs.Values.{HasForm, IsInstr}
 use Rattle.wc_gc.specs.Decoded.{ItemIndex, decode, is_in}
-use Rattle.wc_gc.specs.Entries.{code_refs, def_refs, init_refs, instr_refs, refs_list}
+use Rattle.wc_gc.specs.Entries.{code_refs, def_refs, init_refs, instr_refs}
 use Rattle.wc_gc.specs.Unfolding.{is_code}
 use Rattle.wc_gc.proofs.BuiltPartLemmas.{all_at}
 use Rattle.wc_gc.proofs.InitTypeLemmas.{all-left, all-right, func_code, func_form, global_code, global_form, named_by}
@@ -94,12 +95,13 @@ v128_form n e = rw e refl
 
 -- what an initialiser may name by its scope
 pub record HasScope (may : ItemIndex → Type 0) (scope : InitScope) : Type 0 where
+  pub types : (n : ℕ) → n < scope.types → may (Types, n)
   pub funcs : (n : ℕ) → n < scope.functions → may (Funcs, n)
   pub globals : (n : ℕ) (t : GlobalType) → slice_get scope.globals n ≡ Some t → may (Globals, n)
 
 module _ (may : ItemIndex → Type 0) where
   abbrev Named : ImmediatesValue → Type 0
-  Named v = AllByRecursion may (refs_list (refs_of v))
+  Named v = AllByRecursion may (instr_refs (record { opcode = Byte 0; immediates = v }))
 
   value_by : (k b : ℕ) (v : ImmediatesValue) → k ≤ 3 → b ≡ 0x41 + k → IsInstr (record { opcode = Byte b; immediates = v }) → Named v
   value_by zero b v h e i = let f = has_form (Byte b) v i form_i32 (i32_form b (omega (arith, e))) in subst Named (sym f.1) tt
@@ -108,88 +110,121 @@ module _ (may : ItemIndex → Type 0) where
   value_by (suc (suc (suc zero))) b v h e i = let f = has_form (Byte b) v i (form_bytes 8) (f64_form b (omega (arith, e))) in subst Named (sym f.1) tt
   value_by (suc (suc (suc (suc k)))) b v h e i = absurd (omega (arith, h))
 
-  null_named : (v : ImmediatesValue) (t : ValType) → type_named v ≡ Some t → Named v
-  null_named WithNone t h = absurd cc
-  null_named (WithBlock b) t h = absurd cc
-  null_named (WithIndex i) t h = absurd cc
-  null_named (WithIndices i j) t h = absurd cc
-  null_named (WithLabels ls d) t h = absurd cc
-  null_named (WithValTypes ts) t h = absurd cc
-  null_named (WithRefType u) t h = tt
-  null_named (WithMemArg m) t h = absurd cc
-  null_named (WithMemArgLane m lane) t h = absurd cc
-  null_named (WithI32 n) t h = absurd cc
-  null_named (WithI64 n) t h = absurd cc
-  null_named (WithBytes bytes) t h = absurd cc
-  null_named (WithLane lane) t h = absurd cc
-
   module _ (scope : InitScope) (s : HasScope may scope) where
-    func_named : (n : ℕ) (t : ValType) → given_by scope (WithIndex (index_of (In Funcs) n)) Func ≡ Some t → may (Funcs, n)
-    func_named n t h = go (nat_lt n scope.functions) refl h
+    named_below : {P : Type 0} (a c : ValueClass) (n bound : ℕ) → (n < bound → P) → (if nat_lt n bound then Some a else None) ≡ Some c → P
+    named_below {P} a c n bound there h = go (nat_lt n bound) refl h
       where
-        go : (b : Bool) → nat_lt n scope.functions ≡ b → (if b then Some FuncRef else None) ≡ Some t → may (Funcs, n)
-        go true below e = s.funcs n (ltb-true n scope.functions below)
+        go : (b : Bool) → nat_lt n bound ≡ b → (if b then Some a else None) ≡ Some c → P
+        go true below e = there (ltb-true n bound below)
         go false below e = absurd cc
 
-    global_named : (n : ℕ) (t : ValType) (o : Option GlobalType) → slice_get scope.globals n ≡ o → (o >>= λ g. if g.mutable then None else Some g.content_type) ≡ Some t → may (Globals, n)
-    global_named n t None at h = absurd cc
-    global_named n t (Some g) at h = s.globals n g at
+    ref_type_named : (t : ValType) (c : ValueClass) → class_named scope.types (WithRefType t) ≡ Some c → Named (WithRefType t)
+    ref_type_named I32 c h = tt
+    ref_type_named I64 c h = tt
+    ref_type_named F32 c h = tt
+    ref_type_named F64 c h = tt
+    ref_type_named V128 c h = tt
+    ref_type_named FuncRef c h = tt
+    ref_type_named ExternRef c h = tt
+    ref_type_named FuncRefNonNull c h = tt
+    ref_type_named ExternRefNonNull c h = tt
+    ref_type_named (TypeRef nullable n) c h = (named_below FuncClass c n scope.types (s.types n) h, tt)
 
-    given_named : (b : ℕ) (v : ImmediatesValue) → IsInstr (record { opcode = Byte b; immediates = v }) → (c : Constant) → constant_byte b ≡ Some c → (t : ValType) → given_by scope v c ≡ Some t → Named v
-    given_named b v i (Value u) e t h =
-        let from = value_from b u e in
-        let to = value_to b u e in
-        value_by (b - 0x41) b v (omega (arith, from, to)) (omega (arith, from)) i
-    given_named b v i Null e t h = null_named v t h
-    given_named b v i (Integer u) e t h = absurd cc
-    given_named b v i Func e t h =
-        let n = named_by (Byte b) v i (In Funcs) (func_form b (func_code b e)) in
-        subst Named (sym n.1) (func_named n.0 t (subst (λ (w : ImmediatesValue). given_by scope w Func ≡ Some t) n.1 h), tt)
-    given_named b v i Global e t h =
-        let n = named_by (Byte b) v i (In Globals) (global_form b (global_code b e)) in
-        subst Named (sym n.1) (global_named n.0 t (slice_get scope.globals n.0) refl (subst (λ (w : ImmediatesValue). given_by scope w Global ≡ Some t) n.1 h), tt)
+    class_is_named : (v : ImmediatesValue) (c : ValueClass) → class_named scope.types v ≡ Some c → Named v
+    class_is_named WithNone c h = absurd cc
+    class_is_named (WithBlock b) c h = absurd cc
+    class_is_named (WithIndex i) c h = absurd cc
+    class_is_named (WithIndices i j) c h = absurd cc
+    class_is_named (WithLabels ls d) c h = absurd cc
+    class_is_named (WithValTypes ts) c h = absurd cc
+    class_is_named (WithRefType t) c h = ref_type_named t c h
+    class_is_named (WithMemArg m) c h = absurd cc
+    class_is_named (WithMemArgLane m lane) c h = absurd cc
+    class_is_named (WithI32 n) c h = absurd cc
+    class_is_named (WithI64 n) c h = absurd cc
+    class_is_named (WithBytes bytes) c h = absurd cc
+    class_is_named (WithLane lane) c h = absurd cc
 
-    byte_named : (b : ℕ) (v : ImmediatesValue) → IsInstr (record { opcode = Byte b; immediates = v }) → (t : ValType) (o : Option Constant) → constant_byte b ≡ o → (o >>= given_by scope v) ≡ Some t → Named v
-    byte_named b v i t None e h = absurd cc
-    byte_named b v i t (Some c) e h = given_named b v i c e t h
+    null_named : (v : ImmediatesValue) (c : ValueClass) (b : Bool) → (if b then None else class_named scope.types v) ≡ Some c → Named v
+    null_named v c true h = absurd cc
+    null_named v c false h = class_is_named v c h
 
-    vector_named : (n : ℕ) (v : ImmediatesValue) → IsInstr (record { opcode = Vector n; immediates = v }) → (t : ValType) (b : Bool) → (n == 12) ≡ b
-        → ((if b then Some (Value V128) else None) >>= given_by scope v) ≡ Some t → Named v
-    vector_named n v i t true e h = let f = has_form (Vector n) v i (form_bytes 16) (v128_form n (eqb-true n 12 e)) in subst Named (sym f.1) tt
-    vector_named n v i t false e h = absurd cc
+    global_named : (n : ℕ) (c : ValueClass) (o : Option GlobalType) → slice_get scope.globals n ≡ o
+        → (o >>= λ g. if g.mutable then None else Some (class_of g.content_type)) ≡ Some c → may (Globals, n)
+    global_named n c None at h = absurd cc
+    global_named n c (Some g) at h = s.globals n g at
 
-    constant_named : (code : Opcode) (v : ImmediatesValue) → IsInstr (record { opcode = code; immediates = v }) → (t : ValType) → (constant_of code >>= given_by scope v) ≡ Some t → Named v
-    constant_named (Byte b) v i t h = byte_named b v i t (constant_byte b) refl h
-    constant_named (Misc n) v i t h = absurd cc
-    constant_named (Vector n) v i t h = vector_named n v i t (n == 12) refl h
-    constant_named (Atomic n) v i t h = absurd cc
+    -- where a value of a type is wanted
+    module _ (wanted : ValType) where
+      given_named : (b : ℕ) (v : ImmediatesValue) → IsInstr (record { opcode = Byte b; immediates = v }) → (o : Constant) → constant_byte b ≡ Some o
+          → (c : ValueClass) → given_by scope wanted v o ≡ Some c → Named v
+      given_named b v i (Value u) e c h =
+          let from = value_from b u e in
+          let to = value_to b u e in
+          value_by (b - 0x41) b v (omega (arith, from, to)) (omega (arith, from)) i
+      given_named b v i Null e c h = null_named v c (is_non_null wanted) h
+      given_named b v i (Integer u) e c h = absurd cc
+      given_named b v i Func e c h =
+          let n = named_by (Byte b) v i (In Funcs) (func_form b (func_code b e)) in
+          subst Named (sym n.1) (
+            named_below FuncClass c n.0 scope.functions (s.funcs n.0)
+                (subst (λ (w : ImmediatesValue). given_by scope wanted w Func ≡ Some c) n.1 h),
+            tt,
+          )
+      given_named b v i Global e c h =
+          let n = named_by (Byte b) v i (In Globals) (global_form b (global_code b e)) in
+          subst Named (sym n.1) (
+            global_named n.0 c (slice_get scope.globals n.0) refl
+                (subst (λ (w : ImmediatesValue). given_by scope wanted w Global ≡ Some c) n.1 h),
+            tt,
+          )
 
-  integer_by : (b : ℕ) (v : ImmediatesValue) → IsInstr (record { opcode = Byte b; immediates = v }) → (t : ValType) (o : Option Constant) → constant_byte b ≡ o → (o >>= integer_type) ≡ Some t → Named v
-  integer_by b v i t None e h = absurd cc
-  integer_by b v i t (Some (Integer u)) e h = let f = has_form (Byte b) v i form_none (integer_form b (integer_from b u e) (integer_to b u e)) in subst Named (sym f) tt
-  integer_by b v i t (Some (Value u)) e h = absurd cc
-  integer_by b v i t (Some Null) e h = absurd cc
-  integer_by b v i t (Some Func) e h = absurd cc
-  integer_by b v i t (Some Global) e h = absurd cc
+      byte_named : (b : ℕ) (v : ImmediatesValue) → IsInstr (record { opcode = Byte b; immediates = v }) → (c : ValueClass) (o : Option Constant)
+          → constant_byte b ≡ o → (o >>= given_by scope wanted v) ≡ Some c → Named v
+      byte_named b v i c None e h = absurd cc
+      byte_named b v i c (Some o) e h = given_named b v i o e c h
 
-  no_integer : (t : ValType) (b : Bool) → ((if b then Some (Value V128) else None) >>= integer_type) ≡ Some t → ⊥
-  no_integer t true h = absurd cc
-  no_integer t false h = absurd cc
+      vector_named : (n : ℕ) (v : ImmediatesValue) → IsInstr (record { opcode = Vector n; immediates = v }) → (c : ValueClass) (b : Bool) → (n == 12) ≡ b
+          → ((if b then Some (Value V128) else None) >>= given_by scope wanted v) ≡ Some c → Named v
+      vector_named n v i c true e h = let f = has_form (Vector n) v i (form_bytes 16) (v128_form n (eqb-true n 12 e)) in subst Named (sym f.1) tt
+      vector_named n v i c false e h = absurd cc
 
-  integer_named : (code : Opcode) (v : ImmediatesValue) → IsInstr (record { opcode = code; immediates = v }) → (t : ValType) → integers_type code ≡ Some t → Named v
-  integer_named (Byte b) v i t h = integer_by b v i t (constant_byte b) refl h
-  integer_named (Misc n) v i t h = absurd cc
-  integer_named (Vector n) v i t h = absurd (no_integer t (n == 12) h)
-  integer_named (Atomic n) v i t h = absurd cc
+      constant_named : (code : Opcode) (v : ImmediatesValue) → IsInstr (record { opcode = code; immediates = v }) → (c : ValueClass)
+          → (constant_of code >>= given_by scope wanted v) ≡ Some c → Named v
+      constant_named (Byte b) v i c h = byte_named b v i c (constant_byte b) refl h
+      constant_named (Misc n) v i c h = absurd cc
+      constant_named (Vector n) v i c h = vector_named n v i c (n == 12) refl h
+      constant_named (Atomic n) v i c h = absurd cc
+
+  integer_by : (b : ℕ) (v : ImmediatesValue) → IsInstr (record { opcode = Byte b; immediates = v }) → (c : ValueClass) (o : Option Constant)
+      → constant_byte b ≡ o → (o >>= integer_class) ≡ Some c → Named v
+  integer_by b v i c None e h = absurd cc
+  integer_by b v i c (Some (Integer u)) e h = let f = has_form (Byte b) v i form_none (integer_form b (integer_from b u e) (integer_to b u e)) in
+      subst Named (sym f) tt
+  integer_by b v i c (Some (Value u)) e h = absurd cc
+  integer_by b v i c (Some Null) e h = absurd cc
+  integer_by b v i c (Some Func) e h = absurd cc
+  integer_by b v i c (Some Global) e h = absurd cc
+
+  no_integer : (c : ValueClass) (b : Bool) → ((if b then Some (Value V128) else None) >>= integer_class) ≡ Some c → ⊥
+  no_integer c true h = absurd cc
+  no_integer c false h = absurd cc
+
+  integer_named : (code : Opcode) (v : ImmediatesValue) → IsInstr (record { opcode = code; immediates = v }) → (c : ValueClass)
+      → integers_class code ≡ Some c → Named v
+  integer_named (Byte b) v i c h = integer_by b v i c (constant_byte b) refl h
+  integer_named (Misc n) v i c h = absurd cc
+  integer_named (Vector n) v i c h = absurd (no_integer c (n == 12) h)
+  integer_named (Atomic n) v i c h = absurd cc
 
 -- operators that leave one value name what their scope has
 pub leaves_named : {scope : InitScope} {t : ValType} {is : List InstrValue} (may : ItemIndex → Type 0) → HasScope may scope → LeavesOne scope t is → AllByRecursion IsInstr is → EachNamed may is
-leaves_named {scope} {t} may s (alone i e) k = (constant_named may scope s i.opcode i.immediates k.0 t e, tt)
+leaves_named {scope} {t} may s (alone i e) k = (constant_named may scope s t i.opcode i.immediates k.0 (class_of t) e, tt)
 leaves_named {scope} {t} may s (joined xs ys i e a b) k =
     let rest = all-right IsInstr xs (ys ++ (i ∷ [])) k in
     all_joined (λ i. AllByRecursion may (instr_refs i)) xs (ys ++ (i ∷ [])) (leaves_named may s a (all-left IsInstr xs (ys ++ (i ∷ [])) k))
     (all_joined (λ i. AllByRecursion may (instr_refs i)) ys (i ∷ []) (leaves_named may s b (all-left IsInstr ys (i ∷ []) rest))
-    (integer_named may i.opcode i.immediates (all-right IsInstr ys (i ∷ []) rest).0 t e, tt))
+    (integer_named may i.opcode i.immediates (all-right IsInstr ys (i ∷ []) rest).0 (class_of t) e, tt))
 
 -- so do initialisers
 
@@ -227,8 +262,9 @@ module _ (m : ModuleValue) (w : IsWritable m) (v : IsModule m) where
   pub global_names_there : (n : ℕ) (g : GlobalValue) → slice_get m.globals n ≡ Some g → AllByRecursion (λ y. IsTrue (is_in (decode m) y)) (def_refs init_refs (def_seen init_in g.def))
   global_names_there n g e =
       let c = cut_at m.globals n g e in
-      let scope : InitScope = record { functions = length m.funcs; globals = types_of c.0 } in
+      let scope : InitScope = record { types = length m.types; functions = length m.funcs; globals = types_of c.0 } in
       init_named (λ y. IsTrue (is_in (decode m) y)) scope (record {
+        types = λ k below. lt-ltb k (length (decode m).types) below;
         funcs = λ k below. let l = length-map m.funcs (item_seen body_in) in lt-ltb k (length (decode m).funcs) (omega (arith, l, below));
         globals = λ k t at.
             let below = slice_get_within (types_of c.0) k t at in

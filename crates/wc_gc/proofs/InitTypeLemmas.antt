@@ -8,14 +8,16 @@ use Rattle.std.proofs.lemmas.List.{map-append}
 use Rattle.wc_read.specs.Options.{◌>>=◌}
 use Rattle.wc_read.specs.Operators.{byte_form, form_of, ImmediatesValue, WithNone, WithBlock, WithIndex, WithIndices, WithLabels, WithValTypes, WithRefType, WithMemArg, WithMemArgLane, WithI32, WithI64, WithBytes, WithLane, InstrValue, index_of}
 use Rattle.wc_read.specs.Inits.{constant_byte, constant_of}
-use Rattle.wc_read.specs.InitTypes.{InitScope, type_named, global_value_type, given_by, LeavesOne, alone, joined}
-use Rattle.wc_read.specs.Renumbering.{Renumbering, renumber_immediates, renumber_instr}
+use Rattle.wc_read.specs.InitTypes.{InitScope, class_of, is_non_null, class_named, global_value_class, given_by, LeavesOne, alone, joined}
+use Rattle.wc_read.specs.Renumbering.{Renumbering, renumber_immediates, renumber_instr, renumber_val_type}
 use Rattle.wc_read.specs.declared.types.ValType.{ValType}
-use Rattle.wc_read.specs.declared.types.ValType.TheVariants.{FuncRef, V128}
+use Rattle.wc_read.specs.declared.types.ValType.TheVariants.{I32, I64, F32, F64, V128, FuncRef, ExternRef, FuncRefNonNull, ExternRefNonNull, TypeRef}
+use Rattle.wc_read.specs.declared.inits.ValueClass.{ValueClass}
+use Rattle.wc_read.specs.declared.inits.ValueClass.TheVariants.{Func as FuncClass}
 use Rattle.wc_read.specs.declared.types.GlobalType.{GlobalType}
 use Rattle.wc_read.specs.declared.operators.Opcode.{Opcode}
 use Rattle.wc_read.specs.declared.operators.Opcode.TheVariants.{Byte, Misc, Vector, Atomic}
-use Rattle.wc_read.specs.declared.operators.Space.TheVariants.{Funcs, Globals}
+use Rattle.wc_read.specs.declared.operators.Space.TheVariants.{Types, Funcs, Globals}
 use Rattle.wc_read.specs.declared.operators.IndexKind.{IndexKind}
 use Rattle.wc_read.specs.declared.operators.IndexKind.TheVariants.{In}
 use Rattle.wc_read.specs.declared.operators.Form.{Form}
@@ -28,9 +30,10 @@ use Rattle.wc_gc.specs.Decoded.{ItemIndex}
 use Rattle.wc_gc.specs.Entries.{instr_refs}
 use Rattle.wc_gc.specs.Image.{renumber_code}
 
--- what an initialiser may name: each function that it may name has an index of a function in the new scope, and each
--- global that it may name the type there that it had
+-- what an initialiser may name: each type and each function that it may name has an index of one in the new scope, and
+-- each global that it may name the type there that it had
 pub record Follows (may : ItemIndex → Type 0) (old after : InitScope) (new : Renumbering) : Type 0 where
+  pub types : (n : ℕ) → may (Types, n) → n < old.types → new Types n < after.types
   pub funcs : (n : ℕ) → may (Funcs, n) → n < old.functions → new Funcs n < after.functions
   pub globals : (n : ℕ) (t : GlobalType) → may (Globals, n) → slice_get old.globals n ≡ Some t → slice_get after.globals (new Globals n) ≡ Some t
 
@@ -63,68 +66,101 @@ named_by code v i kind e =
     let h = subst (λ (f : Form). HasForm f v) same i.has_form in
     (h.0, h.1)
 
-value_type_of : (old after : List GlobalType) (n k : ℕ) (t : ValType) → ((g : GlobalType) → slice_get old n ≡ Some g → slice_get after k ≡ Some g)
-    → (o : Option GlobalType) → slice_get old n ≡ o → (o >>= λ g. if g.mutable then None else Some g.content_type) ≡ Some t → global_value_type after k ≡ Some t
-value_type_of old after n k t h None e given = absurd cc
-value_type_of old after n k t h (Some g) e given = ap (λ (o : Option GlobalType). o >>= λ g. if g.mutable then None else Some g.content_type) (h g e) ∙ given
+value_class_of : (old after : List GlobalType) (n k : ℕ) (c : ValueClass) → ((g : GlobalType) → slice_get old n ≡ Some g → slice_get after k ≡ Some g)
+    → (o : Option GlobalType) → slice_get old n ≡ o → (o >>= λ g. if g.mutable then None else Some (class_of g.content_type)) ≡ Some c
+    → global_value_class after k ≡ Some c
+value_class_of old after n k c h None e given = absurd cc
+value_class_of old after n k c h (Some g) e given = ap (λ (o : Option GlobalType). o >>= λ g. if g.mutable then None else Some (class_of g.content_type))
+    (h g e) ∙ given
 
-module _ (may : ItemIndex → Type 0) (old after : InitScope) (new : Renumbering) (f : Follows may old after new) where
+-- what an index below a bound gives, an index that is below its own bound then gives too
+given_below : (a c : ValueClass) (n bound n' bound' : ℕ) → (n < bound → n' < bound') → (if nat_lt n bound then Some a else None) ≡ Some c
+    → (if nat_lt n' bound' then Some a else None) ≡ Some c
+given_below a c n bound n' bound' below h = go (nat_lt n bound) refl h
+  where
+    go : (b : Bool) → nat_lt n bound ≡ b → (if b then Some a else None) ≡ Some c → (if nat_lt n' bound' then Some a else None) ≡ Some c
+    go true under e = rw (lt-ltb n' bound' (below (ltb-true n bound under))) e
+    go false under e = absurd cc
+
+-- where a value of a type is wanted
+
+module _ (may : ItemIndex → Type 0) (old after : InitScope) (new : Renumbering) (f : Follows may old after new) (wanted : ValType) where
   abbrev MayName : ImmediatesValue → Type 0
   MayName v = AllByRecursion may (instr_refs (record { opcode = Byte 0; immediates = v }))
 
-  type_stays : (v : ImmediatesValue) → type_named (renumber_immediates new v) ≡ type_named v
-  type_stays WithNone = refl
-  type_stays (WithBlock t) = refl
-  type_stays (WithIndex i) = refl
-  type_stays (WithIndices i j) = refl
-  type_stays (WithLabels ls d) = refl
-  type_stays (WithValTypes ts) = refl
-  type_stays (WithRefType t) = refl
-  type_stays (WithMemArg m) = refl
-  type_stays (WithMemArgLane m lane) = refl
-  type_stays (WithI32 n) = refl
-  type_stays (WithI64 n) = refl
-  type_stays (WithBytes bytes) = refl
-  type_stays (WithLane lane) = refl
+  ref_type_stays : (t : ValType) → MayName (WithRefType t) → (c : ValueClass) → class_named old.types (WithRefType t) ≡ Some c
+      → class_named after.types (WithRefType (renumber_val_type new t)) ≡ Some c
+  ref_type_stays I32 k c h = h
+  ref_type_stays I64 k c h = h
+  ref_type_stays F32 k c h = h
+  ref_type_stays F64 k c h = h
+  ref_type_stays V128 k c h = h
+  ref_type_stays FuncRef k c h = h
+  ref_type_stays ExternRef k c h = h
+  ref_type_stays FuncRefNonNull k c h = h
+  ref_type_stays ExternRefNonNull k c h = h
+  ref_type_stays (TypeRef nullable n) k c h = given_below FuncClass c n old.types (new Types n) after.types (f.types n k.0) h
 
-  func_given : (n : ℕ) (t : ValType) → may (Funcs, n) → given_by old (WithIndex (index_of (In Funcs) n)) Func ≡ Some t → given_by after (renumber_immediates new (WithIndex (index_of (In Funcs) n))) Func ≡ Some t
-  func_given n t k h = go (nat_lt n old.functions) refl h
-    where
-      go : (b : Bool) → nat_lt n old.functions ≡ b → (if b then Some FuncRef else None) ≡ Some t → (if nat_lt (new Funcs n) after.functions then Some FuncRef else None) ≡ Some t
-      go true below e = rw (lt-ltb (new Funcs n) after.functions (f.funcs n k (ltb-true n old.functions below))) e
-      go false below e = absurd cc
+  class_stays : (v : ImmediatesValue) → MayName v → (c : ValueClass) → class_named old.types v ≡ Some c
+      → class_named after.types (renumber_immediates new v) ≡ Some c
+  class_stays WithNone k c h = absurd cc
+  class_stays (WithBlock t) k c h = absurd cc
+  class_stays (WithIndex i) k c h = absurd cc
+  class_stays (WithIndices i j) k c h = absurd cc
+  class_stays (WithLabels ls d) k c h = absurd cc
+  class_stays (WithValTypes ts) k c h = absurd cc
+  class_stays (WithRefType t) k c h = ref_type_stays t k c h
+  class_stays (WithMemArg m) k c h = absurd cc
+  class_stays (WithMemArgLane m lane) k c h = absurd cc
+  class_stays (WithI32 n) k c h = absurd cc
+  class_stays (WithI64 n) k c h = absurd cc
+  class_stays (WithBytes bytes) k c h = absurd cc
+  class_stays (WithLane lane) k c h = absurd cc
+
+  null_stays : (v : ImmediatesValue) → MayName v → (c : ValueClass) (b : Bool) → (if b then None else class_named old.types v) ≡ Some c
+      → (if b then None else class_named after.types (renumber_immediates new v)) ≡ Some c
+  null_stays v k c true h = absurd cc
+  null_stays v k c false h = class_stays v k c h
+
+  func_given : (n : ℕ) (c : ValueClass) → may (Funcs, n) → given_by old wanted (WithIndex (index_of (In Funcs) n)) Func ≡ Some c
+      → given_by after wanted (renumber_immediates new (WithIndex (index_of (In Funcs) n))) Func ≡ Some c
+  func_given n c k h = given_below FuncClass c n old.functions (new Funcs n) after.functions (f.funcs n k) h
 
   given_stays : (b : ℕ) (v : ImmediatesValue) → IsInstr (record { opcode = Byte b; immediates = v }) → MayName v
-      → (c : Constant) → constant_byte b ≡ Some c → (t : ValType) → given_by old v c ≡ Some t → given_by after (renumber_immediates new v) c ≡ Some t
-  given_stays b v i k (Value u) e t h = h
-  given_stays b v i k Null e t h = type_stays v ∙ h
-  given_stays b v i k (Integer u) e t h = h
-  given_stays b v i k Func e t h =
+      → (o : Constant) → constant_byte b ≡ Some o → (c : ValueClass) → given_by old wanted v o ≡ Some c
+      → given_by after wanted (renumber_immediates new v) o ≡ Some c
+  given_stays b v i k (Value u) e c h = h
+  given_stays b v i k Null e c h = null_stays v k c (is_non_null wanted) h
+  given_stays b v i k (Integer u) e c h = h
+  given_stays b v i k Func e c h =
       let n = named_by (Byte b) v i (In Funcs) (func_form b (func_code b e)) in
-      subst (λ (w : ImmediatesValue). given_by after (renumber_immediates new w) Func ≡ Some t) (sym n.1)
-      (func_given n.0 t (subst MayName n.1 k).0 (subst (λ (w : ImmediatesValue). given_by old w Func ≡ Some t) n.1 h))
-  given_stays b v i k Global e t h =
+      subst (λ (w : ImmediatesValue). given_by after wanted (renumber_immediates new w) Func ≡ Some c) (sym n.1)
+      (func_given n.0 c (subst MayName n.1 k).0 (subst (λ (w : ImmediatesValue). given_by old wanted w Func ≡ Some c) n.1 h))
+  given_stays b v i k Global e c h =
       let n = named_by (Byte b) v i (In Globals) (global_form b (global_code b e)) in
-      subst (λ (w : ImmediatesValue). given_by after (renumber_immediates new w) Global ≡ Some t) (sym n.1)
-      (value_type_of old.globals after.globals n.0 (new Globals n.0) t (λ g at. f.globals n.0 g (subst MayName n.1 k).0 at) (slice_get old.globals n.0) refl
-      (subst (λ (w : ImmediatesValue). given_by old w Global ≡ Some t) n.1 h))
+      subst (λ (w : ImmediatesValue). given_by after wanted (renumber_immediates new w) Global ≡ Some c) (sym n.1)
+      (value_class_of old.globals after.globals n.0 (new Globals n.0) c (λ g at. f.globals n.0 g (subst MayName n.1 k).0 at) (slice_get old.globals n.0) refl
+      (subst (λ (w : ImmediatesValue). given_by old wanted w Global ≡ Some c) n.1 h))
 
   byte_stays : (b : ℕ) (v : ImmediatesValue) → IsInstr (record { opcode = Byte b; immediates = v }) → MayName v
-      → (t : ValType) (o : Option Constant) → constant_byte b ≡ o → (o >>= given_by old v) ≡ Some t → (o >>= given_by after (renumber_immediates new v)) ≡ Some t
-  byte_stays b v i k t None e h = absurd cc
-  byte_stays b v i k t (Some c) e h = given_stays b v i k c e t h
+      → (c : ValueClass) (o : Option Constant) → constant_byte b ≡ o → (o >>= given_by old wanted v) ≡ Some c
+      → (o >>= given_by after wanted (renumber_immediates new v)) ≡ Some c
+  byte_stays b v i k c None e h = absurd cc
+  byte_stays b v i k c (Some o) e h = given_stays b v i k o e c h
 
-  vector_stays : (v : ImmediatesValue) (t : ValType) (b : Bool)
-      → ((if b then Some (Value V128) else None) >>= given_by old v) ≡ Some t → ((if b then Some (Value V128) else None) >>= given_by after (renumber_immediates new v)) ≡ Some t
-  vector_stays v t true h = h
-  vector_stays v t false h = absurd cc
+  vector_stays : (v : ImmediatesValue) (c : ValueClass) (b : Bool)
+      → ((if b then Some (Value V128) else None) >>= given_by old wanted v) ≡ Some c
+      → ((if b then Some (Value V128) else None) >>= given_by after wanted (renumber_immediates new v)) ≡ Some c
+  vector_stays v c true h = h
+  vector_stays v c false h = absurd cc
 
-  constant_type_stays : (code : Opcode) (v : ImmediatesValue) → IsInstr (record { opcode = code; immediates = v }) → MayName v
-      → (t : ValType) → (constant_of code >>= given_by old v) ≡ Some t → (constant_of code >>= given_by after (renumber_immediates new v)) ≡ Some t
-  constant_type_stays (Byte b) v i k t h = byte_stays b v i k t (constant_byte b) refl h
-  constant_type_stays (Misc n) v i k t h = absurd cc
-  constant_type_stays (Vector n) v i k t h = vector_stays v t (n == 12) h
-  constant_type_stays (Atomic n) v i k t h = absurd cc
+  constant_class_stays : (code : Opcode) (v : ImmediatesValue) → IsInstr (record { opcode = code; immediates = v }) → MayName v
+      → (c : ValueClass) → (constant_of code >>= given_by old wanted v) ≡ Some c
+      → (constant_of code >>= given_by after wanted (renumber_immediates new v)) ≡ Some c
+  constant_class_stays (Byte b) v i k c h = byte_stays b v i k c (constant_byte b) refl h
+  constant_class_stays (Misc n) v i k c h = absurd cc
+  constant_class_stays (Vector n) v i k c h = vector_stays v c (n == 12) h
+  constant_class_stays (Atomic n) v i k c h = absurd cc
 
 pub all-left : {A : Type 0} (P : A → Type 0) (xs ys : List A) → AllByRecursion P (xs ++ ys) → AllByRecursion P xs
 all-left P [] ys h = tt
@@ -134,10 +170,11 @@ pub all-right : {A : Type 0} (P : A → Type 0) (xs ys : List A) → AllByRecurs
 all-right P [] ys h = h
 all-right P (x ∷ xs) ys h = all-right P xs ys h.1
 
--- it leaves one value of its type, where what it may name follows
+-- it leaves one value that fits its type, where what it may name follows
 pub leaves_stays : {old : InitScope} {t : ValType} {is : List InstrValue} (may : ItemIndex → Type 0) (after : InitScope) (new : Renumbering) → Follows may old after new → LeavesOne old t is
     → AllByRecursion (NamesOnly may) is → LeavesOne after t (renumber_code new is)
-leaves_stays {old} {t} may after new f (alone i e) k = alone (renumber_instr new i) (constant_type_stays may old after new f i.opcode i.immediates k.0.1 k.0.0 t e)
+leaves_stays {old} {t} may after new f (alone i e) k = alone (renumber_instr new i)
+    (constant_class_stays may old after new f t i.opcode i.immediates k.0.1 k.0.0 (class_of t) e)
 leaves_stays {old} {t} may after new f (joined xs ys i e a b) k =
     subst (λ (z : List InstrValue). LeavesOne after t z) (sym (map-append (renumber_instr new) xs (ys ++ (i ∷ [])) ∙ ap (λ (z : List InstrValue). renumber_code new xs ++ z) (map-append (renumber_instr new) ys (i ∷ []))))
     (joined (renumber_code new xs) (renumber_code new ys) (renumber_instr new i) e

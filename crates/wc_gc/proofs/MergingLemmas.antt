@@ -1,5 +1,5 @@
 -- Ranges to which others are added.
-use Rattle.std.proofs.Common.{◌≡◌, ℕ, zero, suc, ◌+◌, ◌-◌, ◌<◌, ◌≤◌, List, [], ◌∷◌, ◌++◌, length, get_or, set, take, max, refl, sym, ◌∙◌, ap, Bool, true, false, ◌&&◌, ◌||◌, nat_le, nat_lt, nat_eq, Some, slice_get, arith}
+use Rattle.std.proofs.Common.{◌≡◌, ℕ, zero, suc, ◌+◌, ◌-◌, ◌<◌, ◌≤◌, List, [], ◌∷◌, ◌++◌, length, get_or, set, take, max, refl, sym, ◌∙◌, ap, Bool, true, false, ◌||◌, nat_lt, nat_eq, Some, slice_get, arith}
 use Rattle.std.proofs.lemmas.Bool.Decides.{nat_tests}
 use Rattle.std.proofs.lemmas.Option.{get_or_from_slice_get}
 use Rattle.std.proofs.Math.Seq.{take-length}

@@ -5,7 +5,7 @@ use Rattle.std.proofs.lemmas.Bool.{ltb-false}
 use Rattle.std.specs.Prelude.{IsTrue, nat_lt, Contains, All, ◌↔◌, Result, Ok, Err, OnOk}
 use Rattle.std.proofs.lemmas.List.{take_more, take_all, get_or_append_left}
 use Rattle.std.proofs.lemmas.List.Elements.{filter-append, filter_passes, All-contains, Contains-get_or}
-use Rattle.std.specs.List.{slice_get}
+use Rattle.std.specs.List.{slice_get, cons_option, list_all}
 use Rattle.std.specs.Borrow.{Bor}
 use Rattle.std.proofs.lemmas.Option.{slice_get-map, slice_get_past}
 use Rattle.wc_read.specs.Decoding.{body_in, init_in}
@@ -13,8 +13,9 @@ use Rattle.wc_read.specs.Items.{func_value, global_value}
 use Rattle.wc_read.specs.declared.core_module.Module.{Module}
 use Rattle.wc_read.specs.declared.items.Item.{Item}
 use Rattle.wc_read.specs.declared.types.GlobalType.{GlobalType}
+use Rattle.wc_read.specs.declared.types.ValType.{ValType}
 use Rattle.wc_read.specs.declared.operators.Space.{Space}
-use Rattle.wc_read.specs.declared.operators.Space.TheVariants.{Funcs, Globals, Memories}
+use Rattle.wc_read.specs.declared.operators.Space.TheVariants.{Types, Funcs, Globals, Memories}
 use Rattle.wc_write.specs.BuiltValues.{item_seen}
 use Rattle.std.specs.Option.{option_map, option_map_or, option_to_list}
 use Rattle.std.proofs.lemmas.List.Folds.{list_all-append}
@@ -22,7 +23,8 @@ use Rattle.std.proofs.lemmas.Grind.{flat_map-append}
 use Rattle.wc_read.specs.Operators.{InstrValue, instr_value, instr_values}
 use Rattle.wc_read.specs.Bodies.{BodyValue}
 use Rattle.wc_read.specs.Decoding.{body_operators}
-use Rattle.wc_read.specs.Refs.{refs_of}
+use Rattle.wc_read.specs.Refs.{refs_of, type_reference, type_refs_of}
+use Rattle.wc_read.specs.Types.{type_index, type_indices}
 use Rattle.wc_read.specs.Passing.{ArePassable, IsPassable, IsPassableCode, run_and_left}
 use Rattle.wc_read.specs.declared.operators.Refs.{Refs}
 use Rattle.wc_read.specs.declared.operators.Instr.{Instr}
@@ -34,7 +36,7 @@ use Rattle.wc_gc.specs.Soundness.{is_sound, is_sound_code, is_sound_body, is_sou
 use Rattle.wc_gc.specs.Liveness.{IsCount}
 use Rattle.wc_gc.specs.Searches.{Finds, IsKnownCode, finds}
 use Rattle.wc_gc.specs.declared.search.Search.{Search}
-use Rattle.wc_gc.specs.Entries.{present, refs_list, instr_refs, code_refs, init_refs, body_refs}
+use Rattle.wc_gc.specs.Entries.{present, refs_list, type_items, val_type_refs, instr_refs, code_refs, init_refs, body_refs}
 use Rattle.wc_gc.proofs.SearchLemmas.{IsSearched, grown_none, grown_old, items_decided, only_if_tied, search_start, search_turn, search_end, false_true}
 
 -- what was found, of which so many were passed and are sound
@@ -143,10 +145,45 @@ finds_more has a b c xs ys p q = only_if_tied _ _ _ _ _ _ xs ys p q
 pub finds_present : {L : Type 0} (has : L → ℕ → Bool) (m : DecodedModule) (a b c : Search L) (xs ys : List ItemIndex) → Finds has a b (present m xs) → Finds has b c (present m ys) → Finds has a c (present m (xs ++ ys))
 finds_present has m a b c xs ys p q = subst (Finds has a c) (sym (filter-append (is_in m) xs ys)) (finds_more has a b c (present m xs) (present m ys) p q)
 
--- those of two references
-pub finds_two : {L : Type 0} (has : L → ℕ → Bool) (m : DecodedModule) (a b c : Search L) (r : Refs) (i : InstrValue) → r ≡ refs_of i.immediates
-    → Finds has a b (present m (option_to_list r.first)) → Finds has b c (present m (option_to_list r.second)) → Finds has a c (present m (instr_refs i))
-finds_two has m a b c r i e p q = subst (λ (z : Refs). Finds has a c (present m (refs_list z))) e (finds_present has m a b c (option_to_list r.first) (option_to_list r.second) p q)
+-- those of an operator: the types of a `select`, and its references
+pub finds_named : {L : Type 0} (has : L → ℕ → Bool) (m : DecodedModule) (a b c : Search L) (r : Refs) (i : InstrValue) → r ≡ refs_of i.immediates
+    → Finds has a b (present m (type_items (type_refs_of i.immediates))) → Finds has b c (present m (refs_list r)) → Finds has a c (present m (instr_refs i))
+finds_named has m a b c r i e p q =
+    subst (λ (z : Refs). Finds has a c (present m (type_items (type_refs_of i.immediates) ++ refs_list z))) e
+    (finds_present has m a b c (type_items (type_refs_of i.immediates)) (refs_list r) p q)
+
+-- the types that value types name, one value type more
+
+types_first : (o : Option ℕ) (ns : List ℕ) → type_items (cons_option o ns) ≡ option_to_list (option_map (λ n. (Types, n)) o) ++ type_items ns
+types_first None ns = refl
+types_first (Some n) ns = refl
+
+types_push : (ts : List ValType) (t : ValType) → val_type_refs (ts ++ t ∷ []) ≡ val_type_refs ts ++ option_to_list (type_reference t)
+types_push [] t = types_first (type_index t) [] ∙ append-nil (option_to_list (type_reference t))
+types_push (u ∷ ts) t =
+    types_first (type_index u) (type_indices (ts ++ t ∷ []))
+    ∙ (ap (λ (z : List ItemIndex). option_to_list (type_reference u) ++ z) (types_push ts t)
+    ∙ (sym (append_assoc (option_to_list (type_reference u)) (val_type_refs ts) (option_to_list (type_reference t)))
+    ∙ ap (λ (z : List ItemIndex). z ++ option_to_list (type_reference t)) (sym (types_first (type_index u) (type_indices ts)))))
+
+-- those of the first of some value types were found, and whether the adapter has them all
+pub record AreTypesFound {L : Type 0} (has : L → ℕ → Bool) (m : DecodedModule) (ts : List ValType) (a b : Search L) (there : Bool) : Type 0 where
+  pub found : Finds has a b (present m (val_type_refs ts))
+  pub all : there ≡ list_all (is_in m) (val_type_refs ts)
+
+pub types_more : {L : Type 0} (has : L → ℕ → Bool) (m : DecodedModule) (ts : List ValType) (i : ℕ) (d : ValType) (a b c : Search L) (there now : Bool)
+    → i < length ts → AreTypesFound has m (take i ts) a b there
+    → Finds has b c (present m (option_to_list (type_reference (get_or ts i d))))
+    → now ≡ list_all (is_in m) (option_to_list (type_reference (get_or ts i d))) → AreTypesFound has m (take (i + 1) ts) a c (there && now)
+types_more has m ts i d a b c there now h s f k =
+    let t = get_or ts i d in
+    let refs = ap val_type_refs (take_more ts i d h) ∙ types_push (take i ts) t in
+    record {
+      found = subst (λ (z : List ItemIndex). Finds has a c (present m z)) (sym refs)
+          (finds_present has m a b c (val_type_refs (take i ts)) (option_to_list (type_reference t)) s.found f);
+      all = ap (λ (x : Bool). x && now) s.all ∙ (ap (λ (x : Bool). list_all (is_in m) (val_type_refs (take i ts)) && x) k
+          ∙ sym (ap (list_all (is_in m)) refs ∙ list_all-append (is_in m) (val_type_refs (take i ts)) (option_to_list (type_reference t))));
+    }
 
 -- operators that were gone through
 
@@ -193,20 +230,20 @@ finds_old : {L : Type 0} (has : L → ℕ → Bool) (a : Search L) (x : ItemInde
 finds_old has a x old = grown_old items_decided (finds has a) (finds has a) a.order.items x old (record { present = old; others = λ y new. refl })
 
 finds_passable : {L : Type 0} (has : L → ℕ → Bool) (m : DecodedModule) (a : Search L) (memory : Bool) (i : InstrValue) → (memory ≡ true → (finds has a (Memories, 0) ≡ true) × (is_in m (Memories, 0) ≡ true))
-    → ArePassable memory (refs_of i.immediates) → Finds has a a (present m (instr_refs i))
-finds_passable has m a memory i known (inl e) = rw e (finds_none has a)
-finds_passable has m a memory i known (inr (may, e)) = let k = known may in rw (e, k.1) (finds_old has a (Memories, 0) k.0)
+    → ArePassable memory (refs_of i.immediates) → type_refs_of i.immediates ≡ [] → Finds has a a (present m (instr_refs i))
+finds_passable has m a memory i known (inl e) types = rw (types, e) (finds_none has a)
+finds_passable has m a memory i known (inr (may, e)) types = let k = known may in rw (types, e, k.1) (finds_old has a (Memories, 0) k.0)
 
 sound_passable : (m : DecodedModule) (memory : Bool) (i : InstrValue) → (memory ≡ true → is_in m (Memories, 0) ≡ true) → IsPassable memory i → is_sound m i ≡ true
-sound_passable m memory i known (inl e, segment) = rw (e, segment) refl
-sound_passable m memory i known (inr (may, e), segment) = rw (e, known may, segment) refl
+sound_passable m memory i known (inl e, segment, types) = rw (types, e, segment) refl
+sound_passable m memory i known (inr (may, e), segment, types) = rw (types, e, known may, segment) refl
 
 pub known_code : {L : Type 0} (has : L → ℕ → Bool) (m : DecodedModule) (a : Search L) (memory : Bool) (is : List InstrValue) → (memory ≡ true → (finds has a (Memories, 0) ≡ true) × (is_in m (Memories, 0) ≡ true))
     → IsPassableCode memory is → IsKnownCode has m a is
 known_code has m a memory [] known n = (finds_none has a, refl)
 known_code has m a memory (i ∷ is) known n =
     let rest = known_code has m a memory is known n.1 in (
-      finds_present has m a a a (instr_refs i) (code_refs is) (finds_passable has m a memory i known n.0.0) rest.0,
+      finds_present has m a a a (instr_refs i) (code_refs is) (finds_passable has m a memory i known n.0.0 n.0.2) rest.0,
       rw (sound_passable m memory i (λ may. (known may).1) n.0, rest.1) refl,
     )
 

@@ -33,7 +33,7 @@ use Rattle.wc_gc.specs.Found.{FoundValue, found_in}
 use Rattle.wc_gc.specs.Image.{new_export, new_func, rank}
 use Rattle.wc_gc.specs.KeptExports.{dropped_names, export_names, is_required, kept_exports, without}
 use Rattle.wc_gc.specs.Parts.{SettingsValue, parts_of}
-use Rattle.wc_gc.specs.Restriction.{IsNewExport, IsOldExport, export_type, func_item, global_item, memory_item, table_item}
+use Rattle.wc_gc.specs.Restriction.{IsNewExport, IsOldExport, export_type, func_item, global_item, memory_item, table_item, without_indices}
 use Rattle.wc_gc.specs.declared.parts.Parts.{Parts}
 use Rattle.wc_gc.proofs.BuiltImageLemmas.{func_at, kept_in}
 use Rattle.wc_gc.proofs.BuiltPartLemmas.{all_at, global_written}
@@ -219,12 +219,12 @@ module _ (bytes : List ℕ) (required : List (List ℕ)) (v : ModuleValue) (live
     where
       each : (e : ExportValue) → Contains exports e → IsOldExport v trimmed (new_export ranks e)
       each e c =
-          (e, All-contains (Contains v.exports) exports e (all_kept (Contains v.exports) required v.exports (All-contains_itself v.exports)) c, record { name = refl; kind = refl; ty = kept_same e c })
+          (e, All-contains (Contains v.exports) exports e (all_kept (Contains v.exports) required v.exports (All-contains_itself v.exports)) c, record { name = refl; kind = refl; ty = ap (option_map without_indices) (kept_same e c) })
 
   pub new_exports : (x : ExportValue) → Contains v.exports x → Contains required x.name → IsNewExport v trimmed x
   new_exports x c h =
       let kept = required_there required v.exports x c h in
-      (new_export ranks x, contains_mapped (new_export ranks) exports x kept, record { name = refl; kind = refl; ty = kept_same x kept })
+      (new_export ranks x, contains_mapped (new_export ranks) exports x kept, record { name = refl; kind = refl; ty = ap (option_map without_indices) (kept_same x kept) })
 
   pub new_export_names : All (λ y. Contains required y.name) trimmed.exports
   new_export_names =

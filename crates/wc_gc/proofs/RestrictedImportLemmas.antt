@@ -2,7 +2,7 @@
 use Rattle.std.proofs.Common.{◌≡◌, ℕ, ◌+◌, ◌<◌, List, [], ◌∷◌, map, refl, sym, ◌∙◌, ap, subst, Bool, true, false, cond, Option, Some, None, arith}
 use Rattle.std.specs.Prelude.{AllPairs, Contains, IfSome, is_some}
 use Rattle.std.specs.List.{AllByRecursion, AllZip, filter_map, slice_get, zip}
-use Rattle.std.specs.Option.{option_map_or}
+use Rattle.std.specs.Option.{option_map, option_map_or}
 use Rattle.std.proofs.lemmas.Bool.{false≢true}
 use Rattle.wc_read.specs.Imports.{ImportValue}
 use Rattle.wc_read.specs.Items.{DefValue, imported, local, ItemValue, FuncValue, GlobalValue}
@@ -18,7 +18,7 @@ use Rattle.wc_write.specs.Values.{AreBytes}
 use Rattle.wc_gc.specs.Causes.{DecidesLive}
 use Rattle.wc_gc.specs.Decoded.{ItemIndex}
 use Rattle.wc_gc.specs.Parts.{SettingsValue}
-use Rattle.wc_gc.specs.Restriction.{HasOrigin, IsKeptImport, SameImport, import_type, is_in_space, is_realloc_item, positions_from}
+use Rattle.wc_gc.specs.Restriction.{HasOrigin, IsKeptImport, SameImport, import_type, is_in_space, is_realloc_item, positions_from, without_indices}
 use Rattle.wc_gc.proofs.BuiltImageLemmas.{kept_in}
 use Rattle.wc_gc.proofs.ImportOriginLemmas.{HasSpace, IsFrom, from_at, imported_item_at, kept_pairs, kept_there, kept_zip, origins_of, rising}
 use Rattle.wc_gc.proofs.KeptItemLemmas.{kept_is}
@@ -164,7 +164,7 @@ module _ (bytes : List ℕ) (required : List (List ℕ)) (v : ModuleValue) (live
     import_from ty i e types =
         let made : ImportValue = record { module_name = r.value.module_name; name = r.value.name; ty = ty } in
         let is : made ≡ i = (let one = sym (ap (import_by ty) r.def) ∙ e in cc one) in
-        subst (SameImport v new_module r.value) is (record { from = refl; name = refl; ty = ap (import_type v.types) (back r.value.ty x.ty r.ty) ∙ types })
+        subst (SameImport v new_module r.value) is (record { from = refl; name = refl; ty = ap (option_map without_indices) (ap (import_type v.types) (back r.value.ty x.ty r.ty) ∙ types) })
 
     pub origin_from : (ty : ImportType) (i : ImportValue) → import_by ty x.def ≡ Some i → import_type v.types (kind x.ty) ≡ import_type new_module.types ty → live (space, n) ≡ true → is_realloc_item v (space, n) ≡ false
         → HasOriginIn space (slice_get (positions_from space 0 v.imports) n) i

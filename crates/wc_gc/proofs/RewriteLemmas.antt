@@ -1,12 +1,12 @@
 -- A body written under new indices, operator by operator.
-use Rattle.std.proofs.Common.{◌≡◌, ◌⊎◌, inl, inr, ℕ, List, [], ◌∷◌, ◌++◌, refl, sym, ◌∙◌, ap, Bool, true, Option, Some, None, append_assoc, append-nil}
+use Rattle.std.proofs.Common.{◌≡◌, ◌⊎◌, inl, inr, ℕ, List, [], ◌∷◌, ◌++◌, map, refl, sym, ◌∙◌, ap, Bool, true, Option, Some, None, append_assoc, append-nil}
 use Rattle.std.specs.Prelude.{is_some, Result, Ok, Err, IfOk}
-use Rattle.std.specs.List.{flat_map}
+use Rattle.std.specs.List.{cons_option, flat_map}
 use Rattle.std.specs.Option.{option_map}
 use Rattle.std.proofs.lemmas.Grind.{flat_map-append}
 use Rattle.std.proofs.lemmas.List.{map-append}
 use Rattle.wc_read.specs.Operators.{InstrValue, ImmediatesValue, WithNone, WithBlock, WithIndex, WithIndices, WithLabels, WithValTypes, WithRefType, WithMemArg, WithMemArgLane, WithI32, WithI64, WithBytes, WithLane, index_of}
-use Rattle.wc_read.specs.Refs.{refs_of, one_ref, two_refs, reference, in_space}
+use Rattle.wc_read.specs.Refs.{refs_of, one_ref, two_refs, reference, in_space, type_reference, type_refs_of}
 use Rattle.wc_read.specs.Reading.Operators.{instr_of}
 use Rattle.wc_read.specs.Passing.{ArePassable, IsPassableCode, IsRunText, run_and_left}
 use Rattle.wc_read.specs.declared.operators.Space.{Space}
@@ -19,7 +19,10 @@ use Rattle.wc_read.specs.declared.operators.Refs.{Refs}
 use Rattle.wc_read.specs.declared.operators.BlockType.TheVariants.{Empty, Value, FuncType}
 use Rattle.wc_read.specs.Bodies.{BodyValue}
 use Rattle.wc_read.specs.Decoding.{body_of}
-use Rattle.wc_read.specs.Renumbering.{Renumbering, renumber, renumber_index, renumber_mem_arg, renumber_immediates, renumber_instr}
+use Rattle.wc_read.specs.Renumbering.{Renumbering, renumber, renumber_index, renumber_mem_arg, renumber_immediates, renumber_instr, renumber_val_type}
+use Rattle.wc_read.specs.Types.{type_index, type_indices}
+use Rattle.wc_read.specs.declared.types.ValType.{ValType}
+use Rattle.wc_read.specs.declared.types.ValType.TheVariants.{I32, I64, F32, F64, V128, FuncRef, ExternRef, FuncRefNonNull, ExternRefNonNull, TypeRef}
 use Rattle.wc_read.specs.declared.bodies.Locals.{Locals}
 use Rattle.wc_write.specs.Text.{vector_text}
 use Rattle.wc_write.specs.OperatorText.{instr_text}
@@ -81,24 +84,54 @@ no_two : (a b : Option (Space × ℕ)) → two_refs a b ≡ one_ref None → (a 
 no_two None b e = (refl, ap (λ (r : Refs). r.first) e)
 no_two (Some a) b e = let h : ◌≡◌ {A = Option (Space × ℕ)} (Some a) None = ap (λ (r : Refs). r.first) e in absurd cc
 
-same_immediates : (new : Renumbering) (v : ImmediatesValue) → refs_of v ≡ one_ref None → renumber_immediates new v ≡ v
-same_immediates new WithNone e = refl
-same_immediates new (WithBlock Empty) e = refl
-same_immediates new (WithBlock (Value t)) e = refl
-same_immediates new (WithBlock (FuncType n)) e = let h : ◌≡◌ {A = Option (Space × ℕ)} (Some (Types, n)) None = ap (λ (r : Refs). r.first) e in absurd cc
-same_immediates new (WithIndex i) e = ap WithIndex (same_index new i (ap (λ (r : Refs). r.first) e))
-same_immediates new (WithIndices i j) e =
+same_type : (new : Renumbering) (t : ValType) → type_index t ≡ None → renumber_val_type new t ≡ t
+same_type new I32 e = refl
+same_type new I64 e = refl
+same_type new F32 e = refl
+same_type new F64 e = refl
+same_type new V128 e = refl
+same_type new FuncRef e = refl
+same_type new ExternRef e = refl
+same_type new FuncRefNonNull e = refl
+same_type new ExternRefNonNull e = refl
+same_type new (TypeRef nullable index) e = absurd cc
+
+no_first : (o : Option ℕ) (ns : List ℕ) → cons_option o ns ≡ [] → (o ≡ None) × (ns ≡ [])
+no_first None ns e = (refl, e)
+no_first (Some n) ns e = absurd cc
+
+same_types : (new : Renumbering) (ts : List ValType) → type_indices ts ≡ [] → map (renumber_val_type new) ts ≡ ts
+same_types new [] e = refl
+same_types new (t ∷ ts) e =
+    let p = no_first (type_index t) (type_indices ts) e in
+    ap (λ u. u ∷ map (renumber_val_type new) ts) (same_type new t p.0) ∙ ap (λ us. t ∷ us) (same_types new ts p.1)
+
+no_type : (o : Option ℕ) → ◌≡◌ {A = Option (Space × ℕ)} (option_map (λ n. (Types, n)) o) None → o ≡ None
+no_type None e = refl
+no_type (Some n) e = absurd cc
+
+same_named : (new : Renumbering) (t : ValType) → one_ref (type_reference t) ≡ one_ref None → renumber_val_type new t ≡ t
+same_named new t e = same_type new t (no_type (type_index t) (ap (λ (r : Refs). r.first) e))
+
+same_immediates : (new : Renumbering) (v : ImmediatesValue) → refs_of v ≡ one_ref None → type_refs_of v ≡ [] → renumber_immediates new v ≡ v
+same_immediates new WithNone e n = refl
+same_immediates new (WithBlock Empty) e n = refl
+same_immediates new (WithBlock (Value t)) e n = ap (λ u. WithBlock (Value u)) (same_named new t e)
+same_immediates new (WithBlock (FuncType k)) e n = let h : ◌≡◌ {A = Option (Space × ℕ)} (Some (Types, k)) None = ap (λ (r : Refs). r.first) e in absurd cc
+same_immediates new (WithIndex i) e n = ap WithIndex (same_index new i (ap (λ (r : Refs). r.first) e))
+same_immediates new (WithIndices i j) e n =
     let p = no_two (reference i) (reference j) e in
     ap (λ (k : Index). WithIndices k (renumber_index new j)) (same_index new i p.0) ∙ ap (λ (k : Index). WithIndices i k) (same_index new j p.1)
-same_immediates new (WithLabels ls d) e = refl
-same_immediates new (WithValTypes ts) e = refl
-same_immediates new (WithRefType t) e = refl
-same_immediates new (WithMemArg m) e = let h : ◌≡◌ {A = Option (Space × ℕ)} (Some (Memories, m.memory)) None = ap (λ (r : Refs). r.first) e in absurd cc
-same_immediates new (WithMemArgLane m lane) e = let h : ◌≡◌ {A = Option (Space × ℕ)} (Some (Memories, m.memory)) None = ap (λ (r : Refs). r.first) e in absurd cc
-same_immediates new (WithI32 n) e = refl
-same_immediates new (WithI64 n) e = refl
-same_immediates new (WithBytes bytes) e = refl
-same_immediates new (WithLane lane) e = refl
+same_immediates new (WithLabels ls d) e n = refl
+same_immediates new (WithValTypes ts) e n = ap WithValTypes (same_types new ts n)
+same_immediates new (WithRefType t) e n = ap WithRefType (same_named new t e)
+same_immediates new (WithMemArg m) e n = let h : ◌≡◌ {A = Option (Space × ℕ)} (Some (Memories, m.memory)) None = ap (λ (r : Refs). r.first) e in absurd cc
+same_immediates new (WithMemArgLane m lane) e n = let h : ◌≡◌ {A = Option (Space × ℕ)} (Some (Memories, m.memory)) None = ap (λ (r : Refs). r.first) e in
+    absurd cc
+same_immediates new (WithI32 k) e n = refl
+same_immediates new (WithI64 k) e n = refl
+same_immediates new (WithBytes bytes) e n = refl
+same_immediates new (WithLane lane) e n = refl
 
 -- so are those that name memory 0 alone, where it is memory 0 still
 
@@ -123,6 +156,10 @@ one_memory : (a b : Option (Space × ℕ)) → two_refs a b ≡ one_ref (Some (M
 one_memory None b e = inl (refl, ap (λ (r : Refs). r.first) e)
 one_memory (Some a) b e = inr (ap (λ (r : Refs). r.first) e, ap (λ (r : Refs). r.second) e)
 
+named_memory : {P : Type 0} (o : Option ℕ) → ◌≡◌ {A = Option (Space × ℕ)} (option_map (λ n. (Types, n)) o) (Some (Memories, 0)) → P
+named_memory None e = absurd cc
+named_memory (Some n) e = let h : Types ≡ Memories = ap (λ (x : Space × ℕ). x.0) (some_item (Types, n) (Memories, 0) e) in absurd cc
+
 no_memory : {P : Type 0} → ◌≡◌ {A = Option (Space × ℕ)} None (Some (Memories, 0)) → P
 no_memory e = absurd cc
 
@@ -135,7 +172,7 @@ memory_is m e = ap (λ (x : Space × ℕ). x.1) (some_item (Memories, m.memory) 
 kept_immediates : (new : Renumbering) (v : ImmediatesValue) → new Memories 0 ≡ 0 → refs_of v ≡ one_ref (Some (Memories, 0)) → renumber_immediates new v ≡ v
 kept_immediates new WithNone zero e = no_memory (ap (λ (r : Refs). r.first) e)
 kept_immediates new (WithBlock Empty) zero e = no_memory (ap (λ (r : Refs). r.first) e)
-kept_immediates new (WithBlock (Value t)) zero e = no_memory (ap (λ (r : Refs). r.first) e)
+kept_immediates new (WithBlock (Value t)) zero e = named_memory (type_index t) (ap (λ (r : Refs). r.first) e)
 kept_immediates new (WithBlock (FuncType n)) zero e = let h : Types ≡ Memories = ap (λ (x : Space × ℕ). x.0) (some_item (Types, n) (Memories, 0) (ap (λ (r : Refs). r.first) e)) in absurd cc
 kept_immediates new (WithIndex i) zero e = ap WithIndex (kept_index new i zero (ap (λ (r : Refs). r.first) e))
 kept_immediates new (WithIndices i j) zero e =
@@ -145,7 +182,7 @@ kept_immediates new (WithIndices i j) zero e =
     ]
 kept_immediates new (WithLabels ls d) zero e = no_memory (ap (λ (r : Refs). r.first) e)
 kept_immediates new (WithValTypes ts) zero e = no_memory (ap (λ (r : Refs). r.first) e)
-kept_immediates new (WithRefType t) zero e = no_memory (ap (λ (r : Refs). r.first) e)
+kept_immediates new (WithRefType t) zero e = named_memory (type_index t) (ap (λ (r : Refs). r.first) e)
 kept_immediates new (WithMemArg m) zero e = ap WithMemArg (kept_mem_arg new m zero (memory_is m e))
 kept_immediates new (WithMemArgLane m lane) zero e = ap (λ (k : MemArg). WithMemArgLane k lane) (kept_mem_arg new m zero (memory_is m e))
 kept_immediates new (WithI32 n) zero e = no_memory (ap (λ (r : Refs). r.first) e)
@@ -153,14 +190,16 @@ kept_immediates new (WithI64 n) zero e = no_memory (ap (λ (r : Refs). r.first) 
 kept_immediates new (WithBytes bytes) zero e = no_memory (ap (λ (r : Refs). r.first) e)
 kept_immediates new (WithLane lane) zero e = no_memory (ap (λ (r : Refs). r.first) e)
 
-passable_immediates : (new : Renumbering) (memory : Bool) (v : ImmediatesValue) → new Memories 0 ≡ 0 → ArePassable memory (refs_of v) → renumber_immediates new v ≡ v
-passable_immediates new memory v zero (inl e) = same_immediates new v e
-passable_immediates new memory v zero (inr e) = kept_immediates new v zero e.1
+passable_immediates : (new : Renumbering) (memory : Bool) (v : ImmediatesValue) → new Memories 0 ≡ 0 → ArePassable memory (refs_of v) → type_refs_of v ≡ []
+    → renumber_immediates new v ≡ v
+passable_immediates new memory v zero (inl e) n = same_immediates new v e n
+passable_immediates new memory v zero (inr e) n = kept_immediates new v zero e.1
 
 same_code : (new : Renumbering) (memory : Bool) (is : List InstrValue) → new Memories 0 ≡ 0 → IsPassableCode memory is → renumber_code new is ≡ is
 same_code new memory [] zero n = refl
 same_code new memory (i ∷ is) zero n =
-    ap (λ (v : ImmediatesValue). instr_of i.opcode v ∷ renumber_code new is) (passable_immediates new memory i.immediates zero n.0.0) ∙ ap (λ (z : List InstrValue). i ∷ z) (same_code new memory is zero n.1)
+    ap (λ (v : ImmediatesValue). instr_of i.opcode v ∷ renumber_code new is) (passable_immediates new memory i.immediates zero n.0.0 n.0.2)
+    ∙ ap (λ (z : List InstrValue). i ∷ z) (same_code new memory is zero n.1)
 
 -- memory 0 is memory 0 under the new indices of live items
 pub first_memory : (n : NewIndices) → new_of n Memories 0 ≡ 0

@@ -1,12 +1,12 @@
 -- Code that can be spelled can be under new indices.
-use Rattle.std.proofs.Common.{◌≡◌, ℕ, ◌<◌, ◌^◌, List, [], ◌∷◌, ◌++◌, sym, ◌∙◌, ap, subst, Bool, refl, arith}
+use Rattle.std.proofs.Common.{◌≡◌, ℕ, ◌<◌, ◌^◌, List, [], ◌∷◌, ◌++◌, map, sym, ◌∙◌, ap, subst, Bool, refl, arith}
 use Rattle.std.specs.Prelude.{All}
 use Rattle.std.proofs.lemmas.List.Elements.{All-map, All-weaker}
 use Rattle.wc_read.specs.Operators.{ImmediatesValue, InstrValue}
 use Rattle.wc_read.specs.Nesting.{tokens, instr_token, IsExpression}
 use Rattle.wc_read.specs.Bodies.{BodyValue}
 use Rattle.wc_read.specs.Inits.{AreConstant, end_value}
-use Rattle.wc_read.specs.Renumbering.{Renumbering, renumber, renumber_block, renumber_immediates, renumber_instr, renumber_mem_arg}
+use Rattle.wc_read.specs.Renumbering.{Renumbering, renumber, renumber_block, renumber_immediates, renumber_instr, renumber_mem_arg, renumber_val_type}
 use Rattle.wc_read.specs.declared.operators.Space.TheVariants.{Types, Memories}
 use Rattle.wc_read.specs.declared.operators.IndexKind.{IndexKind}
 use Rattle.wc_read.specs.declared.operators.IndexKind.TheVariants.{In, Elem, Data, Local, Label}
@@ -14,7 +14,9 @@ use Rattle.wc_read.specs.declared.operators.BlockType.{BlockType}
 use Rattle.wc_read.specs.declared.operators.BlockType.TheVariants.{Empty, Value, FuncType}
 use Rattle.wc_read.specs.declared.operators.Form.{Form}
 use Rattle.wc_read.specs.declared.operators.Form.TheVariants.{None as form_none, Block as form_block, Index as form_index, Indices as form_indices, Labels as form_labels, ValTypes as form_val_types, RefType as form_ref_type, MemArg as form_mem_arg, MemArgLane as form_mem_arg_lane, I32 as form_i32, I64 as form_i64, Bytes as form_bytes, Lane as form_lane, Zero as form_zero}
-use Rattle.wc_write.specs.Values.{HasForm, IsBlockType, IsInstr, IsBody}
+use Rattle.wc_read.specs.declared.types.ValType.{ValType}
+use Rattle.wc_read.specs.declared.types.ValType.TheVariants.{I32, I64, F32, F64, V128, FuncRef, ExternRef, FuncRefNonNull, ExternRefNonNull, TypeRef}
+use Rattle.wc_write.specs.Values.{HasForm, IsBlockType, IsInstr, IsBody, IsNullType, IsValType}
 use Rattle.wc_write.specs.BuiltValues.{IsInitialiser}
 use Rattle.wc_gc.specs.Decoded.{ItemIndex}
 use Rattle.wc_gc.specs.Image.{rank, renumber_body, renumber_code}
@@ -33,9 +35,36 @@ module _ (new : Renumbering) (keeps : KeepsBits new) where
   index_fits Local n h = h
   index_fits Label n h = h
 
+  val_type_fits : (t : ValType) → IsValType t → IsValType (renumber_val_type new t)
+  val_type_fits I32 h = h
+  val_type_fits I64 h = h
+  val_type_fits F32 h = h
+  val_type_fits F64 h = h
+  val_type_fits V128 h = h
+  val_type_fits FuncRef h = h
+  val_type_fits ExternRef h = h
+  val_type_fits FuncRefNonNull h = h
+  val_type_fits ExternRefNonNull h = h
+  val_type_fits (TypeRef nullable index) h = h
+
+  val_types_fit : (ts : List ValType) → All IsValType ts → All IsValType (map (renumber_val_type new) ts)
+  val_types_fit ts h = All-map IsValType (renumber_val_type new) ts (All-weaker IsValType (λ t. IsValType (renumber_val_type new t)) val_type_fits ts h)
+
+  null_type_fits : (t : ValType) → IsNullType t → IsNullType (renumber_val_type new t)
+  null_type_fits I32 h = h
+  null_type_fits I64 h = h
+  null_type_fits F32 h = h
+  null_type_fits F64 h = h
+  null_type_fits V128 h = h
+  null_type_fits FuncRef h = h
+  null_type_fits ExternRef h = h
+  null_type_fits FuncRefNonNull h = h
+  null_type_fits ExternRefNonNull h = h
+  null_type_fits (TypeRef nullable index) h = (h.0, val_type_fits (TypeRef nullable index) h.1)
+
   block_fits : (t : BlockType) → IsBlockType t → IsBlockType (renumber_block new t)
   block_fits Empty h = h
-  block_fits (Value t) h = h
+  block_fits (Value t) h = val_type_fits t h
   block_fits (FuncType n) h = keeps Types n h
 
   form_stays : (form : Form) (v : ImmediatesValue) → HasForm form v → HasForm form (renumber_immediates new v)
@@ -44,8 +73,8 @@ module _ (new : Renumbering) (keeps : KeepsBits new) where
   form_stays (form_index kind) v h = (renumber new kind h.0, ap (renumber_immediates new) h.1, index_fits kind h.0 h.2)
   form_stays (form_indices a b) v h = (renumber new a h.0, renumber new b h.1, ap (renumber_immediates new) h.2, index_fits a h.0 h.3, index_fits b h.1 h.4)
   form_stays form_labels v h = (h.0, h.1, ap (renumber_immediates new) h.2, h.3, h.4)
-  form_stays form_val_types v h = (h.0, ap (renumber_immediates new) h.1)
-  form_stays form_ref_type v h = (h.0, ap (renumber_immediates new) h.1, h.2)
+  form_stays form_val_types v h = (map (renumber_val_type new) h.0, ap (renumber_immediates new) h.1, val_types_fit h.0 h.2)
+  form_stays form_ref_type v h = (renumber_val_type new h.0, ap (renumber_immediates new) h.1, null_type_fits h.0 h.2)
   form_stays form_mem_arg v h = (renumber_mem_arg new h.0, ap (renumber_immediates new) h.1, record { aligned = h.2.aligned; memory_fits = keeps Memories h.0.memory h.2.memory_fits; offset_fits = h.2.offset_fits })
   form_stays form_mem_arg_lane v h = (renumber_mem_arg new h.0, h.1, ap (renumber_immediates new) h.2, record { aligned = h.3.aligned; memory_fits = keeps Memories h.0.memory h.3.memory_fits; offset_fits = h.3.offset_fits }, h.4)
   form_stays form_i32 v h = (h.0, ap (renumber_immediates new) h.1, h.2)
@@ -67,6 +96,7 @@ module _ (new : Renumbering) (keeps : KeepsBits new) where
   pub body_stays : (b : BodyValue) → IsBody b → IsBody (renumber_body new b)
   body_stays b h = record {
     few_locals = h.few_locals;
+    has_locals = h.has_locals;
     has_operators = code_stays b.operators h.has_operators;
     nests = subst IsExpression (sym (tokens_stay b.operators)) h.nests;
   }

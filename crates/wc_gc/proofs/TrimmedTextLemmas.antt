@@ -1,13 +1,15 @@
 -- What trimming answers is read back as the image that it is the text of.
-use Rattle.std.proofs.Common.{◌++◌, ◌≡◌, ◌≢◌, ℕ, ◌<◌, ◌^◌, List, length, refl, sym, subst, Bool, true, false, Option, Some, None, inl, inr, arith}
+use Rattle.std.proofs.Common.{◌++◌, ◌≡◌, ◌≢◌, ℕ, ◌<◌, ◌≤◌, ◌^◌, List, length, refl, sym, subst, Bool, true, false, Option, Some, None, inl, inr, arith}
 use Rattle.std.specs.Prelude.{IsTrue, IsSome}
 use Rattle.std.proofs.lemmas.Bool.{cases_lt}
+use Rattle.std.proofs.lemmas.List.{length-append}
+use Rattle.std.proofs.lemmas.List.Elements.{All-append}
 use Rattle.std.specs.Option.{option_map}
 use Rattle.wc_read.specs.Decoding.{init_in}
 use Rattle.wc_read.specs.Exports.{ExportValue}
 use Rattle.wc_read.specs.Modules.{ModuleValue, SpellsModule, count_of}
 use Rattle.wc_read.specs.declared.operators.Space.TheVariants.{Types, Funcs, Globals}
-use Rattle.wc_write.specs.Values.{AreBytes}
+use Rattle.wc_write.specs.Values.{AreBytes, IsFuncType}
 use Rattle.wc_write.specs.ModuleText.{BuiltValue, SizeFits, SizesFit}
 use Rattle.wc_write.specs.BuiltValues.{item_seen, IsExport, IsRead}
 use Rattle.wc_write.proofs.ModuleTextLemmas.{module_read}
@@ -16,7 +18,7 @@ use Rattle.wc_gc.specs.Causes.{DecidesLive}
 use Rattle.wc_gc.specs.Decoded.{ItemIndex, decode}
 use Rattle.wc_gc.specs.Edited.{added_types, edit, start_of}
 use Rattle.wc_gc.specs.EditedImage.{FitsBits, edited_image}
-use Rattle.wc_gc.specs.Found.{found_in}
+use Rattle.wc_gc.specs.Found.{found_in, is_empty}
 use Rattle.wc_gc.specs.Image.{new_global}
 use Rattle.wc_gc.specs.Laws.{AreSettings}
 use Rattle.wc_gc.specs.Parts.{SettingsValue, parts_of}
@@ -26,9 +28,9 @@ use Rattle.wc_gc.specs.Soundness.{is_sound_at}
 use Rattle.wc_gc.specs.Trimming.{IsTrimCause, IsTrimmed}
 use Rattle.wc_gc.specs.declared.fault.GcFault.{GcFault}
 use Rattle.wc_gc.specs.declared.fault.GcFault.TheVariants.{LiveBody, TooLarge}
-use Rattle.wc_gc.proofs.BuiltImageLemmas.{AreExports, AreKept, image_built, image_with, kept_in, kept_seen}
+use Rattle.wc_gc.proofs.BuiltImageLemmas.{AreExports, AreKept, image_built, image_with, kept_in, kept_seen, kept_types_spelled}
 use Rattle.wc_gc.proofs.BuiltPartLemmas.{short_inits}
-use Rattle.wc_gc.proofs.EditedFuncLemmas.{edited_funcs_can, edited_start, short_names}
+use Rattle.wc_gc.proofs.EditedFuncLemmas.{added_types_spelled, edited_funcs_can, edited_start, short_names}
 use Rattle.wc_gc.proofs.EditedIndexLemmas.{are_new, funcs_written, new}
 use Rattle.wc_gc.proofs.ExportLemmas.{all_kept}
 use Rattle.wc_gc.proofs.KeptExportLemmas.{pairs_kept, pairs_named}
@@ -88,8 +90,14 @@ module _ (bytes : List ℕ) (required : List (List ℕ)) (m : ModuleValue) (live
       let b = edited_value set in
       let funcs = edited_funcs_can set m exports live p are w items v live_are_kept (live_sound sound) fit.funcs fit.types (short_names b fit.sizes) in
       let starts = edited_start set m exports live p are w items v live_are_kept (live_sound sound) fit.funcs in
-      let built = image_built m exports live w items v live_are_kept kept_are_exports (new set m exports live p f) (kept_in live Types m.types ++ added_types p f) (funcs_written set m exports live p f)
-      (option_map (new set m exports live p f Funcs) (start_of (length (decode m).funcs) p)) (are_new set m exports live p f fit.funcs) funcs starts (short_inits b fit.sizes) in
+      let types = kept_in live Types m.types ++ added_types p f in
+      let most : length (kept_in live Types m.types) ≤ length types = let l = length-append (kept_in live Types m.types) (added_types p f) in
+      omega (arith, l) in
+      let spelled = All-append IsFuncType (kept_in live Types m.types) (added_types p f) (kept_types_spelled m live w)
+      (added_types_spelled p (is_empty f.empties)) in
+      let new_ones = are_new set m exports live p f fit.funcs (length types) most in
+      let built = image_built m exports live w items v live_are_kept kept_are_exports (new set m exports live p f) types (funcs_written set m exports live p f)
+      (option_map (new set m exports live p f Funcs) (start_of (length (decode m).funcs) p)) new_ones spelled funcs starts (short_inits b fit.sizes) in
       subst IsRead (sym is) (module_read b built fit.sizes)
 
 -- sizes that cannot be said not to fit fit

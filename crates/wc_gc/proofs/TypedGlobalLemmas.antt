@@ -32,37 +32,40 @@ get_push (z ∷ xs) y (suc n) x e = elim (get_push xs y n x e) [ inl a ↦ inl a
 
 -- the globals after some others, one after another
 
-abbrev pub scope_after : ℕ → List GlobalType → InitScope
-scope_after functions done = record { functions = functions; globals = done }
+abbrev pub scope_after : ℕ → ℕ → List GlobalType → InitScope
+scope_after types functions done = record { types = types; functions = functions; globals = done }
 
-abbrev AreTypedAfter : ℕ → List GlobalType → List GlobalValue → Type 0
-AreTypedAfter functions done [] = Unit {0}
-AreTypedAfter functions done (g ∷ gs) = IsTypedGlobal (scope_after functions done) g × AreTypedAfter functions (done ++ g.ty ∷ []) gs
+abbrev AreTypedAfter : ℕ → ℕ → List GlobalType → List GlobalValue → Type 0
+AreTypedAfter types functions done [] = Unit {0}
+AreTypedAfter types functions done (g ∷ gs) = IsTypedGlobal (scope_after types functions done) g × AreTypedAfter types functions (done ++ g.ty ∷ []) gs
 
-typed_after : (functions : ℕ) (front rest : List GlobalValue) → AreTyped functions (front ++ rest) → AreTypedAfter functions (types_of front) rest
-typed_after functions front [] h = tt
-typed_after functions front (g ∷ rest) h = (
+typed_after : (types functions : ℕ) (front rest : List GlobalValue) → AreTyped types functions (front ++ rest)
+    → AreTypedAfter types functions (types_of front) rest
+typed_after types functions front [] h = tt
+typed_after types functions front (g ∷ rest) h = (
   h front rest g refl,
-  subst (λ ts. AreTypedAfter functions ts rest) (map-append (λ (g : GlobalValue). g.ty) front (g ∷ []))
-      (typed_after functions (front ++ g ∷ []) rest (subst (AreTyped functions) (sym (append_assoc front (g ∷ []) rest)) h)),
+  subst (λ ts. AreTypedAfter types functions ts rest) (map-append (λ (g : GlobalValue). g.ty) front (g ∷ []))
+      (typed_after types functions (front ++ g ∷ []) rest (subst (AreTyped types functions) (sym (append_assoc front (g ∷ []) rest)) h)),
 )
 
-typed_all : (functions : ℕ) (done : List GlobalType) (gs : List GlobalValue) → AreTypedAfter functions done gs → (front back : List GlobalValue) (g : GlobalValue) → gs ≡ front ++ (g ∷ back)
-    → IsTypedGlobal (scope_after functions (done ++ types_of front)) g
-typed_all functions done [] h [] back g e = absurd cc
-typed_all functions done [] h (y ∷ front) back g e = absurd cc
-typed_all functions done (x ∷ xs) h [] back g e =
+typed_all : (types functions : ℕ) (done : List GlobalType) (gs : List GlobalValue) → AreTypedAfter types functions done gs
+    → (front back : List GlobalValue) (g : GlobalValue) → gs ≡ front ++ (g ∷ back)
+    → IsTypedGlobal (scope_after types functions (done ++ types_of front)) g
+typed_all types functions done [] h [] back g e = absurd cc
+typed_all types functions done [] h (y ∷ front) back g e = absurd cc
+typed_all types functions done (x ∷ xs) h [] back g e =
     let same : x ≡ g = cc e in
-    subst (λ ts. IsTypedGlobal (scope_after functions ts) g) (sym (append-nil done)) (subst (IsTypedGlobal (scope_after functions done)) same h.0)
-typed_all functions done (x ∷ xs) h (y ∷ front) back g e =
+    subst (λ ts. IsTypedGlobal (scope_after types functions ts) g) (sym (append-nil done)) (subst (IsTypedGlobal (scope_after types functions done)) same h.0)
+typed_all types functions done (x ∷ xs) h (y ∷ front) back g e =
     let same : x ≡ y = cc e in
     let rest : xs ≡ front ++ (g ∷ back) = cc e in
-    subst (λ ts. IsTypedGlobal (scope_after functions ts) g) (append_assoc done (x.ty ∷ []) (types_of front) ∙ ap (λ (z : GlobalValue). done ++ z.ty ∷ types_of front) same)
-    (typed_all functions (done ++ x.ty ∷ []) xs h.1 front back g rest)
+    subst (λ ts. IsTypedGlobal (scope_after types functions ts) g)
+    (append_assoc done (x.ty ∷ []) (types_of front) ∙ ap (λ (z : GlobalValue). done ++ z.ty ∷ types_of front) same)
+    (typed_all types functions (done ++ x.ty ∷ []) xs h.1 front back g rest)
 
--- the kept ones under new indices: of functions, so many before and so many after; of globals, their ranks
+-- the kept ones under new indices: of types and functions, so many before and so many after; of globals, their ranks
 
-module _ (functions functions' : ℕ) (new : Renumbering) (has : ℕ → Bool) (ranked : (n : ℕ) → has n ≡ true → new Globals n ≡ count_below has n)
+module _ (types types' functions functions' : ℕ) (new : Renumbering) (has : ℕ → Bool) (ranked : (n : ℕ) → has n ≡ true → new Globals n ≡ count_below has n)
     (written : GlobalValue → GlobalValue) (typed_same : (g : GlobalValue) → (written g).ty ≡ g.ty) where
   -- each kept global before one is at its new index
   abbrev pub AreMoved : List GlobalType → List GlobalType → Type 0
@@ -70,7 +73,8 @@ module _ (functions functions' : ℕ) (new : Renumbering) (has : ℕ → Bool) (
 
   -- a global that leaves one value after some others leaves it where they have moved
   abbrev pub CanMove : ℕ → GlobalValue → Type 0
-  CanMove n g = (done done' : List GlobalType) → length done ≡ n → AreMoved done done' → IsTypedGlobal (scope_after functions done) g → IsTypedGlobal (scope_after functions' done') (written g)
+  CanMove n g = (done done' : List GlobalType) → length done ≡ n → AreMoved done done' → IsTypedGlobal (scope_after types functions done) g
+      → IsTypedGlobal (scope_after types' functions' done') (written g)
 
   moved_on : (a : ℕ) (done done' : List GlobalType) (t t' : GlobalType) → length done ≡ a → length done' ≡ count_below has a → t' ≡ t → has a ≡ true → AreMoved done done' → AreMoved (done ++ t ∷ []) (done' ++ t' ∷ [])
   moved_on a done done' t t' long long' same h moved n u k e =
@@ -94,10 +98,11 @@ module _ (functions functions' : ℕ) (new : Renumbering) (has : ℕ → Bool) (
   -- what comes after one global
   abbrev Stays : List GlobalValue → ℕ → Type 0
   Stays gs a = (done done' : List GlobalType) → length done ≡ a → length done' ≡ count_below has a → AreMoved done done'
-      → AreTypedAfter functions done gs → AreTypedAfter functions' done' (map written (kept_from has a gs))
+      → AreTypedAfter types functions done gs → AreTypedAfter types' functions' done' (map written (kept_from has a gs))
 
   stays_more : (g : GlobalValue) (gs : List GlobalValue) (a : ℕ) → (has a ≡ true → CanMove a g) → Stays gs (a + 1) → (b : Bool) → has a ≡ b → (done done' : List GlobalType) → length done ≡ a → length done' ≡ count_below has a
-      → AreMoved done done' → AreTypedAfter functions done (g ∷ gs) → AreTypedAfter functions' done' (map written (cond b (g ∷ kept_from has (a + 1) gs) (kept_from has (a + 1) gs)))
+      → AreMoved done done' → AreTypedAfter types functions done (g ∷ gs)
+      → AreTypedAfter types' functions' done' (map written (cond b (g ∷ kept_from has (a + 1) gs) (kept_from has (a + 1) gs)))
   stays_more g gs a can rest true k done done' long long' moved h =
       let longer : length (done ++ g.ty ∷ []) ≡ a + 1 = (let l = length-append done (g.ty ∷ []) in omega (arith, l, long)) in
       let longer' : length (done' ++ (written g).ty ∷ []) ≡ count_below has (a + 1) =
@@ -116,9 +121,11 @@ module _ (functions functions' : ℕ) (new : Renumbering) (has : ℕ → Bool) (
       stays_more g gs a (λ k. subst (λ n. CanMove n g) here (can 0 g (ap has here ∙ k) refl)) (stays gs (a + 1) (λ i x k e. subst (λ n. CanMove n x) (next i) (can (suc i) x (ap has (next i) ∙ k) e)))
       (has a) refl done done' long long' moved h
 
-  pub kept_typed : (gs : List GlobalValue) → AreTyped functions gs → ((n : ℕ) (g : GlobalValue) → has n ≡ true → slice_get gs n ≡ Some g → CanMove n g)
-      → AreTyped functions' (map written (kept_items has (length gs) gs))
+  pub kept_typed : (gs : List GlobalValue) → AreTyped types functions gs → ((n : ℕ) (g : GlobalValue) → has n ≡ true → slice_get gs n ≡ Some g → CanMove n g)
+      → AreTyped types' functions' (map written (kept_items has (length gs) gs))
   kept_typed gs typed can =
       let none : (n : ℕ) → 0 + n ≡ n = (λ n. omega arith) in
-      let all = stays gs 0 (λ i g k e. subst (λ n. CanMove n g) (sym (none i)) (can i g (ap has (sym (none i)) ∙ k) e)) [] [] refl refl (λ n t k e. absurd cc) (typed_after functions [] gs typed) in
-      subst (λ ks. AreTyped functions' (map written ks)) (sym (kept_is has gs)) (λ front back g e. typed_all functions' [] (map written (kept_from has 0 gs)) all front back g e)
+      let all = stays gs 0 (λ i g k e. subst (λ n. CanMove n g) (sym (none i)) (can i g (ap has (sym (none i)) ∙ k) e)) [] [] refl refl
+      (λ n t k e. absurd cc) (typed_after types functions [] gs typed) in
+      subst (λ ks. AreTyped types' functions' (map written ks)) (sym (kept_is has gs))
+      (λ front back g e. typed_all types' functions' [] (map written (kept_from has 0 gs)) all front back g e)

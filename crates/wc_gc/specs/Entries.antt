@@ -1,16 +1,17 @@
 -- What a module has at an index, and the items that it names.
-use Rattle.std.specs.Prelude.{ℕ, List, [], ◌∷◌, ◌++◌, Option, filter}
+use Rattle.std.specs.Prelude.{ℕ, List, [], ◌∷◌, ◌++◌, map, Option, filter}
 use Rattle.std.specs.List.{flat_map, slice_get}
 use Rattle.std.specs.Option.{option_map_or, option_to_list}
-use Rattle.wc_read.specs.Types.{FuncTypeValue}
+use Rattle.wc_read.specs.Types.{FuncTypeValue, type_indices}
 use Rattle.wc_read.specs.Operators.{InstrValue}
 use Rattle.wc_read.specs.Bodies.{BodyValue}
 use Rattle.wc_read.specs.Decoding.{body_operators}
-use Rattle.wc_read.specs.Refs.{refs_of}
+use Rattle.wc_read.specs.Refs.{refs_of, type_refs_of}
 use Rattle.wc_read.specs.Items.{DefValue, imported, local, TableValue, MemoryValue}
 use Rattle.wc_read.specs.declared.operators.Space.{Space}
 use Rattle.wc_read.specs.declared.operators.Space.TheVariants.{Types, Funcs, Tables, Memories, Globals}
 use Rattle.wc_read.specs.declared.operators.Refs.{Refs}
+use Rattle.wc_read.specs.declared.types.ValType.{ValType}
 use Rattle.wc_gc.specs.Decoded.{DecodedModule, FuncCode, GlobalCode, ItemIndex, is_in}
 
 -- an item of any space, or none
@@ -37,8 +38,16 @@ entry_at m x = entry_in m x.0 x.1
 abbrev pub refs_list : Refs → List ItemIndex
 refs_list r = option_to_list r.first ++ option_to_list r.second
 
+-- types by their indices
+abbrev pub type_items : List ℕ → List ItemIndex
+type_items ns = map (λ n. (Types, n)) ns
+
+abbrev pub val_type_refs : List ValType → List ItemIndex
+val_type_refs ts = type_items (type_indices ts)
+
+-- the types of a `select`, and the others
 abbrev pub instr_refs : InstrValue → List ItemIndex
-instr_refs i = refs_list (refs_of i.immediates)
+instr_refs i = type_items (type_refs_of i.immediates) ++ refs_list (refs_of i.immediates)
 
 abbrev pub code_refs : List InstrValue → List ItemIndex
 code_refs is = flat_map instr_refs is

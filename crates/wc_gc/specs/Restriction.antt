@@ -6,6 +6,7 @@ use Rattle.wc_read.specs.Exports.{ExportValue}
 use Rattle.wc_read.specs.Imports.{ImportValue}
 use Rattle.wc_read.specs.Items.{FuncValue, TableValue, MemoryValue, GlobalValue}
 use Rattle.wc_read.specs.Modules.{ModuleValue, SpellsModule}
+use Rattle.wc_read.specs.Renumbering.{renumber_func_type, renumber_global_type, renumber_table_type}
 use Rattle.wc_read.specs.Types.{FuncTypeValue}
 use Rattle.wc_read.specs.declared.exports.ExportKind.{ExportKind}
 use Rattle.wc_read.specs.declared.exports.ExportKind.TheVariants as export
@@ -46,17 +47,28 @@ export_type m export.Table index = option_map (λ (t : TableValue). table_item t
 export_type m export.Memory index = option_map (λ (t : MemoryValue). memory_item t.ty) (slice_get m.memories index)
 export_type m export.Global index = option_map (λ (g : GlobalValue). global_item g.ty) (slice_get m.globals index)
 
--- an import of one module, and one of another: of the same module, by the same name and of the same type
+-- a type without the indices of the types that it names, which mean nothing in another module
+abbrev pub without_indices : ItemType → ItemType
+without_indices (func_item t) = func_item (renumber_func_type (λ space n. 0) t)
+without_indices (table_item t) = table_item (renumber_table_type (λ space n. 0) t)
+without_indices (memory_item t) = memory_item t
+without_indices (global_item t) = global_item (renumber_global_type (λ space n. 0) t)
+
+-- types of items of two modules, where they are there, are the same but for such indices
+abbrev pub AreTypesAlike : Option ItemType → Option ItemType → Type 0
+AreTypesAlike t u = option_map without_indices t ≡ option_map without_indices u
+
+-- an import of one module, and one of another: of the same module, by the same name, and of the same type but for indices
 pub record SameImport (v m : ModuleValue) (j i : ImportValue) : Type 0 where
   pub from : j.module_name ≡ i.module_name
   pub name : j.name ≡ i.name
-  pub ty : import_type v.types j.ty ≡ import_type m.types i.ty
+  pub ty : AreTypesAlike (import_type v.types j.ty) (import_type m.types i.ty)
 
 -- the same of exports
 pub record SameExport (v m : ModuleValue) (x y : ExportValue) : Type 0 where
   pub name : x.name ≡ y.name
   pub kind : x.kind ≡ y.kind
-  pub ty : export_type v x.kind x.index ≡ export_type m y.kind y.index
+  pub ty : AreTypesAlike (export_type v x.kind x.index) (export_type m y.kind y.index)
 
 -- an import of the function that the main module exports as this realloc
 pub record IsMainImport (realloc : Option (List ℕ)) (m : ModuleValue) (i : ImportValue) : Type 0 where

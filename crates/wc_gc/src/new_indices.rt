@@ -1,8 +1,9 @@
 //! The new indices of live items and of what is added, and operators under them.
 
-ghost use Rattle.std.specs.Prelude.{◌≡◌, ◌+◌, ◌<◌, ◌^◌, ◌↔◌, IsTrue, IsSome, IfSome, IfOk, None};
+ghost use Rattle.std.specs.Prelude.{◌≡◌, ◌+◌, ◌<◌, ◌^◌, ◌↔◌, map, IsTrue, IsSome, IfSome, IfOk, None};
 ghost use Rattle.wc_read.specs.Operators.{immediates_value, instr_value};
-ghost use Rattle.wc_read.specs.Renumbering.{renumber_block, renumber_immediates, renumber_index, renumber_instr, renumber_mem_arg};
+ghost use Rattle.wc_read.specs.Renumbering.{renumber_block, renumber_func_type, renumber_global_type, renumber_immediates, renumber_index, renumber_instr, renumber_mem_arg, renumber_table_type, renumber_val_type};
+ghost use Rattle.wc_read.specs.Types.{func_type_value};
 ghost use Rattle.wc_gc.specs.LiveSets.{has_item};
 ghost use Rattle.wc_read.specs.declared.operators.Space.TheVariants.{Funcs, Types};
 ghost use Rattle.wc_gc.specs.Counts.{AreDisjoint};
@@ -12,7 +13,10 @@ use crate::func_groups::FuncGroups;
 use crate::live::{LiveSet, LiveSets};
 use crate::ranks::Ranks;
 use std::alloc::{AllocError, Global};
-use wc_read::{BlockType, Immediates, Index, IndexKind, Instr, MemArg, Space};
+use wc_read::{
+    BlockType, FuncType, GlobalType, Immediates, Index, IndexKind, Instr, MemArg, Space, TableType,
+    ValType,
+};
 
 /// How many live items are below each index. Functions are in two groups.
 #[derive(Debug, Drop)]
@@ -200,6 +204,8 @@ impl NewIndices {
             Immediates::Indices(first, second) => {
                 Immediates::Indices(self.index(first), self.index(second))
             }
+            Immediates::ValTypes(types) => Immediates::ValTypes(self.val_types(types)),
+            Immediates::RefType(ty) => Immediates::RefType(self.val_type(ty)),
             Immediates::MemArg(address) => Immediates::MemArg(self.mem_arg(address)),
             Immediates::MemArgLane(address, lane) => {
                 Immediates::MemArgLane(self.mem_arg(address), lane)
@@ -212,8 +218,71 @@ impl NewIndices {
         ensures { result ≡ renumber_block (new_of self.now) ty }
     {
         match ty {
+            BlockType::Empty => BlockType::Empty,
+            BlockType::Value(ty) => BlockType::Value(self.val_type(ty)),
             BlockType::FuncType(index) => BlockType::FuncType(self.of(Space::Types, index)),
+        }
+    }
+
+    /// A value type, and the type that it names under its new index.
+    pub fn val_type(&self, ty: ValType) -> ValType
+        ensures { result ≡ renumber_val_type (new_of self.now) ty }
+    {
+        match ty {
+            ValType::TypeRef { nullable, index } => ValType::TypeRef {
+                nullable,
+                index: self.of(Space::Types, index),
+            },
             others => others,
+        }
+    }
+
+    fn val_types(&self, types: Vec<ValType>) -> Vec<ValType>
+        ensures { result.items ≡ map (renumber_val_type (new_of self.now)) types.items }
+    {
+        let mut types = types;
+        self.renumber(&mut types);
+        types
+    }
+
+    /// Puts each value type's new index in place of its old one.
+    fn renumber(&self, types: &mut [ValType])
+        ensures { types.new ≡ map (renumber_val_type (new_of self.now)) types.old }
+    {
+        for ty in types.iter_mut() {
+            *ty = self.val_type(*ty);
+        }
+    }
+
+    /// A function type under the new indices, in new memory.
+    pub fn func_type(&self, alloc: Global, ty: &FuncType) -> Result<FuncType, AllocError>
+        ensures { IfOk result (λ f. func_type_value f
+            ≡ renumber_func_type (new_of self.now) (func_type_value ty.now)) }
+    {
+        let params = self.val_types(Vec::from_slice(alloc, ty.params())?);
+        let results = self.val_types(Vec::from_slice(alloc, ty.results())?);
+        Ok(FuncType::new(params, results))
+    }
+
+    /// A table type under the new indices.
+    pub fn table_type(&self, ty: TableType) -> TableType
+        ensures { result ≡ renumber_table_type (new_of self.now) ty }
+    {
+        TableType {
+            element_type: self.val_type(ty.element_type),
+            table64: ty.table64,
+            initial: ty.initial,
+            maximum: ty.maximum,
+        }
+    }
+
+    /// A global type under the new indices.
+    pub fn global_type(&self, ty: GlobalType) -> GlobalType
+        ensures { result ≡ renumber_global_type (new_of self.now) ty }
+    {
+        GlobalType {
+            content_type: self.val_type(ty.content_type),
+            mutable: ty.mutable,
         }
     }
 

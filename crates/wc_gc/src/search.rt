@@ -1,14 +1,15 @@
 //! The search for the items that exports reach.
 
-ghost use Rattle.std.specs.Prelude.{◌≡◌, ◌⊎◌, [], ◌∷◌, map, All, Bool, true, false, IsTrue, None, IsOk, IfOk, IfErr, IfSome, OnOk, ◌↔◌, ◌<◌, ◌≤◌};
+ghost use Rattle.std.specs.Prelude.{◌≡◌, ◌⊎◌, [], ◌∷◌, All, true, false, IsTrue, None, IsOk, IfOk, IfErr, IfSome, OnOk, ◌↔◌, ◌<◌, ◌≤◌};
 ghost use Rattle.std.specs.List.{list_all};
 ghost use Rattle.std.specs.Option.{option_map, option_to_list};
 ghost use Rattle.wc_read.specs.Operators.{instr_value, instr_values};
 ghost use Rattle.wc_read.specs.declared.operators.Space.TheVariants.{Memories};
+ghost use Rattle.wc_read.specs.Refs.{type_reference, type_refs_of};
 ghost use Rattle.wc_read.specs.Inits.{init_value};
 ghost use Rattle.wc_read.specs.Decoding.{body_in, body_operators, bytes_left, init_in, next_and_left, operators_left};
 ghost use Rattle.wc_gc.specs.Decoded.{ItemIndex, decoded_module, func_code, init_code, is_in};
-ghost use Rattle.wc_gc.specs.Entries.{body_refs, code_refs, def_refs, func_refs, init_refs, instr_refs, present, refs_in};
+ghost use Rattle.wc_gc.specs.Entries.{body_refs, code_refs, def_refs, func_refs, init_refs, instr_refs, present, refs_in, refs_list, type_items, val_type_refs};
 ghost use Rattle.wc_gc.specs.Reached.{IsReachedFrom};
 ghost use Rattle.wc_gc.specs.Searches.{Finds, IsConsistent, PassesKnown, finds};
 ghost use Rattle.wc_gc.specs.Soundness.{is_sound, is_sound_at, is_sound_body, is_sound_def};
@@ -18,7 +19,8 @@ use crate::fault::GcFault;
 use crate::live::{LiveSet, LiveSets};
 use std::alloc::{AllocError, Global};
 use wc_read::{
-    Def, Func, Init, Instr, Module, Operators, ReadFault, Space, names_segment, read_init, refs,
+    Def, Func, Immediates, Init, Instr, Module, Operators, ReadFault, Refs, Space, ValType,
+    names_segment, read_init, refs,
 };
 
 /// The items found so far: as sets, and in the order in which they were found.
@@ -84,6 +86,61 @@ impl<L: LiveSet> Search<L> {
         }
     }
 
+    /// Finds the type that a value type names, and answers whether the adapter has it.
+    fn reach_type(&mut self, adapter: &Module<'_>, ty: ValType) -> Result<bool, AllocError>
+        ensures found { OnOk result (Finds L.has self.old self.new
+            (present (decoded_module adapter.now) (option_to_list (type_reference ty)))) }
+        ensures there { IfOk result (λ there. there
+            ≡ list_all (is_in (decoded_module adapter.now)) (option_to_list (type_reference ty))) }
+    {
+        match ty {
+            ValType::TypeRef { index, .. } => self.reach_present(adapter, (Space::Types, index)),
+            _ => Ok(true),
+        }
+    }
+
+    /// Finds the types that value types name, and answers whether the adapter has them all.
+    fn reach_types(&mut self, adapter: &Module<'_>, types: &[ValType]) -> Result<bool, AllocError>
+        ensures found { OnOk result (Finds L.has self.old self.new
+            (present (decoded_module adapter.now) (val_type_refs types.now))) }
+        ensures there { IfOk result (λ there. there
+            ≡ list_all (is_in (decoded_module adapter.now)) (val_type_refs types.now)) }
+    {
+        let mut there = true;
+        for ty in types {
+            there &= self.reach_type(adapter, *ty)?;
+        }
+        Ok(there)
+    }
+
+    /// Finds the types that the types of a `select` name, and answers whether the adapter has them all.
+    #[inline(always)]
+    fn reach_select(&mut self, adapter: &Module<'_>, instr: &Instr<'_>) -> Result<bool, AllocError>
+        ensures found { OnOk result (Finds L.has self.old self.new (present
+            (decoded_module adapter.now)
+            (type_items (type_refs_of (instr_value instr.now).immediates)))) }
+        ensures there { IfOk result (λ there. there
+            ≡ list_all (is_in (decoded_module adapter.now))
+            (type_items (type_refs_of (instr_value instr.now).immediates))) }
+    {
+        match &instr.immediates {
+            Immediates::ValTypes(types) => self.reach_types(adapter, types),
+            _ => Ok(true),
+        }
+    }
+
+    /// Finds the items that references name, and answers whether the adapter has them all.
+    fn reach_refs(&mut self, adapter: &Module<'_>, named: Refs) -> Result<bool, AllocError>
+        ensures found { OnOk result (Finds L.has self.old self.new
+            (present (decoded_module adapter.now) (refs_list named))) }
+        ensures there { IfOk result (λ there. there
+            ≡ list_all (is_in (decoded_module adapter.now)) (refs_list named)) }
+    {
+        let first = self.reach_named(adapter, named.first)?;
+        let second = self.reach_named(adapter, named.second)?;
+        Ok(first && second)
+    }
+
     /// Finds the items that an operator names, and answers whether it is sound.
     fn reach_operator(
         &mut self,
@@ -95,10 +152,9 @@ impl<L: LiveSet> Search<L> {
         ensures sound { IfOk result (λ sound. sound
             ≡ is_sound (decoded_module adapter.now) (instr_value instr.now)) }
     {
-        let named = refs(instr);
-        let first = self.reach_named(adapter, named.first)?;
-        let second = self.reach_named(adapter, named.second)?;
-        Ok(first && second && !names_segment(instr))
+        let types = self.reach_select(adapter, instr)?;
+        let items = self.reach_refs(adapter, refs(instr))?;
+        Ok(types && items && !names_segment(instr))
     }
 
     /// The next operator of a body that may name an item that was not found. Operators that name nothing are passed

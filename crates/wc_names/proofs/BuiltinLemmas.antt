@@ -3,7 +3,7 @@ use Rattle.std.proofs.Common.{◌≡◌, ℕ, true, false, arith, length, List, 
 use Rattle.std.specs.Prelude.{slice_get, slice_index}
 use Rattle.std.proofs.lemmas.List.{append_cancel_left, append_cancel_right}
 use Rattle.wc_read.specs.declared.types.ValType.{ValType}
-use Rattle.wc_read.specs.declared.types.ValType.TheVariants.{I32, I64, F32, F64, V128, FuncRef, ExternRef}
+use Rattle.wc_read.specs.declared.types.ValType.TheVariants.{I32, I64, F32, F64, V128, FuncRef, ExternRef, FuncRefNonNull, ExternRefNonNull, TypeRef}
 use Rattle.wc_encoder.specs.declared.encoding.StringEncoding.{StringEncoding}
 use Rattle.wc_encoder.specs.declared.encoding.StringEncoding.TheVariants.{UTF8, UTF16, CompactUTF16}
 use Rattle.wc_names.specs.Builtins.{NamesBuiltin, encoding_text, legacy_row, pointer_suffixes, slot_prefixes}
@@ -179,6 +179,15 @@ suffix_unique I64 FuncRef m x y = absurd y
 suffix_unique ExternRef u m x y = absurd x
 suffix_unique I32 ExternRef m x y = absurd y
 suffix_unique I64 ExternRef m x y = absurd y
+suffix_unique FuncRefNonNull u m x y = absurd x
+suffix_unique I32 FuncRefNonNull m x y = absurd y
+suffix_unique I64 FuncRefNonNull m x y = absurd y
+suffix_unique ExternRefNonNull u m x y = absurd x
+suffix_unique I32 ExternRefNonNull m x y = absurd y
+suffix_unique I64 ExternRefNonNull m x y = absurd y
+suffix_unique (TypeRef nullable index) u m x y = absurd x
+suffix_unique I32 (TypeRef nullable index) m x y = absurd y
+suffix_unique I64 (TypeRef nullable index) m x y = absurd y
 
 choice_unique : (first last name : List ℕ) (t u : ValType) → IsChoice first (pointer_suffixes t) last name → IsChoice first (pointer_suffixes u) last name → t ≡ u
 choice_unique first last name t u x y =
@@ -220,6 +229,15 @@ slot_middle_unique I64 FuncRef n m p q x y a b s r e = absurd b
 slot_middle_unique ExternRef u n m p q x y a b s r e = absurd a
 slot_middle_unique I32 ExternRef n m p q x y a b s r e = absurd b
 slot_middle_unique I64 ExternRef n m p q x y a b s r e = absurd b
+slot_middle_unique FuncRefNonNull u n m p q x y a b s r e = absurd a
+slot_middle_unique I32 FuncRefNonNull n m p q x y a b s r e = absurd b
+slot_middle_unique I64 FuncRefNonNull n m p q x y a b s r e = absurd b
+slot_middle_unique ExternRefNonNull u n m p q x y a b s r e = absurd a
+slot_middle_unique I32 ExternRefNonNull n m p q x y a b s r e = absurd b
+slot_middle_unique I64 ExternRefNonNull n m p q x y a b s r e = absurd b
+slot_middle_unique (TypeRef nullable index) u n m p q x y a b s r e = absurd a
+slot_middle_unique I32 (TypeRef nullable index) n m p q x y a b s r e = absurd b
+slot_middle_unique I64 (TypeRef nullable index) n m p q x y a b s r e = absurd b
 
 slot_unique : (first last name : List ℕ) (t u : ValType) (n m : ℕ) → IsSlot first (slot_prefixes t) n last name → IsSlot first (slot_prefixes u) m last name → (t ≡ u) × (n ≡ m)
 slot_unique first last name t u n m x y =

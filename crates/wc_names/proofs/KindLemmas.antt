@@ -6,12 +6,13 @@ use Rattle.wc_read.specs.Types.{FuncTypeValue}
 use Rattle.wc_resolve.specs.Views.{FunctionView, plain_key}
 use Rattle.wc_resolve.specs.WellFormed.{HaveDistinctNames}
 use Rattle.wc_names.specs.Builtins.{builtin_import, builtin_type}
-use Rattle.wc_names.specs.Imports.{Classified, CoreFunction, CoreImport, IsKind, IsReadBy, IsRule, Kind, NamesExportedInterface, NamesImportedInterface, Rule, Setting, adapter_function, by_scheme, environment, export_intrinsic, export_other_name, export_root_intrinsic, export_unknown, func_type, function_type, import_abi, interface_function, interface_intrinsic, interface_other_name, interface_unknown, main_item, main_memory, memory_type, not_function, root_builtin, root_function, root_intrinsic, root_other_item, root_unknown, rules, scope_of, without_prefix}
+use Rattle.wc_names.specs.Environment.{environment_meaning}
+use Rattle.wc_names.specs.Imports.{Classified, CoreFunction, CoreImport, IsKind, IsReadBy, IsRule, Kind, NamesExportedInterface, NamesImportedInterface, Rule, Setting, adapter_function, adapter_meaning, by_scheme, environment, export_intrinsic, export_other_name, export_root_intrinsic, export_unknown, func_type, function_type, import_abi, interface_function, interface_intrinsic, interface_other_name, interface_unknown, main_item, main_memory, memory_type, not_function, root_builtin, root_function, root_intrinsic, root_other_item, root_unknown, rules, scope_of, without_prefix}
 use Rattle.wc_names.specs.Interfaces.{FoundInterface, NamesInterface}
 use Rattle.wc_names.specs.Lookups.{function_named, world_scope}
 use Rattle.wc_names.specs.Meanings.{Meaning, means}
 use Rattle.wc_names.specs.Schemes.{Scheme, export_prefix, interface_prefix, marker}
-use Rattle.wc_names.specs.Views.{Builtin, ImportView, adapter_export, interface_func, main_module_memory, world_func}
+use Rattle.wc_names.specs.Views.{Builtin, interface_func, main_module_memory, world_func}
 use Rattle.wc_names.specs.WitIntrinsics.{IsWitIntrinsic}
 use Rattle.wc_names.proofs.BuiltinLemmas.{builtin_unique}
 use Rattle.wc_names.proofs.MeaningLemmas.{environment_names_unique, function_unique, interface_unique, some_unique, wit_intrinsic_unique}
@@ -47,7 +48,7 @@ module _ (e : Setting) (distinct : HaveDistinctNames e.resolve.packages) where
   kind_unique s c (root_intrinsic k) m n x y = wit_intrinsic_unique s e.resolve e.world true world_scope c.name k m n x.1 y.1
   kind_unique s c root_other_item m n x y = x.5 ∙ sym y.5
   kind_unique s c root_unknown m n x y = x.1 ∙ sym y.1
-  kind_unique s c environment m n x y = x.3 ∙ (ap (λ (z : ImportView). means z None) (environment_names_unique s c.name c.ty x.1 y.1 x.2 y.2) ∙ sym y.3)
+  kind_unique s c environment m n x y = x.3 ∙ (ap environment_meaning (environment_names_unique s c.name c.ty x.1 y.1 x.2 y.2) ∙ sym y.3)
   kind_unique s c (export_root_intrinsic k) m n x y = wit_intrinsic_unique s e.resolve e.world false world_scope c.name k m n x.1 y.1
   kind_unique s c without_prefix m n x y = x.1 ∙ sym y.1
   kind_unique s c export_unknown m n x y = x.3 ∙ sym y.3
@@ -82,7 +83,7 @@ module _ (e : Setting) (distinct : HaveDistinctNames e.resolve.packages) where
   rule_unique a not_function m n x y = x.1 ∙ sym y.1
   rule_unique a adapter_function m n x y =
       let same : func_type x.1 ≡ func_type y.1 = sym x.2 ∙ y.2 in
-      x.3 ∙ (ap (λ (z : FuncTypeValue). means (adapter_export a.from a.name z) None) (let t : x.1 ≡ y.1 = cc same in t) ∙ sym y.3)
+      x.3 ∙ (ap (adapter_meaning a.from a.name) (let t : x.1 ≡ y.1 = cc same in t) ∙ sym y.3)
   rule_unique a (by_scheme k) m n x y =
       let same : func_type x.0 ≡ func_type y.0 = sym x.3 ∙ y.3 in
       let read = read_by_unique a.from x.1 y.1 x.2 y.2 x.4 y.4 in

@@ -1,4 +1,5 @@
 pub mod SearchLemmas
+pub mod AlikeTypeLemmas
 pub mod TextLemmas
 pub mod NumberTextLemmas
 pub mod PrefixLemmas
@@ -8,6 +9,7 @@ pub mod MeaningLemmas
 pub mod KindLemmas
 pub mod RangeLemmas
 pub mod MeaningRangeLemmas
+pub mod AlikeMeaningLemmas
 pub mod PayloadLemmas
 pub mod InterfaceEntryLemmas
 pub mod InterfaceIdLemmas
@@ -22,3 +24,4 @@ pub mod ExportIndexLemmas
 pub mod ExportLookupLemmas
 pub mod ExportMeaningLemmas
 pub mod ExportRangeLemmas
+pub mod AlikeExportLemmas

@@ -70,3 +70,9 @@ pub first_kind : {K O : Type 0} (H : K → O → Type 0) (ks : List K) (o : O) �
 first_kind H [] o f = absurd f
 first_kind H (k ∷ ks) o (inl h) = (k, h)
 first_kind H (k ∷ ks) o (inr h) = first_kind H ks o h.1
+
+-- what one relation has the other has too, and each kind that the other holds of something the one holds of something
+pub first_carried : {K O : Type 0} (H G : K → O → Type 0) (ks : List K) (o : O) → ((k : K) → H k o → G k o) → ((k : K) (p : O) → G k p → (q : O) × H k q) → FirstOf H ks o → FirstOf G ks o
+first_carried H G [] o here there f = f
+first_carried H G (k ∷ ks) o here there (inl h) = inl (here k h)
+first_carried H G (k ∷ ks) o here there (inr h) = inr ((λ p g. let q = there k p g in h.0 q.0 q.1), first_carried H G ks o here there h.1)

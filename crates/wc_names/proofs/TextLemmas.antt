@@ -6,7 +6,7 @@ use Rattle.std.specs.Str.{bytes_eq}
 use Rattle.std.proofs.lemmas.Slice.Eq.{bytes_eq-Decides}
 use Rattle.std.proofs.lemmas.List.{append_cancel_left, append_cancel_right}
 use Rattle.wc_read.specs.declared.types.ValType.{ValType}
-use Rattle.wc_read.specs.declared.types.ValType.TheVariants.{I32, I64, F32, F64, V128, FuncRef, ExternRef}
+use Rattle.wc_read.specs.declared.types.ValType.TheVariants.{I32, I64, F32, F64, V128, FuncRef, ExternRef, FuncRefNonNull, ExternRefNonNull, TypeRef}
 use Rattle.wc_names.specs.Builtins.{pointer_suffixes, slot_prefixes}
 use Rattle.wc_names.specs.Finds.{Finds}
 use Rattle.wc_names.specs.Texts.{SpellsNumber, IsOneOf, IsChoice, IsSlot, Lacks}
@@ -86,6 +86,9 @@ choice_none name first last suffix is a b d t h = at t h.1 where
   at V128 e = e
   at FuncRef e = e
   at ExternRef e = e
+  at FuncRefNonNull e = e
+  at ExternRefNonNull e = e
+  at (TypeRef nullable index) e = e
 
 -- no number after a prefix
 abbrev pub NoSlot : List ℕ → List ℕ → Type 0
@@ -117,6 +120,9 @@ slot_none name first last text is no64 no32 bare t n h = at t h.2 where
   at V128 e = e
   at FuncRef e = e
   at ExternRef e = e
+  at FuncRefNonNull e = e
+  at ExternRefNonNull e = e
+  at (TypeRef nullable index) e = e
 
 pub slot_end : (name first last text : List ℕ) (r : Option (ValType × ℕ)) → name ≡ first ++ (text ++ last) → NoSlot text (codes "i64-") → NoSlot text (codes "i32-") → MatchOption r (NoSlot text []) (HasSlot I32 text [])
     → Finds r (λ (x : ValType × ℕ). IsSlot first (slot_prefixes x.0) x.1 last name)

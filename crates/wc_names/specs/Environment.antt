@@ -1,7 +1,9 @@
 -- Functions of the module `env`, by which linkers reach a thread's stack pointer and its local storage.
-use Rattle.std.specs.Prelude.{◌≡◌, ℕ, List, ◌∷◌, codes}
+use Rattle.std.specs.Prelude.{◌≡◌, ℕ, Bool, List, ◌∷◌, Option, Some, None, is_some, if◌then◌else◌, codes}
+use Rattle.std.specs.Option.{option_and_then}
 use Rattle.wc_read.specs.declared.types.ValType.{ValType}
-use Rattle.wc_read.specs.Types.{FuncTypeValue}
+use Rattle.wc_read.specs.Types.{FuncTypeValue, type_index}
+use Rattle.wc_names.specs.Meanings.{Meaning, means, refuses, typed_reference}
 use Rattle.wc_names.specs.Schemes.{Scheme, standard, legacy}
 use Rattle.wc_names.specs.Views.{ImportView, builtin, context_get, context_set, tls_base_get, tls_base_set}
 
@@ -45,3 +47,19 @@ IsEnvironmentImport name ty i =
 abbrev pub NamesEnvironment : Scheme → List ℕ → FuncTypeValue → ImportView → Type 0
 NamesEnvironment standard name ty i = ⊥
 NamesEnvironment (legacy hook) name ty i = IsEnvironmentImport name ty i
+
+-- the type of the value that is read or written
+abbrev pub environment_type : ImportView → Option ValType
+environment_type (builtin (context_get t slot)) = Some t
+environment_type (builtin (context_set t slot)) = Some t
+environment_type (tls_base_get t) = Some t
+environment_type (tls_base_set t) = Some t
+environment_type i = None
+
+-- whether that type names a type of the module by its index
+abbrev pub names_value_type : ImportView → Bool
+names_value_type i = is_some (option_and_then type_index (environment_type i))
+
+-- what such an import means; where it names a type, it is refused, since indices mean nothing in another module
+abbrev pub environment_meaning : ImportView → Meaning
+environment_meaning i = if names_value_type i then refuses typed_reference else means i None

@@ -8,7 +8,7 @@ use Rattle.wc_read.specs.declared.types.TableType.{TableType}
 use Rattle.wc_read.specs.declared.types.GlobalType.{GlobalType}
 use Rattle.wc_read.specs.declared.exports.ExportKind.{ExportKind}
 use Rattle.wc_read.specs.declared.exports.ExportKind.TheVariants.{Func, Table, Memory, Global}
-use Rattle.wc_read.specs.Types.{FuncTypeValue}
+use Rattle.wc_read.specs.Types.{FuncTypeValue, names_types}
 use Rattle.wc_resolve.specs.declared.functions.AbiVariant.{AbiVariant}
 use Rattle.wc_resolve.specs.declared.functions.AbiVariant.TheVariants.{GuestImport, GuestImportAsync}
 use Rattle.wc_resolve.specs.declared.flat.WasmType.{WasmType}
@@ -18,11 +18,11 @@ use Rattle.wc_resolve.specs.Signatures.{SignatureView, flatten_functype}
 use Rattle.wc_resolve.specs.Views.{plain_key, FunctionView, WorldView}
 use Rattle.wc_resolve.specs.World.{ResolveView}
 use Rattle.wc_names.specs.Builtins.{signature, NamesBuiltin, builtin_type, builtin_import}
-use Rattle.wc_names.specs.Environment.{environment_module, NamesEnvironment}
+use Rattle.wc_names.specs.Environment.{environment_meaning, environment_module, NamesEnvironment}
 use Rattle.wc_names.specs.First.{FirstOf}
 use Rattle.wc_names.specs.Interfaces.{FoundInterface, NamesInterface}
 use Rattle.wc_names.specs.Lookups.{Scope, world_scope, interface_scope, item_under, function_named}
-use Rattle.wc_names.specs.Meanings.{not_a_function, no_root_import, root_not_function, bad_syntax, unknown_interface, unknown_intrinsic, missing_function, Meaning, means, refuses}
+use Rattle.wc_names.specs.Meanings.{not_a_function, no_root_import, root_not_function, bad_syntax, unknown_interface, unknown_intrinsic, missing_function, typed_reference, Meaning, means, refuses}
 use Rattle.wc_names.specs.Schemes.{Scheme, standard, legacy, marker, root_module, interface_prefix, export_prefix, NamesFunction}
 use Rattle.wc_names.specs.Views.{Builtin, ImportView, world_func, interface_func, adapter_export, main_module_memory, main_module_export}
 use Rattle.wc_names.specs.WitIntrinsics.{WitIntrinsic, wit_intrinsics, IsWitIntrinsic}
@@ -143,7 +143,7 @@ IsKind s e c root_other_item m =
     × IsSome (item_under e.world.imports (plain_key name)) × (m ≡ refuses root_not_function)
 IsKind s e c root_unknown m = (c.from ≡ root_module s) × (m ≡ refuses no_root_import)
 IsKind s e c environment m =
-    (c.from ≡ environment_module) × (i : ImportView) × NamesEnvironment s c.name c.ty i × (m ≡ means i None)
+    (c.from ≡ environment_module) × (i : ImportView) × NamesEnvironment s c.name c.ty i × (m ≡ environment_meaning i)
 IsKind s e c (export_root_intrinsic k) m =
     (c.from ≡ export_prefix s ++ root_module s) × IsWitIntrinsic s e.resolve e.world false world_scope c.name k m
 IsKind s e c without_prefix m = ((text : List ℕ) → ¬ IsInterfaceModule s c.from text) × (m ≡ refuses bad_syntax)
@@ -186,13 +186,18 @@ rules = main_memory ∷ main_item ∷ not_function ∷ adapter_function ∷ map 
 abbrev pub IsFunction : ExternType → Type 0
 IsFunction item = (ty : FuncTypeValue) × (item ≡ func_type ty)
 
+-- a function that an adapter exports; refused where its type has indices of types, which mean nothing in the adapter
+abbrev pub adapter_meaning : List ℕ → List ℕ → FuncTypeValue → Meaning
+adapter_meaning adapter name ty =
+    if names_types ty then refuses typed_reference else means (adapter_export adapter name ty) None
+
 abbrev pub IsRule : Setting → CoreImport → Rule → Meaning → Type 0
 IsRule e a main_memory m =
     (a.from ≡ environment_module) × (a.name ≡ codes "memory") × (ty : MemoryType) × (a.ty ≡ memory_type ty) × (m ≡ means (main_module_memory ty) None)
 IsRule e a main_item m = (a.from ≡ codes "__main_module__") × (m ≡ means (main_module_export a.name (extern_kind a.ty)) None)
 IsRule e a not_function m = (¬ IsFunction a.ty) × (m ≡ refuses not_a_function)
 IsRule e a adapter_function m =
-    Contains e.adapters a.from × (ty : FuncTypeValue) × (a.ty ≡ func_type ty) × (m ≡ means (adapter_export a.from a.name ty) None)
+    Contains e.adapters a.from × (ty : FuncTypeValue) × (a.ty ≡ func_type ty) × (m ≡ adapter_meaning a.from a.name ty)
 IsRule e a (by_scheme k) m =
     (ty : FuncTypeValue) × (s : Scheme) × (from : List ℕ) × (a.ty ≡ func_type ty) × IsReadBy e a.from s from
     × IsKind s e (record { from = from; name = a.name; ty = ty }) k m

@@ -16,6 +16,7 @@ pub mod Meanings
 pub mod Environment
 pub mod WitIntrinsics
 pub mod Imports
+pub mod AlikeTypes
 pub mod ExportNames
 pub mod ExportViews
 pub mod ExportIndexes

@@ -1,7 +1,7 @@
 //! Laws of names: contracts of functions that do nothing when they run.
 
 ghost use Rattle.std.specs.Prelude.{◌≡◌, IsTrue};
-ghost use Rattle.wc_names.specs.Laws.{BuiltinsUnique, ExportsInRange, ExportsUnique, FunctionNamesUnique, InterfacesUnique, MeaningsInRange, MeaningsUnique, NumbersParsed};
+ghost use Rattle.wc_names.specs.Laws.{BuiltinsUnique, ExportSignaturesPlain, ExportsAlike, ExportsInRange, ExportsUnique, FunctionNamesUnique, InterfacesUnique, MeaningsAlike, MeaningsInRange, MeaningsUnique, NumbersParsed, SignaturesPlain};
 
 use crate::{PayloadInfo, PayloadType};
 use std::hash::Hash;
@@ -39,6 +39,20 @@ pub fn exports_in_range(resolve: &Resolve)
 {
     resolve.well_formedness();
 }
+
+/// What an import of a core module means does not depend on the indices by which its type names types of the module:
+/// where it means something, it means that with other indices too. A signature that a name fixes names no types. It does
+/// nothing when it runs.
+pub fn meanings_alike()
+    ensures meaning { MeaningsAlike }
+    ensures signature { SignaturesPlain }
+{}
+
+/// The same of what an export means for an export set. It does nothing when it runs.
+pub fn exports_alike()
+    ensures meaning { ExportsAlike }
+    ensures signature { ExportSignaturesPlain }
+{}
 
 /// A module's text is about one interface at most, by either scheme. It does nothing when it runs.
 pub fn interfaces_unique(resolve: &Resolve)

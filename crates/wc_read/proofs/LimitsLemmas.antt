@@ -4,15 +4,14 @@ use Rattle.std.specs.Prelude.{◌==◌, nat_lt, nat_le, not, ◌&&◌, ◌||◌,
 use Rattle.std.specs.Option.{option_map_or}
 use Rattle.std.proofs.lemmas.Bool.{cases_lt, leb-true, le-leb, false≢true}
 use Rattle.wc_read.specs.Formats.{Format, SpellsNumber, Joined}
-use Rattle.wc_read.specs.Types.{val_type_code, SpellsValType, IsReference}
+use Rattle.wc_read.specs.Types.{SpellsValType, is_reference}
 use Rattle.wc_read.specs.Limits.{flags_code, bound_bits, SpellsBounds, AreOrdered, table_flags, SpellsTable, memory_flags, FitsIn32, IsMemory, SpellsMemory}
 use Rattle.wc_read.specs.Reading.Bytes.{byte_at, number_at, where_at, optional_at}
-use Rattle.wc_read.specs.Reading.Types.{val_type_at, is_reference}
+use Rattle.wc_read.specs.Reading.Types.{val_type_at}
 use Rattle.wc_read.specs.Reading.Limits.{flags_of, flags_at, is_at_most, bounds_at, table_at, is_page_size, max_pages, fits_addresses, memory_at}
 use Rattle.wc_read.specs.Options.{◌>>=◌}
 use Rattle.wc_read.specs.declared.limits.Flags.{Flags}
 use Rattle.wc_read.specs.declared.types.ValType.{ValType}
-use Rattle.wc_read.specs.declared.types.ValType.TheVariants.{I32, I64, F32, F64, V128, FuncRef, ExternRef}
 use Rattle.wc_read.specs.declared.types.TableType.{TableType}
 use Rattle.wc_read.specs.declared.types.MemoryType.{MemoryType}
 use Rattle.wc_read.proofs.MeetsLemmas.{Meets, same_meets, bind_meets, made_meets, where_meets, tested_meets, tested_at, number_meets, optional_meets, byte_meets, IsByte, Where, Made, Tested, IsOptional, Coded}
@@ -107,19 +106,6 @@ bounds_meets is_64 has_maximum =
     (λ bytes b s. (b.0, s.spelled.initial_bytes, s.spelled.maximum_bytes, s.spelled.cut, s.spelled.has_initial, (b.1, ((s.spelled.has_maximum, s.there), ordered_is_at_most b.0 b.1 s.ordered), refl)))
 
 -- tables
-pub reference : (t : ValType) → is_reference t ≡ true → IsReference t
-reference FuncRef e = inl refl
-reference ExternRef e = inr refl
-reference I32 e = absurd (false≢true e)
-reference I64 e = absurd (false≢true e)
-reference F32 e = absurd (false≢true e)
-reference F64 e = absurd (false≢true e)
-reference V128 e = absurd (false≢true e)
-
-pub reference_back : (t : ValType) → IsReference t → is_reference t ≡ true
-reference_back t (inl e) = rw e refl
-reference_back t (inr e) = rw e refl
-
 is_plain : Flags → Bool
 is_plain f = not (f.shared || f.has_page_size)
 
@@ -138,9 +124,11 @@ table_to bytes t j =
     let b = j.5.5.1 in
     let flags : flags_code (record { has_maximum = is_some j.5.5.0.1; shared = false; is_64 = j.5.0.is_64; has_page_size = false }) ≡ flags_code j.5.0 = rw (b.there, p.0, p.1) refl in
     rw j.5.5.2 (record {
+      element = j.1;
       bounds = j.5.2;
-      cut = j.3 ∙ rw (j.4.0, j.5.3, j.5.4.0, flags) refl;
-      element_is_reference = reference j.0 j.4.1;
+      cut = j.3 ∙ rw (j.5.3, j.5.4.0, flags) refl;
+      has_element = j.4.0;
+      element_is_reference = j.4.1;
       has_bounds = b.spelled;
       ordered = b.ordered;
     })
@@ -149,10 +137,10 @@ table_from : (bytes : List ℕ) (t : TableType) → SpellsTable bytes t → Join
 unfolding is_plain made_table
 table_from bytes t s = (
   t.element_type,
-  val_type_code t.element_type ∷ [],
+  s.element,
   flags_code (table_flags t) ∷ s.bounds,
   s.cut,
-  (refl, reference_back t.element_type s.element_is_reference),
+  (s.has_element, s.element_is_reference),
   (
     table_flags t,
     flags_code (table_flags t) ∷ [],

@@ -6,6 +6,7 @@ use Rattle.std.proofs.lemmas.Bool.Decides.{nat_tests}
 use Rattle.std.proofs.lemmas.List.{length-append}
 use Rattle.std.proofs.Math.Seq.{take-append_seam}
 use Rattle.wc_read.specs.Options.{◌>>=◌}
+use Rattle.wc_read.specs.Types.{SpellsValType}
 use Rattle.wc_read.specs.Bodies.{SpellsLocals, local_count}
 use Rattle.wc_read.specs.Text.{number_text, val_type_text, vector_text, locals_text}
 use Rattle.wc_read.specs.Decoding.{body_in, locals_in}
@@ -15,6 +16,7 @@ use Rattle.wc_read.specs.Reading.Types.{val_type_at}
 use Rattle.wc_read.specs.Reading.Bodies.{locals_at, locals_of}
 use Rattle.wc_read.specs.declared.bodies.Locals.{Locals}
 use Rattle.wc_read.specs.declared.types.ValType.{ValType}
+use Rattle.wc_read.specs.declared.types.ValType.TheVariants.{I32, I64, F32, F64, V128, FuncRef, ExternRef, FuncRefNonNull, ExternRefNonNull, TypeRef}
 use Rattle.wc_read.proofs.OptionsLemmas.{some_pair, some_none, bind_some, bind_none}
 use Rattle.wc_read.proofs.TypesLemmas.{val_type_meets}
 use Rattle.wc_read.proofs.BodiesLemmas.{locals_meet}
@@ -29,8 +31,20 @@ number_shortest input n rest all e shortest =
     let p = some_pair n s.value rest s.left (sym e ∙ s.read_is) in
     s.cut ∙ (ap (λ (k : ℕ). number_text k ++ s.left) (sym p.0) ∙ ap (λ (z : List ℕ). number_text n ++ z) (sym p.1))
 
+type_is : (text : List ℕ) (ty : ValType) → SpellsValType text ty → text ≡ val_type_text ty
+type_is text I32 s = s
+type_is text I64 s = s
+type_is text F32 s = s
+type_is text F64 s = s
+type_is text V128 s = s
+type_is text FuncRef s = s
+type_is text ExternRef s = s
+type_is text FuncRefNonNull s = absurd s
+type_is text ExternRefNonNull s = absurd s
+type_is text (TypeRef nullable index) s = absurd s
+
 type_text : (input : List ℕ) (ty : ValType) (rest : List ℕ) → val_type_at input ≡ Some (ty, rest) → input ≡ val_type_text ty ++ rest
-type_text input ty rest e = let t = val_type_meets.parses input ty rest e in t.1 ∙ ap (λ (z : List ℕ). z ++ rest) t.2
+type_text input ty rest e = let t = val_type_meets.parses input ty rest e in t.1 ∙ ap (λ (z : List ℕ). z ++ rest) (type_is t.0 ty t.2)
 
 pub run_read : (old mid new : List ℕ) (count : ℕ) (is_run_text : Bool) (ty : ValType) → (number_at 32 old ≡ Some (count, mid)) × (is_run_text ≡ true → old ≡ number_text count ++ mid) → val_type_at mid ≡ Some (ty, new)
     → (t : ValType) × (locals_at old ≡ Some (locals_of count t, new)) × (is_run_text ≡ true → old ≡ locals_text (locals_of count t) ++ new)

@@ -1,6 +1,6 @@
 -- A relation of bytes and value, and a reading function that meets it: what is read is spelled at the front, and what is
 -- spelled is read, whatever is after it. One lemma for each way to put formats together.
-use Rattle.std.proofs.Common.{◌≡◌, ℕ, zero, suc, ◌+◌, ◌-◌, ◌*◌, ◌^◌, List, [], ◌∷◌, ◌++◌, length, take, drop, Bool, true, false, Option, Some, None, refl, sym, ◌∙◌, ap, append_assoc, append-nil, arith, inl, inr, subst, eqb-true, eq-eqb}
+use Rattle.std.proofs.Common.{◌≡◌, ℕ, zero, suc, ◌+◌, ◌-◌, ◌*◌, ◌^◌, List, [], ◌∷◌, ◌++◌, length, take, drop, Bool, true, false, Option, Some, None, refl, sym, ◌∙◌, ap, append_assoc, append-nil, arith, inl, inr, ◌⊎◌, subst, eqb-true, eq-eqb}
 use Rattle.std.specs.Prelude.{nat_le, ◌==◌, is_some, if◌then◌else◌}
 use Rattle.std.proofs.lemmas.Bool.{cases_lt, false≢true, leb-true, le-leb}
 use Rattle.std.proofs.lemmas.List.{take-append-drop, length-take-le}
@@ -290,3 +290,22 @@ choice_meets Spells b n one other y z = by (b == n) refl
 -- nothing is read, and nothing is spelled
 pub none_meets : {A : Type 0} (Spells : Format A) → ((bytes : List ℕ) (x : A) → Spells bytes x → ⊥) → Meets Spells (λ _. None)
 none_meets Spells nothing = record { parses = λ bytes x rest e. absurd cc; again = λ text x rest s. absurd (nothing text x s) }
+
+-- a reading function that looks at the first byte before it reads
+pub peek_meets : {A : Type 0} (Spells : Format A) (read : ℕ → Read A) → ((x : A) → Spells [] x → ⊥)
+    → ((b : ℕ) (bytes : List ℕ) (x : A) (rest : List ℕ) → read b (b ∷ bytes) ≡ Some (x, rest) → (text : List ℕ) × (b ∷ bytes ≡ text ++ rest) × Spells text x)
+    → ((b : ℕ) (text : List ℕ) (x : A) (rest : List ℕ) → Spells (b ∷ text) x → read b (b ∷ (text ++ rest)) ≡ Some (x, rest))
+    → Meets Spells (λ bytes. byte_at bytes >>= λ b. read b.0 bytes)
+peek_meets {A} Spells read some taken back = record { parses = there; again = here }
+  where
+    there : (bytes : List ℕ) (x : A) (rest : List ℕ) → (byte_at bytes >>= λ b. read b.0 bytes) ≡ Some (x, rest) → (text : List ℕ) × (bytes ≡ text ++ rest) × Spells text x
+    there [] x rest e = absurd (some_none (x, rest) (sym e))
+    there (b ∷ bytes) x rest e = taken b bytes x rest e
+
+    here : (text : List ℕ) (x : A) (rest : List ℕ) → Spells text x → (byte_at (text ++ rest) >>= λ b. read b.0 (text ++ rest)) ≡ Some (x, rest)
+    here [] x rest s = absurd (some x s)
+    here (b ∷ text) x rest s = back b text x rest s
+
+pub chosen : {A : Type 0} (c : Bool) (x y z : A) → (if c then x else y) ≡ z → ((c ≡ true) × (x ≡ z)) ⊎ ((c ≡ false) × (y ≡ z))
+chosen true x y z e = inl (refl, e)
+chosen false x y z e = inr (refl, e)

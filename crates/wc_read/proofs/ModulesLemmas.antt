@@ -12,10 +12,10 @@ use Rattle.std.specs.Option.{option_map}
 use Rattle.std.specs.Borrow.{Bor}
 use Rattle.std.proofs.lemmas.Option.{slice_get-map, slice_get_within, get_or_from_slice_get}
 use Rattle.std.proofs.lemmas.List.Elements.{All-get_or}
-use Rattle.wc_read.specs.Types.{FuncTypeValue, func_type_value}
-use Rattle.wc_read.specs.Reading.Types.{is_nullary}
+use Rattle.wc_read.specs.Types.{FuncTypeValue, has_type_index, HaveTypeIndices, func_type_value}
+use Rattle.wc_read.specs.Reading.Types.{have_type_indices, is_nullary}
 use Rattle.wc_read.specs.declared.types.ValType.{ValType}
-use Rattle.wc_read.specs.Items.{FuncValue, func_value, global_value}
+use Rattle.wc_read.specs.Items.{FuncValue, func_value, table_value, global_value}
 use Rattle.wc_read.specs.InitTypes.{AreTyped}
 use Rattle.wc_read.specs.Exports.{export_value}
 use Rattle.wc_read.specs.declared.exports.Export.{Export}
@@ -23,7 +23,7 @@ use Rattle.wc_read.specs.Sections.{SectionValue, section_value, SpellsFrames}
 use Rattle.wc_read.specs.SectionContents.{SectionContentsValue}
 use Rattle.wc_read.specs.Reading.Contents.{section_contents_in}
 use Rattle.wc_read.specs.Names.{GlobalNameValue, global_names_of}
-use Rattle.wc_read.specs.Modules.{ModuleValue, module_value, CustomValue, HasCustom, module_of, HaveTypes, IsStart, IsModule, IsAssembled, AreModule, SpellsModule}
+use Rattle.wc_read.specs.Modules.{ModuleValue, module_value, CustomValue, HasCustom, module_of, HaveTypes, NameTypes, IsStart, IsModule, IsAssembled, AreModule, SpellsModule}
 use Rattle.wc_read.proofs.NamesUniqueLemmas.{names_unique}
 use Rattle.wc_read.proofs.ProducersReadLemmas.{producers_unique}
 use Rattle.wc_read.specs.declared.sections.Section.{Section}
@@ -77,6 +77,49 @@ all_less view f g xs e k d within = ltb-true _ _ (AllPass-from_list_all (λ y. n
 pub not_all_less : {X Y : Type 0} (view : X → Y) (f g : Y → ℕ) (xs : List X) → list_all (λ x. nat_lt (f (view x)) (g (view x))) xs ≡ false → ¬ (All (λ y. f y < g y) (map view xs))
 not_all_less view f g xs e all = false≢true (sym e ∙ sym (list_all-map (λ y. nat_lt (f y) (g y)) view xs) ∙ list_all-from_AllPass (λ y. nat_lt (f y) (g y)) (map view xs) (λ k d within. lt-ltb _ _ (all k d within)))
 
+-- a test of all items against their values
+
+all_true : {X Y : Type 0} (view : X → Y) (test : Y → Bool) (xs : List X) → list_all (λ x. test (view x)) xs ≡ true → All (λ y. test y ≡ true) (map view xs)
+all_true view test xs e = AllPass-from_list_all test (map view xs) (list_all-map test view xs ∙ e)
+
+all_passes : {X Y : Type 0} (view : X → Y) (test : Y → Bool) (xs : List X) → All (λ y. test y ≡ true) (map view xs) → list_all (λ x. test (view x)) xs ≡ true
+all_passes view test xs h = sym (list_all-map test view xs) ∙ list_all-from_AllPass test (map view xs) h
+
+-- every type that is named by its index is there
+
+type_indices_are : (n : ℕ) (f : FuncTypeValue) → have_type_indices n f ≡ true → HaveTypeIndices n f
+type_indices_are n f e = let p = both (list_all (has_type_index n) f.params) (list_all (has_type_index n) f.results) e in (AllPass-from_list_all (has_type_index n) f.params p.0, AllPass-from_list_all (has_type_index n) f.results p.1)
+
+have_indices : (n : ℕ) (f : FuncTypeValue) → HaveTypeIndices n f → have_type_indices n f ≡ true
+have_indices n f h = rw (list_all-from_AllPass (has_type_index n) f.params h.0, list_all-from_AllPass (has_type_index n) f.results h.1) refl
+
+abbrev pub tests_types : ℕ → Module → Bool
+tests_types n m =
+    list_all (λ t. have_type_indices n (func_type_value t)) m.types.items
+    && (list_all (λ t. has_type_index n t.ty.element_type) m.tables.items && list_all (λ g. has_type_index n g.ty.content_type) m.globals.items)
+
+pub name_types_from : (m : Module) → tests_types (length m.types.items) m ≡ true → NameTypes (module_value m)
+name_types_from m e =
+    let n = length (map func_type_value m.types.items) in
+    let f : tests_types n m ≡ true = subst (λ (k : ℕ). tests_types k m ≡ true) (sym (length-map m.types.items func_type_value)) e in
+    let p = both (list_all (λ t. have_type_indices n (func_type_value t)) m.types.items) _ f in
+    let q = both (list_all (λ t. has_type_index n t.ty.element_type) m.tables.items) _ p.1 in
+    record {
+      types = λ k d within. type_indices_are n _ (all_true func_type_value (have_type_indices n) m.types.items p.0 k d within);
+      tables = all_true table_value (λ t. has_type_index n t.ty.element_type) m.tables.items q.0;
+      globals = all_true global_value (λ g. has_type_index n g.ty.content_type) m.globals.items q.1;
+    }
+
+pub name_types_back : (m : Module) → NameTypes (module_value m) → tests_types (length m.types.items) m ≡ true
+name_types_back m h =
+    let n = length (map func_type_value m.types.items) in
+    subst (λ (k : ℕ). tests_types k m ≡ true) (length-map m.types.items func_type_value)
+    (rw (
+      all_passes func_type_value (have_type_indices n) m.types.items (λ k d within. have_indices n _ (h.types k d within)),
+      all_passes table_value (λ t. has_type_index n t.ty.element_type) m.tables.items h.tables,
+      all_passes global_value (λ g. has_type_index n g.ty.content_type) m.globals.items h.globals,
+    ) refl)
+
 -- the type of a function of a module whose functions have types of it
 pub has_type : (m : Module) (index : ℕ) (f : Item ℕ (Bor (List ℕ))) → HaveTypes (module_value m) → slice_get m.funcs.items index ≡ Some f → f.ty < length m.types.items
 has_type m index f typed e =
@@ -95,11 +138,17 @@ typed_values m h = subst (λ (n : ℕ). All (λ (f : FuncValue). f.ty < n) (map 
 pub typed_items : (m : Module) → All (λ f. f.ty < length (map func_type_value m.types.items)) (map func_value m.funcs.items) → All (λ f. f.ty < length m.types.items) (map func_value m.funcs.items)
 typed_items m h = subst (λ (n : ℕ). All (λ (f : FuncValue). f.ty < n) (map func_value m.funcs.items)) (length-map m.types.items func_type_value) h
 
-pub globals_of_values : (m : Module) → AreTyped (length m.funcs.items) (map global_value m.globals.items) → AreTyped (length (map func_value m.funcs.items)) (map global_value m.globals.items)
-globals_of_values m h = subst (λ (n : ℕ). AreTyped n (map global_value m.globals.items)) (sym (length-map m.funcs.items func_value)) h
+pub globals_of_values : (m : Module) → AreTyped (length m.types.items) (length m.funcs.items) (map global_value m.globals.items)
+    → AreTyped (length (map func_type_value m.types.items)) (length (map func_value m.funcs.items)) (map global_value m.globals.items)
+globals_of_values m h =
+    subst (λ (k : ℕ). AreTyped k (length (map func_value m.funcs.items)) (map global_value m.globals.items)) (sym (length-map m.types.items func_type_value))
+    (subst (λ (n : ℕ). AreTyped (length m.types.items) n (map global_value m.globals.items)) (sym (length-map m.funcs.items func_value)) h)
 
-pub globals_of_items : (m : Module) → AreTyped (length (map func_value m.funcs.items)) (map global_value m.globals.items) → AreTyped (length m.funcs.items) (map global_value m.globals.items)
-globals_of_items m h = subst (λ (n : ℕ). AreTyped n (map global_value m.globals.items)) (length-map m.funcs.items func_value) h
+pub globals_of_items : (m : Module) → AreTyped (length (map func_type_value m.types.items)) (length (map func_value m.funcs.items)) (map global_value m.globals.items)
+    → AreTyped (length m.types.items) (length m.funcs.items) (map global_value m.globals.items)
+globals_of_items m h =
+    subst (λ (k : ℕ). AreTyped k (length m.funcs.items) (map global_value m.globals.items)) (length-map m.types.items func_type_value)
+    (subst (λ (n : ℕ). AreTyped (length (map func_type_value m.types.items)) n (map global_value m.globals.items)) (length-map m.funcs.items func_value) h)
 
 -- names of exports, of their values and unchanged
 

@@ -1,19 +1,17 @@
 -- Operators are read as they are spelled.
-use Rattle.std.proofs.Common.{◌≡◌, ℕ, ◌+◌, ◌%◌, ◌<◌, ◌≤◌, List, [], ◌∷◌, ◌++◌, Bool, true, false, Option, Some, None, ℤ, pos, negsuc, refl, sym, ◌∙◌, ap, arith, inl, inr, ◌⊎◌, subst, ltb-true, leb-true, eqb-true}
+use Rattle.std.proofs.Common.{◌≡◌, ℕ, ◌+◌, ◌%◌, ◌<◌, ◌≤◌, List, [], ◌∷◌, ◌++◌, true, false, Option, Some, None, ℤ, pos, negsuc, refl, sym, ◌∙◌, ap, arith, inl, inr, ◌⊎◌, subst, ltb-true, leb-true, eqb-true}
 use Rattle.std.specs.Prelude.{nat_le, ◌==◌, is_some, unwrap_or, if◌then◌else◌}
 use Rattle.std.proofs.lemmas.Bool.{false≢true}
 use Rattle.std.proofs.lemmas.Bool.Decides.{nat_tests}
 use Rattle.wc_read.specs.Formats.{Format, SpellsNumber, SpellsVector, Joined}
-use Rattle.wc_read.specs.Types.{SpellsValType, val_type_code}
+use Rattle.wc_read.specs.Types.{SpellsValType, is_reference}
 use Rattle.wc_read.specs.Signed.{SpellsSigned, last_positive, last_negative, more_signed}
 use Rattle.wc_read.specs.Reading.Signed.{signed_at}
 use Rattle.wc_read.specs.Reading.Bytes.{Read, byte_at, bytes_at, number_at, vector_at, where_at, optional_at}
 use Rattle.wc_read.specs.Options.{◌>>=◌}
-use Rattle.wc_read.specs.Reading.Types.{val_type_at, is_reference}
+use Rattle.wc_read.specs.Reading.Types.{val_type_at}
 use Rattle.wc_read.specs.Operators.{form_of, index_of, is_prefix, SpellsOpcode, SpellsBlockType, SpellsMemArg, SpellsRefType, SpellsImmediates, SpellsInstr, ImmediatesValue, WithNone, WithBlock, WithIndex, WithIndices, WithLabels, WithValTypes, WithRefType, WithMemArg, WithMemArgLane, WithI32, WithI64, WithBytes, WithLane, InstrValue}
 use Rattle.wc_read.specs.Reading.Operators.{opcode_after, opcode_at, natural, func_type_at, is_value, block_type_after, block_type_at, are_flags, mem_arg_at, ref_type_at, is_zero, immediates_at, instr_of, instr_at}
-use Rattle.wc_read.specs.declared.types.ValType.{ValType}
-use Rattle.wc_read.specs.declared.types.ValType.TheVariants.{I32, I64, F32, F64, V128, FuncRef, ExternRef}
 use Rattle.wc_read.specs.declared.operators.Opcode.{Opcode}
 use Rattle.wc_read.specs.declared.operators.Opcode.TheVariants.{Byte, Misc, Vector, Atomic}
 use Rattle.wc_read.specs.declared.operators.BlockType.{BlockType}
@@ -22,9 +20,8 @@ use Rattle.wc_read.specs.declared.operators.MemArg.{MemArg}
 use Rattle.wc_read.specs.declared.operators.Form.{Form}
 use Rattle.wc_read.specs.declared.operators.Form.TheVariants.{None as form_none, Block as form_block, Index as form_index, Indices as form_indices, Labels as form_labels, ValTypes as form_val_types, RefType as form_ref_type, MemArg as form_mem_arg, MemArgLane as form_mem_arg_lane, I32 as form_i32, I64 as form_i64, Bytes as form_bytes, Lane as form_lane, Zero as form_zero}
 use Rattle.wc_read.proofs.OptionsLemmas.{some_same, some_none, some_pair, bind_some}
-use Rattle.wc_read.proofs.MeetsLemmas.{Meets, same_meets, bind_meets, bind_is, made_meets, made_at, where_meets, number_meets, byte_meets, bytes_meet, choice_meets, vector_meets, optional_meets, IsByte, AreBytes, IsOptional, Where, Made}
-use Rattle.wc_read.proofs.TypesLemmas.{val_type_meets}
-use Rattle.wc_read.proofs.LimitsLemmas.{reference, reference_back}
+use Rattle.wc_read.proofs.MeetsLemmas.{Meets, same_meets, bind_meets, bind_is, made_meets, made_at, where_meets, number_meets, byte_meets, bytes_meet, choice_meets, peek_meets, chosen, vector_meets, optional_meets, IsByte, AreBytes, IsOptional, Where, Made}
+use Rattle.wc_read.proofs.TypesLemmas.{cons_same, val_type_some, val_type_first, val_type_meets}
 use Rattle.wc_read.proofs.SignedLemmas.{signed_meets}
 
 -- Codes.
@@ -97,25 +94,6 @@ opcode_meets = same_meets (Joined IsByte After) SpellsOpcode opcode_at (bind_mee
 
 -- Block types.
 
--- reading that is chosen by the first byte
-peek_meets : {A : Type 0} (Spells : Format A) (read : ℕ → Read A) → ((x : A) → Spells [] x → ⊥)
-    → ((b : ℕ) (bytes : List ℕ) (x : A) (rest : List ℕ) → read b (b ∷ bytes) ≡ Some (x, rest) → (text : List ℕ) × (b ∷ bytes ≡ text ++ rest) × Spells text x)
-    → ((b : ℕ) (text : List ℕ) (x : A) (rest : List ℕ) → Spells (b ∷ text) x → read b (b ∷ (text ++ rest)) ≡ Some (x, rest))
-    → Meets Spells (λ bytes. byte_at bytes >>= λ b. read b.0 bytes)
-peek_meets {A} Spells read some taken back = record { parses = there; again = here }
-  where
-    there : (bytes : List ℕ) (x : A) (rest : List ℕ) → (byte_at bytes >>= λ b. read b.0 bytes) ≡ Some (x, rest) → (text : List ℕ) × (bytes ≡ text ++ rest) × Spells text x
-    there [] x rest e = absurd (some_none (x, rest) (sym e))
-    there (b ∷ bytes) x rest e = taken b bytes x rest e
-
-    here : (text : List ℕ) (x : A) (rest : List ℕ) → Spells text x → (byte_at (text ++ rest) >>= λ b. read b.0 (text ++ rest)) ≡ Some (x, rest)
-    here [] x rest s = absurd (some x s)
-    here (b ∷ text) x rest s = back b text x rest s
-
-chosen : {A : Type 0} (c : Bool) (x y z : A) → (if c then x else y) ≡ z → ((c ≡ true) × (x ≡ z)) ⊎ ((c ≡ false) × (y ≡ z))
-chosen true x y z e = inl (refl, e)
-chosen false x y z e = inr (refl, e)
-
 -- a function type's index
 natural_is : (z : ℤ) (n : ℕ) → natural z ≡ Some n → z ≡ pos n
 natural_is (pos m) n e = ap pos (some_same m n e)
@@ -151,7 +129,7 @@ beside b (inr large) = (grind (arith, nat_tests), grind (arith, nat_tests))
 
 block_some : (x : BlockType) → SpellsBlockType [] x → ⊥
 block_some Empty s = absurd cc
-block_some (Value t) s = absurd cc
+block_some (Value t) s = val_type_some t s
 block_some (FuncType n) s = first_is s
 
 block_taken : (b : ℕ) (bytes : List ℕ) (x : BlockType) (rest : List ℕ) → block_type_after b (b ∷ bytes) ≡ Some (x, rest) → (text : List ℕ) × (b ∷ bytes ≡ text ++ rest) × SpellsBlockType text x
@@ -168,22 +146,15 @@ block_taken b bytes x rest e =
       ]
     ]
 
-value_again : (t : ValType) (rest : List ℕ) → block_type_after (val_type_code t) (val_type_code t ∷ rest) ≡ Some (Value t, rest)
-unfolding val_type_at
-value_again I32 rest = refl
-value_again I64 rest = refl
-value_again F32 rest = refl
-value_again F64 rest = refl
-value_again V128 rest = refl
-value_again FuncRef rest = refl
-value_again ExternRef rest = refl
-
-cons_same : (b c : ℕ) (xs ys : List ℕ) → b ∷ xs ≡ c ∷ ys → (b ≡ c) × (xs ≡ ys)
-cons_same b c xs ys e = (cc, cc)
+-- the first byte of a value type
+value_first : (b : ℕ) → (0x63 ≤ b) × (b ≤ 0x7f) → ((b == 0x40) ≡ false) × (is_value b ≡ true)
+value_first b h = let low = h.0 in let high = h.1 in (grind (arith, nat_tests), grind (arith, nat_tests))
 
 block_again : (b : ℕ) (text : List ℕ) (x : BlockType) (rest : List ℕ) → SpellsBlockType (b ∷ text) x → block_type_after b (b ∷ (text ++ rest)) ≡ Some (x, rest)
 block_again b text Empty rest s = let p = cons_same b 0x40 text [] s in rw (p.0, p.1) refl
-block_again b text (Value t) rest s = let p = cons_same b (val_type_code t) text [] s in rw (p.0, p.1) (value_again t rest)
+block_again b text (Value t) rest s =
+    let p = value_first b (val_type_first b text t s) in
+    rw (p.0, p.1) ((made_meets SpellsValType val_type_at Value val_type_meets).again (b ∷ text) (Value t) rest (t, s, refl))
 block_again b text (FuncType n) rest s =
     let p = beside b (first_is s) in
     rw (p.0, p.1) (bind_some (signed_at 33 (b ∷ (text ++ rest))) _ (pos n, rest) ((signed_meets 33).again (b ∷ text) (pos n) rest s))
@@ -258,7 +229,7 @@ mem_arg_meets =
 -- Immediates.
 
 ref_type_meets : Meets SpellsRefType ref_type_at
-ref_type_meets = same_meets (Where SpellsValType is_reference) SpellsRefType ref_type_at (where_meets SpellsValType val_type_at is_reference val_type_meets) (λ bytes t s. (s.0, reference t s.1)) (λ bytes t s. (s.0, reference_back t s.1))
+ref_type_meets = where_meets SpellsValType val_type_at is_reference val_type_meets
 
 nothing_meets : {A : Type 0} (v : A) → Meets (λ bytes w. (bytes ≡ []) × (w ≡ v)) (λ bytes. Some (v, bytes))
 nothing_meets v = record {

@@ -7,7 +7,7 @@ use Rattle.std.proofs.lemmas.Bool.Decides.{nat_tests}
 use Rattle.std.proofs.lemmas.List.{length-append}
 use Rattle.std.proofs.Math.Seq.{drop-append_seam, take-append_seam}
 use Rattle.wc_read.specs.Operators.{byte_form, SpellsInstr, InstrValue, ImmediatesValue, WithNone, WithBlock, WithIndex, WithMemArg, WithI32, WithI64, WithBytes, index_of}
-use Rattle.wc_read.specs.Refs.{refs_of, one_ref, names_segment}
+use Rattle.wc_read.specs.Refs.{refs_of, type_refs_of, one_ref, names_segment}
 use Rattle.wc_read.specs.Nesting.{byte_token}
 use Rattle.wc_read.specs.Text.{number_text, signed_text}
 use Rattle.wc_read.specs.OperatorText.{immediates_text, instr_text}
@@ -37,15 +37,15 @@ use Rattle.wc_read.proofs.BodyOperatorsLemmas.{left_read}
 
 -- an operator by the form of its code
 over : (memory : Bool) (input : List ℕ) (b : ℕ) (rest : List ℕ) (form : Form) (v : ImmediatesValue) (left : List ℕ) (old new : List Bool) (size : ℕ) → input ≡ b ∷ rest → byte_form b ≡ Some form → immediates_at form rest ≡ Some (v, left)
-    → rest ≡ immediates_text v ++ left → size ≡ 1 + length (immediates_text v) → ArePassable memory (refs_of v) → names_segment v ≡ false → step old (byte_token b) ≡ Some new → IsOperatorPassed memory old input new size
+    → rest ≡ immediates_text v ++ left → size ≡ 1 + length (immediates_text v) → ArePassable memory (refs_of v) → names_segment v ≡ false → type_refs_of v ≡ [] → step old (byte_token b) ≡ Some new → IsOperatorPassed memory old input new size
 unfolding instr_text
-over memory input b rest form v left old new size e has read cut size_is refs segment s = record {
+over memory input b rest form v left old new size e has read cut size_is refs segment types s = record {
   operator = instr_of (Byte b) v;
   left = left;
   read = rw e (frequent_read b rest form v left has read);
   cut = e ∙ ap (λ (z : List ℕ). b ∷ z) cut;
   size_is = size_is ∙ omega arith;
-  passable = (refs, segment);
+  passable = (refs, segment, types);
   steps = s;
 }
 
@@ -60,45 +60,45 @@ stays b old plain some = rw plain (plain_step old some)
 
 pub code_only_over : (memory : Bool) (input : List ℕ) (b : ℕ) (rest : List ℕ) (old : List Bool) → input ≡ b ∷ rest → CodeOnly ≡ pass_kind b → old ≢ [] → IsOperatorPassed memory old input old 1
 unfolding immediates_at immediates_text
-code_only_over memory input b rest old e kind some = let w = kind_at b CodeOnly kind in over memory input b rest form_none WithNone rest old old 1 e w.0 refl refl refl (inl refl) refl (stays b old w.1 some)
+code_only_over memory input b rest old e kind some = let w = kind_at b CodeOnly kind in over memory input b rest form_none WithNone rest old old 1 e w.0 refl refl refl (inl refl) refl refl (stays b old w.1 some)
 
 pub index_over : (memory : Bool) (input : List ℕ) (b : ℕ) (rest : List ℕ) (old : List Bool) (size : ℕ) → input ≡ b ∷ rest → Index ≡ pass_kind b → old ≢ [] → IsTextSize (number_at 32) number_text rest size → IsOperatorPassed memory old input old (1 + size)
 unfolding immediates_at immediates_text
 index_over memory input b rest old size e kind some s =
     let w = kind_at b Index kind in
     over memory input b rest (form_index w.0) (WithIndex (index_of w.0 s.value)) s.left old old (1 + size) e w.1 (bind_some _ _ (s.value, s.left) s.read_is) s.cut (ap (λ (k : ℕ). 1 + k) s.size_is)
-    (inl (ap one_ref (w.3 s.value))) w.4 (stays b old w.2 some)
+    (inl (ap one_ref (w.3 s.value))) w.4 refl (stays b old w.2 some)
 
 pub i32_over : (memory : Bool) (input : List ℕ) (b : ℕ) (rest : List ℕ) (old : List Bool) (size : ℕ) → input ≡ b ∷ rest → ConstI32 ≡ pass_kind b → old ≢ [] → IsTextSize (signed_at 32) signed_text rest size → IsOperatorPassed memory old input old (1 + size)
 unfolding immediates_at immediates_text
 i32_over memory input b rest old size e kind some s =
     let w = kind_at b ConstI32 kind in
-    over memory input b rest form_i32 (WithI32 s.value) s.left old old (1 + size) e w.0 (bind_some _ _ (s.value, s.left) s.read_is) s.cut (ap (λ (k : ℕ). 1 + k) s.size_is) (inl refl) refl (stays b old w.1 some)
+    over memory input b rest form_i32 (WithI32 s.value) s.left old old (1 + size) e w.0 (bind_some _ _ (s.value, s.left) s.read_is) s.cut (ap (λ (k : ℕ). 1 + k) s.size_is) (inl refl) refl refl (stays b old w.1 some)
 
 pub i64_over : (memory : Bool) (input : List ℕ) (b : ℕ) (rest : List ℕ) (old : List Bool) (size : ℕ) → input ≡ b ∷ rest → ConstI64 ≡ pass_kind b → old ≢ [] → IsTextSize (signed_at 64) signed_text rest size → IsOperatorPassed memory old input old (1 + size)
 unfolding immediates_at immediates_text
 i64_over memory input b rest old size e kind some s =
     let w = kind_at b ConstI64 kind in
-    over memory input b rest form_i64 (WithI64 s.value) s.left old old (1 + size) e w.0 (bind_some _ _ (s.value, s.left) s.read_is) s.cut (ap (λ (k : ℕ). 1 + k) s.size_is) (inl refl) refl (stays b old w.1 some)
+    over memory input b rest form_i64 (WithI64 s.value) s.left old old (1 + size) e w.0 (bind_some _ _ (s.value, s.left) s.read_is) s.cut (ap (λ (k : ℕ). 1 + k) s.size_is) (inl refl) refl refl (stays b old w.1 some)
 
 pub four_over : (memory : Bool) (input : List ℕ) (b : ℕ) (rest : List ℕ) (old : List Bool) (size : ℕ) → input ≡ b ∷ rest → FourBytes ≡ pass_kind b → old ≢ [] → IsTextSize (bytes_at 4) (λ b. b) rest size → IsOperatorPassed memory old input old (1 + size)
 unfolding immediates_at immediates_text
 four_over memory input b rest old size e kind some s =
     let w = kind_at b FourBytes kind in
-    over memory input b rest (form_bytes 4) (WithBytes s.value) s.left old old (1 + size) e w.0 (bind_some _ _ (s.value, s.left) s.read_is) s.cut (ap (λ (k : ℕ). 1 + k) s.size_is) (inl refl) refl (stays b old w.1 some)
+    over memory input b rest (form_bytes 4) (WithBytes s.value) s.left old old (1 + size) e w.0 (bind_some _ _ (s.value, s.left) s.read_is) s.cut (ap (λ (k : ℕ). 1 + k) s.size_is) (inl refl) refl refl (stays b old w.1 some)
 
 pub eight_over : (memory : Bool) (input : List ℕ) (b : ℕ) (rest : List ℕ) (old : List Bool) (size : ℕ) → input ≡ b ∷ rest → EightBytes ≡ pass_kind b → old ≢ [] → IsTextSize (bytes_at 8) (λ b. b) rest size → IsOperatorPassed memory old input old (1 + size)
 unfolding immediates_at immediates_text
 eight_over memory input b rest old size e kind some s =
     let w = kind_at b EightBytes kind in
-    over memory input b rest (form_bytes 8) (WithBytes s.value) s.left old old (1 + size) e w.0 (bind_some _ _ (s.value, s.left) s.read_is) s.cut (ap (λ (k : ℕ). 1 + k) s.size_is) (inl refl) refl (stays b old w.1 some)
+    over memory input b rest (form_bytes 8) (WithBytes s.value) s.left old old (1 + size) e w.0 (bind_some _ _ (s.value, s.left) s.read_is) s.cut (ap (λ (k : ℕ). 1 + k) s.size_is) (inl refl) refl refl (stays b old w.1 some)
 
 pub mem_arg_over : (memory : Bool) (input : List ℕ) (b : ℕ) (rest : List ℕ) (old : List Bool) (size : ℕ) → input ≡ b ∷ rest → MemArg ≡ pass_kind b → old ≢ [] → SizesMemArg memory rest (Some size) → IsOperatorPassed memory old input old (1 + size)
 unfolding immediates_at immediates_text
 mem_arg_over memory input b rest old size e kind some (s, first, may) =
     let w = kind_at b MemArg kind in
     over memory input b rest form_mem_arg (WithMemArg s.value) s.left old old (1 + size) e w.0 (bind_some _ _ (s.value, s.left) s.read_is) s.cut (ap (λ (k : ℕ). 1 + k) s.size_is)
-    (inr (may, ap (λ (k : ℕ). one_ref (Some (Memories, k))) first)) refl (stays b old w.1 some)
+    (inr (may, ap (λ (k : ℕ). one_ref (Some (Memories, k))) first)) refl refl (stays b old w.1 some)
 
 pub memory_index_over : (memory : Bool) (input : List ℕ) (b : ℕ) (rest : List ℕ) (old : List Bool) (size : ℕ) → input ≡ b ∷ rest → Memory ≡ pass_kind b → old ≢ [] → SizesMemoryIndex memory rest (Some size) → IsOperatorPassed memory old input old (1 + size)
 unfolding immediates_at immediates_text
@@ -107,7 +107,7 @@ memory_index_over memory input b rest old size e kind some (left, cut, one, may)
     let p = memory_index_sized rest left cut in
     let s = p.0 in
     over memory input b rest (form_index (In Memories)) (WithIndex (index_of (In Memories) s.value)) s.left old old (1 + size) e w.0 (bind_some _ _ (s.value, s.left) s.read_is) s.cut (ap (λ (k : ℕ). 1 + k) (one ∙ s.size_is))
-    (inr (may, ap (λ (k : ℕ). one_ref (Some (Memories, k))) p.1)) refl (stays b old w.1 some)
+    (inr (may, ap (λ (k : ℕ). one_ref (Some (Memories, k))) p.1)) refl refl (stays b old w.1 some)
 
 -- what is something to nesting
 
@@ -141,7 +141,7 @@ unfolding immediates_at immediates_text
 block_start_over memory input b rest old new is_if size e form s (byte, left, cut, plain, two, opened) =
     over memory input b rest form_block (WithBlock plain.ty) left old new size e form
     (ap (λ (z : List ℕ). immediates_at form_block z) cut ∙ bind_some _ _ (plain.ty, left) (plain.reads left))
-    (cut ∙ ap (λ (z : List ℕ). z ++ left) (sym plain.text)) (two ∙ ap (λ (z : List ℕ). 1 + length z) (sym plain.text)) (inl plain.names_none) refl (s ∙ ap Some (sym opened))
+    (cut ∙ ap (λ (z : List ℕ). z ++ left) (sym plain.text)) (two ∙ ap (λ (z : List ℕ). 1 + length z) (sym plain.text)) (inl plain.names_none) refl refl (s ∙ ap Some (sym opened))
 
 pub block_over : (memory : Bool) (input : List ℕ) (b : ℕ) (rest : List ℕ) (old new : List Bool) (size : ℕ) → input ≡ b ∷ rest → OpensBlock ≡ pass_kind b → old ≢ [] → PassesBlockStart false old rest new (Some size) → IsOperatorPassed memory old input new size
 block_over memory input b rest old new size e kind some o =
@@ -157,13 +157,13 @@ pub else_over : (memory : Bool) (input : List ℕ) (b : ℕ) (rest : List ℕ) (
 unfolding immediates_at immediates_text
 else_over memory input b rest old new e kind (blocks, was, is) =
     let t = kind_at b MeetsElse kind in
-    over memory input b rest form_none WithNone rest old new 1 e (else_form b t) refl refl refl (inl refl) refl (rw (t, was, is) refl)
+    over memory input b rest form_none WithNone rest old new 1 e (else_form b t) refl refl refl (inl refl) refl refl (rw (t, was, is) refl)
 
 pub end_over : (memory : Bool) (input : List ℕ) (b : ℕ) (rest : List ℕ) (old new : List Bool) → input ≡ b ∷ rest → MeetsEnd ≡ pass_kind b → Closes true old new → IsOperatorPassed memory old input new 1
 unfolding immediates_at immediates_text
 end_over memory input b rest old new e kind (is_if, other, blocks, was, is) =
     let t = kind_at b MeetsEnd kind in
-    over memory input b rest form_none WithNone rest old new 1 e (end_form b t) refl refl refl (inl refl) refl (rw (t, was, is) refl)
+    over memory input b rest form_none WithNone rest old new 1 e (end_form b t) refl refl refl (inl refl) refl refl (rw (t, was, is) refl)
 
 -- operators one after another
 
@@ -248,7 +248,7 @@ pub end_passed : (memory : Bool) (old mid new : List Bool) (input rest : List �
 unfolding immediates_at immediates_text byte_form
 end_passed memory old mid new input rest b left None s some cut last popped = absurd (some popped)
 end_passed memory old mid new input rest b left (Some is_if) s some cut last popped =
-    passed_more memory old mid new input rest 1 left s (over memory rest b left form_none WithNone left mid new 1 cut (rw last refl) refl refl refl (inl refl) refl (rw (last, popped) refl)) (rw cut refl)
+    passed_more memory old mid new input rest 1 left s (over memory rest b left form_none WithNone left mid new 1 cut (rw last refl) refl refl refl (inl refl) refl refl (rw (last, popped) refl)) (rw cut refl)
 
 -- the bytes that were passed over
 

@@ -4,7 +4,7 @@ use Rattle.std.specs.List.{slice_get, filter}
 use Rattle.std.specs.Option.{option_map}
 use Rattle.wc_read.specs.Names.{GlobalNameValue, NamesOf, global_names_of, name_entries}
 use Rattle.wc_read.specs.Producers.{LastProducers}
-use Rattle.wc_read.specs.Types.{FuncTypeValue, func_type_value}
+use Rattle.wc_read.specs.Types.{FuncTypeValue, HasTypeIndex, HaveTypeIndices, func_type_value}
 use Rattle.wc_read.specs.Imports.{ImportValue, import_value}
 use Rattle.wc_read.specs.Exports.{ExportValue, export_value}
 use Rattle.wc_read.specs.Items.{FuncValue, TableValue, MemoryValue, GlobalValue, func_value, table_value, memory_value, global_value}
@@ -61,6 +61,12 @@ count_of m Global = length m.globals
 abbrev pub HaveTypes : ModuleValue → Type 0
 HaveTypes m = All (λ f. f.ty < length m.types) m.funcs
 
+-- the indices of types in types, tables and globals are those of types of the module
+pub record NameTypes (m : ModuleValue) : Type 0 where
+  pub types : All (HaveTypeIndices (length m.types)) m.types
+  pub tables : All (λ t. HasTypeIndex (length m.types) t.ty.element_type) m.tables
+  pub globals : All (λ g. HasTypeIndex (length m.types) g.ty.content_type) m.globals
+
 -- a function of the module that has no parameters and no results
 pub record IsStart (m : ModuleValue) (index : ℕ) : Type 0 where
   pub func : FuncValue
@@ -77,14 +83,15 @@ pub record AreFew (m : ModuleValue) : Type 0 where
   pub memories : length m.memories < 2 ^ 32
   pub globals : length m.globals < 2 ^ 32
 
--- functions have types of the module; exports name items of it, no two by one name; the start function has no parameters and
--- no results; an initialiser leaves one value of its global's type
+-- functions have types of the module; types, tables and globals name no others; exports name items of it, no two by one name;
+-- the start function has no parameters and no results; an initialiser leaves one value, of the class of its global's type
 pub record IsModule (m : ModuleValue) : Type 0 where
   pub typed : HaveTypes m
+  pub named : NameTypes m
   pub exported : All (λ e. e.index < count_of m e.kind) m.exports
   pub distinct : AllPairs (λ x y. x ≢ y) (map (λ e. e.name) m.exports)
   pub started : IfSome m.start (IsStart m)
-  pub initialised : AreTyped (length m.funcs) m.globals
+  pub initialised : AreTyped (length m.types) (length m.funcs) m.globals
   pub few : AreFew m
 
 -- the sections whose contents are not read

@@ -4,7 +4,7 @@ use Rattle.std.specs.Prelude.{◌≡◌, ◌⊎◌, ℕ, List, [], ◌∷◌, �
 use Rattle.std.specs.List.{flat_map}
 use Rattle.std.specs.Option.{option_map}
 use Rattle.wc_read.specs.Operators.{InstrValue, WithBlock}
-use Rattle.wc_read.specs.Refs.{refs_of, one_ref, names_segment}
+use Rattle.wc_read.specs.Refs.{refs_of, type_refs_of, one_ref, names_segment}
 use Rattle.wc_read.specs.Nesting.{instr_token}
 use Rattle.wc_read.specs.OperatorText.{block_type_text, instr_text}
 use Rattle.wc_read.specs.Decoding.{operators_in}
@@ -20,9 +20,9 @@ use Rattle.wc_read.specs.declared.operators.Space.TheVariants.{Memories}
 abbrev pub ArePassable : Bool → Refs → Type 0
 ArePassable memory refs = (refs ≡ one_ref None) ⊎ ((memory ≡ true) × (refs ≡ one_ref (Some (Memories, 0))))
 
--- an operator that names no other items and no segment
+-- an operator that names no other items, no segment, and no type among those of a `select`
 abbrev pub IsPassable : Bool → InstrValue → Type 0
-IsPassable memory i = ArePassable memory (refs_of i.immediates) × (names_segment i.immediates ≡ false)
+IsPassable memory i = ArePassable memory (refs_of i.immediates) × (names_segment i.immediates ≡ false) × (type_refs_of i.immediates ≡ [])
 
 abbrev pub IsPassableCode : Bool → List InstrValue → Type 0
 IsPassableCode memory [] = Unit {0}

@@ -1,6 +1,9 @@
 -- What an operator refers to: the items of the module that it names, in order.
-use Rattle.std.specs.Prelude.{ℕ, Bool, true, false, ◌||◌, Option, Some, None}
+use Rattle.std.specs.Prelude.{ℕ, List, [], Bool, true, false, ◌||◌, Option, Some, None}
+use Rattle.std.specs.Option.{option_map}
+use Rattle.wc_read.specs.Types.{type_index, type_indices}
 use Rattle.wc_read.specs.Operators.{ImmediatesValue, WithNone, WithBlock, WithIndex, WithIndices, WithLabels, WithValTypes, WithRefType, WithMemArg, WithMemArgLane, WithI32, WithI64, WithBytes, WithLane}
+use Rattle.wc_read.specs.declared.types.ValType.{ValType}
 use Rattle.wc_read.specs.declared.operators.Space.{Space}
 use Rattle.wc_read.specs.declared.operators.Space.TheVariants.{Types, Memories}
 use Rattle.wc_read.specs.declared.operators.IndexKind.{IndexKind}
@@ -8,6 +11,7 @@ use Rattle.wc_read.specs.declared.operators.IndexKind.TheVariants.{In, Elem, Dat
 use Rattle.wc_read.specs.declared.operators.Index.{Index}
 use Rattle.wc_read.specs.declared.operators.BlockType.TheVariants.{Empty, Value, FuncType}
 use Rattle.wc_read.specs.declared.operators.Refs.{Refs}
+use Rattle.wc_read.specs.declared.references.TypeRefs.{TypeRefs}
 
 abbrev pub in_space : IndexKind → ℕ → Option (Space × ℕ)
 in_space (In space) number = Some (space, number)
@@ -20,6 +24,10 @@ in_space Label number = None
 abbrev pub reference : Index → Option (Space × ℕ)
 reference i = in_space i.kind i.number
 
+-- a value type names one type at most
+abbrev pub type_reference : ValType → Option (Space × ℕ)
+type_reference t = option_map (λ n. (Types, n)) (type_index t)
+
 abbrev pub one_ref : Option (Space × ℕ) → Refs
 one_ref o = record { first = o; second = None }
 
@@ -31,7 +39,7 @@ two_refs (Some first) second = record { first = Some first; second = second }
 abbrev pub refs_of : ImmediatesValue → Refs
 refs_of (WithBlock (FuncType number)) = one_ref (Some (Types, number))
 refs_of (WithBlock Empty) = one_ref None
-refs_of (WithBlock (Value t)) = one_ref None
+refs_of (WithBlock (Value t)) = one_ref (type_reference t)
 refs_of (WithIndex i) = one_ref (reference i)
 refs_of (WithIndices i j) = two_refs (reference i) (reference j)
 refs_of (WithMemArg m) = one_ref (Some (Memories, m.memory))
@@ -39,11 +47,20 @@ refs_of (WithMemArgLane m lane) = one_ref (Some (Memories, m.memory))
 refs_of WithNone = one_ref None
 refs_of (WithLabels ls d) = one_ref None
 refs_of (WithValTypes ts) = one_ref None
-refs_of (WithRefType t) = one_ref None
+refs_of (WithRefType t) = one_ref (type_reference t)
 refs_of (WithI32 n) = one_ref None
 refs_of (WithI64 n) = one_ref None
 refs_of (WithBytes bytes) = one_ref None
 refs_of (WithLane lane) = one_ref None
+
+-- the types named by the value types of a `select`, in order. `refs_of` lists none of these, as there is no bound on them
+abbrev pub type_refs_of : ImmediatesValue → List ℕ
+type_refs_of (WithValTypes ts) = type_indices ts
+type_refs_of _ = []
+
+-- those that an iterator has yet to yield
+abbrev pub type_refs_left : TypeRefs → List ℕ
+type_refs_left s = type_indices s.types.now
 
 -- whether it names a segment
 

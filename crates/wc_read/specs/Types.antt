@@ -1,9 +1,11 @@
 -- The types of a module: the values that they stand for in contracts, and how bytes spell them
 -- (WebAssembly core specification, 2.3 and 5.3).
-use Rattle.std.specs.Prelude.{◌≡◌, ℕ, List, [], ◌∷◌, Bool, true, false, ◌⊎◌}
+use Rattle.std.specs.Prelude.{◌≡◌, ℕ, nat_lt, List, [], ◌∷◌, ◌++◌, Bool, true, false, ◌||◌, Option, Some, None, is_some, IsTrue, All}
+use Rattle.std.specs.List.{filter_map, list_any}
+use Rattle.std.specs.Option.{option_map_or}
 use Rattle.wc_read.specs.Formats.{Format}
 use Rattle.wc_read.specs.declared.types.ValType.{ValType}
-use Rattle.wc_read.specs.declared.types.ValType.TheVariants.{I32, I64, F32, F64, V128, FuncRef, ExternRef}
+use Rattle.wc_read.specs.declared.types.ValType.TheVariants.{I32, I64, F32, F64, V128, FuncRef, ExternRef, FuncRefNonNull, ExternRefNonNull, TypeRef}
 use Rattle.wc_read.specs.declared.types.FuncType.{FuncType}
 use Rattle.wc_read.specs.declared.types.GlobalType.{GlobalType}
 
@@ -15,22 +17,64 @@ pub record FuncTypeValue : Type 0 where
 abbrev pub func_type_value : FuncType → FuncTypeValue
 func_type_value f = record { params = f.params.items; results = f.results.items }
 
--- the byte of a value type (5.3.1 to 5.3.4)
-abbrev pub val_type_code : ValType → ℕ
-val_type_code I32 = 0x7f
-val_type_code I64 = 0x7e
-val_type_code F32 = 0x7d
-val_type_code F64 = 0x7c
-val_type_code V128 = 0x7b
-val_type_code FuncRef = 0x70
-val_type_code ExternRef = 0x6f
+-- the byte that begins a reference type: with null, or without (proposal of typed function references)
+abbrev pub nullable_code : Bool → ℕ
+nullable_code true = 0x63
+nullable_code false = 0x64
 
+-- a value type (5.3.1 to 5.3.4). Those of the proposal of typed function references are values, and no bytes spell them
 abbrev pub SpellsValType : Format ValType
-SpellsValType bytes t = bytes ≡ val_type_code t ∷ []
+SpellsValType bytes I32 = bytes ≡ 0x7f ∷ []
+SpellsValType bytes I64 = bytes ≡ 0x7e ∷ []
+SpellsValType bytes F32 = bytes ≡ 0x7d ∷ []
+SpellsValType bytes F64 = bytes ≡ 0x7c ∷ []
+SpellsValType bytes V128 = bytes ≡ 0x7b ∷ []
+SpellsValType bytes FuncRef = bytes ≡ 0x70 ∷ []
+SpellsValType bytes ExternRef = bytes ≡ 0x6f ∷ []
+SpellsValType bytes FuncRefNonNull = ⊥
+SpellsValType bytes ExternRefNonNull = ⊥
+SpellsValType bytes (TypeRef nullable index) = ⊥
 
--- the types that a table may hold
+-- reference types: those of the elements of tables
+abbrev pub is_reference : ValType → Bool
+is_reference I32 = false
+is_reference I64 = false
+is_reference F32 = false
+is_reference F64 = false
+is_reference V128 = false
+is_reference FuncRef = true
+is_reference ExternRef = true
+is_reference FuncRefNonNull = true
+is_reference ExternRefNonNull = true
+is_reference (TypeRef nullable index) = true
+
 abbrev pub IsReference : ValType → Type 0
-IsReference t = (t ≡ FuncRef) ⊎ (t ≡ ExternRef)
+IsReference t = IsTrue (is_reference t)
+
+-- the index of a type in a value type
+abbrev pub type_index : ValType → Option ℕ
+type_index (TypeRef nullable index) = Some index
+type_index _ = None
+
+abbrev pub names_type : ValType → Bool
+names_type t = is_some (type_index t)
+
+-- such an index, if there is one, is below a number
+abbrev pub has_type_index : ℕ → ValType → Bool
+has_type_index types t = option_map_or (λ index. nat_lt index types) (type_index t) true
+
+abbrev pub HasTypeIndex : ℕ → ValType → Type 0
+HasTypeIndex types t = IsTrue (has_type_index types t)
+
+abbrev pub HaveTypeIndices : ℕ → FuncTypeValue → Type 0
+HaveTypeIndices types f = All (HasTypeIndex types) f.params × All (HasTypeIndex types) f.results
+
+abbrev pub type_indices : List ValType → List ℕ
+type_indices ts = filter_map type_index ts
+
+-- whether a parameter or a result names a type
+abbrev pub names_types : FuncTypeValue → Bool
+names_types f = list_any names_type f.params || list_any names_type f.results
 
 -- whether a global may be written (5.3.10)
 abbrev pub mutable_code : Bool → ℕ
@@ -39,4 +83,5 @@ mutable_code true = 1
 
 -- a global type: a value type, and whether it may be written
 abbrev pub SpellsGlobal : Format GlobalType
-SpellsGlobal bytes g = bytes ≡ val_type_code g.content_type ∷ mutable_code g.mutable ∷ []
+SpellsGlobal bytes g =
+    (ty : List ℕ) × (bytes ≡ ty ++ (mutable_code g.mutable ∷ [])) × SpellsValType ty g.content_type

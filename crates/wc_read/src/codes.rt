@@ -55,6 +55,12 @@ pub const MORE_BYTES: u8 = 128;
 /// The byte that a function type begins with (5.3.6).
 pub const FUNC_TYPE: u8 = 0x60;
 
+/// The byte that begins a reference type with null (proposal of typed function references).
+pub const NULLABLE: u8 = 0x63;
+
+/// The byte that begins a reference type without null.
+pub const NON_NULLABLE: u8 = 0x64;
+
 /// The flag of limits that have a maximum (5.3.7).
 pub const HAS_MAXIMUM: u8 = 1;
 

@@ -3,22 +3,24 @@
 ghost use Rattle.std.specs.Prelude.{◌≡◌, ◌↔◌, ◌<◌, ◌-◌, ◌^◌, IfOk, IfErr, IsTrue};
 ghost use Rattle.wc_read.specs.Faults.{IfRefused};
 ghost use Rattle.wc_read.specs.Reading.Bytes.{Gives};
+ghost use Rattle.wc_read.specs.Types.{has_type_index};
 ghost use Rattle.wc_read.specs.Items.{global_value, global_values};
 ghost use Rattle.wc_read.specs.Operators.{immediates_value, instr_value};
-ghost use Rattle.wc_read.specs.InitTypes.{types_of, type_named, number_named, global_value_type, given_by, IsTyped, IsTypedGlobal, AreTyped};
+ghost use Rattle.wc_read.specs.InitTypes.{types_of, class_of, is_non_null, class_named, number_named, global_value_class, given_by, IsTyped, IsTypedGlobal, AreTyped};
 ghost use Rattle.wc_read.specs.Reading.InitTypes.{scope_value, is_same, next_depth, step_of, step_at};
 
 use crate::fault::ReadFault;
-use crate::inits::{Constant, constant_of, is_end};
+use crate::inits::{Constant, ValueClass, constant_of, is_end};
 use crate::items::{self, Def};
 use crate::operators::{Immediates, Instr};
 use crate::reader::Reader;
 use crate::types::ValType;
 use std::alloc::Global;
 
-/// What an initialiser may name: so many functions, and the globals before its own.
+/// What an initialiser may name: so many types and functions, and the globals before its own.
 #[derive(Drop)]
 struct Scope<'a> {
+    types: usize,
     functions: usize,
     globals: &'a [items::Global<'a>],
 }
@@ -35,21 +37,23 @@ enum InitStep {
 }
 
 /// Whether the initialiser of each local global leaves one value of the global's type (WebAssembly core
-/// specification, 3.3.10): constants, functions by an index below `functions`, immutable globals before its
-/// own, and sums, differences and products of integers.
+/// specification, 3.3.10): constants, nulls of a type with an index below `types`, functions by an index below
+/// `functions`, immutable globals before its own, and sums, differences and products of integers.
 ///
 /// The fault is `Memory` alone.
 pub fn are_typed(
     alloc: Global,
+    types: usize,
     functions: usize,
     globals: &[items::Global<'_>],
 ) -> Result<bool, ReadFault>
     ensures found { IfOk result
-        (λ b. IsTrue b ↔ AreTyped functions (global_values globals.now)) }
+        (λ b. IsTrue b ↔ AreTyped types functions (global_values globals.now)) }
     ensures refused { IfErr result (λ f. f ≡ ReadFault.Memory) }
 {
     for index in 0..globals.len() {
         let scope = Scope {
+            types,
             functions,
             globals: &globals[..index],
         };
@@ -132,61 +136,114 @@ fn next_depth(scope: &Scope<'_>, ty: ValType, depth: usize, operator: &Instr<'_>
 {
     let constant = constant_of(operator.opcode)?;
     if let Constant::Integer(of) = constant {
-        if is_same(of, ty) && depth >= 2 {
+        if is_same(class_of(of), class_of(ty)) && depth >= 2 {
             return Some(depth - 1);
         }
         return None;
     }
-    let given = given_by(scope, &operator.immediates, constant)?;
-    if is_same(given, ty) {
+    let given = given_by(scope, ty, &operator.immediates, constant)?;
+    if is_same(given, class_of(ty)) {
         Some(depth + 1)
     } else {
         None
     }
 }
 
-/// The type of what a constant operator gives by itself.
-fn given_by(scope: &Scope<'_>, immediates: &Immediates<'_>, constant: Constant) -> Option<ValType>
+/// The class of the value that a constant operator gives by itself, for a global of type `wanted`.
+fn given_by(
+    scope: &Scope<'_>,
+    wanted: ValType,
+    immediates: &Immediates<'_>,
+    constant: Constant,
+) -> Option<ValueClass>
     ensures { result
-        ≡ given_by (scope_value scope.now) (immediates_value immediates.now) constant }
+        ≡ given_by (scope_value scope.now) wanted (immediates_value immediates.now) constant }
 {
     match constant {
-        Constant::Value(ty) => Some(ty),
-        Constant::Null => type_named(immediates),
+        Constant::Value(ty) => Some(class_of(ty)),
+        Constant::Null => {
+            if is_non_null(wanted) {
+                None
+            } else {
+                class_named(scope.types, immediates)
+            }
+        }
         Constant::Func => {
             let index = number_named(immediates)?;
             if (index as usize) < scope.functions {
-                Some(ValType::FuncRef)
+                Some(ValueClass::Func)
             } else {
                 None
             }
         }
         Constant::Global => {
             let index = number_named(immediates)?;
-            global_value_type(scope.globals, index)
+            global_value_class(scope.globals, index)
         }
         Constant::Integer(_) => None,
     }
 }
 
-/// The type of what an immutable global holds.
-fn global_value_type(globals: &[items::Global<'_>], index: u32) -> Option<ValType>
-    ensures { result ≡ global_value_type (types_of (global_values globals.now)) index }
+/// The class of what an immutable global holds.
+fn global_value_class(globals: &[items::Global<'_>], index: u32) -> Option<ValueClass>
+    ensures { result ≡ global_value_class (types_of (global_values globals.now)) index }
 {
     let global = globals.get(index as usize)?;
     if global.ty.mutable {
         None
     } else {
-        Some(global.ty.content_type)
+        Some(class_of(global.ty.content_type))
     }
 }
 
-fn type_named(immediates: &Immediates<'_>) -> Option<ValType>
-    ensures { result ≡ type_named (immediates_value immediates.now) }
+/// The class of a null, unless its type has an index that is not below `types`.
+fn class_named(types: usize, immediates: &Immediates<'_>) -> Option<ValueClass>
+    ensures { result ≡ class_named types (immediates_value immediates.now) }
 {
     match immediates {
-        Immediates::RefType(ty) => Some(*ty),
+        Immediates::RefType(ty) => {
+            if has_type_index(types, *ty) {
+                Some(class_of(*ty))
+            } else {
+                None
+            }
+        }
         _ => None,
+    }
+}
+
+/// Whether a value type has no index of a type, or one below `types`.
+pub fn has_type_index(types: usize, ty: ValType) -> bool
+    ensures { result ≡ has_type_index types ty }
+{
+    match ty {
+        ValType::TypeRef { index, .. } => (index as usize) < types,
+        _ => true,
+    }
+}
+
+fn class_of(ty: ValType) -> ValueClass
+    ensures { result ≡ class_of ty }
+{
+    match ty {
+        ValType::I32 => ValueClass::I32,
+        ValType::I64 => ValueClass::I64,
+        ValType::F32 => ValueClass::F32,
+        ValType::F64 => ValueClass::F64,
+        ValType::V128 => ValueClass::V128,
+        ValType::FuncRef | ValType::FuncRefNonNull | ValType::TypeRef { .. } => ValueClass::Func,
+        ValType::ExternRef | ValType::ExternRefNonNull => ValueClass::Extern,
+    }
+}
+
+/// Whether a type is a reference type without null.
+fn is_non_null(ty: ValType) -> bool
+    ensures { result ≡ is_non_null ty }
+{
+    match ty {
+        ValType::FuncRefNonNull | ValType::ExternRefNonNull => true,
+        ValType::TypeRef { nullable, .. } => !nullable,
+        _ => false,
     }
 }
 
@@ -199,7 +256,7 @@ fn number_named(immediates: &Immediates<'_>) -> Option<u32>
     }
 }
 
-fn is_same(a: ValType, b: ValType) -> bool
+fn is_same(a: ValueClass, b: ValueClass) -> bool
     ensures { result ≡ is_same a b }
 {
     a == b

@@ -19,6 +19,21 @@ pub struct Init<'a> {
     pub operators: Vec<Instr<'a>>,
 }
 
+/// What of a value type decides whether an initialiser fits a global: of a reference type only whether it refers to
+/// functions or to values of the host.
+#[derive(Clone, Copy, Debug, PartialEq, Eq)]
+pub enum ValueClass {
+    I32,
+    I64,
+    F32,
+    F64,
+    V128,
+    /// Functions.
+    Func,
+    /// Values of the host.
+    Extern,
+}
+
 /// What a constant operator gives.
 #[derive(Clone, Copy, Debug, PartialEq, Eq)]
 pub enum Constant {

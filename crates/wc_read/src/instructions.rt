@@ -12,7 +12,7 @@ use crate::operators::{
     BlockType, Form, Immediates, Index, Instr, MemArg, Opcode, byte_form, form_of,
 };
 use crate::reader::Reader;
-use crate::types::ValType;
+use crate::types::{ValType, is_reference};
 use std::alloc::Global;
 
 /// The flag of a memory argument that names its memory (5.4.6, and the proposal of multiple memories). The flags below
@@ -171,7 +171,7 @@ impl<'a> Reader<'a> {
             (ref_type_at self.old.rest.now) }
     {
         let ty = self.val_type()?;
-        if matches!(ty, ValType::FuncRef | ValType::ExternRef) {
+        if is_reference(ty) {
             Ok(ty)
         } else {
             Err(ReadFault::BadType)

@@ -85,6 +85,6 @@ pub use modules::read_module;
 pub use operators::{
     BlockType, Form, Immediates, Index, IndexKind, Instr, MemArg, Opcode, Refs, Space, form_of,
 };
-pub use references::{names_segment, refs};
+pub use references::{TypeRefs, names_segment, refs, type_refs};
 pub use sections::{Frames, MODULE_HEADER, Section};
 pub use types::{FuncType, GlobalType, Import, ImportType, MemoryType, TableType, ValType};

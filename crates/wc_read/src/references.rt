@@ -2,9 +2,11 @@
 
 ghost use Rattle.std.specs.Prelude.{◌≡◌};
 ghost use Rattle.wc_read.specs.Operators.{immediates_value};
-ghost use Rattle.wc_read.specs.Refs.{reference, two_refs, refs_of, is_segment, names_segment};
+ghost use Rattle.wc_read.specs.Refs.{reference, two_refs, refs_of, is_segment, names_segment, type_reference, type_refs_of, type_refs_left};
+ghost use Rattle.wc_read.specs.Types.{type_indices};
 
 use crate::operators::{BlockType, Immediates, Index, IndexKind, Instr, Refs, Space};
+use crate::types::ValType;
 
 /// The types, functions, tables, memories and globals that an operator names by index, in the order in which it
 /// names them (5.4). One index is the first, and where only the second of two names such an item, that is the first.
@@ -14,6 +16,8 @@ pub fn refs(instr: &Instr<'_>) -> Refs
 {
     match &instr.immediates {
         Immediates::Block(BlockType::FuncType(number)) => one(Some((Space::Types, *number))),
+        Immediates::Block(BlockType::Value(ty)) => one(type_reference(*ty)),
+        Immediates::RefType(ty) => one(type_reference(*ty)),
         Immediates::Index(index) => one(reference(*index)),
         Immediates::Indices(first, second) => two(*first, *second),
         Immediates::MemArg(address) => one(Some((Space::Memories, address.memory))),
@@ -49,6 +53,63 @@ fn reference(index: Index) -> Option<(Space, u32)>
     match index.kind {
         IndexKind::In(space) => Some((space, index.number)),
         _ => None,
+    }
+}
+
+/// The type that a value type names by its index.
+fn type_reference(ty: ValType) -> Option<(Space, u32)>
+    ensures { result ≡ type_reference ty }
+{
+    match ty {
+        ValType::TypeRef { index, .. } => Some((Space::Types, index)),
+        _ => None,
+    }
+}
+
+/// An iterator over the indices of types in value types, in their order. It takes no memory.
+#[derive(Drop)]
+pub struct TypeRefs<'a> {
+    types: &'a [ValType],
+}
+
+impl<'a> TypeRefs<'a> {
+    /// The indices in these value types.
+    fn of(types: &'a [ValType]) -> TypeRefs<'a>
+        ensures { type_refs_left result ≡ type_indices types.now }
+    {
+        TypeRefs { types }
+    }
+}
+
+impl<'a> Iterator for TypeRefs<'a> {
+    type Item = u32;
+
+    ghost use Rattle.std.specs.Iterator.{YieldsFirst, item_count};
+    ghost use Rattle.wc_read.specs.Refs.{type_refs_left};
+
+    ghost next_gives = { YieldsFirst type_refs_left };
+
+    ghost remaining = { item_count type_refs_left };
+
+    fn next(&mut self) -> Option<u32> {
+        loop {
+            let (first, others) = self.types.split_first()?;
+            self.types = others;
+            if let ValType::TypeRef { index, .. } = *first {
+                return Some(index);
+            }
+        }
+    }
+}
+
+/// The types named by the value types of a `select` (5.4.3), in order. `refs` gives none of these; of any other operator
+/// this gives none. No module that was read has such a `select`, as no bytes are read as a type with an index.
+pub fn type_refs<'a>(instr: &'a Instr<'_>) -> TypeRefs<'a>
+    ensures { type_refs_left result ≡ type_refs_of (immediates_value instr.now.immediates) }
+{
+    match &instr.immediates {
+        Immediates::ValTypes(types) => TypeRefs::of(types),
+        _ => TypeRefs::of(&[]),
     }
 }
 

@@ -4,6 +4,7 @@
 ghost use Rattle.std.specs.Prelude.{◌≡◌, ◌-◌, ◌^◌, ◌<◌, ◌≤◌};
 ghost use Rattle.wc_read.specs.Limits.{page_exponent};
 ghost use Rattle.wc_read.specs.Reading.Bytes.{Gives, GivesWithoutMemory, vector_at};
+ghost use Rattle.wc_read.specs.Types.{is_reference};
 ghost use Rattle.wc_read.specs.Reading.Types.{val_type_at, mutable_at, global_at};
 ghost use Rattle.wc_read.specs.declared.types.ValType.{ValType as val_type};
 
@@ -11,7 +12,10 @@ use crate::fault::ReadFault;
 use crate::reader::{Reader, Spelled};
 use std::alloc::{AllocError, Global};
 
-/// A value type (2.3.1 to 2.3.4): a number of 32 or 64 bits, a vector of 128 bits, or a reference.
+/// A value type (2.3.1 to 2.3.4, and the proposal of typed function references): a number of 32 or 64 bits, a
+/// vector of 128 bits, or a reference. References to functions are of any type or of one, by its index among the
+/// module's types; null is among them or not. Of references, the readers know `FuncRef` and `ExternRef` alone: no
+/// bytes are read as one of the others.
 #[derive(Clone, Copy, Debug, PartialEq, Eq)]
 pub enum ValType {
     I32,
@@ -19,8 +23,16 @@ pub enum ValType {
     F32,
     F64,
     V128,
+    /// A function of any type, or null.
     FuncRef,
+    /// A value of the host, or null.
     ExternRef,
+    /// A function of any type.
+    FuncRefNonNull,
+    /// A value of the host.
+    ExternRefNonNull,
+    /// A function of a type, by its index; null too where `nullable`.
+    TypeRef { nullable: bool, index: u32 },
 }
 
 /// A memory type (2.3.8, and the proposals memory64, threads and custom page sizes). `initial` and `maximum` count
@@ -67,7 +79,7 @@ impl MemoryType {
 /// In a module that was read, no maximum is below the minimum, and both are below 2^32 where the table is not 64-bit.
 #[derive(Clone, Copy, Debug, PartialEq, Eq)]
 pub struct TableType {
-    /// What the elements are: `FuncRef` or `ExternRef` in a module that was read.
+    /// What the elements are: references in a module that was read.
     pub element_type: ValType,
     /// Whether indices of elements have 64 bits; else they have 32.
     pub table64: bool,
@@ -148,6 +160,20 @@ impl FuncType {
         let params = Vec::from_slice(alloc, &self.params)?;
         let results = Vec::from_slice(alloc, &self.results)?;
         Ok(FuncType { params, results })
+    }
+}
+
+/// Whether a type is a reference type.
+pub fn is_reference(ty: ValType) -> bool
+    ensures { result ≡ is_reference ty }
+{
+    match ty {
+        ValType::I32 | ValType::I64 | ValType::F32 | ValType::F64 | ValType::V128 => false,
+        ValType::FuncRef
+        | ValType::ExternRef
+        | ValType::FuncRefNonNull
+        | ValType::ExternRefNonNull
+        | ValType::TypeRef { .. } => true,
     }
 }
 

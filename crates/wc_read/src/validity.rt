@@ -1,19 +1,19 @@
 //! What holds of a module beside its sections (WebAssembly core specification, 3.4).
 
-ghost use Rattle.std.specs.Prelude.{◌≡◌, ◌≢◌, ◌<◌, ◌^◌, ◌↔◌, ℕ, List, length, map, All, IfOk, IfErr, IsTrue, Some, nat_lt};
+ghost use Rattle.std.specs.Prelude.{◌≡◌, ◌≢◌, ◌<◌, ◌^◌, ◌↔◌, ℕ, List, length, map, All, IfOk, IfErr, IsTrue, ◌&&◌, Some, nat_lt};
 ghost use Rattle.std.specs.List.{list_all, slice_get};
 ghost use Rattle.wc_read.specs.Faults.{IfRefused};
-ghost use Rattle.wc_read.specs.Types.{func_type_value};
-ghost use Rattle.wc_read.specs.Reading.Types.{is_nullary};
+ghost use Rattle.wc_read.specs.Types.{func_type_value, has_type_index};
+ghost use Rattle.wc_read.specs.Reading.Types.{have_type_indices, is_nullary};
 ghost use Rattle.wc_read.specs.Modules.{module_value, count_of, HaveTypes, IsStart, IsModule, AreFew};
 
 use crate::core_module::Module;
 use crate::distinct::have_distinct_names;
 use crate::exports::{Export, ExportKind};
 use crate::fault::ReadFault;
-use crate::init_types::are_typed;
-use crate::items::Func;
-use crate::types::FuncType;
+use crate::init_types::{are_typed, has_type_index};
+use crate::items::{self, Func, Table};
+use crate::types::{FuncType, ValType};
 use std::alloc::Global;
 
 /// Whether all indices name an item, names of exports are distinct, initialisers leave one value of their globals'
@@ -29,13 +29,21 @@ pub fn check_module(alloc: Global, module: &Module) -> Result<(), ReadFault>
     if !have_types(&module.funcs, &module.types) {
         return Err(ReadFault::BadIndex);
     }
+    if !name_types(module) {
+        return Err(ReadFault::BadIndex);
+    }
     if !name_items(&module.exports, module) {
         return Err(ReadFault::BadIndex);
     }
     if !have_distinct_names(alloc, &module.exports)? {
         return Err(ReadFault::DuplicateExport);
     }
-    if !are_typed(alloc, module.funcs.len(), &module.globals)? {
+    if !are_typed(
+        alloc,
+        module.types.len(),
+        module.funcs.len(),
+        &module.globals,
+    )? {
         return Err(ReadFault::BadInitialiser);
     }
     match module.start {
@@ -61,6 +69,56 @@ fn have_types(funcs: &[Func], types: &[FuncType]) -> bool
     ensures { result ≡ list_all (λ f. nat_lt f.ty (length types.now)) funcs.now }
 {
     funcs.iter().all(|func| (func.ty as usize) < types.len())
+}
+
+/// Whether the indices of types in types, tables and globals are those of types of the module.
+fn name_types(module: &Module) -> bool
+    ensures { result ≡ (list_all (λ t. have_type_indices (length «module».now.types.items)
+        (func_type_value t)) «module».now.types.items
+        && (list_all (λ t. has_type_index (length «module».now.types.items) t.ty.element_type)
+        «module».now.tables.items
+        && list_all (λ g. has_type_index (length «module».now.types.items) g.ty.content_type)
+        «module».now.globals.items)) }
+{
+    let types = module.types.len();
+    types_name_types(&module.types, types)
+        && tables_name_types(&module.tables, types)
+        && globals_name_types(&module.globals, types)
+}
+
+fn types_name_types(types: &[FuncType], count: usize) -> bool
+    ensures { result ≡ list_all (λ t. have_type_indices count (func_type_value t)) types.now }
+{
+    types.iter().all(|ty| have_type_indices(count, ty))
+}
+
+/// Whether all indices of types in a function type are below `count`.
+fn have_type_indices(count: usize, ty: &FuncType) -> bool
+    ensures { result ≡ have_type_indices count (func_type_value ty.now) }
+{
+    are_below(count, ty.params()) && are_below(count, ty.results())
+}
+
+fn are_below(count: usize, types: &[ValType]) -> bool
+    ensures { result ≡ list_all (has_type_index count) types.now }
+{
+    types.iter().all(|ty| has_type_index(count, *ty))
+}
+
+fn tables_name_types(tables: &[Table], count: usize) -> bool
+    ensures { result ≡ list_all (λ t. has_type_index count t.ty.element_type) tables.now }
+{
+    tables
+        .iter()
+        .all(|table| has_type_index(count, table.ty.element_type))
+}
+
+fn globals_name_types(globals: &[items::Global], count: usize) -> bool
+    ensures { result ≡ list_all (λ g. has_type_index count g.ty.content_type) globals.now }
+{
+    globals
+        .iter()
+        .all(|global| has_type_index(count, global.ty.content_type))
 }
 
 /// Whether exports name items of the module.

@@ -55,7 +55,8 @@ pub fn parse_import_type(text: &str) -> Option<ImportType> {
     }
 }
 
-fn parse_val_type(word: &str) -> Option<ValType> {
+/// The value type that a word names; `None` of any other word.
+pub fn parse_val_type(word: &str) -> Option<ValType> {
     if word == "i32" {
         Some(ValType::I32)
     } else if word == "i64" {
@@ -71,8 +72,31 @@ fn parse_val_type(word: &str) -> Option<ValType> {
     } else if word == "externref" {
         Some(ValType::ExternRef)
     } else {
-        None
+        parse_reference(word)
     }
+}
+
+/// A reference by a word of two parts: `ref:func`, `ref:extern`, `ref:3` or `ref-null:3`.
+fn parse_reference(word: &str) -> Option<ValType> {
+    let (kind, target) = word.split_once(':')?;
+    if kind == "ref-null" {
+        parse_type_ref(true, target)
+    } else if kind != "ref" {
+        None
+    } else if target == "func" {
+        Some(ValType::FuncRefNonNull)
+    } else if target == "extern" {
+        Some(ValType::ExternRefNonNull)
+    } else {
+        parse_type_ref(false, target)
+    }
+}
+
+fn parse_type_ref(nullable: bool, index: &str) -> Option<ValType> {
+    Some(ValType::TypeRef {
+        nullable,
+        index: index.parse::<u32>().ok()?,
+    })
 }
 
 /// The type of values that a word names.

@@ -1,7 +1,7 @@
 //! Lines for bodies, initialisers and their operators.
 
 use crate::lines::Lines;
-use crate::values::{put_bytes, put_val_types, val_type_word};
+use crate::values::{put_bytes, put_val_type, put_val_types};
 use wc_read::{
     BlockType, Body, Form, Immediates, Index, IndexKind, Init, Instr, MemArg, Opcode, Refs, Space,
 };
@@ -41,7 +41,7 @@ fn put_block_type(out: &mut Lines, ty: &BlockType) {
         BlockType::Empty => out.push_str(" block empty"),
         BlockType::Value(ty) => {
             out.push_str(" block ");
-            out.push_str(val_type_word(*ty));
+            put_val_type(out, *ty);
         }
         BlockType::FuncType(index) => write!(out, " block type {index}"),
     }
@@ -85,7 +85,7 @@ pub fn put_immediates(out: &mut Lines, immediates: &Immediates<'_>) {
         }
         Immediates::RefType(ty) => {
             out.push_str(" reference ");
-            out.push_str(val_type_word(*ty));
+            put_val_type(out, *ty);
         }
         Immediates::MemArg(address) => put_address(out, address),
         Immediates::MemArgLane(address, lane) => {
@@ -119,8 +119,9 @@ pub fn put_init(out: &mut Lines, init: &Init<'_>) {
 pub fn put_body(out: &mut Lines, body: &Body<'_>) {
     for run in &body.locals {
         let count = run.count;
-        let ty = val_type_word(run.ty);
-        writeln!(out, "locals {count} {ty}");
+        write!(out, "locals {count} ");
+        put_val_type(out, run.ty);
+        out.push_str("\n");
     }
     put_operators(out, &body.operators);
 }

@@ -8,7 +8,7 @@ use crate::operators::{put_immediates, put_index, put_opcode, space_word};
 use crate::rows::Row;
 use crate::values::{
     put_def, put_fault, put_func_type, put_global_type, put_memory_type, put_table_type,
-    val_type_word,
+    put_val_type,
 };
 use std::alloc::{AllocError, Global};
 use wc_gc::{realloc_via_memory_grow, run};
@@ -295,8 +295,9 @@ fn put_code(
 ) -> Result<(), AllocError> {
     for run in &body.locals {
         let count = run.count;
-        let ty = val_type_word(run.ty);
-        writeln!(out, "locals {count} {ty}");
+        write!(out, "locals {count} ");
+        put_val_type(out, run.ty);
+        out.push_str("\n");
     }
     put_operators(out, &body.operators, named)
 }

@@ -36,15 +36,28 @@ pub fn put_bytes_lines(out: &mut Lines, word: &str, bytes: &[u8]) {
     }
 }
 
-pub fn val_type_word(ty: ValType) -> &'static str {
+/// A value type in one word: of references `funcref`, `externref`, `ref:func`, `ref:extern`, and `ref:3` or, with null,
+/// `ref-null:3` for those to functions of type 3.
+pub fn put_val_type(out: &mut Lines, ty: ValType) {
     match ty {
-        ValType::I32 => "i32",
-        ValType::I64 => "i64",
-        ValType::F32 => "f32",
-        ValType::F64 => "f64",
-        ValType::V128 => "v128",
-        ValType::FuncRef => "funcref",
-        ValType::ExternRef => "externref",
+        ValType::I32 => out.push_str("i32"),
+        ValType::I64 => out.push_str("i64"),
+        ValType::F32 => out.push_str("f32"),
+        ValType::F64 => out.push_str("f64"),
+        ValType::V128 => out.push_str("v128"),
+        ValType::FuncRef => out.push_str("funcref"),
+        ValType::ExternRef => out.push_str("externref"),
+        ValType::FuncRefNonNull => out.push_str("ref:func"),
+        ValType::ExternRefNonNull => out.push_str("ref:extern"),
+        ValType::TypeRef { nullable, index } => put_type_ref(out, nullable, index),
+    }
+}
+
+fn put_type_ref(out: &mut Lines, nullable: bool, index: u32) {
+    if nullable {
+        write!(out, "ref-null:{index}")
+    } else {
+        write!(out, "ref:{index}")
     }
 }
 
@@ -52,7 +65,7 @@ pub fn val_type_word(ty: ValType) -> &'static str {
 pub fn put_val_types(out: &mut Lines, types: &[ValType]) {
     for ty in types {
         out.push_str(" ");
-        out.push_str(val_type_word(*ty));
+        put_val_type(out, *ty);
     }
 }
 
@@ -73,7 +86,7 @@ fn put_bounds(out: &mut Lines, initial: u64, maximum: Option<u64>) {
 
 pub fn put_table_type(out: &mut Lines, ty: &TableType) {
     out.push_str(" ");
-    out.push_str(val_type_word(ty.element_type));
+    put_val_type(out, ty.element_type);
     if ty.table64 {
         out.push_str(" 64");
     }
@@ -96,7 +109,7 @@ pub fn put_memory_type(out: &mut Lines, ty: &MemoryType) {
 
 pub fn put_global_type(out: &mut Lines, ty: &GlobalType) {
     out.push_str(" ");
-    out.push_str(val_type_word(ty.content_type));
+    put_val_type(out, ty.content_type);
     if ty.mutable {
         out.push_str(" mut");
     }

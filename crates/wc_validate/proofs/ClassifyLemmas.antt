@@ -1,20 +1,18 @@
 -- All kinds of names of imported functions, and the schemes that read them.
-use Rattle.std.proofs.Common.{◌≡◌, ℕ, Bool, true, false, List, [], ◌∷◌, ◌++◌, map, if◌then◌else◌, Option, Some, None, Result, Ok, inl, inr, refl, sym, ap, subst, ◌∙◌}
+use Rattle.std.proofs.Common.{◌≡◌, ℕ, Bool, true, false, List, [], ◌∷◌, ◌++◌, map, if◌then◌else◌, Option, Some, None, Result, Ok, Err, inl, inr, refl, sym, ap, subst, ◌∙◌}
 use Rattle.std.proofs.lemmas.List.{append_cancel_left}
 use Rattle.wc_read.specs.Types.{FuncTypeValue}
 use Rattle.wc_names.specs.declared.imports.Import.{Import}
-use Rattle.std.specs.Option.{option_map}
-use Rattle.wc_names.specs.Environment.{environment_module, NamesEnvironment}
-use Rattle.wc_names.specs.Finds.{Finds}
-use Rattle.wc_names.specs.Views.{import_view}
+use Rattle.wc_names.specs.Environment.{environment_module, names_value_type, NamesEnvironment}
+use Rattle.wc_names.specs.Views.{ImportView, import_view}
 use Rattle.wc_names.specs.Imports.{Setting, Kind, root_intrinsic, root_other_item, root_unknown, environment, export_root_intrinsic, without_prefix, kinds, IsKind, IsReadBy, by_scheme, func_type, IsRule}
-use Rattle.wc_names.specs.Meanings.{Meaning, refuses, no_root_import, unknown_intrinsic}
+use Rattle.wc_names.specs.Meanings.{Meaning, refuses, no_root_import, typed_reference, unknown_intrinsic}
 use Rattle.wc_names.specs.Schemes.{Scheme, standard, legacy, marker, root_module, interface_prefix, export_prefix}
 use Rattle.wc_names.specs.Lookups.{world_scope}
-use Rattle.wc_names.specs.Verdicts.{FaultKind, IsVerdict}
+use Rattle.wc_names.specs.Verdicts.{FaultKind, IsReason, IsVerdict, refused_name}
 use Rattle.wc_names.specs.WitIntrinsics.{wit_intrinsics, IsWitIntrinsic}
 use Rattle.wc_names.proofs.SearchLemmas.{NoneOf, not_first}
-use Rattle.wc_names.proofs.VerdictLemmas.{group_next, verdict_next, verdict_nothing, verdict_unchecked}
+use Rattle.wc_names.proofs.VerdictLemmas.{group_next, verdict_fault, verdict_next, verdict_nothing, verdict_unchecked}
 use Rattle.wc_validate.specs.Kinds.{MeansAmong, MeansByScheme, MeansEnvironment, MeansIntrinsic, export_kinds, export_root_kinds, interface_kinds, other_kinds, root_kinds}
 use Rattle.wc_validate.specs.Settings.{imported_function}
 use Rattle.wc_validate.proofs.KindLemmas.{group_total, none_append, none_mapped, verdict_mapped}
@@ -111,10 +109,17 @@ pub begins_not : (from prefix known : List ℕ) → prefix ≡ known → ((rest 
 begins_not from prefix known same none rest is = none rest (is ∙ ap (λ z. z ++ rest) (sym same))
 
 -- functions of the environment
-pub of_environment : {F : Type 0} (kind : F → FaultKind) (s : Scheme) (from name : List ℕ) (ty : FuncTypeValue) (o : Option Import) → from ≡ environment_module
-    → Finds (option_map import_view o) (NamesEnvironment s name ty) → IsVerdict kind (MeansEnvironment s from name ty) ty (Ok o)
-of_environment kind s from name ty None is found = verdict_nothing kind (MeansEnvironment s from name ty) ty (λ m h. found h.1 h.2)
-of_environment kind s from name ty (Some i) is found = verdict_unchecked kind (MeansEnvironment s from name ty) i ty (is, import_view i, found, refl)
+module _ {F : Type 0} (kind : F → FaultKind) (s : Scheme) (from name : List ℕ) (ty : FuncTypeValue) where
+  pub no_environment : ((i : ImportView) → ¬ NamesEnvironment s name ty i) → IsVerdict kind (MeansEnvironment s from name ty) ty (Ok None)
+  no_environment none = verdict_nothing kind (MeansEnvironment s from name ty) ty (λ m h. none h.1 h.2)
+
+  module _ (i : Import) (is : from ≡ environment_module) (named : NamesEnvironment s name ty (import_view i)) where
+    pub of_environment : names_value_type (import_view i) ≡ false → IsVerdict kind (MeansEnvironment s from name ty) ty (Ok (Some i))
+    of_environment plain = verdict_unchecked kind (MeansEnvironment s from name ty) i ty (is, import_view i, named, rw plain refl)
+
+    pub typed_environment : (f : F) → kind f ≡ refused_name typed_reference → names_value_type (import_view i) ≡ true → IsVerdict kind (MeansEnvironment s from name ty) ty (Err f)
+    typed_environment f refused typed =
+        verdict_fault kind (MeansEnvironment s from name ty) ty f (subst (IsReason (MeansEnvironment s from name ty) ty) (sym refused) (is, import_view i, named, rw typed refl))
 
 -- the scheme of names without the marker
 pub scheme_is : (hook : List ℕ) (a b : Bool) → a ≡ b → (if a then standard else legacy hook) ≡ (if b then standard else legacy hook)

@@ -1,6 +1,6 @@
 -- An import that is recorded as the main module's memory is a memory, of a type as modules have them.
 use Rattle.std.proofs.Common.{◌≡◌, ◌⊎◌, ℕ, ◌≤◌, Bool, true, false, All, Contains, IfSome, List, [], ◌∷◌, MatchOption, Option, Some, None, refl, sym, ap, subst, ◌∙◌, inl, inr, arith}
-use Rattle.std.specs.Prelude.{slice_get, unwrap_or}
+use Rattle.std.specs.Prelude.{if◌then◌else◌, slice_get, unwrap_or}
 use Rattle.std.specs.Option.{option_and_then, option_map}
 use Rattle.std.proofs.lemmas.List.Elements.{All-contains}
 use Rattle.wc_read.specs.declared.types.ImportType.{ImportType}
@@ -13,18 +13,18 @@ use Rattle.wc_read.specs.Limits.{IsMemory}
 use Rattle.wc_read.specs.Modules.{ModuleValue, SpellsModule}
 use Rattle.wc_read.specs.Order.{content_of}
 use Rattle.wc_read.specs.Sections.{import_id}
-use Rattle.wc_read.specs.Types.{FuncTypeValue}
+use Rattle.wc_read.specs.Types.{FuncTypeValue, names_types}
 use Rattle.wc_resolve.proofs.SearchLemmas.{contains_cons, contains_none}
 use Rattle.wc_resolve.specs.Views.{KeyView, WorldView}
 use Rattle.wc_resolve.specs.World.{ResolveView}
 use Rattle.wc_encoder.specs.Adapters.{InstanceView, LibraryItemView, item_instance, module_instance}
 use Rattle.wc_names.specs.Builtins.{builtin_import}
-use Rattle.wc_names.specs.Environment.{EnvironmentFunction, NamesEnvironment, environment_row, get_stack_pointer, get_tls_base, set_stack_pointer, set_tls_base}
+use Rattle.wc_names.specs.Environment.{EnvironmentFunction, NamesEnvironment, environment_row, get_stack_pointer, get_tls_base, names_value_type, set_stack_pointer, set_tls_base}
 use Rattle.wc_names.specs.Imports.{Classified, CoreFunction, CoreImport, ExternType, IsKind, IsRule, Kind, Rule, Setting, adapter_function, by_scheme, environment, export_intrinsic, export_other_name, export_root_intrinsic, export_unknown, func_type, interface_function, interface_intrinsic, interface_other_name, interface_unknown, main_item, main_memory, memory_type, not_function, root_builtin, root_function, root_intrinsic, root_other_item, root_unknown, rules, scope_of, without_prefix}
 use Rattle.wc_names.specs.Lookups.{Scope, scope_key, world_scope}
-use Rattle.wc_names.specs.Meanings.{Meaning, means, refuses}
+use Rattle.wc_names.specs.Meanings.{Meaning, means, refuses, typed_reference}
 use Rattle.wc_names.specs.Schemes.{ResourceOperation, Scheme, legacy, resource_drop, resource_new, resource_rep, standard}
-use Rattle.wc_names.specs.Views.{Builtin, ImportView, waitable_set_poll, waitable_set_wait}
+use Rattle.wc_names.specs.Views.{Builtin, ImportView, adapter_export, waitable_set_poll, waitable_set_wait}
 use Rattle.wc_names.specs.WitIntrinsics.{IsWitIntrinsic, WitIntrinsic, no_task_return, of_async_value, of_resource, resource_row, task_cancel, task_return}
 use Rattle.wc_names.proofs.SearchLemmas.{first_kind}
 use Rattle.wc_validate.specs.Entries.{Entry, InstanceRecord, Records, all_of, memory_type_of, names_of}
@@ -60,6 +60,11 @@ named_none : (s : Scheme) (name : List ℕ) (ty : FuncTypeValue) (i : ImportView
 named_none standard name ty i h = absurd h
 named_none (legacy hook) name ty i h = ap memory_type_of h.5 ∙ environment_none h.0 h.1
 
+-- what is refused is no memory
+meant_none : (refused : Bool) (i : ImportView) → memory_type_of i ≡ None → NoMemory (if refused then refuses typed_reference else means i None)
+meant_none true i h = tt
+meant_none false i h = h
+
 intrinsic_none : (s : Scheme) (r : ResolveView) (w : WorldView) (imports : Bool) (scope : Scope) (name : List ℕ) (k : WitIntrinsic) (m : Meaning) → IsWitIntrinsic s r w imports scope name k m → NoMemory m
 intrinsic_none s r w imports scope name (of_resource op) m x = subst NoMemory (sym x.4) (resource_none imports op (scope_key scope x.0) scope.interface x.1)
 intrinsic_none s r w imports scope name task_return m x = subst NoMemory (sym x.4) refl
@@ -74,7 +79,7 @@ kind_none s e c root_function m x = subst NoMemory (sym x.6) refl
 kind_none s e c (root_intrinsic k) m x = intrinsic_none s e.resolve e.world true world_scope c.name k m x.1
 kind_none s e c root_other_item m x = subst NoMemory (sym x.5) tt
 kind_none s e c root_unknown m x = subst NoMemory (sym x.1) tt
-kind_none s e c environment m x = subst NoMemory (sym x.3) (named_none s c.name c.ty x.1 x.2)
+kind_none s e c environment m x = subst NoMemory (sym x.3) (meant_none (names_value_type x.1) x.1 (named_none s c.name c.ty x.1 x.2))
 kind_none s e c (export_root_intrinsic k) m x = intrinsic_none s e.resolve e.world false world_scope c.name k m x.1
 kind_none s e c without_prefix m x = subst NoMemory (sym x.1) tt
 kind_none s e c export_unknown m x = subst NoMemory (sym x.3) tt
@@ -98,7 +103,7 @@ rule_typed : (e : Setting) (a : CoreImport) (k : Rule) (m : Meaning) → IsRule 
 rule_typed e a main_memory m x = subst (HasItsType a.ty) (sym x.4) (λ t is. x.3 ∙ ap memory_type (some_same is))
 rule_typed e a main_item m x = subst (HasItsType a.ty) (sym x.1) (λ t is. absurd (none_some t is))
 rule_typed e a not_function m x = subst (HasItsType a.ty) (sym x.1) tt
-rule_typed e a adapter_function m x = subst (HasItsType a.ty) (sym x.3) (λ t is. absurd (none_some t is))
+rule_typed e a adapter_function m x = no_memory a.ty m (subst NoMemory (sym x.3) (meant_none (names_types x.1) (adapter_export a.from a.name x.1) refl))
 rule_typed e a (by_scheme k) m x = no_memory a.ty m (kind_none x.1 e (record { from = x.2; name = a.name; ty = x.0 }) k m x.5)
 
 memory_typed : (e : Setting) (a : CoreImport) (i : ImportView) (wanted : Option FuncTypeValue) → Classified e a (means i wanted) → HasItsType a.ty (means i wanted)

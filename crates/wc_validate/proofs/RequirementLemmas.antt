@@ -16,11 +16,11 @@ use Rattle.wc_names.specs.ExportViews.{ExportView, export_view}
 use Rattle.wc_names.specs.Lookups.{item_under, key_eq}
 use Rattle.wc_names.proofs.ResolveLemmas.{item_viewed}
 use Rattle.std.specs.Option.{IsSome, option_and_then, option_map, option_map_or, option_to_list}
-use Rattle.wc_read.specs.Types.{FuncTypeValue}
+use Rattle.wc_read.specs.Types.{FuncTypeValue, names_types}
 use Rattle.wc_resolve.specs.World.{ResolveView}
 use Rattle.wc_names.specs.Exports.{CoreExport}
 use Rattle.wc_validate.specs.declared.fault.ValidateFault.{ValidateFault}
-use Rattle.wc_validate.specs.declared.fault.ValidateFault.TheVariants.{AdapterExportType, Memory, AdapterModuleDidNotExport as missing}
+use Rattle.wc_validate.specs.declared.fault.ValidateFault.TheVariants.{AdapterExportType, Memory, AdapterModuleDidNotExport as missing, TypedReference}
 use Rattle.wc_validate.specs.declared.fault.AdapterModuleDidNotExport.{AdapterModuleDidNotExport}
 use Rattle.wc_validate.specs.ExportMaps.{ExportRecord, export_entry, is_memory}
 use Rattle.wc_validate.specs.Requirements.{AreMet, IsFirstUnmet, IsMet, IsShortfall, IsUnmetFault, Requirement, callback_name, exported_type, interface_functions, is_called_back, is_callback_for, item_requirement, key_requirement, key_requirements, memory_count, needs_callback, typed_function, world_function}
@@ -78,15 +78,18 @@ module _ (r : ResolveView) (xs : List CoreExport) (recorded : ExportRecord) wher
 
 -- a required function, by what is found under its name
 module _ (r : ResolveView) (xs : List CoreExport) (recorded : ExportRecord) (name : List ℕ) (ty : FuncTypeValue) where
-  pub function_same : (own : FuncTypeValue) → exported_type xs name ≡ Some own → ty ≡ own → IsMet r xs recorded (typed_function name ty)
-  function_same own there same = there ∙ ap (λ (z : FuncTypeValue). Some z) (sym same)
+  pub function_same : (own : FuncTypeValue) → names_types ty ≡ false → exported_type xs name ≡ Some own → ty ≡ own → IsMet r xs recorded (typed_function name ty)
+  function_same own plain there same = (plain, there ∙ ap (λ (z : FuncTypeValue). Some z) (sym same))
 
-  pub function_differs : (own : FuncTypeValue) → exported_type xs name ≡ Some own → own ≢ ty → IsUnmetFault r xs recorded (typed_function name ty ∷ []) AdapterExportType
-  function_differs own there differ =
-      inl (λ met. differ (let both : Some own ≡ Some ty = sym there ∙ met in let same : own ≡ ty = cc both in same), subst IsSome (sym there) refl)
+  pub function_typed : names_types ty ≡ true → IsUnmetFault r xs recorded (typed_function name ty ∷ []) TypedReference
+  function_typed typed = inl (λ met. (let both : true ≡ false = sym typed ∙ met.0 in let bad : ⊥ = cc both in bad), typed)
 
-  pub function_absent : (e : AdapterModuleDidNotExport) → exported_type xs name ≡ None → name_not_exported e ≡ name → IsUnmetFault r xs recorded (typed_function name ty ∷ []) (missing e)
-  function_absent e none named = inl (λ met. (let both : None ≡ Some ty = sym none ∙ met in let bad : ⊥ = cc both in bad), (none, named))
+  pub function_differs : (own : FuncTypeValue) → names_types ty ≡ false → exported_type xs name ≡ Some own → own ≢ ty → IsUnmetFault r xs recorded (typed_function name ty ∷ []) AdapterExportType
+  function_differs own plain there differ =
+      inl (λ met. differ (let both : Some own ≡ Some ty = sym there ∙ met.1 in let same : own ≡ ty = cc both in same), (plain, subst IsSome (sym there) refl))
+
+  pub function_absent : (e : AdapterModuleDidNotExport) → names_types ty ≡ false → exported_type xs name ≡ None → name_not_exported e ≡ name → IsUnmetFault r xs recorded (typed_function name ty ∷ []) (missing e)
+  function_absent e plain none named = inl (λ met. (let both : None ≡ Some ty = sym none ∙ met.1 in let bad : ⊥ = cc both in bad), (plain, none, named))
 
 -- how many memories are left, after one was found or not
 abbrev pub MemoriesLeft : Bool → ExportRecord → ExportRecord → Type 0

@@ -6,17 +6,20 @@ use Rattle.std.specs.Option.{option_and_then, option_map, option_map_or}
 use Rattle.std.specs.Str.{bytes_eq}
 use Rattle.std.proofs.lemmas.List.Elements.{All-append, All-cons, All-contains, All-head, All-map, All-tail, All-weaker, Contains-append_cases, Contains-append_left, Contains-append_right}
 use Rattle.std.proofs.lemmas.List.Kept.{AllPairs-cons}
-use Rattle.wc_read.specs.Types.{FuncTypeValue}
+use Rattle.wc_read.specs.Types.{FuncTypeValue, names_types}
 use Rattle.wc_resolve.proofs.SearchLemmas.{contains_cons, contains_head, contains_none, contains_tail}
 use Rattle.wc_resolve.specs.Views.{FunctionView, ItemView, KeyView, function_item, interface_item}
 use Rattle.wc_resolve.specs.World.{ResolveView}
 use Rattle.wc_encoder.proofs.PairLemmas.{pairs_head, pairs_none, pairs_tail}
 use Rattle.wc_encoder.specs.Entries.{Entries}
+use Rattle.wc_names.specs.AlikeTypes.{AreAlike}
 use Rattle.wc_names.specs.Exports.{CoreExport, ExportMeaning, is_export}
 use Rattle.wc_names.specs.ExportViews.{ExportView}
-use Rattle.wc_names.specs.Imports.{Setting}
+use Rattle.wc_names.specs.Imports.{ExternType, Setting, func_type, global_type, memory_type, table_type}
 use Rattle.wc_names.specs.Laws.{ExportsUnique}
 use Rattle.wc_names.specs.Lookups.{item_under}
+use Rattle.wc_names.proofs.AlikeExportLemmas.{IsPlainType, export_kept, fixed_export_plain}
+use Rattle.wc_names.proofs.AlikeTypeLemmas.{alike_fixed}
 use Rattle.wc_validate.specs.declared.fault.ValidateFault.{ValidateFault}
 use Rattle.wc_validate.specs.declared.fault.ValidateFault.TheVariants.{Memory, SignatureMismatch}
 use Rattle.wc_validate.specs.ExportMaps.{ExportRecord, is_memory}
@@ -39,7 +42,28 @@ entry_in name (Some v) y there = elim (contains_cons (name, v) [] y there) [
 entry_there : (name : List ℕ) (o : Option ExportView) (v : ExportView) → o ≡ Some v → Contains (entry_of name o) (name, v)
 entry_there name o v is = subst (λ z. Contains (entry_of name z) (name, v)) (sym is) (contains_head [] (name, v))
 
+-- an export of this name, and of the same type but for indices, is there
+abbrev pub HasAlike : List CoreExport → CoreExport → Type 0
+HasAlike xs y = (x : CoreExport) × Contains xs x × (x.name ≡ y.name) × AreAlike x.ty y.ty
+
+renamed : (x : CoreExport) (name : List ℕ) → x.name ≡ name → x ≡ record { name = name; ty = x.ty }
+renamed x name is = λ k. record { name = is k; ty = x.ty }
+
+signature_kept : (t u : ExternType) (wanted : Option FuncTypeValue) → AreAlike t u → IsPlainType wanted → HasSignature t wanted → HasSignature u wanted
+signature_kept t u None alike plain signed = tt
+signature_kept t u (Some w) alike plain signed = alike_fixed t u w alike signed plain
+
 module _ (s : Setting) (keys : List KeyView) where
+  -- exports that are alike are recorded as one export
+  kept_type : (name : List ℕ) (t u : ExternType) (o : Option ExportView) → AreAlike t u → IsExportEntry s keys (record { name = name; ty = t }) o → IsExportEntry s keys (record { name = name; ty = u }) o
+  unfolding IsExportEntry
+  kept_type name t u None alike h = λ m c. h m (export_kept s keys name u t m (sym alike) c)
+  kept_type name t u (Some v) alike h =
+      (h.0, export_kept s keys name t u (is_export v h.0) alike h.1, signature_kept t u h.0 alike (fixed_export_plain s keys (record { name = name; ty = t }) (is_export v h.0) h.1) h.2)
+
+  entry_kept : (x y : CoreExport) (o : Option ExportView) → x.name ≡ y.name → AreAlike x.ty y.ty → IsExportEntry s keys x o → IsExportEntry s keys y o
+  entry_kept x y o same alike h = kept_type y.name x.ty y.ty o alike (subst (λ (z : CoreExport). IsExportEntry s keys z o) (renamed x y.name same) h)
+
   -- what is recorded is recorded of an export
   recorded_from : (xs : List CoreExport) (recorded : ExportRecord) (y : List ℕ × ExportView) → AreExports s keys xs recorded → Contains recorded y
       → (x : CoreExport) × Contains xs x × (x.name ≡ y.0) × IsExportEntry s keys x (Some y.1)
@@ -87,19 +111,21 @@ module _ (s : Setting) (keys : List KeyView) where
         let both = unique s keys x (is_export v h.0) (is_export k.0 (Some k.1)) h.1 k.2 in k.3 (subst (HasSignature x.ty) (ap (λ (z : ExportMeaning). z.ty) both) h.2)
 
     -- no export that was recorded is refused
-    pub exports_sound : (xs ys : List CoreExport) (p : ExportRecord) → AreExports s keys xs p → ((x : CoreExport) → Contains ys x → Contains xs x) → ¬ HasMismatch s keys ys
+    pub exports_sound : (xs ys : List CoreExport) (p : ExportRecord) → AreExports s keys xs p → ((x : CoreExport) → Contains ys x → HasAlike xs x) → ¬ HasMismatch s keys ys
     exports_sound xs ys p first from h =
         let bad = mismatch_in ys h in
-        let was = recorded_of xs p bad.0 first (from bad.0 bad.1) in
-        not_mismatched bad.0 was.0 was.1 bad.2
+        let other = from bad.0 bad.1 in
+        let was = recorded_of xs p other.0 first other.1 in
+        not_mismatched bad.0 was.0 (entry_kept other.0 bad.0 was.0 other.2 other.3 was.1) bad.2
 
     -- what is recorded of an export is recorded of it among others
-    moved : (xs ys : List CoreExport) (p q : ExportRecord) (y : List ℕ × ExportView) → AreExports s keys xs p → AreExports s keys ys q → Contains p y → ((x : CoreExport) → Contains xs x → x.name ≡ y.0 → Contains ys x) → Contains q y
+    moved : (xs ys : List CoreExport) (p q : ExportRecord) (y : List ℕ × ExportView) → AreExports s keys xs p → AreExports s keys ys q → Contains p y → ((x : CoreExport) → Contains xs x → x.name ≡ y.0 → HasAlike ys x) → Contains q y
     moved xs ys p q y first second there each =
         let from = recorded_from xs p y first there in
-        let is = recorded_of ys q from.0 second (each from.0 from.1 from.2) in
-        let same = entries_alike s keys from.0 is.0 (Some y.1) unique is.1 from.3 in
-        subst (λ n. Contains q (n, y.1)) from.2 (is.2 y.1 same)
+        let other = each from.0 from.1 from.2 in
+        let is = recorded_of ys q other.0 second other.1 in
+        let same = entries_alike s keys other.0 is.0 (Some y.1) unique is.1 (entry_kept from.0 other.0 (Some y.1) (sym other.2) (sym other.3) from.3) in
+        subst (λ n. Contains q (n, y.1)) (other.2 ∙ from.2) (is.2 y.1 same)
 
 -- memories among what is recorded
 counted : (b : Bool) (n : ℕ) → b ≡ true → cond b (n + 1) n ≡ n + 1
@@ -196,9 +222,22 @@ typed_at x (Some ty) y h = ap (λ (z : List ℕ × FuncTypeValue). z.0) (sym (so
 keeps_name : (x : CoreExport) (y : List ℕ × FuncTypeValue) → typed_name x ≡ Some y → y.0 ≡ x.name
 keeps_name x y h = typed_at x (as_function_type x.ty) y h
 
--- exports of which others have the same, at least those that are recorded or required
+typed_of : (name : List ℕ) (t : ExternType) (y : List ℕ × FuncTypeValue) → option_map (λ (ty : FuncTypeValue). (name, ty)) (as_function_type t) ≡ Some y → t ≡ func_type y.1
+typed_of name (func_type f) y h = ap (λ (z : List ℕ × FuncTypeValue). func_type z.1) (some_same h)
+typed_of name (table_type t) y h = absurd (none_some y h)
+typed_of name (memory_type t) y h = absurd (none_some y h)
+typed_of name (global_type t) y h = absurd (none_some y h)
+
+-- exports that are alike are functions of one type, where it names no types
+typed_alike : (x z : CoreExport) (name : List ℕ) (ty : FuncTypeValue) → z.name ≡ x.name → AreAlike z.ty x.ty → names_types ty ≡ false → typed_name x ≡ Some (name, ty) → typed_name z ≡ Some (name, ty)
+typed_alike x z name ty same alike plain h =
+    let is : z.ty ≡ func_type ty = alike_fixed x.ty z.ty ty (sym alike) (typed_of x.name x.ty (name, ty) h) plain in
+    let named : z.name ≡ name = same ∙ sym (keeps_name x (name, ty) h) in
+    ap (λ t. option_map (λ (f : FuncTypeValue). (z.name, f)) (as_function_type t)) is ∙ ap (λ (n : List ℕ). Some (n, ty)) named
+
+-- exports of which others have alike ones, at least those that are recorded or required
 module _ (s : Setting) (keys : List KeyView) (unique : ExportsUnique) (names : List (List ℕ)) (xs ys : List CoreExport) (p q : ExportRecord) (first : AreExports s keys xs p) (second : AreExports s keys ys q)
-    (from : (x : CoreExport) → Contains ys x → Contains xs x) (kept : (x : CoreExport) → Contains xs x → Contains names x.name → Contains ys x)
+    (from : (x : CoreExport) → Contains ys x → HasAlike xs x) (kept : (x : CoreExport) → Contains xs x → Contains names x.name → HasAlike ys x)
     (recorded : All (λ (y : List ℕ × ExportView). Contains names y.0) p) where
   pub back : (y : List ℕ × ExportView) → Contains q y → Contains p y
   back y there = moved s keys unique ys xs q p y second first there (λ x at named. from x at)
@@ -221,11 +260,12 @@ module _ (s : Setting) (keys : List KeyView) (unique : ExportsUnique) (names : L
     functions_still : (f : Option ℕ × List ℕ) → Contains (function_names p) f → Contains (function_names q) f
     functions_still f there = let of = kept_from function_name p f there in kept_there function_name q of.0 f (forth of.0 of.1) of.2
 
-    typed_still : (name : List ℕ) (ty : FuncTypeValue) → Contains names name → lookup (bytes_eq name) (filter_map typed_name xs) ≡ Some ty → lookup (bytes_eq name) (filter_map typed_name ys) ≡ Some ty
-    typed_still name ty named h =
+    typed_still : (name : List ℕ) (ty : FuncTypeValue) → names_types ty ≡ false → Contains names name → lookup (bytes_eq name) (filter_map typed_name xs) ≡ Some ty → lookup (bytes_eq name) (filter_map typed_name ys) ≡ Some ty
+    typed_still name ty plain named h =
         let of = kept_from typed_name xs (name, ty) (found_there name (filter_map typed_name xs) ty h) in
-        let there : Contains ys of.0 = kept of.0 of.1 (subst (Contains names) (keeps_name of.0 (name, ty) of.2) named) in
-        lookup_one (filter_map typed_name ys) (distinct_kept typed_name (λ (x : CoreExport). x.name) (λ (y : List ℕ × FuncTypeValue). y.0) keeps_name ys distinct) name ty (kept_there typed_name ys of.0 (name, ty) there of.2)
+        let other = kept of.0 of.1 (subst (Contains names) (keeps_name of.0 (name, ty) of.2) named) in
+        lookup_one (filter_map typed_name ys) (distinct_kept typed_name (λ (x : CoreExport). x.name) (λ (y : List ℕ × FuncTypeValue). y.0) keeps_name ys distinct) name ty
+        (kept_there typed_name ys other.0 (name, ty) other.1 (typed_alike of.0 other.0 name ty other.2 other.3 plain of.2))
 
     met_still : (r : ResolveView) (need : Requirement) → IsNamedIn names need → IsMet r xs p need → IsMet r ys q need
     met_still r one_memory named h = one_still h
@@ -234,7 +274,7 @@ module _ (s : Setting) (keys : List KeyView) (unique : ExportsUnique) (names : L
     met_still r (interface_functions i) named h =
         All-weaker (λ (f : List ℕ × FunctionView). Contains (function_names p) (Some i, f.0)) (λ (f : List ℕ × FunctionView). Contains (function_names q) (Some i, f.0)) (λ f there. functions_still (Some i, f.0) there) (functions_of r i) h
     met_still r (world_function name) named h = functions_still (None, name) h
-    met_still r (typed_function name ty) named h = typed_still name ty named h
+    met_still r (typed_function name ty) named h = (h.0, typed_still name ty h.0 named h.1)
 
     all_met : (r : ResolveView) (needs : List Requirement) → All (IsNamedIn names) needs → AreMet r xs p needs → AreMet r ys q needs
     all_met r [] named h = tt
@@ -256,7 +296,7 @@ mismatch_of s keys xs f other h = absurd h
 
 -- neither the exports nor what is required is refused
 module _ (s : Setting) (keys : List KeyView) (unique : ExportsUnique) (names : List (List ℕ)) (xs ys : List CoreExport) (p : ExportRecord) (first : AreExports s keys xs p)
-    (distinct : HaveDistinctNames (λ (x : CoreExport). x.name) ys) (from : (x : CoreExport) → Contains ys x → Contains xs x) (kept : (x : CoreExport) → Contains xs x → Contains names x.name → Contains ys x)
+    (distinct : HaveDistinctNames (λ (x : CoreExport). x.name) ys) (from : (x : CoreExport) → Contains ys x → HasAlike xs x) (kept : (x : CoreExport) → Contains xs x → Contains names x.name → HasAlike ys x)
     (recorded : All (λ (y : List ℕ × ExportView). Contains names y.0) p) (required : List (List ℕ × FuncTypeValue)) (named : All (λ (f : List ℕ × FuncTypeValue). Contains names f.0) required) where
   abbrev needs : List Requirement
   needs = requirements s.world.exports keys required

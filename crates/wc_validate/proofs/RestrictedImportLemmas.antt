@@ -1,6 +1,7 @@
 -- The imports of a module that restricts another: only a second import of one name of the main module is refused.
 use Rattle.std.proofs.Common.{◌≡◌, ◌≢◌, ◌⊎◌, ℕ, List, [], ◌∷◌, ◌++◌, All, Contains, Option, Some, None, slice_get, refl, sym, ap, subst, ◌∙◌, inl, inr, append_assoc, append-nil}
 use Rattle.std.specs.List.{AllZip}
+use Rattle.std.specs.Option.{option_map}
 use Rattle.std.proofs.lemmas.List.Elements.{All-head, All-tail}
 use Rattle.wc_read.specs.declared.exports.ExportKind.{ExportKind}
 use Rattle.wc_read.specs.declared.types.MemoryType.{MemoryType}
@@ -9,21 +10,24 @@ use Rattle.wc_read.specs.Modules.{ModuleValue}
 use Rattle.wc_read.specs.Types.{FuncTypeValue}
 use Rattle.wc_dedupe.specs.Renaming.{RenameValue}
 use Rattle.wc_resolve.proofs.SearchLemmas.{contains_cons, contains_head, contains_none, contains_tail}
-use Rattle.wc_names.specs.Imports.{Classified, CoreImport, Setting, extern_kind}
+use Rattle.wc_names.specs.AlikeTypes.{AreAlike, without_indices}
+use Rattle.wc_names.specs.Imports.{Classified, CoreImport, ExternType, Setting, extern_kind}
 use Rattle.wc_names.specs.Laws.{MeaningsUnique}
 use Rattle.wc_names.specs.Meanings.{means, refuses}
 use Rattle.wc_names.specs.Verdicts.{FaultKind, other_fault, out_of_memory, refused_name, wrong_signature}
 use Rattle.wc_names.specs.Views.{ImportView, adapter_export, main_module_export, main_module_memory}
+use Rattle.wc_names.proofs.AlikeMeaningLemmas.{fixed_plain, meaning_kept}
+use Rattle.wc_names.proofs.AlikeTypeLemmas.{alike_fixed}
 use Rattle.wc_names.proofs.SearchLemmas.{first_kind}
 use Rattle.wc_validate.specs.declared.fault.ValidateFault.{ValidateFault}
 use Rattle.wc_validate.specs.declared.fault.ValidateFault.TheVariants.{AdapterTypesDiffer, DuplicateImport, Mixed, SeveralMemoryImports}
 use Rattle.wc_validate.specs.Entries.{Entry, IsNameRecorded, adapter_type_in, adapter_type_of, by_modules, memory_of, memory_type_of, single}
 use Rattle.wc_validate.specs.Faults.{fault_kind}
-use Rattle.wc_validate.specs.Imports.{AreEntries, ImportSetting, IsCoreImport, IsEntry, IsEntryCause, IsFaultOfImport, IsImportFault, entry_faults, original_name}
+use Rattle.wc_validate.specs.Imports.{AreEntries, ImportSetting, IsCoreImport, IsEntry, IsEntryCause, IsFaultOfImport, IsImportFault, entry_faults, extern_type, original_name}
 use Rattle.wc_validate.specs.Restriction.{AreDistinct, HasCollision, HasOrigin, IsSameImport, main_module}
 use Rattle.wc_validate.specs.Rules.{HasSignature, IsNameFault}
 use Rattle.wc_validate.proofs.DistinctNameLemmas.{pair_either, pairs_before}
-use Rattle.wc_validate.proofs.ContainedLemmas.{all_by, first_from}
+use Rattle.wc_validate.proofs.ContainedLemmas.{all_by, first_from, mapped_from}
 use Rattle.wc_validate.proofs.LawLemmas.{one_core, one_entry, same_import, same_signature}
 use Rattle.wc_validate.proofs.RuleLemmas.{not_both}
 use Rattle.wc_validate.proofs.SingleEntryLemmas.{AreCompatible, IsSingle, adapter_self, name_from, not_all, swapped}
@@ -59,6 +63,12 @@ not_refused e unique a v wanted meant signed wrong_signature h =
 not_refused e unique a v wanted meant signed (refused_name why) h =
     let both : refuses why ≡ means v wanted = unique e a (refuses why) (means v wanted) refl h meant in let bad : ⊥ = cc both in bad
 not_refused e unique a v wanted meant signed other_fault h = h
+
+-- the signature that a name fixes is that of an import of an alike type too
+signature_kept : (e : Setting) (from name : List ℕ) (t u : ExternType) (i : ImportView) (wanted : Option FuncTypeValue) → AreAlike t u → Classified e (record { from = from; name = name; ty = t }) (means i wanted)
+    → HasSignature t wanted → HasSignature u wanted
+signature_kept e from name t u i None alike meant signed = tt
+signature_kept e from name t u i (Some w) alike meant signed = alike_fixed t u w alike signed (fixed_plain e (record { from = from; name = name; ty = t }) i w meant)
 
 main_meant : (e : Setting) (a : CoreImport) → a.from ≡ main_module → Classified e a (means (main_module_export a.name (extern_kind a.ty)) None)
 main_meant e a at = inr ((λ p h. not_both a.from h.0 at), inl (at, refl))
@@ -154,38 +164,63 @@ module _ (e : Setting) (renames : Option (List RenameValue)) (v m : ModuleValue)
     | inr later ↦ further o k front y (earlier o os front ys from.1 recorded.1 (All-tail (λ b. b ≡ o → b ≡ None) a os differs) y later)
   ]
 
-  same_core : (j i : ImportValue) (a : CoreImport) → IsSameImport v m j i → IsCoreImport (setting_of e renames m) i a → IsCoreImport (setting_of e renames v) j a
-  same_core j i a same core = (
-    core.0 ∙ sym same.from,
-    core.1 ∙ (ap (λ z. original_name renames z i.name) (sym same.from) ∙ ap (λ z. original_name renames j.module_name z) (sym same.name)),
-    same.ty ∙ core.2,
-  )
+  -- the original of an import is the same but for the indices in its type
+  abbrev IsAlikeCore : ImportValue → CoreImport → Type 0
+  IsAlikeCore j a = (t : ExternType) × IsCoreImport (setting_of e renames v) j (record { from = a.from; name = a.name; ty = t }) × AreAlike t a.ty
 
-  same_entry : (j i : ImportValue) (x : Entry) → IsSameImport v m j i → IsNamedEntry e renames m i x → IsEntry (setting_of e renames v) j x
-  same_entry j i x same h = inr (
-    refl,
-    h.core,
-    h.view,
-    h.wanted,
-    same_core j i h.core same h.is_core,
-    h.is_meant,
-    h.signed,
-    h.is_entry ∙ (ap (λ z. single z i.name h.view) (sym same.from) ∙ ap (λ z. single j.module_name z h.view) (sym same.name)),
-  )
+  alike_core : (j i : ImportValue) (a : CoreImport) → IsSameImport v m j i → IsCoreImport (setting_of e renames m) i a → IsAlikeCore j a
+  alike_core j i a same core =
+      let of = mapped_from without_indices (extern_type v.types j.ty) (without_indices a.ty) (same.ty ∙ ap (option_map without_indices) core.2) in (
+        of.0,
+        (
+          core.0 ∙ sym same.from,
+          core.1 ∙ (ap (λ z. original_name renames z i.name) (sym same.from) ∙ ap (λ z. original_name renames j.module_name z) (sym same.name)),
+          of.1,
+        ),
+        of.2,
+      )
+
+  -- so it means the same, with the same signature
+  abbrev MeansSame : CoreImport → ImportView → Option FuncTypeValue → Type 0
+  MeansSame a view wanted = Classified e a (means view wanted) × HasSignature a.ty wanted
+
+  carried : (j i : ImportValue) (y : Entry) (a : CoreImport) → IsSameImport v m j i → (named : IsNamedEntry e renames v j y) → IsCoreImport (setting_of e renames m) i a → MeansSame a named.view named.wanted
+  carried j i y a same named core =
+      let of = alike_core j i a same core in
+      let is = one_core (setting_of e renames v) j named.core (record { from = a.from; name = a.name; ty = of.0 }) named.is_core of.1 in
+      let meant = subst (λ z. Classified e z (means named.view named.wanted)) is named.is_meant in (
+        meaning_kept e a.from a.name of.0 a.ty named.view named.wanted of.2 meant,
+        signature_kept e a.from a.name of.0 a.ty named.view named.wanted of.2 meant (subst (λ z. HasSignature z.ty named.wanted) is named.signed),
+      )
+
+  carried_entry : (j i : ImportValue) (y : Entry) (a : CoreImport) → IsSameImport v m j i → IsNamedEntry e renames v j y → IsCoreImport (setting_of e renames m) i a → IsEntry (setting_of e renames m) i y
+  carried_entry j i y a same h core =
+      let means_same = carried j i y a same h core in
+      inr (
+        refl,
+        a,
+        h.view,
+        h.wanted,
+        core,
+        means_same.0,
+        means_same.1,
+        h.is_entry ∙ (ap (λ z. single z j.name h.view) same.from ∙ ap (λ z. single i.module_name z h.view) same.name),
+      )
 
   module _ (unique : MeaningsUnique e.resolve) (xs : List Entry) (entries : AreEntries (setting_of e renames v) [] v.imports xs) where
     -- the entry of an import that is from a position is the entry there
     pub entry_of : (p : ℕ) (j i : ImportValue) (x : Entry) → slice_get v.imports p ≡ Some j → IsSameImport v m j i → IsEntry (setting_of e renames m) i x → slice_get xs p ≡ Some x
     entry_of p j i x at same h =
         let y = entry_at (setting_of e renames v) [] v.imports xs p j entries at in
-        y.1 ∙ ap Some (one_entry e.resolve unique (setting_of e renames v) j y.0 x refl y.2 (same_entry j i x same (named_entry e renames m i x h)))
+        let named = named_entry e renames m i x h in
+        y.1 ∙ ap Some (one_entry e.resolve unique (setting_of e renames m) i y.0 x refl (carried_entry j i y.0 named.core same (named_entry e renames v j y.0 y.2) named.is_core) h)
 
     meant : (o : Option ℕ) (i : ImportValue) (a : CoreImport) → HasOrigin v m o i → IsCoreImport (setting_of e renames m) i a → (w : ImportView) × (wanted : Option FuncTypeValue) × Classified e a (means w wanted) × HasSignature a.ty wanted
     meant (Some p) i a h core =
         let y = entry_at (setting_of e renames v) [] v.imports xs p h.0 entries h.1 in
         let named = named_entry e renames v h.0 y.0 y.2 in
-        let same : named.core ≡ a = one_core (setting_of e renames v) h.0 named.core a named.is_core (same_core h.0 i a h.2 core) in
-        (named.view, named.wanted, subst (λ z. Classified e z (means named.view named.wanted)) same named.is_meant, subst (λ z. HasSignature z.ty named.wanted) same named.signed)
+        let means_same = carried h.0 i y.0 a h.2 named core in
+        (named.view, named.wanted, means_same.0, means_same.1)
     meant None i a h core = (main_module_export a.name (extern_kind a.ty), None, main_meant e a (core.0 ∙ h.0), tt)
 
     pub main_is : (i : ImportValue) (x : Entry) → HasOrigin v m None i → (h : IsNamedEntry e renames m i x) → x ≡ single main_module i.name (main_module_export (h.core).name (extern_kind (h.core).ty))

@@ -10,6 +10,7 @@ use Rattle.wc_dedupe.specs.Renaming.{RenameValue}
 use Rattle.wc_resolve.specs.Views.{KeyView}
 use Rattle.wc_encoder.specs.Adapters.{LibraryView}
 use Rattle.wc_encoder.specs.EncoderParts.{EncoderView}
+use Rattle.wc_names.specs.AlikeTypes.{AreAlike, without_indices}
 use Rattle.wc_names.specs.Exports.{CoreExport}
 use Rattle.wc_names.specs.ExportViews.{ExportView}
 use Rattle.wc_names.specs.Imports.{ExternType, Setting}
@@ -26,9 +27,9 @@ use Rattle.wc_validate.specs.Requirements.{IsUnmetFault, requirements}
 use Rattle.wc_validate.specs.Restriction.{AreNeeded, HasCollision, IsKeptExport, IsModuleRecord, IsOldExport, IsRestrictedImport, IsRestriction, IsSameExport, RestrictionsRecorded, RestrictionsValid}
 use Rattle.wc_validate.specs.Validated.{IsExportsCause, IsImportsCause, IsSettingFor, IsSettingOf, Job, ModuleRecord}
 use Rattle.wc_validate.proofs.DistinctNameLemmas.{HaveDistinctNames, distinct_kept, distinct_unmapped}
-use Rattle.wc_validate.proofs.ContainedLemmas.{kept_from, kept_there, none_some, some_same}
+use Rattle.wc_validate.proofs.ContainedLemmas.{kept_from, kept_there, mapped_from, none_some, some_same}
 use Rattle.wc_validate.proofs.LawLemmas.{one_setting}
-use Rattle.wc_validate.proofs.RestrictedExportLemmas.{back, exports_valid, forth}
+use Rattle.wc_validate.proofs.RestrictedExportLemmas.{HasAlike, back, exports_valid, forth}
 use Rattle.wc_validate.proofs.RestrictedImportLemmas.{imports_refused, setting_of}
 use Rattle.wc_validate.proofs.RestrictedRecordLemmas.{imports_restricted}
 
@@ -43,24 +44,36 @@ exports_distinct m h =
     distinct_kept (typed_export m) (λ (e : ExportValue). e.name) (λ (x : CoreExport). x.name) (λ e x is. named_at e (item_type m e.kind e.index) x is) m.exports
     (distinct_unmapped (λ (e : ExportValue). e.name) m.exports h.distinct)
 
--- exports that are the same have one name and one type
-same_typed : (v m : ModuleValue) (x y : ExportValue) → IsSameExport v m x y → typed_export v x ≡ typed_export m y
-same_typed v m x y same = ap (λ n. option_map (core_export n) (item_type v x.kind x.index)) same.name ∙ ap (option_map (core_export y.name)) same.ty
+-- exports that are the same have one name, and types that are alike
+same_typed : (v m : ModuleValue) (x y : ExportValue) (z : CoreExport) → IsSameExport v m x y → typed_export m y ≡ Some z → (w : CoreExport) × (typed_export v x ≡ Some w) × (w.name ≡ z.name) × AreAlike w.ty z.ty
+same_typed v m x y z same h =
+    let of = mapped_from (core_export y.name) (item_type m y.kind y.index) z h in
+    let was = mapped_from without_indices (item_type v x.kind x.index) (without_indices of.0) (same.ty ∙ ap (option_map without_indices) of.1) in (
+      core_export x.name was.0,
+      ap (option_map (core_export x.name)) was.1,
+      same.name ∙ ap (λ (e : CoreExport). e.name) of.2,
+      was.2 ∙ ap (λ (e : CoreExport). without_indices e.ty) of.2,
+    )
 
-core_from : (v m : ModuleValue) → All (IsOldExport v m) m.exports → (x : CoreExport) → Contains (core_exports m m.exports) x → Contains (core_exports v v.exports) x
+turned : (v m : ModuleValue) (x y : ExportValue) → IsSameExport v m x y → IsSameExport m v y x
+turned v m x y same = record { name = sym same.name; ty = sym same.ty }
+
+core_from : (v m : ModuleValue) → All (IsOldExport v m) m.exports → (x : CoreExport) → Contains (core_exports m m.exports) x → HasAlike (core_exports v v.exports) x
 unfolding core_exports
 core_from v m old x there =
     let of = kept_from (typed_export m) m.exports x there in
     let was = All-contains (IsOldExport v m) m.exports of.0 old of.1 in
-    kept_there (typed_export v) v.exports was.0 x was.1 (same_typed v m was.0 of.0 was.2 ∙ of.2)
+    let same = same_typed v m was.0 of.0 x was.2 of.2 in
+    (same.0, kept_there (typed_export v) v.exports was.0 same.0 was.1 same.1, same.2, same.3)
 
 core_kept : (v m : ModuleValue) (names : List (List ℕ)) → ((x : ExportValue) → Contains v.exports x → Contains names x.name → IsKeptExport v m x) → (x : CoreExport) → Contains (core_exports v v.exports) x → Contains names x.name
-    → Contains (core_exports m m.exports) x
+    → HasAlike (core_exports m m.exports) x
 unfolding core_exports
 core_kept v m names kept x there named =
     let of = kept_from (typed_export v) v.exports x there in
     let is = kept of.0 of.1 (subst (Contains names) (named_at of.0 (item_type v (of.0).kind (of.0).index) x of.2) named) in
-    kept_there (typed_export m) m.exports is.0 x is.1 (sym (same_typed v m of.0 is.0 is.2) ∙ of.2)
+    let same = same_typed m v is.0 of.0 x (turned v m of.0 is.0 is.2) of.2 in
+    (same.0, kept_there (typed_export m) m.exports is.0 same.0 is.1 same.1, same.2, same.3)
 
 -- the cause of a fault that is not Memory
 imports_cause : (e : EncoderView) (renames : Option (List RenameValue)) (library : Option LibraryView) (types : List FuncTypeValue) (imports : List ImportValue) (f : ValidateFault) → f ≢ Memory

@@ -9,19 +9,20 @@ use Rattle.wc_encoder.specs.declared.adapters.Adapter.{Adapter}
 use Rattle.wc_resolve.proofs.SearchLemmas.{contains_cons, contains_head, contains_none, contains_tail}
 use Rattle.wc_read.specs.declared.types.MemoryType.{MemoryType}
 use Rattle.wc_read.specs.declared.exports.ExportKind.{ExportKind}
-use Rattle.wc_read.specs.Types.{FuncTypeValue}
+use Rattle.wc_read.specs.Types.{FuncTypeValue, names_types}
 use Rattle.wc_names.specs.declared.imports.Import.{Import}
 use Rattle.wc_names.specs.Environment.{environment_module}
 use Rattle.wc_names.specs.First.{FirstOf}
-use Rattle.wc_names.specs.Imports.{Setting, ExternType, func_type, memory_type, extern_kind, interface_unknown, interface_function, interface_intrinsic, interface_other_name, environment, without_prefix, kinds, IsKind, IsReadBy, main_memory, main_item, not_function, adapter_function, by_scheme, rules, IsFunction, IsRule}
+use Rattle.wc_names.specs.Imports.{Classified, Setting, ExternType, adapter_meaning, func_type, memory_type, extern_kind, interface_unknown, interface_function, interface_intrinsic, interface_other_name, environment, without_prefix, kinds, IsKind, IsReadBy, main_memory, main_item, not_function, adapter_function, by_scheme, rules, IsFunction, IsRule}
 use Rattle.wc_names.specs.Meanings.{Meaning, means, refuses, missing_function}
 use Rattle.wc_names.specs.Schemes.{Scheme}
 use Rattle.wc_names.specs.Verdicts.{FaultKind, out_of_memory, wrong_signature, refused_name, other_fault, IsReason, IsVerdict}
 use Rattle.wc_names.specs.Views.{import_view, main_module_memory, main_module_export, adapter_export}
 use Rattle.wc_names.specs.WitIntrinsics.{wit_intrinsics}
 use Rattle.wc_names.proofs.SearchLemmas.{NoneOf, first_after, none_of}
+use Rattle.wc_names.proofs.VerdictLemmas.{verdict_fault, verdict_unchecked}
 use Rattle.wc_validate.specs.declared.fault.ValidateFault.{ValidateFault}
-use Rattle.wc_validate.specs.declared.fault.ValidateFault.TheVariants.{Memory, NotAFunction}
+use Rattle.wc_validate.specs.declared.fault.ValidateFault.TheVariants.{Memory, NotAFunction, TypedReference}
 use Rattle.wc_validate.specs.Faults.{fault_kind}
 use Rattle.wc_validate.specs.Kinds.{MeansAmong, MeansByScheme, export_kinds, export_root_kinds, root_kinds}
 use Rattle.wc_validate.specs.Rules.{core_import, HasSignature, IsClassified, IsDecision, IsNameReason}
@@ -84,11 +85,8 @@ module _ (e : Setting) (from name : List ℕ) where
   of_no_function ty other no_memory not_main = inr (no_memory, inr ((λ m h. not_main h.0), inl (other, refl)))
 
   module _ (ty : FuncTypeValue) (not_main : ¬ (from ≡ codes "__main_module__")) where
-    -- a function of an adapter
-    pub of_adapter : (i : Import) → Contains e.adapters from → import_view i ≡ adapter_export from name ty → IsClassified e (core_import from name (func_type ty)) (Ok i)
-    unfolding IsClassified
-    of_adapter i there is =
-        (None, inr ((λ m h. let bad : ⊥ = cc h.3 in bad), inr ((λ m h. not_main h.0), inr ((λ m h. h.0 (ty, refl)), inl (there, ty, refl, ap (λ z. means z None) is)))), tt)
+    at_adapter : Contains e.adapters from → (m : Meaning) → m ≡ adapter_meaning from name ty → Classified e (core_import from name (func_type ty)) m
+    at_adapter there m is = inr ((λ p h. let bad : ⊥ = cc h.3 in bad), inr ((λ p h. not_main h.0), inr ((λ p h. h.0 (ty, refl)), inl (there, ty, refl, is))))
 
     no_rule : ¬ Contains e.adapters from → NoneOf (IsRule e (core_import from name (func_type ty))) (main_memory ∷ main_item ∷ not_function ∷ adapter_function ∷ [])
     no_rule no_adapter = ((λ m h. let bad : ⊥ = cc h.3 in bad), ((λ m h. not_main h.0), ((λ m h. h.0 (ty, refl)), ((λ m h. no_adapter h.0), tt))))
@@ -101,17 +99,39 @@ module _ (e : Setting) (from name : List ℕ) where
     signature_of None h = tt
     signature_of (Some w) h = ap func_type h
 
-    reason_of : ¬ Contains e.adapters from → (k : FaultKind) → IsReason (MeansByScheme e from name ty) ty k → IsNameReason e (core_import from name (func_type ty)) k
-    reason_of no_adapter out_of_memory h = tt
-    reason_of no_adapter wrong_signature h = (h.0, h.1, after_rules no_adapter _ h.2, λ same. h.3 (let one : ty ≡ h.1 = cc same in one))
-    reason_of no_adapter (refused_name why) h = after_rules no_adapter _ h
-    reason_of no_adapter other_fault h = h
+    -- by what the function means, where that is what the import means
+    module _ (Means : Meaning → Type 0) (meant : (m : Meaning) → Means m → Classified e (core_import from name (func_type ty)) m) where
+      reason_of : (k : FaultKind) → IsReason Means ty k → IsNameReason e (core_import from name (func_type ty)) k
+      reason_of out_of_memory h = tt
+      reason_of wrong_signature h = (h.0, h.1, meant _ h.2, λ same. h.3 (let one : ty ≡ h.1 = cc same in one))
+      reason_of (refused_name why) h = meant _ h
+      reason_of other_fault h = h
+
+      decided : (r : Result Import ValidateFault) → IsDecision Means ty r → IsClassified e (core_import from name (func_type ty)) r
+      unfolding IsClassified IsVerdict
+      decided (Ok i) v = (v.0, meant _ v.1, signature_of v.0 v.2)
+      decided (Err f) v = reason_of (fault_kind f) v
+
+    -- a function of an adapter
+    pub of_adapter : (r : Result Import ValidateFault) → Contains e.adapters from → IsDecision (λ m. m ≡ adapter_meaning from name ty) ty r → IsClassified e (core_import from name (func_type ty)) r
+    of_adapter r there v = decided (λ m. m ≡ adapter_meaning from name ty) (at_adapter there) r v
 
     -- a function by its name
     pub of_function : (r : Result Import ValidateFault) → ¬ Contains e.adapters from → IsDecision (MeansByScheme e from name ty) ty r → IsClassified e (core_import from name (func_type ty)) r
-    unfolding IsClassified IsVerdict
-    of_function (Ok i) no_adapter v = (v.0, after_rules no_adapter _ v.1, signature_of v.0 v.2)
-    of_function (Err f) no_adapter v = reason_of no_adapter (fault_kind f) v
+    of_function r no_adapter v = decided (MeansByScheme e from name ty) (after_rules no_adapter) r v
+
+-- a function of an adapter, whose type names types or names none
+module _ (from name : List ℕ) (ty : FuncTypeValue) where
+  pub plain_function : (i : Import) → names_types ty ≡ false → import_view i ≡ adapter_export from name ty → IsDecision (λ m. m ≡ adapter_meaning from name ty) ty (Ok i)
+  plain_function i plain is = verdict_unchecked fault_kind (λ m. m ≡ adapter_meaning from name ty) i ty (ap (λ z. means z None) is ∙ rw plain refl)
+
+  pub typed_function : names_types ty ≡ true → IsDecision (λ m. m ≡ adapter_meaning from name ty) ty (Err TypedReference)
+  typed_function typed = verdict_fault fault_kind (λ m. m ≡ adapter_meaning from name ty) ty TypedReference (rw typed refl)
+
+  pub no_memory : (r : Result Import ValidateFault) → IsErrAnd r (λ f. f ≡ Memory) → IsDecision (λ m. m ≡ adapter_meaning from name ty) ty r
+  no_memory (Ok i) h = absurd h
+  no_memory (Err f) h =
+      verdict_fault fault_kind (λ m. m ≡ adapter_meaning from name ty) ty f (subst (λ z. IsReason (λ m. m ≡ adapter_meaning from name ty) ty (fault_kind z)) (sym h) tt)
 
 module _ (m : List ℕ) where
   there_step : (e : String Global × Adapter) (es : List (String Global × Adapter)) (b : Bool) → bytes_eq m (string_bytes e.0) ≡ b → is_some (cond b (Some e.1) (lookup (λ k. bytes_eq m (string_bytes k)) es)) ≡ true

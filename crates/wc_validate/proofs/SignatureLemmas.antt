@@ -1,8 +1,8 @@
 -- Function types by their parameters and results.
-use Rattle.std.proofs.Common.{◌≡◌, true, List, Some, refl, subst, ap}
+use Rattle.std.proofs.Common.{◌≡◌, true, false, List, Some, refl, subst, ap, eqb-true, eq-eqb}
 use Rattle.std.specs.Bool.{Decides}
 use Rattle.wc_read.specs.declared.types.ValType.{ValType}
-use Rattle.wc_read.specs.declared.types.ValType.TheVariants.{I32, I64, F32, F64, V128, FuncRef, ExternRef}
+use Rattle.wc_read.specs.declared.types.ValType.TheVariants.{I32, I64, F32, F64, V128, FuncRef, ExternRef, FuncRefNonNull, ExternRefNonNull, TypeRef}
 use Rattle.wc_read.specs.contracts.types.ValTypePartialEq.TheImpl.{eq-value as val_eq}
 use Rattle.wc_read.specs.Types.{FuncTypeValue}
 use Rattle.wc_names.specs.Builtins.{signature}
@@ -15,6 +15,10 @@ val_from F64 F64 h = refl
 val_from V128 V128 h = refl
 val_from FuncRef FuncRef h = refl
 val_from ExternRef ExternRef h = refl
+val_from FuncRefNonNull FuncRefNonNull h = refl
+val_from ExternRefNonNull ExternRefNonNull h = refl
+val_from (TypeRef true i) (TypeRef true j) h = ap (λ n. TypeRef true n) (eqb-true i j h)
+val_from (TypeRef false i) (TypeRef false j) h = ap (λ n. TypeRef false n) (eqb-true i j h)
 val_from a b h = absurd (let bad : ⊥ = cc h in bad)
 
 val_self : (a : ValType) → val_eq.it a a ≡ true
@@ -25,6 +29,10 @@ val_self F64 = refl
 val_self V128 = refl
 val_self FuncRef = refl
 val_self ExternRef = refl
+val_self FuncRefNonNull = refl
+val_self ExternRefNonNull = refl
+val_self (TypeRef true i) = eq-eqb i i refl
+val_self (TypeRef false i) = eq-eqb i i refl
 
 -- `==` of value types decides equality
 pub vals_law : (a b : ValType) → Decides (val_eq.it a b) (a ≡ b)

@@ -2,8 +2,8 @@
 use Rattle.wc_read.specs.declared.fault.ReadFault.{ReadFault}
 use Rattle.wc_read.specs.declared.fault.ReadFault.TheVariants as read
 use Rattle.wc_validate.specs.declared.fault.ValidateFault.{ValidateFault}
-use Rattle.wc_validate.specs.declared.fault.ValidateFault.TheVariants.{Memory, Read, NotAModule, NotAFunction, SignatureMismatch, NoRootImport, RootNotFunction, BadSyntax, UnknownInterface, UnknownIntrinsic, MissingFunction, NoSuchExport}
-use Rattle.wc_names.specs.Meanings.{not_a_function, no_root_import, root_not_function, bad_syntax, unknown_interface, unknown_intrinsic, missing_function, no_such_export}
+use Rattle.wc_validate.specs.declared.fault.ValidateFault.TheVariants.{Memory, Read, NotAModule, NotAFunction, SignatureMismatch, NoRootImport, RootNotFunction, BadSyntax, UnknownInterface, UnknownIntrinsic, MissingFunction, NoSuchExport, TypedReference}
+use Rattle.wc_names.specs.Meanings.{not_a_function, no_root_import, root_not_function, bad_syntax, unknown_interface, unknown_intrinsic, missing_function, no_such_export, typed_reference}
 use Rattle.wc_names.specs.Verdicts.{FaultKind, out_of_memory, wrong_signature, refused_name, other_fault}
 
 -- the fault that a fault of reading is: a component is no module
@@ -24,4 +24,5 @@ fault_kind UnknownInterface = refused_name unknown_interface
 fault_kind UnknownIntrinsic = refused_name unknown_intrinsic
 fault_kind MissingFunction = refused_name missing_function
 fault_kind NoSuchExport = refused_name no_such_export
+fault_kind TypedReference = refused_name typed_reference
 fault_kind f = other_fault

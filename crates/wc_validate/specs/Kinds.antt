@@ -5,7 +5,7 @@ use Rattle.wc_read.specs.Types.{FuncTypeValue}
 use Rattle.wc_resolve.specs.declared.functions.AbiVariant.{AbiVariant}
 use Rattle.wc_resolve.specs.Views.{FunctionView, WorldView, world_view}
 use Rattle.wc_resolve.specs.World.{ResolveView}
-use Rattle.wc_names.specs.Environment.{environment_module, NamesEnvironment}
+use Rattle.wc_names.specs.Environment.{environment_meaning, environment_module, NamesEnvironment}
 use Rattle.wc_names.specs.First.{FirstOf}
 use Rattle.wc_names.specs.Imports.{Setting, Kind, root_builtin, root_function, root_intrinsic, root_other_item, root_unknown, export_root_intrinsic, without_prefix, export_unknown, export_intrinsic, export_other_name, interface_unknown, interface_function, interface_intrinsic, interface_other_name, IsKind, by_scheme, func_type, function_type, kinds, IsRule}
 use Rattle.wc_names.specs.Lookups.{Scope, function_named, resource_named, scope_key}
@@ -71,7 +71,7 @@ other_kinds = without_prefix ∷ (export_kinds ++ interface_kinds)
 
 -- what the name of a function of the environment means
 abbrev pub MeansEnvironment : Scheme → List ℕ → List ℕ → FuncTypeValue → Meaning → Type 0
-MeansEnvironment s from name ty m = (from ≡ environment_module) × (i : ImportView) × NamesEnvironment s name ty i × (m ≡ means i None)
+MeansEnvironment s from name ty m = (from ≡ environment_module) × (i : ImportView) × NamesEnvironment s name ty i × (m ≡ environment_meaning i)
 
 -- what the name of a function means by the scheme that reads it
 abbrev pub MeansByScheme : Setting → List ℕ → List ℕ → FuncTypeValue → Meaning → Type 0

@@ -4,7 +4,7 @@ use Rattle.std.specs.List.{filter_map}
 use Rattle.std.specs.Map.{lookup}
 use Rattle.std.specs.Option.{IsSome, option_and_then, option_map, option_map_or}
 use Rattle.std.specs.Str.{bytes_eq}
-use Rattle.wc_read.specs.Types.{FuncTypeValue}
+use Rattle.wc_read.specs.Types.{FuncTypeValue, names_types}
 use Rattle.wc_resolve.specs.declared.functions.AbiVariant.TheVariants.{GuestExportAsync}
 use Rattle.wc_resolve.specs.Views.{FunctionView, InterfaceView, ItemView, KeyView, function_item, interface_item}
 use Rattle.wc_resolve.specs.World.{ResolveView}
@@ -14,7 +14,7 @@ use Rattle.wc_names.specs.ExportViews.{ExportView, exported_func, exported_func_
 use Rattle.wc_names.specs.Imports.{ExternType, func_type}
 use Rattle.wc_names.specs.Lookups.{item_under}
 use Rattle.wc_validate.specs.declared.fault.ValidateFault.{ValidateFault}
-use Rattle.wc_validate.specs.declared.fault.ValidateFault.TheVariants.{Memory, SeveralMemoryExports, MissingCallback, MissingInterfaceExport, MissingWorldExport, AdapterModuleDidNotExport, AdapterExportType}
+use Rattle.wc_validate.specs.declared.fault.ValidateFault.TheVariants.{Memory, SeveralMemoryExports, MissingCallback, MissingInterfaceExport, MissingWorldExport, AdapterModuleDidNotExport, AdapterExportType, TypedReference}
 use Rattle.wc_validate.specs.ExportMaps.{ExportRecord, is_memory}
 use Rattle.wc_validate.specs.Texts.{name_not_exported}
 
@@ -83,7 +83,7 @@ IsMet r xs recorded one_memory = memory_count recorded ≤ 1
 IsMet r xs recorded callbacks = All (λ e. IsTrue (is_called_back recorded e)) recorded
 IsMet r xs recorded (interface_functions i) = All (λ (f : List ℕ × FunctionView). Contains (function_names recorded) (Some i, f.0)) (functions_of r i)
 IsMet r xs recorded (world_function name) = Contains (function_names recorded) (None, name)
-IsMet r xs recorded (typed_function name ty) = exported_type xs name ≡ Some ty
+IsMet r xs recorded (typed_function name ty) = (names_types ty ≡ false) × (exported_type xs name ≡ Some ty)
 
 -- what is said of a requirement that is not met
 abbrev pub IsShortfall : List CoreExport → Requirement → ValidateFault → Type 0
@@ -91,8 +91,10 @@ IsShortfall xs one_memory SeveralMemoryExports = Unit {0}
 IsShortfall xs callbacks MissingCallback = Unit {0}
 IsShortfall xs (interface_functions i) MissingInterfaceExport = Unit {0}
 IsShortfall xs (world_function name) MissingWorldExport = Unit {0}
-IsShortfall xs (typed_function name ty) (AdapterModuleDidNotExport e) = (exported_type xs name ≡ None) × (name_not_exported e ≡ name)
-IsShortfall xs (typed_function name ty) AdapterExportType = IsSome (exported_type xs name)
+IsShortfall xs (typed_function name ty) TypedReference = names_types ty ≡ true
+IsShortfall xs (typed_function name ty) (AdapterModuleDidNotExport e) =
+    (names_types ty ≡ false) × (exported_type xs name ≡ None) × (name_not_exported e ≡ name)
+IsShortfall xs (typed_function name ty) AdapterExportType = (names_types ty ≡ false) × IsSome (exported_type xs name)
 IsShortfall xs need f = ⊥
 
 -- all of them are met

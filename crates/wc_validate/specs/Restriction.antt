@@ -2,6 +2,7 @@
 -- main module among its imports.
 use Rattle.std.specs.Prelude.{◌≡◌, ◌≢◌, ◌↔◌, ℕ, List, ◌∷◌, ◌++◌, Option, Some, None, All, AllPairs, Contains, codes, slice_get}
 use Rattle.std.specs.List.{AllZip}
+use Rattle.std.specs.Option.{option_map}
 use Rattle.wc_read.specs.declared.exports.ExportKind.TheVariants.{Func}
 use Rattle.wc_read.specs.Exports.{ExportValue}
 use Rattle.wc_read.specs.Imports.{ImportValue}
@@ -9,7 +10,8 @@ use Rattle.wc_read.specs.Modules.{IsModule, ModuleValue}
 use Rattle.wc_read.specs.Types.{FuncTypeValue}
 use Rattle.wc_encoder.specs.EncoderParts.{EncoderView}
 use Rattle.wc_names.specs.ExportViews.{ExportView}
-use Rattle.wc_names.specs.Imports.{func_type}
+use Rattle.wc_names.specs.AlikeTypes.{without_indices}
+use Rattle.wc_names.specs.Imports.{ExternType, func_type}
 use Rattle.wc_names.specs.Views.{ImportView, main_module_export}
 use Rattle.wc_validate.specs.declared.fault.ValidateFault.{ValidateFault}
 use Rattle.wc_validate.specs.declared.fault.ValidateFault.TheVariants.{DuplicateImport, Memory}
@@ -22,11 +24,15 @@ use Rattle.wc_validate.specs.Validated.{IsExportsRecord, IsImportsRecord, IsModu
 abbrev pub main_module : List ℕ
 main_module = codes "__main_module__"
 
--- imports of two modules are the same: module, name and type
+-- types in two modules, where they are there, are the same but for the indices by which they name others
+abbrev pub AreTypesAlike : Option ExternType → Option ExternType → Type 0
+AreTypesAlike t u = option_map without_indices t ≡ option_map without_indices u
+
+-- imports of two modules are the same: module, name, and type but for indices
 pub record IsSameImport (v m : ModuleValue) (j i : ImportValue) : Type 0 where
   pub from : j.module_name ≡ i.module_name
   pub name : j.name ≡ i.name
-  pub ty : extern_type v.types j.ty ≡ extern_type m.types i.ty
+  pub ty : AreTypesAlike (extern_type v.types j.ty) (extern_type m.types i.ty)
 
 -- an import of a function of the main module
 abbrev pub IsMainFunction : ModuleValue → ImportValue → Type 0
@@ -41,10 +47,10 @@ HasOrigin v m None i = IsMainFunction m i
 abbrev pub AreDistinct : List (Option ℕ) → Type 0
 AreDistinct origins = AllPairs (λ a b. a ≡ b → a ≡ None) origins
 
--- exports of two modules are the same: name and type
+-- exports of two modules are the same: name, and type but for indices
 pub record IsSameExport (v m : ModuleValue) (x y : ExportValue) : Type 0 where
   pub name : x.name ≡ y.name
-  pub ty : item_type v x.kind x.index ≡ item_type m y.kind y.index
+  pub ty : AreTypesAlike (item_type v x.kind x.index) (item_type m y.kind y.index)
 
 -- an export of m is one of v; and one of v is one of m
 abbrev pub IsOldExport : ModuleValue → ModuleValue → ExportValue → Type 0

@@ -1,10 +1,12 @@
 //! What imports of a core module are, by their names and types.
 
-ghost use Rattle.std.specs.Prelude.{Ok};
+ghost use Rattle.std.specs.Prelude.{◌≡◌};
 ghost use Rattle.wc_read.specs.Types.{func_type_value};
+ghost use Rattle.wc_names.specs.Environment.{names_value_type};
 ghost use Rattle.wc_names.specs.Imports.{kinds};
 ghost use Rattle.wc_names.specs.Interfaces.{interface_texts};
 ghost use Rattle.wc_names.specs.Verdicts.{IsVerdict};
+ghost use Rattle.wc_names.specs.Views.{import_view};
 ghost use Rattle.wc_validate.specs.Faults.{fault_kind};
 ghost use Rattle.wc_validate.specs.Kinds.{MeansAmong, MeansByScheme, MeansEnvironment, export_root_kinds};
 ghost use Rattle.wc_validate.specs.Rules.{IsDecision};
@@ -15,6 +17,7 @@ use crate::interfaces::{after, interface_import};
 use crate::intrinsics::exported_intrinsic;
 use crate::roots::root_import;
 use crate::setting::{Interfaces, Names, SchemeInterfaces};
+use crate::signatures::names_type;
 use std::alloc::Global;
 use wc_names::{Import, Legacy, NameMangling, PayloadLookupContext, Standard};
 use wc_read::FuncType;
@@ -25,22 +28,38 @@ pub(crate) const STANDARD_MARKER: &str = "cm32p2";
 /// The module of the functions by which linkers reach a thread's stack pointer and its local storage.
 pub(crate) const ENVIRONMENT: &str = "env";
 
+/// Whether the value that a function of the environment reads or writes is of a type that names another by its index.
+fn names_value_type(import: &Import) -> bool
+    ensures { result ≡ names_value_type (import_view import.now) }
+{
+    match import {
+        Import::ContextGet { ty, .. } | Import::ContextSet { ty, .. } => names_type(*ty),
+        Import::TlsBaseGet { ty } | Import::TlsBaseSet { ty } => names_type(*ty),
+        _ => false,
+    }
+}
+
 /// The function of the environment that a name is of.
 fn environment<N: NameMangling>(
     scheme: &N,
     module_name: &str,
     name: &str,
     ty: &FuncType,
-) -> Option<Import>
+) -> Result<Option<Import>, ValidateFault>
     ensures { IsVerdict fault_kind
         (MeansEnvironment (N.scheme scheme.now) module_name.now name.now (func_type_value ty.now))
-        (func_type_value ty.now) (Ok result) }
+        (func_type_value ty.now) result }
 {
-    if module_name == ENVIRONMENT {
-        scheme.env_import(name, ty)
-    } else {
-        None
+    if module_name != ENVIRONMENT {
+        return Ok(None);
     }
+    let Some(import) = scheme.env_import(name, ty) else {
+        return Ok(None);
+    };
+    if names_value_type(&import) {
+        return Err(ValidateFault::TypedReference);
+    }
+    Ok(Some(import))
 }
 
 /// The built-in that a name is of from the root of exports.
@@ -93,7 +112,7 @@ fn import_by<N: NameMangling>(
     if module_name == scheme.import_root() {
         return root_import(scheme, alloc, names, name, ty);
     }
-    match environment(scheme, module_name, name, ty) {
+    match environment(scheme, module_name, name, ty)? {
         Some(variable) => Ok(Some(variable)),
         None => match export_root(scheme, alloc, names, module_name, name, ty)? {
             Some(intrinsic) => Ok(Some(intrinsic)),

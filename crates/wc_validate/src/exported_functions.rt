@@ -23,7 +23,7 @@ use crate::ValidateFault;
 use crate::fault::not_exported;
 use crate::recorded_exports::exported_type;
 use crate::rules::Extern;
-use crate::signatures::has_type;
+use crate::signatures::{has_type, names_types};
 use indexmap::{IndexMap, IndexSet};
 use std::alloc::{AllocError, Global};
 use wc_names::Export;
@@ -154,6 +154,7 @@ fn typed_functions<'m>(
 ///
 /// # Errors
 ///
+/// - `TypedReference`: the type names another by its index, which means nothing in this module.
 /// - `AdapterModuleDidNotExport`: no function of the name is exported.
 /// - `AdapterExportType`: it is exported with another type.
 /// - `Memory`: an allocation failed.
@@ -171,6 +172,9 @@ fn check_function(
         → IfErr result (IsUnmetFault r xs recorded
         (typed_function name.now (func_type_value ty.now) ∷ [])) }
 {
+    if names_types(ty) {
+        return Err(ValidateFault::TypedReference);
+    }
     let Some(own) = index.get(name) else {
         return Err(not_exported(alloc, name)?);
     };

@@ -123,6 +123,11 @@ pub enum ValidateFault {
     /// An adapter exports what is imported from it with another type.
     #[error("AdapterExportType")]
     AdapterExportType,
+    /// A function's type names a type of its module by an index, which means nothing in another module: that of a
+    /// function which is imported from an adapter, or is imported from it by another module; or the type that a function
+    /// of `env` reads or writes.
+    #[error("TypedReference")]
+    TypedReference,
 }
 
 impl From<AllocError> for ValidateFault {

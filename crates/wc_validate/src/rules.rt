@@ -3,16 +3,17 @@
 ghost use Rattle.std.specs.Prelude.{◌≡◌, ◌↔◌, IfErr, IfOk, IsTrue, codes};
 ghost use Rattle.wc_read.specs.Types.{func_type_value};
 ghost use Rattle.wc_names.specs.Environment.{environment_module};
-ghost use Rattle.wc_names.specs.Imports.{ExternType, IsFunction, IsRule, Setting, extern_kind, func_type, main_memory, memory_type};
+ghost use Rattle.wc_names.specs.Imports.{ExternType, IsFunction, IsRule, Setting, adapter_meaning, extern_kind, func_type, main_memory, memory_type};
 ghost use Rattle.wc_names.specs.Meanings.{Meaning};
-ghost use Rattle.wc_names.specs.Views.{adapter_export, import_view, main_module_export};
+ghost use Rattle.wc_names.specs.Views.{import_view, main_module_export};
 ghost use Rattle.wc_validate.specs.Externs.{extern_view};
-ghost use Rattle.wc_validate.specs.Rules.{IsClassified, core_import};
+ghost use Rattle.wc_validate.specs.Rules.{IsClassified, IsDecision, core_import};
 ghost use Rattle.wc_validate.specs.Settings.{AreInterfacesOf, HasItsWorld, setting_of};
 
 use crate::ValidateFault;
 use crate::classify::{ENVIRONMENT, function_import};
 use crate::setting::{Interfaces, Names};
+use crate::signatures::names_types;
 use std::alloc::{AllocError, Global};
 use wc_names::Import;
 use wc_read::{ExportKind, FuncType, GlobalType, MemoryType, TableType};
@@ -59,16 +60,19 @@ fn main_item(alloc: Global, name: &str, kind: ExportKind) -> Result<Import, Allo
     Ok(Import::MainModuleExport { name: own, kind })
 }
 
-/// A function that an adapter exports.
+/// A function that an adapter exports. Types that its type names mean nothing in the adapter.
 fn adapter_function(
     alloc: Global,
     adapter: &str,
     name: &str,
     ty: &FuncType,
-) -> Result<Import, AllocError>
-    ensures { IfOk result (λ i. import_view i
-        ≡ adapter_export adapter.now name.now (func_type_value ty.now)) }
+) -> Result<Import, ValidateFault>
+    ensures { IsDecision (λ m. m ≡ adapter_meaning adapter.now name.now (func_type_value ty.now))
+        (func_type_value ty.now) result }
 {
+    if names_types(ty) {
+        return Err(ValidateFault::TypedReference);
+    }
     let adapter = String::from_str(alloc, adapter)?;
     let func = String::from_str(alloc, name)?;
     let own_ty = ty.clone(alloc)?;
@@ -131,7 +135,7 @@ fn function_item(
         return Ok(main_item(alloc, name, ExportKind::Func)?);
     }
     if names.adapters.contains_key(module_name) {
-        return Ok(adapter_function(alloc, module_name, name, ty)?);
+        return adapter_function(alloc, module_name, name, ty);
     }
     function_import(alloc, names, interfaces, module_name, name, ty)
 }

@@ -1,7 +1,8 @@
 //! Core types of imported functions, and the signatures that names fix.
 
 ghost use Rattle.std.specs.Prelude.{◌≡◌, ◌↔◌, IfOk, IsTrue, Some, map};
-ghost use Rattle.wc_read.specs.Types.{FuncTypeValue, func_type_value};
+ghost use Rattle.std.specs.List.{list_any};
+ghost use Rattle.wc_read.specs.Types.{FuncTypeValue, func_type_value, names_type, names_types};
 ghost use Rattle.wc_resolve.specs.Signatures.{signature_view};
 ghost use Rattle.wc_resolve.specs.Views.{function_view};
 ghost use Rattle.wc_resolve.specs.WellFormed.{IsUsable};
@@ -24,6 +25,27 @@ pub(crate) fn has_type(ty: &FuncType, params: &[ValType], results: &[ValType]) -
     ensures { IsTrue result ↔ (func_type_value ty.now ≡ signature params.now results.now) }
 {
     ty.params() == params && ty.results() == results
+}
+
+/// Whether a value type names a type of the module by its index.
+pub(crate) fn names_type(ty: ValType) -> bool
+    ensures { result ≡ names_type ty }
+{
+    matches!(ty, ValType::TypeRef { .. })
+}
+
+/// Whether one of these value types does.
+fn any_names_type(types: &[ValType]) -> bool
+    ensures { result ≡ list_any names_type types.now }
+{
+    types.iter().any(|ty| names_type(*ty))
+}
+
+/// Whether a parameter or a result names a type of the module by its index.
+pub(crate) fn names_types(ty: &FuncType) -> bool
+    ensures { result ≡ names_types (func_type_value ty.now) }
+{
+    any_names_type(ty.params()) || any_names_type(ty.results())
 }
 
 /// The import, if its type is the signature that its name fixes.

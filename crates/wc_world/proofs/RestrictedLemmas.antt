@@ -18,6 +18,7 @@ use Rattle.wc_write.specs.Values.{AreBytes}
 use Rattle.wc_resolve.proofs.SearchLemmas.{contains_cons, contains_head, contains_none, contains_tail}
 use Rattle.wc_encoder.specs.EncoderParts.{EncoderView}
 use Rattle.wc_names.specs.ExportViews.{ExportView}
+use Rattle.wc_names.specs.AlikeTypes.{without_indices}
 use Rattle.wc_names.specs.Imports.{ExternType, func_type, global_type, memory_type, table_type}
 use Rattle.wc_gc.specs.EditedImage.{edited_image}
 use Rattle.wc_gc.specs.Laws.{AreSettings}
@@ -75,17 +76,32 @@ export_typed m export.Global index = typed (λ g. global_type g.ty) (λ g. trimm
 
 -- one restriction is the other
 
+without_of : (t : trimming.ItemType) → without_indices (to_extern t) ≡ to_extern (trimming.without_indices t)
+without_of (trimming.func_item t) = refl
+without_of (trimming.table_item t) = refl
+without_of (trimming.memory_item t) = refl
+without_of (trimming.global_item t) = refl
+
+without_under : (o : Option trimming.ItemType) → option_map without_indices (option_map to_extern o) ≡ option_map to_extern (option_map trimming.without_indices o)
+without_under None = refl
+without_under (Some t) = ap Some (without_of t)
+
+alike_typed : (a b : Option ExternType) (o p : Option trimming.ItemType) → a ≡ option_map to_extern o → b ≡ option_map to_extern p → trimming.AreTypesAlike o p → recording.AreTypesAlike a b
+alike_typed a b o p first second alike =
+    ap (option_map without_indices) first
+    ∙ (without_under o ∙ (ap (option_map to_extern) alike ∙ (sym (without_under p) ∙ ap (option_map without_indices) (sym second))))
+
 import_same : (v m : ModuleValue) (j i : ImportValue) → trimming.SameImport v m j i → recording.IsSameImport v m j i
 import_same v m j i h = record {
   from = h.from;
   name = h.name;
-  ty = import_typed v.types j.ty ∙ (ap (option_map to_extern) h.ty ∙ sym (import_typed m.types i.ty));
+  ty = alike_typed _ _ _ _ (import_typed v.types j.ty) (import_typed m.types i.ty) h.ty;
 }
 
 export_same : (v m : ModuleValue) (x y : ExportValue) → trimming.SameExport v m x y → recording.IsSameExport v m x y
 export_same v m x y h = record {
   name = h.name;
-  ty = export_typed v x.kind x.index ∙ (ap (option_map to_extern) h.ty ∙ sym (export_typed m y.kind y.index));
+  ty = alike_typed _ _ _ _ (export_typed v x.kind x.index) (export_typed m y.kind y.index) h.ty;
 }
 
 origin_same : (realloc : Option (List ℕ)) (v m : ModuleValue) (o : Option ℕ) (i : ImportValue) → trimming.HasOrigin realloc v m o i → recording.HasOrigin v m o i

@@ -11,8 +11,9 @@ use Rattle.wc_read.proofs.BodiesLemmas.{body_one}
 use Rattle.wc_write.specs.Text.{number_text, val_type_text, vector_text}
 use Rattle.wc_write.specs.OperatorText.{instr_text}
 use Rattle.wc_write.specs.BodyText.{locals_text, body_text}
-use Rattle.wc_write.specs.Values.{IsInstr, IsBody}
+use Rattle.wc_write.specs.Values.{IsValType, IsInstr, IsBody}
 use Rattle.wc_write.proofs.TextLemmas.{number_32}
+use Rattle.wc_write.proofs.ValueTypeLemmas.{val_type_spelled, val_type_some}
 use Rattle.wc_write.proofs.VectorTextLemmas.{front_shorter, back_shorter, items_spelled, vector_spelled}
 use Rattle.wc_write.proofs.OperatorTextLemmas.{instr_spelled}
 
@@ -24,11 +25,17 @@ runs_few : (ls : List Locals) → local_count ls < 2 ^ 32 → All IsFew ls
 runs_few [] few = All-nil IsFew
 runs_few (l ∷ ls) few = All-cons IsFew l ls (omega arith) (runs_few ls (omega arith))
 
-locals_spelled : (l : Locals) → IsFew l → SpellsLocals (locals_text l) l
-locals_spelled l few = (number_text l.count, val_type_text l.ty, refl, number_32 l.count few, refl)
+abbrev IsRun : Locals → Type 0
+IsRun l = IsFew l × IsValType l.ty
+
+runs_are : (ls : List Locals) → All IsFew ls → All (λ l. IsValType l.ty) ls → All IsRun ls
+runs_are ls few fit = λ k d within. (few k d within, fit k d within)
+
+locals_spelled : (l : Locals) → IsRun l → SpellsLocals (locals_text l) l
+locals_spelled l h = (number_text l.count, val_type_text l.ty, refl, number_32 l.count h.0, val_type_spelled l.ty h.1)
 
 locals_some : (l : Locals) → 0 < length (locals_text l)
-locals_some l = omega (arith, length-append (number_text l.count) (val_type_text l.ty))
+locals_some l = omega (arith, val_type_some l.ty, length-append (number_text l.count) (val_type_text l.ty))
 
 body_spelled : (b : BodyValue) → IsBody b → length (body_text b) < 2 ^ 32 → SpellsBody (body_text b) b
 unfolding body_text
@@ -36,7 +43,9 @@ body_spelled b h short = record {
   runs = vector_text locals_text b.locals;
   code = flat_map instr_text b.operators;
   cut = refl;
-  has_locals = vector_spelled SpellsLocals locals_text IsFew (λ l few _. locals_spelled l few) locals_some b.locals (runs_few b.locals h.few_locals) (front_shorter (vector_text locals_text b.locals) (flat_map instr_text b.operators) _ short);
+  has_locals = vector_spelled SpellsLocals locals_text IsRun (λ l h _. locals_spelled l h) locals_some b.locals
+      (runs_are b.locals (runs_few b.locals h.few_locals) h.has_locals)
+      (front_shorter (vector_text locals_text b.locals) (flat_map instr_text b.operators) _ short);
   few_locals = h.few_locals;
   has_operators = items_spelled SpellsInstr instr_text IsInstr instr_spelled b.operators h.has_operators (back_shorter (vector_text locals_text b.locals) (flat_map instr_text b.operators) _ short);
   nests = h.nests;

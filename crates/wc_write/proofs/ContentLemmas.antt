@@ -6,8 +6,8 @@ use Rattle.std.specs.Option.{option_map}
 use Rattle.std.proofs.lemmas.List.{length-append, length-map}
 use Rattle.std.proofs.lemmas.List.Elements.{All-nil, All-cons}
 use Rattle.wc_read.specs.Formats.{Format, SpellsNumber, SpellsItems, SpellsVector}
-use Rattle.wc_read.specs.Types.{FuncTypeValue}
-use Rattle.wc_read.specs.Limits.{SpellsTable, SpellsMemory}
+use Rattle.wc_read.specs.Types.{FuncTypeValue, mutable_code}
+use Rattle.wc_read.specs.Limits.{SpellsTable, SpellsMemory, flags_code, table_flags}
 use Rattle.wc_read.specs.Imports.{ImportValue, SpellsImport}
 use Rattle.wc_read.specs.Exports.{ExportValue, export_kind_code, SpellsExport}
 use Rattle.wc_read.specs.Operators.{InstrValue, SpellsInstr}
@@ -18,15 +18,16 @@ use Rattle.wc_read.specs.Contents.{SpellsFuncType, SpellsSizePrefixed, SpellsSta
 use Rattle.wc_read.specs.declared.types.GlobalType.{GlobalType}
 use Rattle.wc_read.specs.declared.types.TableType.{TableType}
 use Rattle.wc_read.specs.declared.types.MemoryType.{MemoryType}
-use Rattle.wc_write.specs.Text.{number_text, vector_text, name_text, val_type_text, table_text, memory_text, global_text, import_type_text, import_text}
+use Rattle.wc_write.specs.Text.{number_text, vector_text, name_text, val_type_text, bounds_text, table_text, memory_text, global_text, import_type_text, import_text}
 use Rattle.wc_write.specs.OperatorText.{instr_text}
 use Rattle.wc_write.specs.BodyText.{body_text}
 use Rattle.wc_write.specs.Spaces.{DefinedValue}
-use Rattle.wc_write.specs.Values.{IsImport, IsTable, IsInstr}
+use Rattle.wc_write.specs.Values.{IsValType, IsFuncType, IsImport, IsTable, IsInstr}
 use Rattle.wc_write.specs.ModuleText.{func_type_text, export_text, init_text, defined_global_text, code_text, items_content, SizeFits}
 use Rattle.wc_write.specs.BuiltValues.{IsExport, IsWritableMemory, IsInitialiser}
 use Rattle.wc_write.proofs.NumberTextLemmas.{number_some}
-use Rattle.wc_write.proofs.TextLemmas.{number_32, name_spelled, table_spelled, memory_spelled, import_spelled}
+use Rattle.wc_write.proofs.TextLemmas.{number_32, name_spelled, global_spelled, table_spelled, memory_spelled, import_spelled}
+use Rattle.wc_write.proofs.ValueTypeLemmas.{val_type_some}
 use Rattle.wc_write.proofs.VectorTextLemmas.{front_shorter, back_shorter, items_spelled, vector_spelled}
 use Rattle.wc_write.proofs.OperatorTextLemmas.{val_types_spelled, instr_spelled}
 
@@ -60,19 +61,20 @@ Any x = Unit {0}
 
 -- types
 
-func_type_spelled : (f : FuncTypeValue) → Any f → length (func_type_text f) < 2 ^ 32 → SpellsFuncType (func_type_text f) f
+func_type_spelled : (f : FuncTypeValue) → IsFuncType f → length (func_type_text f) < 2 ^ 32 → SpellsFuncType (func_type_text f) f
 func_type_spelled f h short =
     let both : length (vector_text val_type_text f.params ++ vector_text val_type_text f.results) < 2 ^ 32 = omega (arith, short) in
     record {
       params_bytes = vector_text val_type_text f.params;
       results_bytes = vector_text val_type_text f.results;
       cut = refl;
-      has_params = val_types_spelled f.params (front_shorter (vector_text val_type_text f.params) (vector_text val_type_text f.results) _ both);
-      has_results = val_types_spelled f.results (back_shorter (vector_text val_type_text f.params) (vector_text val_type_text f.results) _ both);
+      has_params = val_types_spelled f.params h.0 (front_shorter (vector_text val_type_text f.params) (vector_text val_type_text f.results) _ both);
+      has_results = val_types_spelled f.results h.1 (back_shorter (vector_text val_type_text f.params) (vector_text val_type_text f.results) _ both);
     }
 
-pub types_content : (fs : List FuncTypeValue) → SizeFits (items_content func_type_text fs) → MatchOption (items_content func_type_text fs) (fs ≡ []) (λ content. SpellsVector SpellsFuncType content fs)
-types_content fs fitting = content_spelled SpellsFuncType func_type_text Any func_type_spelled (λ f. omega arith) fs (λ k d _. tt) fitting
+pub types_content : (fs : List FuncTypeValue) → All IsFuncType fs → SizeFits (items_content func_type_text fs)
+    → MatchOption (items_content func_type_text fs) (fs ≡ []) (λ content. SpellsVector SpellsFuncType content fs)
+types_content fs all fitting = content_spelled SpellsFuncType func_type_text IsFuncType func_type_spelled (λ f. omega arith) fs all fitting
 
 -- imports
 
@@ -94,7 +96,8 @@ indices_content ns all fitting = content_spelled (SpellsNumber 32) number_text I
 -- tables and memories
 
 pub tables_content : (ts : List TableType) → All IsTable ts → SizeFits (items_content table_text ts) → MatchOption (items_content table_text ts) (ts ≡ []) (λ content. SpellsVector SpellsTable content ts)
-tables_content ts all fitting = content_spelled SpellsTable table_text IsTable (λ t h _. table_spelled t h) (λ t. omega arith) ts all fitting
+tables_content ts all fitting = content_spelled SpellsTable table_text IsTable (λ t h _. table_spelled t h)
+    (λ t. omega (arith, length-append (val_type_text t.element_type) (flags_code (table_flags t) ∷ bounds_text t.initial t.maximum))) ts all fitting
 
 pub memories_content : (ms : List MemoryType) → All IsWritableMemory ms → SizeFits (items_content memory_text ms) → MatchOption (items_content memory_text ms) (ms ≡ []) (λ content. SpellsVector SpellsMemory content ms)
 memories_content ms all fitting = content_spelled SpellsMemory memory_text IsWritableMemory (λ m h _. memory_spelled m h.0 h.1) (λ m. omega arith) ms all fitting
@@ -108,19 +111,29 @@ abbrev pub made_global : DefinedValue GlobalType (List InstrValue) → LocalGlob
 made_global g = record { ty = g.ty; init = init_text g.content }
 
 abbrev pub IsDefinedGlobal : DefinedValue GlobalType (List InstrValue) → Type 0
-IsDefinedGlobal g = IsInitialiser g.content
+IsDefinedGlobal g = IsValType g.ty.content_type × IsInitialiser g.content
 
-global_spelled : (g : DefinedValue GlobalType (List InstrValue)) → IsDefinedGlobal g → length (defined_global_text g) < 2 ^ 32 → SpellsLocalGlobal (defined_global_text g) (made_global g)
-global_spelled g h short = record {
+defined_global_spelled : (g : DefinedValue GlobalType (List InstrValue)) → IsDefinedGlobal g → length (defined_global_text g) < 2 ^ 32
+    → SpellsLocalGlobal (defined_global_text g) (made_global g)
+defined_global_spelled g h short = record {
   type_bytes = global_text g.ty;
   operators = g.content;
   cut = refl;
-  has_type = refl;
-  has_init = init_spelled g.content h (back_shorter (global_text g.ty) (init_text g.content) _ short);
+  has_type = global_spelled g.ty h.0;
+  has_init = init_spelled g.content h.1 (back_shorter (global_text g.ty) (init_text g.content) _ short);
 }
 
+global_some : (g : DefinedValue GlobalType (List InstrValue)) → 0 < length (defined_global_text g)
+global_some g = omega (
+  arith,
+  val_type_some g.ty.content_type,
+  length-append (val_type_text g.ty.content_type)
+      (mutable_code g.ty.mutable ∷ []),
+  length-append (global_text g.ty) (init_text g.content),
+)
+
 pub globals_content : (gs : List (DefinedValue GlobalType (List InstrValue))) → All IsDefinedGlobal gs → SizeFits (items_content defined_global_text gs) → MatchOption (items_content defined_global_text gs) (map made_global gs ≡ []) (λ content. SpellsVector SpellsLocalGlobal content (map made_global gs))
-globals_content gs all fitting = content_made SpellsLocalGlobal made_global defined_global_text IsDefinedGlobal global_spelled (λ g. omega arith) gs all fitting
+globals_content gs all fitting = content_made SpellsLocalGlobal made_global defined_global_text IsDefinedGlobal defined_global_spelled global_some gs all fitting
 
 -- exports
 

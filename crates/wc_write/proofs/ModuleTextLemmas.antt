@@ -15,7 +15,7 @@ use Rattle.wc_read.specs.Operators.{InstrValue}
 use Rattle.wc_read.specs.Bodies.{BodyValue, SpellsBody}
 use Rattle.wc_read.specs.Inits.{SpellsInit}
 use Rattle.wc_read.specs.Reading.Inits.{init_at}
-use Rattle.wc_write.specs.Values.{IsBody}
+use Rattle.wc_write.specs.Values.{IsValType, IsBody}
 use Rattle.wc_read.specs.Order.{content_of}
 use Rattle.wc_read.specs.SectionContents.{SectionContentsValue, HasItems, HasContent, HaveSectionContents}
 use Rattle.wc_read.specs.Spaces.{func_of, table_of, memory_of, global_of, imported_items, local_item, defined_global, local_funcs}
@@ -78,19 +78,29 @@ parts_of b = record {
 abbrev content_of_global : DefinedValue GlobalType (List InstrValue) → List InstrValue
 content_of_global g = g.content
 
-defined_globals : (gs : List (DefinedValue GlobalType (List InstrValue))) → All IsInitialiser (map content_of_global gs) → All IsDefinedGlobal gs
-defined_globals [] h = All-nil IsDefinedGlobal
-defined_globals (g ∷ gs) h = All-cons IsDefinedGlobal g gs (All-head IsInitialiser g.content (map content_of_global gs) h) (defined_globals gs (All-tail IsInitialiser g.content (map content_of_global gs) h))
+abbrev type_of_global : DefinedValue GlobalType (List InstrValue) → GlobalType
+type_of_global g = g.ty
+
+abbrev HasValType : GlobalType → Type 0
+HasValType g = IsValType g.content_type
+
+defined_globals : (gs : List (DefinedValue GlobalType (List InstrValue))) → All HasValType (map type_of_global gs)
+    → All IsInitialiser (map content_of_global gs) → All IsDefinedGlobal gs
+defined_globals [] t h = All-nil IsDefinedGlobal
+defined_globals (g ∷ gs) t h =
+    All-cons IsDefinedGlobal g gs (All-head HasValType g.ty (map type_of_global gs) t, All-head IsInitialiser g.content (map content_of_global gs) h)
+    (defined_globals gs (All-tail HasValType g.ty (map type_of_global gs) t) (All-tail IsInitialiser g.content (map content_of_global gs) h))
 
 has_contents : (b : BuiltValue) → IsBuilt b → SectionSizes b → HaveSectionContents (sections_of (optional_sections b)) (parts_of b)
 unfolding optional_sections
 has_contents b h s = record {
-  has_types = items_at 1 (SpellsVector SpellsFuncType) b _ b.types (content_at 1 (optional_sections b) ∙ or_none _) (types_content b.types s.types);
+  has_types = items_at 1 (SpellsVector SpellsFuncType) b _ b.types (content_at 1 (optional_sections b) ∙ or_none _) (types_content b.types h.types s.types);
   has_imports = items_at 2 (SpellsVector SpellsImport) b _ (built_imports b) (content_at 2 (optional_sections b) ∙ or_none _) (imports_content (built_imports b) h.imports s.imports);
   has_func_types = items_at 3 (SpellsVector (SpellsNumber 32)) b _ (defined_types b.funcs) (content_at 3 (optional_sections b) ∙ or_none _) (indices_content (defined_types b.funcs) h.func_types s.func_types);
   has_tables = items_at 4 (SpellsVector SpellsTable) b _ (defined_types b.tables) (content_at 4 (optional_sections b) ∙ or_none _) (tables_content (defined_types b.tables) h.tables s.tables);
   has_memories = items_at 5 (SpellsVector SpellsMemory) b _ (defined_types b.memories) (content_at 5 (optional_sections b) ∙ or_none _) (memories_content (defined_types b.memories) h.memories s.memories);
-  has_globals = items_at 6 (SpellsVector SpellsLocalGlobal) b _ (map made_global (defined b.globals)) (content_at 6 (optional_sections b) ∙ or_none _) (globals_content (defined b.globals) (defined_globals (defined b.globals) h.initialisers) s.globals);
+  has_globals = items_at 6 (SpellsVector SpellsLocalGlobal) b _ (map made_global (defined b.globals)) (content_at 6 (optional_sections b) ∙ or_none _)
+      (globals_content (defined b.globals) (defined_globals (defined b.globals) h.globals h.initialisers) s.globals);
   has_exports = items_at 7 (SpellsVector SpellsExport) b _ b.exports (content_at 7 (optional_sections b) ∙ or_none _) (exports_content b.exports h.exports s.exports);
   has_start = start_at b _ (content_at 8 (optional_sections b) ∙ or_none _) (start_content b.start h.start);
   has_bodies = items_at 10 (SpellsVector SpellsSizePrefixed) b _ (map body_text (defined_contents b.funcs)) (content_at 10 (optional_sections b) ∙ or_none _) (code_content (defined_contents b.funcs) s.code);
@@ -198,11 +208,13 @@ init_read operators h short =
     (s, λ v t. one_value SpellsInit init_at init_meets (init_text operators) v operators t s)
 
 global_read : (g : DefinedValue GlobalType (List InstrValue)) → IsDefinedGlobal g → HasShortText g → IsReadGlobal g
-global_read g h short = init_read g.content h (back_shorter (global_text g.ty) (init_text g.content) _ short)
+global_read g h short = init_read g.content h.1 (back_shorter (global_text g.ty) (init_text g.content) _ short)
 
 initialisers_read : (b : BuiltValue) → IsBuilt b → SectionSizes b → All IsReadInit (defined_contents b.globals)
 initialisers_read b h s =
-    All-map IsReadInit content_of_global (defined b.globals) (all_both IsDefinedGlobal HasShortText IsReadGlobal global_read (defined b.globals) (defined_globals (defined b.globals) h.initialisers) (all_item_sizes_fit defined_global_text (defined b.globals) s.globals))
+    All-map IsReadInit content_of_global (defined b.globals)
+    (all_both IsDefinedGlobal HasShortText IsReadGlobal global_read (defined b.globals) (defined_globals (defined b.globals) h.globals h.initialisers)
+    (all_item_sizes_fit defined_global_text (defined b.globals) s.globals))
 
 -- the module that is read is one of the built module's
 

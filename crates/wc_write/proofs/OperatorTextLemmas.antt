@@ -12,10 +12,11 @@ use Rattle.wc_read.specs.declared.operators.Form.{Form}
 use Rattle.wc_read.specs.declared.operators.Form.TheVariants.{None as form_none, Block as form_block, Index as form_index, Indices as form_indices, Labels as form_labels, ValTypes as form_val_types, RefType as form_ref_type, MemArg as form_mem_arg, MemArgLane as form_mem_arg_lane, I32 as form_i32, I64 as form_i64, Bytes as form_bytes, Lane as form_lane, Zero as form_zero}
 use Rattle.wc_write.specs.Text.{number_text, val_type_text, vector_text}
 use Rattle.wc_write.specs.OperatorText.{opcode_text, fence_text, block_type_text, mem_arg_text, immediates_text, instr_text}
-use Rattle.wc_write.specs.Values.{IsBlockType, IsMemArg, HasForm, IsInstr}
+use Rattle.wc_write.specs.Values.{IsValType, IsBlockType, IsMemArg, HasForm, IsInstr}
 use Rattle.wc_write.proofs.NumberTextLemmas.{number_spelled, number_some}
 use Rattle.wc_write.proofs.SignedTextLemmas.{signed_spelled}
 use Rattle.wc_write.proofs.TextLemmas.{number_32}
+use Rattle.wc_write.proofs.ValueTypeLemmas.{val_type_spelled, val_type_some, ref_type_spelled}
 use Rattle.wc_write.proofs.VectorTextLemmas.{front_shorter, back_shorter, vector_spelled}
 use Rattle.wc_write.proofs.FormLemmas.{zero_text, fence_is, opcode_spelled}
 
@@ -24,7 +25,7 @@ number_64 n fits = number_spelled 9 64 n (omega arith) fits
 
 block_type_spelled : (t : BlockType) → IsBlockType t → SpellsBlockType (block_type_text t) t
 block_type_spelled Empty h = refl
-block_type_spelled (Value t) h = refl
+block_type_spelled (Value t) h = val_type_spelled t h
 block_type_spelled (FuncType index) h = signed_spelled 33 (pos index) (omega arith) h
 
 mem_arg_spelled : (m : MemArg) → IsMemArg m → SpellsMemArg (mem_arg_text m) m
@@ -59,8 +60,9 @@ mem_arg_spelled m h = by (m.memory == 0) refl
 labels_spelled : (labels : List ℕ) → All (λ (n : ℕ). n < 2 ^ 32) labels → length (vector_text number_text labels) < 2 ^ 32 → SpellsVector (SpellsNumber 32) (vector_text number_text labels) labels
 labels_spelled labels all short = vector_spelled (SpellsNumber 32) number_text (λ (n : ℕ). n < 2 ^ 32) (λ n fits _. number_32 n fits) (number_some 9) labels all short
 
-pub val_types_spelled : (ts : List ValType) → length (vector_text val_type_text ts) < 2 ^ 32 → SpellsVector SpellsValType (vector_text val_type_text ts) ts
-val_types_spelled ts short = vector_spelled SpellsValType val_type_text (λ (t : ValType). Unit {0}) (λ t _ _. refl) (λ t. omega arith) ts (λ k t _. tt) short
+pub val_types_spelled : (ts : List ValType) → All IsValType ts → length (vector_text val_type_text ts) < 2 ^ 32
+    → SpellsVector SpellsValType (vector_text val_type_text ts) ts
+val_types_spelled ts all short = vector_spelled SpellsValType val_type_text IsValType (λ t h _. val_type_spelled t h) val_type_some ts all short
 
 immediates_spelled : (f : Form) (v : ImmediatesValue) → HasForm f v → length (immediates_text v) < 2 ^ 32 → SpellsImmediates f (zero_text f ++ immediates_text v) v
 unfolding immediates_text
@@ -73,8 +75,8 @@ immediates_spelled form_labels v h short =
     rw h.2 (h.0, vector_text number_text h.0, number_text h.1, refl, labels_spelled h.0 h.3 (front_shorter (vector_text number_text h.0) (number_text h.1) _ complete), (h.1, number_32 h.1 h.4, refl))
 immediates_spelled form_val_types v h short =
     let complete : length (vector_text val_type_text h.0) < 2 ^ 32 = rw h.1 at short in
-    rw h.1 (h.0, val_types_spelled h.0 complete, refl)
-immediates_spelled form_ref_type v h short = rw h.1 (h.0, (refl, h.2), refl)
+    rw h.1 (h.0, val_types_spelled h.0 h.2 complete, refl)
+immediates_spelled form_ref_type v h short = rw h.1 (h.0, ref_type_spelled h.0 h.2, refl)
 immediates_spelled form_mem_arg v h short = rw h.1 (h.0, mem_arg_spelled h.0 h.2, refl)
 immediates_spelled form_mem_arg_lane v h short = rw h.2 (h.0, mem_arg_text h.0, h.1 ∷ [], refl, mem_arg_spelled h.0 h.3, (h.1, refl, refl))
 immediates_spelled form_i32 v h short = rw h.1 (h.0, signed_spelled 32 h.0 (omega arith) h.2, refl)

@@ -1,11 +1,12 @@
 -- What bytes spell is a body that can be spelled, and its text is no longer.
 use Rattle.std.proofs.Common.{◌≡◌, ℕ, ◌+◌, ◌^◌, ◌<◌, ◌≤◌, List, [], ◌∷◌, ◌++◌, length, Bool, true, false, pos, Option, Some, None, refl, arith}
-use Rattle.std.specs.Prelude.{◌==◌, is_some, unwrap_or, if◌then◌else◌}
+use Rattle.std.specs.Prelude.{All, ◌==◌, is_some, unwrap_or, if◌then◌else◌}
 use Rattle.std.specs.List.{flat_map}
 use Rattle.std.proofs.lemmas.List.{length-append}
 use Rattle.std.proofs.lemmas.List.Elements.{All-head}
-use Rattle.wc_read.specs.Formats.{SpellsNumber, SpellsOptional}
+use Rattle.wc_read.specs.Formats.{SpellsNumber, SpellsOptional, SpellsVector}
 use Rattle.wc_read.specs.Types.{SpellsValType}
+use Rattle.wc_read.specs.declared.types.ValType.{ValType}
 use Rattle.wc_read.specs.Operators.{SpellsOpcode, SpellsBlockType, SpellsMemArg, SpellsImmediates, SpellsInstr, ImmediatesValue, InstrValue}
 use Rattle.wc_read.specs.Bodies.{BodyValue, SpellsLocals, SpellsBody}
 use Rattle.wc_read.specs.declared.bodies.Locals.{Locals}
@@ -19,13 +20,14 @@ use Rattle.wc_read.specs.declared.operators.Form.TheVariants.{None as form_none,
 use Rattle.wc_write.specs.Text.{number_text, val_type_text, vector_text}
 use Rattle.wc_write.specs.OperatorText.{opcode_text, block_type_text, mem_arg_text, immediates_text, instr_text}
 use Rattle.wc_write.specs.BodyText.{locals_text, body_text}
-use Rattle.wc_write.specs.Values.{AreBytes, IsBlockType, IsMemArg, HasForm, IsInstr, IsBody}
+use Rattle.wc_write.specs.Values.{AreBytes, IsValType, IsBlockType, IsMemArg, HasForm, IsInstr, IsBody}
 use Rattle.wc_write.proofs.ByteLemmas.{front_bytes, back_bytes, tail_bytes}
 use Rattle.wc_write.proofs.DigitLemmas.{digits_last}
 use Rattle.wc_write.proofs.NumberTextLemmas.{number_shortest, some_byte}
 use Rattle.wc_write.proofs.SignedTextLemmas.{signed_fits, signed_shortest}
 use Rattle.wc_write.proofs.ValueLemmas.{number_fits}
 use Rattle.wc_write.proofs.ShortestTextLemmas.{joined}
+use Rattle.wc_write.proofs.ValueTypeLemmas.{val_type_is, val_type_shortest, ref_type_is, ref_type_shortest}
 use Rattle.wc_write.proofs.VectorTextLemmas.{items_are, items_shortest, vector_shortest}
 use Rattle.wc_write.proofs.FormLemmas.{zero_text, fence_is}
 
@@ -33,7 +35,7 @@ use Rattle.wc_write.proofs.FormLemmas.{zero_text, fence_is}
 
 block_type_is : (bytes : List ℕ) (t : BlockType) → SpellsBlockType bytes t → AreBytes bytes → IsBlockType t
 block_type_is bytes Empty s all = tt
-block_type_is bytes (Value t) s all = tt
+block_type_is bytes (Value t) s all = val_type_is bytes t s all
 block_type_is bytes (FuncType index) s all = signed_fits s all
 
 memory_fits : (named : Option ℕ) (bytes : List ℕ) (memory : ℕ) → SpellsOptional (SpellsNumber 32) bytes named → memory ≡ unwrap_or named 0 → AreBytes bytes → memory < 2 ^ 32
@@ -52,6 +54,12 @@ mem_arg_is bytes m s all =
 lane_is : (lane : ℕ) (bytes : List ℕ) → bytes ≡ lane ∷ [] → AreBytes bytes → lane < 256
 lane_is lane bytes e all = All-head (λ (b : ℕ). b < 256) lane [] (rw e at all)
 
+pub val_types_are : (bytes : List ℕ) (ts : List ValType) → SpellsVector SpellsValType bytes ts → AreBytes bytes → All IsValType ts
+val_types_are bytes ts s all = items_are SpellsValType val_type_text IsValType val_type_is s.1 ts s.4 (back_bytes s.0 s.1 (rw s.2 at all))
+
+locals_are : (bytes : List ℕ) (l : Locals) → SpellsLocals bytes l → AreBytes bytes → IsValType l.ty
+locals_are bytes l s all = val_type_is s.1 l.ty s.4 (back_bytes s.0 s.1 (rw s.2 at all))
+
 immediates_are : (f : Form) (bytes : List ℕ) (v : ImmediatesValue) → SpellsImmediates f bytes v → AreBytes bytes → HasForm f v
 immediates_are form_none bytes v s all = s.1
 immediates_are form_block bytes v s all = (s.0, s.2, block_type_is bytes s.0 s.1 all)
@@ -63,8 +71,8 @@ immediates_are form_labels bytes v s all =
     let cut = rw s.3 at all in
     let items = rw s.4.2 at (front_bytes s.1 s.2 cut) in
     (s.0, s.5.0, s.5.2, items_are (SpellsNumber 32) number_text (λ (n : ℕ). n < 2 ^ 32) (λ b n t some. number_fits t some) s.4.1 s.0 s.4.4 (back_bytes s.4.0 s.4.1 items), number_fits s.5.1 (back_bytes s.1 s.2 cut))
-immediates_are form_val_types bytes v s all = (s.0, s.2)
-immediates_are form_ref_type bytes v s all = (s.0, s.2, s.1.1)
+immediates_are form_val_types bytes v s all = (s.0, s.2, val_types_are bytes s.0 s.1 all)
+immediates_are form_ref_type bytes v s all = (s.0, s.2, ref_type_is bytes s.0 s.1 all)
 immediates_are form_mem_arg bytes v s all = (s.0, s.2, mem_arg_is bytes s.0 s.1 all)
 immediates_are form_mem_arg_lane bytes v s all =
     let cut = rw s.3 at all in
@@ -82,9 +90,13 @@ instr_is bytes i s all = record {
   has_form = immediates_are s.form s.others i.immediates s.has_immediates (back_bytes s.code s.others (rw s.cut at all));
 }
 
+runs_are : (bytes : List ℕ) (ls : List Locals) → SpellsVector SpellsLocals bytes ls → AreBytes bytes → All (λ l. IsValType l.ty) ls
+runs_are bytes ls s all = items_are SpellsLocals locals_text (λ (l : Locals). IsValType l.ty) locals_are s.1 ls s.4 (back_bytes s.0 s.1 (rw s.2 at all))
+
 pub body_is : (bytes : List ℕ) (b : BodyValue) → AreBytes bytes → SpellsBody bytes b → IsBody b
 body_is bytes b all s = record {
   few_locals = s.few_locals;
+  has_locals = runs_are s.runs b.locals s.has_locals (front_bytes s.runs s.code (rw s.cut at all));
   has_operators = items_are SpellsInstr instr_text IsInstr instr_is s.code b.operators s.has_operators (back_bytes s.runs s.code (rw s.cut at all));
   nests = s.nests;
 }
@@ -99,7 +111,7 @@ opcode_shortest bytes (Atomic n) s all = let rest = number_shortest 9 s.2 (tail_
 
 block_type_shortest : (bytes : List ℕ) (t : BlockType) → SpellsBlockType bytes t → AreBytes bytes → length (block_type_text t) ≤ length bytes
 block_type_shortest bytes Empty s all = rw s (omega arith)
-block_type_shortest bytes (Value t) s all = rw s (omega arith)
+block_type_shortest bytes (Value t) s all = val_type_shortest bytes t s all
 block_type_shortest bytes (FuncType index) s all = signed_shortest (pos index) s all
 
 -- an exponent of six bits has one byte
@@ -135,8 +147,8 @@ immediates_shortest form_labels bytes v s all =
     rw (s.5.2, s.3) (joined (vector_text number_text s.0) (number_text s.5.0) s.1 s.2
     (vector_shortest (SpellsNumber 32) number_text (λ b n t some. number_shortest 9 t some) s.1 s.0 s.4 (front_bytes s.1 s.2 cut))
     (number_shortest 9 s.5.1 (back_bytes s.1 s.2 cut)))
-immediates_shortest form_val_types bytes v s all = rw s.2 (vector_shortest SpellsValType val_type_text (λ b t e _. rw e (omega arith)) bytes s.0 s.1 all)
-immediates_shortest form_ref_type bytes v s all = rw (s.2, s.1.0) (omega arith)
+immediates_shortest form_val_types bytes v s all = rw s.2 (vector_shortest SpellsValType val_type_text val_type_shortest bytes s.0 s.1 all)
+immediates_shortest form_ref_type bytes v s all = rw s.2 (ref_type_shortest bytes s.0 s.1 all)
 immediates_shortest form_mem_arg bytes v s all = rw s.2 (mem_arg_shortest bytes s.0 s.1 all)
 immediates_shortest form_mem_arg_lane bytes v s all =
     let cut = rw s.3 at all in
@@ -158,7 +170,8 @@ instr_shortest bytes i s all =
 locals_shortest : (bytes : List ℕ) (l : Locals) → SpellsLocals bytes l → AreBytes bytes → length (locals_text l) ≤ length bytes
 locals_shortest bytes l s all =
     let cut = rw s.2 at all in
-    rw s.2 (joined (number_text l.count) (val_type_text l.ty) s.0 s.1 (number_shortest 9 s.3 (front_bytes s.0 s.1 cut)) (rw s.4 (omega arith)))
+    rw s.2 (joined (number_text l.count) (val_type_text l.ty) s.0 s.1 (number_shortest 9 s.3 (front_bytes s.0 s.1 cut))
+    (val_type_shortest s.1 l.ty s.4 (back_bytes s.0 s.1 cut)))
 
 pub body_shortest : (bytes : List ℕ) (b : BodyValue) → AreBytes bytes → SpellsBody bytes b → length (body_text b) ≤ length bytes
 unfolding body_text

@@ -25,7 +25,7 @@ use Rattle.wc_read.specs.Modules.{ModuleValue, CustomValue, module_of, SpellsMod
 use Rattle.wc_read.specs.declared.types.GlobalType.{GlobalType}
 use Rattle.wc_read.specs.declared.types.ImportType.{ImportType}
 use Rattle.wc_read.specs.declared.types.ImportType.TheVariants.{Func, Table, Memory, Global}
-use Rattle.wc_write.specs.Text.{number_text, vector_text, name_text, val_type_text, table_text, memory_text, import_text, section_text}
+use Rattle.wc_write.specs.Text.{number_text, vector_text, name_text, val_type_text, global_text, table_text, memory_text, import_text, section_text}
 use Rattle.wc_write.specs.OperatorText.{instr_text}
 use Rattle.wc_write.specs.BodyText.{body_text}
 use Rattle.wc_write.specs.Spaces.{import_by, imports_of, DefinedValue, defined_by, defined, defined_types, defined_contents}
@@ -35,7 +35,8 @@ use Rattle.wc_write.specs.BuiltValues.{IsDefOf, IsItemOf, IsModuleOf}
 use Rattle.wc_write.proofs.ByteLemmas.{front_bytes, back_bytes, tail_bytes}
 use Rattle.wc_write.proofs.DigitLemmas.{digits_last}
 use Rattle.wc_write.proofs.NumberTextLemmas.{number_shortest, some_byte}
-use Rattle.wc_write.proofs.ShortestTextLemmas.{joined, name_shortest, table_shortest, memory_shortest, import_shortest}
+use Rattle.wc_write.proofs.ShortestTextLemmas.{joined, name_shortest, global_type_shortest, table_shortest, memory_shortest, import_shortest}
+use Rattle.wc_write.proofs.ValueTypeLemmas.{val_type_shortest}
 use Rattle.wc_write.proofs.VectorTextLemmas.{items_shortest, vector_shortest}
 use Rattle.wc_write.proofs.SpaceLemmas.{map_again}
 use Rattle.wc_write.proofs.ShortestBodyLemmas.{instr_shortest, body_shortest}
@@ -53,8 +54,8 @@ func_type_shortest : (bytes : List ℕ) (f : FuncTypeValue) → SpellsFuncType b
 func_type_shortest bytes f s all =
     let both = tail_bytes 0x60 (s.params_bytes ++ s.results_bytes) (rw s.cut at all) in
     let rest = joined (vector_text val_type_text f.params) (vector_text val_type_text f.results) s.params_bytes s.results_bytes
-    (vector_shortest SpellsValType val_type_text (λ b t e _. rw e (omega arith)) s.params_bytes f.params s.has_params (front_bytes s.params_bytes s.results_bytes both))
-    (vector_shortest SpellsValType val_type_text (λ b t e _. rw e (omega arith)) s.results_bytes f.results s.has_results (back_bytes s.params_bytes s.results_bytes both)) in
+    (vector_shortest SpellsValType val_type_text val_type_shortest s.params_bytes f.params s.has_params (front_bytes s.params_bytes s.results_bytes both))
+    (vector_shortest SpellsValType val_type_text val_type_shortest s.results_bytes f.results s.has_results (back_bytes s.params_bytes s.results_bytes both)) in
     rw s.cut (omega (arith, rest))
 
 export_shortest : (bytes : List ℕ) (e : ExportValue) → SpellsExport bytes e → AreBytes bytes → length (export_text e) ≤ length bytes
@@ -261,18 +262,35 @@ init_of g = g.init
 abbrev content_of_global : DefinedValue GlobalType (List InstrValue) → List InstrValue
 content_of_global g = g.content
 
-global_shortest : (bytes : List ℕ) (g : LocalGlobalValue) (o : DefinedValue GlobalType (List InstrValue)) → SpellsLocalGlobal bytes g → SpellsInit g.init o.content → AreBytes bytes → length (defined_global_text o) ≤ length bytes
-global_shortest bytes g o s init all =
-    let rest = init_shortest g.init o.content (back_bytes s.type_bytes g.init (rw s.cut at all)) init in
-    rw (s.cut, s.has_type) (omega (arith, rest))
+abbrev type_of : LocalGlobalValue → GlobalType
+type_of g = g.ty
 
-globals_shortest : (gs : List LocalGlobalValue) (os : List (DefinedValue GlobalType (List InstrValue))) → AllZip SpellsInit (map init_of gs) (map content_of_global os) → (bytes : List ℕ) → SpellsItems SpellsLocalGlobal bytes gs → AreBytes bytes → length (flat_map defined_global_text os) ≤ length bytes
-globals_shortest [] [] z bytes s all = omega arith
-globals_shortest [] (o ∷ os) z bytes s all = absurd z
-globals_shortest (g ∷ gs) [] z bytes s all = absurd z
-globals_shortest (g ∷ gs) (o ∷ os) z bytes s all =
+abbrev type_of_global : DefinedValue GlobalType (List InstrValue) → GlobalType
+type_of_global g = g.ty
+
+global_shortest : (bytes : List ℕ) (g : LocalGlobalValue) (o : DefinedValue GlobalType (List InstrValue)) → SpellsLocalGlobal bytes g → g.ty ≡ o.ty
+    → SpellsInit g.init o.content → AreBytes bytes → length (defined_global_text o) ≤ length bytes
+global_shortest bytes g o s same init all =
+    let cut = rw s.cut at all in
+    let rest = init_shortest g.init o.content (back_bytes s.type_bytes g.init cut) init in
+    let type = global_type_shortest s.type_bytes g.ty s.has_type (front_bytes s.type_bytes g.init cut) in
+    rw s.cut (joined (global_text o.ty) (init_text o.content) s.type_bytes g.init
+    (subst (λ (t : GlobalType). length (global_text t) ≤ length s.type_bytes) same type) rest)
+
+first_same : (g o : GlobalType) (gs os : List GlobalType) → g ∷ gs ≡ o ∷ os → (g ≡ o) × (gs ≡ os)
+first_same g o gs os e = (cc, cc)
+
+globals_shortest : (gs : List LocalGlobalValue) (os : List (DefinedValue GlobalType (List InstrValue))) → map type_of gs ≡ map type_of_global os
+    → AllZip SpellsInit (map init_of gs) (map content_of_global os) → (bytes : List ℕ) → SpellsItems SpellsLocalGlobal bytes gs → AreBytes bytes
+    → length (flat_map defined_global_text os) ≤ length bytes
+globals_shortest [] [] e z bytes s all = omega arith
+globals_shortest [] (o ∷ os) e z bytes s all = absurd z
+globals_shortest (g ∷ gs) [] e z bytes s all = absurd z
+globals_shortest (g ∷ gs) (o ∷ os) e z bytes s all =
     let cut = rw s.2 at all in
-    rw s.2 (joined (defined_global_text o) (flat_map defined_global_text os) s.0 s.1 (global_shortest s.0 g o s.3 z.0 (front_bytes s.0 s.1 cut)) (globals_shortest gs os z.1 s.1 s.4 (back_bytes s.0 s.1 cut)))
+    let p = first_same g.ty o.ty (map type_of gs) (map type_of_global os) e in
+    rw s.2 (joined (defined_global_text o) (flat_map defined_global_text os) s.0 s.1 (global_shortest s.0 g o s.3 p.0 z.0 (front_bytes s.0 s.1 cut))
+    (globals_shortest gs os p.1 z.1 s.1 s.4 (back_bytes s.0 s.1 cut)))
 
 globals_length : (gs : List LocalGlobalValue) (os : List (DefinedValue GlobalType (List InstrValue))) → AllZip SpellsInit (map init_of gs) (map content_of_global os) → length os ≡ length gs
 globals_length gs os z = sym (length-map os content_of_global) ∙ sym (zip_length SpellsInit (map init_of gs) (map content_of_global os) z) ∙ length-map gs init_of
@@ -349,6 +367,10 @@ module _ (ss : List SectionValue) (p : SectionContentsValue) (c : CustomValue) (
     inits_zip : AllZip SpellsInit (map init_of p.globals) (defined_contents b.globals)
     inits_zip = rw inits_are at (contents_zip SpellsInit m.globals b.globals h.globals)
 
+    global_types_same : map type_of p.globals ≡ map type_of_global (defined b.globals)
+    global_types_same = sym (rw (defined_space global_of (λ g. g.ty) init_of p.imports p.globals) (map_again (λ o. o.ty) _ p.globals))
+        ∙ types_same SpellsInit m.globals b.globals h.globals
+
     least : All HasBytes ss → HaveSectionContents ss p → LastProducers ss c.producers → AreLeast b ss
     least all parts last = record {
       types = up_to 1 ss _ (rw (← h.types) (same_least SpellsFuncType func_type_text 1 func_type_shortest (content_of 1 ss) p.types (content_bytes 1 ss all) parts.has_types));
@@ -356,7 +378,9 @@ module _ (ss : List SectionValue) (p : SectionContentsValue) (c : CustomValue) (
       func_types = up_to 3 ss _ (rw (← types_same SpellsBody m.funcs b.funcs h.funcs, func_types_are) (same_least (SpellsNumber 32) number_text 3 (λ bytes n s some. number_shortest 9 s some) (content_of 3 ss) p.func_types (content_bytes 3 ss all) parts.has_func_types));
       tables = up_to 4 ss _ (rw (← h.tables, tables_are) (same_least SpellsTable table_text 4 table_shortest (content_of 4 ss) p.tables (content_bytes 4 ss all) parts.has_tables));
       memories = up_to 5 ss _ (rw (← h.memories, memories_are) (same_least SpellsMemory memory_text 5 memory_shortest (content_of 5 ss) p.memories (content_bytes 5 ss all) parts.has_memories));
-      globals = up_to 6 ss _ (section_least SpellsLocalGlobal defined_global_text 6 (content_of 6 ss) p.globals (defined b.globals) (globals_length p.globals (defined b.globals) inits_zip) (globals_shortest p.globals (defined b.globals) inits_zip) (content_bytes 6 ss all) parts.has_globals);
+      globals = up_to 6 ss _ (section_least SpellsLocalGlobal defined_global_text 6 (content_of 6 ss) p.globals (defined b.globals)
+          (globals_length p.globals (defined b.globals) inits_zip) (globals_shortest p.globals (defined b.globals) global_types_same inits_zip)
+          (content_bytes 6 ss all) parts.has_globals);
       exports = up_to 7 ss _ (rw (← h.exports) (same_least SpellsExport export_text 7 export_shortest (content_of 7 ss) p.exports (content_bytes 7 ss all) parts.has_exports));
       start = up_to 8 ss _ (rw (← h.start) (start_least (content_of 8 ss) p.start (content_bytes 8 ss all) parts.has_start));
       code = up_to 10 ss _ (section_least SpellsSizePrefixed code_text 10 (content_of 10 ss) p.bodies (defined_contents b.funcs) (sym (zip_length SpellsBody p.bodies (defined_contents b.funcs) codes_zip)) (codes_shortest p.bodies (defined_contents b.funcs) codes_zip) (content_bytes 10 ss all) parts.has_bodies);

@@ -3,18 +3,20 @@ use Rattle.std.proofs.Common.{ℕ, ◌≤◌, List, [], ◌∷◌, ◌++◌, len
 use Rattle.std.specs.List.{flat_map}
 use Rattle.std.proofs.lemmas.List.{length-append}
 use Rattle.wc_read.specs.Formats.{SpellsNumber, SpellsOptional, SpellsName, SpellsItems}
-use Rattle.wc_read.specs.Types.{val_type_code}
+use Rattle.wc_read.specs.Types.{mutable_code, SpellsGlobal}
 use Rattle.wc_read.specs.Limits.{flags_code, table_flags, memory_flags, bound_bits, SpellsBounds, SpellsTable, SpellsMemory}
 use Rattle.wc_read.specs.Imports.{ImportValue, SpellsImportType, SpellsImport, SpellsImports}
 use Rattle.wc_read.specs.Sections.{SectionValue, SpellsSection}
 use Rattle.wc_read.specs.declared.types.TableType.{TableType}
 use Rattle.wc_read.specs.declared.types.MemoryType.{MemoryType}
+use Rattle.wc_read.specs.declared.types.GlobalType.{GlobalType}
 use Rattle.wc_read.specs.declared.types.ImportType.{ImportType}
 use Rattle.wc_read.specs.declared.types.ImportType.TheVariants.{Func, Table, Memory, Global}
-use Rattle.wc_write.specs.Text.{number_text, optional_text, name_text, bounds_text, table_text, memory_text, import_type_text, import_text, imports_text, section_text}
+use Rattle.wc_write.specs.Text.{number_text, optional_text, name_text, val_type_text, global_text, bounds_text, table_text, memory_text, import_type_text, import_text, imports_text, section_text}
 use Rattle.wc_write.specs.Values.{AreBytes}
 use Rattle.wc_write.proofs.ByteLemmas.{front_bytes, back_bytes, tail_bytes}
 use Rattle.wc_write.proofs.NumberTextLemmas.{number_shortest}
+use Rattle.wc_write.proofs.ValueTypeLemmas.{val_type_shortest}
 
 -- parts that are no longer are no longer together
 pub joined : (a b c d : List ℕ) → length a ≤ length c → length b ≤ length d → length (a ++ b) ≤ length (c ++ d)
@@ -36,9 +38,12 @@ bounds_shortest is_64 initial maximum bytes s all =
 
 pub table_shortest : (bytes : List ℕ) (t : TableType) → SpellsTable bytes t → AreBytes bytes → length (table_text t) ≤ length bytes
 table_shortest bytes t s all =
-    let bounds = tail_bytes (flags_code (table_flags t)) s.bounds (tail_bytes (val_type_code t.element_type) (flags_code (table_flags t) ∷ s.bounds) (rw s.cut at all)) in
+    let cut = rw s.cut at all in
+    let bounds = tail_bytes (flags_code (table_flags t)) s.bounds (back_bytes s.element (flags_code (table_flags t) ∷ s.bounds) cut) in
     let rest = bounds_shortest t.table64 t.initial t.maximum s.bounds s.has_bounds bounds in
-    rw s.cut (omega arith)
+    let element = val_type_shortest s.element t.element_type s.has_element (front_bytes s.element (flags_code (table_flags t) ∷ s.bounds) cut) in
+    rw s.cut (joined (val_type_text t.element_type) (flags_code (table_flags t) ∷ bounds_text t.initial t.maximum) s.element
+    (flags_code (table_flags t) ∷ s.bounds) element (omega (arith, rest)))
 
 pub memory_shortest : (bytes : List ℕ) (m : MemoryType) → SpellsMemory bytes m → AreBytes bytes → length (memory_text m) ≤ length bytes
 memory_shortest bytes m s all =
@@ -47,6 +52,11 @@ memory_shortest bytes m s all =
     (bounds_shortest m.memory64 m.initial m.maximum s.bounds s.has_bounds (front_bytes s.bounds s.exponent parts))
     (optional_shortest 32 m.page_size_log2 s.exponent s.has_exponent (back_bytes s.bounds s.exponent parts)) in
     rw s.cut (omega arith)
+
+pub global_type_shortest : (bytes : List ℕ) (g : GlobalType) → SpellsGlobal bytes g → AreBytes bytes → length (global_text g) ≤ length bytes
+global_type_shortest bytes g s all =
+    rw s.1 (joined (val_type_text g.content_type) (mutable_code g.mutable ∷ []) s.0 (mutable_code g.mutable ∷ [])
+    (val_type_shortest s.0 g.content_type s.2 (front_bytes s.0 (mutable_code g.mutable ∷ []) (rw s.1 at all))) (omega arith))
 
 import_type_shortest : (bytes : List ℕ) (t : ImportType) → SpellsImportType bytes t → AreBytes bytes → length (import_type_text t) ≤ length bytes
 import_type_shortest bytes (Func index) s all =
@@ -58,7 +68,9 @@ import_type_shortest bytes (Table t) s all =
 import_type_shortest bytes (Memory m) s all =
     let rest = memory_shortest s.0 m s.2 (tail_bytes 2 s.0 (rw s.1 at all)) in
     rw s.1 (omega arith)
-import_type_shortest bytes (Global g) s all = rw (s.1, s.2) (omega arith)
+import_type_shortest bytes (Global g) s all =
+    let rest = global_type_shortest s.0 g s.2 (tail_bytes 3 s.0 (rw s.1 at all)) in
+    rw s.1 (omega arith)
 
 pub import_shortest : (bytes : List ℕ) (i : ImportValue) → SpellsImport bytes i → AreBytes bytes → length (import_text i) ≤ length bytes
 unfolding import_text

@@ -4,15 +4,17 @@ use Rattle.std.specs.Prelude.{All}
 use Rattle.std.proofs.lemmas.Nat.{pow-add}
 use Rattle.std.proofs.lemmas.List.Elements.{All-nil, All-cons, All-head}
 use Rattle.wc_read.specs.Formats.{SpellsNumber, last, more, SpellsOptional, SpellsName, SpellsItems}
-use Rattle.wc_read.specs.Types.{val_type_code}
+use Rattle.wc_read.specs.Types.{mutable_code, SpellsGlobal}
 use Rattle.wc_read.specs.Limits.{flags_code, table_flags, memory_flags, bound_bits, SpellsBounds, SpellsTable, SpellsMemory, IsMemory}
 use Rattle.wc_read.specs.Imports.{ImportValue, SpellsImportType, SpellsImport, SpellsImports}
 use Rattle.wc_read.specs.declared.types.TableType.{TableType}
 use Rattle.wc_read.specs.declared.types.MemoryType.{MemoryType}
+use Rattle.wc_read.specs.declared.types.GlobalType.{GlobalType}
 use Rattle.wc_read.specs.declared.types.ImportType.{ImportType}
 use Rattle.wc_read.specs.declared.types.ImportType.TheVariants.{Func, Table, Memory, Global}
-use Rattle.wc_write.specs.Values.{AreBytes, IsName, AreBounds, IsTable, IsImportType, IsImport}
+use Rattle.wc_write.specs.Values.{AreBytes, IsName, AreBounds, IsValType, IsTable, IsImportType, IsImport}
 use Rattle.wc_write.proofs.ByteLemmas.{front_bytes, back_bytes, tail_bytes}
+use Rattle.wc_write.proofs.ValueTypeLemmas.{val_type_is}
 
 -- a number has its bits
 pub number_fits : {bits n : ℕ} {bytes : List ℕ} → SpellsNumber bits bytes n → AreBytes bytes → n < 2 ^ bits
@@ -42,19 +44,28 @@ bounds_are is_64 initial maximum bytes s all =
 
 pub table_is : (bytes : List ℕ) (t : TableType) → SpellsTable bytes t → AreBytes bytes → IsTable t
 table_is bytes t s all =
-    let bounds = tail_bytes (flags_code (table_flags t)) s.bounds (tail_bytes (val_type_code t.element_type) (flags_code (table_flags t) ∷ s.bounds) (rw s.cut at all)) in
-    record { element_is_reference = s.element_is_reference; bounds = bounds_are t.table64 t.initial t.maximum s.bounds s.has_bounds bounds; ordered = s.ordered }
+    let cut = rw s.cut at all in
+    let bounds = tail_bytes (flags_code (table_flags t)) s.bounds (back_bytes s.element (flags_code (table_flags t) ∷ s.bounds) cut) in
+    record {
+      element_fits = val_type_is s.element t.element_type s.has_element (front_bytes s.element (flags_code (table_flags t) ∷ s.bounds) cut);
+      element_is_reference = s.element_is_reference;
+      bounds = bounds_are t.table64 t.initial t.maximum s.bounds s.has_bounds bounds;
+      ordered = s.ordered;
+    }
 
 pub memory_is : (bytes : List ℕ) (m : MemoryType) → SpellsMemory bytes m → AreBytes bytes → IsMemory m × AreBounds m.memory64 m.initial m.maximum
 memory_is bytes m s all =
     let parts = tail_bytes (flags_code (memory_flags m)) (s.bounds ++ s.exponent) (rw s.cut at all) in
     (s.is_memory, bounds_are m.memory64 m.initial m.maximum s.bounds s.has_bounds (front_bytes s.bounds s.exponent parts))
 
+pub global_type_is : (bytes : List ℕ) (g : GlobalType) → SpellsGlobal bytes g → AreBytes bytes → IsValType g.content_type
+global_type_is bytes g s all = val_type_is s.0 g.content_type s.2 (front_bytes s.0 (mutable_code g.mutable ∷ []) (rw s.1 at all))
+
 import_type_is : (bytes : List ℕ) (t : ImportType) → SpellsImportType bytes t → AreBytes bytes → IsImportType t
 import_type_is bytes (Func index) s all = number_fits s.2 (tail_bytes 0 s.0 (rw s.1 at all))
 import_type_is bytes (Table t) s all = table_is s.0 t s.2 (tail_bytes 1 s.0 (rw s.1 at all))
 import_type_is bytes (Memory m) s all = memory_is s.0 m s.2 (tail_bytes 2 s.0 (rw s.1 at all))
-import_type_is bytes (Global g) s all = tt
+import_type_is bytes (Global g) s all = global_type_is s.0 g s.2 (tail_bytes 3 s.0 (rw s.1 at all))
 
 pub import_is : (bytes : List ℕ) (i : ImportValue) → SpellsImport bytes i → AreBytes bytes → IsImport i
 import_is bytes i s all =

@@ -11,7 +11,8 @@ use Rattle.wc_read.specs.Exports.{ExportValue, export_kind_code, SpellsExport}
 use Rattle.wc_read.specs.Operators.{InstrValue, SpellsInstr}
 use Rattle.wc_read.specs.Inits.{SpellsInit}
 use Rattle.wc_read.specs.Globals.{LocalGlobalValue, SpellsLocalGlobal}
-use Rattle.wc_read.specs.Contents.{SpellsStart}
+use Rattle.wc_read.specs.Types.{FuncTypeValue}
+use Rattle.wc_read.specs.Contents.{SpellsFuncType, SpellsStart}
 use Rattle.wc_read.specs.Items.{imported, local, ItemValue, FuncValue, GlobalValue}
 use Rattle.wc_read.specs.Producers.{IsProducers, LastProducers}
 use Rattle.wc_read.specs.Sections.{SectionValue, SpellsSection, SpellsFrames, module_header}
@@ -21,14 +22,15 @@ use Rattle.wc_read.specs.Spaces.{func_of, table_of, memory_of, global_of, import
 use Rattle.wc_read.specs.Modules.{ModuleValue, CustomValue, module_of, SpellsModule}
 use Rattle.wc_read.specs.declared.types.TableType.{TableType}
 use Rattle.wc_read.specs.declared.types.MemoryType.{MemoryType}
+use Rattle.wc_read.specs.declared.types.GlobalType.{GlobalType}
 use Rattle.wc_read.specs.declared.types.ImportType.{ImportType}
 use Rattle.wc_read.specs.declared.types.ImportType.TheVariants.{Func, Table, Memory, Global}
 use Rattle.wc_read.proofs.OptionsLemmas.{some_same}
-use Rattle.wc_write.specs.Values.{AreBytes, IsTable, IsImportType, IsImport, IsInstr}
+use Rattle.wc_write.specs.Values.{AreBytes, IsValType, IsFuncType, IsTable, IsImportType, IsImport, IsInstr}
 use Rattle.wc_write.specs.BuiltValues.{is_import, is_imported, is_defined, HasImportsFirst, IsExport, IsWritableMemory, IsInitialiser, HasInitialiser, IsWritable}
 use Rattle.wc_write.proofs.ByteLemmas.{front_bytes, back_bytes, tail_bytes}
-use Rattle.wc_write.proofs.ValueLemmas.{number_fits, name_is, table_is, memory_is, import_is}
-use Rattle.wc_write.proofs.ShortestBodyLemmas.{instr_is}
+use Rattle.wc_write.proofs.ValueLemmas.{number_fits, name_is, global_type_is, table_is, memory_is, import_is}
+use Rattle.wc_write.proofs.ShortestBodyLemmas.{val_types_are, instr_is}
 use Rattle.wc_write.proofs.VectorTextLemmas.{items_are}
 
 -- contents of sections are bytes
@@ -148,6 +150,12 @@ table_import (Table u) t h e = subst IsTable (some_same u t e) h
 table_import (Memory m) t h e = absurd cc
 table_import (Global g) t h e = absurd cc
 
+global_import : (ty : ImportType) (g : GlobalType) → IsImportType ty → global_of ty ≡ Some g → IsValType g.content_type
+global_import (Func index) g h e = absurd cc
+global_import (Table t) g h e = absurd cc
+global_import (Memory m) g h e = absurd cc
+global_import (Global k) g h e = subst (λ (t : GlobalType). IsValType t.content_type) (some_same k g e) h
+
 memory_import : (ty : ImportType) (m : MemoryType) → IsImportType ty → memory_of ty ≡ Some m → IsWritableMemory m
 memory_import (Func index) m h e = absurd cc
 memory_import (Table t) m h e = absurd cc
@@ -174,6 +182,24 @@ HasTable t = IsTable t.ty
 abbrev HasMemory : ItemValue MemoryType ⊤ → Type 0
 HasMemory m = IsWritableMemory m.ty
 
+abbrev HasGlobalType : GlobalValue → Type 0
+HasGlobalType g = IsValType g.ty.content_type
+
+abbrev HasLocalType : LocalGlobalValue → Type 0
+HasLocalType g = IsValType g.ty.content_type
+
+local_type_is : (bytes : List ℕ) (g : LocalGlobalValue) → SpellsLocalGlobal bytes g → AreBytes bytes → HasLocalType g
+local_type_is bytes g s all = global_type_is s.type_bytes g.ty s.has_type (front_bytes s.type_bytes g.init (rw s.cut at all))
+
+func_type_is : (bytes : List ℕ) (f : FuncTypeValue) → SpellsFuncType bytes f → AreBytes bytes → IsFuncType f
+func_type_is bytes f s all =
+    let both = tail_bytes 0x60 (s.params_bytes ++ s.results_bytes) (rw s.cut at all) in (
+      val_types_are s.params_bytes f.params s.has_params
+          (front_bytes s.params_bytes s.results_bytes both),
+      val_types_are s.results_bytes f.results s.has_results
+          (back_bytes s.params_bytes s.results_bytes both),
+    )
+
 abbrev HasGlobal : GlobalValue → Type 0
 HasGlobal g = HasInitialiser g.def
 
@@ -188,11 +214,16 @@ writable sections p c all h last =
     let tables = items_can SpellsTable IsTable table_is (content_of 4 sections) p.tables (content_bytes 4 sections all) h.has_tables in
     let memories = items_can SpellsMemory IsWritableMemory memory_is (content_of 5 sections) p.memories (content_bytes 5 sections all) h.has_memories in
     let globals = items_can SpellsLocalGlobal HasInit global_is (content_of 6 sections) p.globals (content_bytes 6 sections all) h.has_globals in
+    let global_types = items_can SpellsLocalGlobal HasLocalType local_type_is (content_of 6 sections) p.globals (content_bytes 6 sections all) h.has_globals in
     record {
+      types = items_can SpellsFuncType IsFuncType func_type_is (content_of 1 sections) p.types (content_bytes 1 sections all) h.has_types;
       imports = imports;
       func_types = All-append HasIndex (imported_items func_of p.imports) (local_funcs p.func_types p.bodies) (imported_can func_of HasIndex (λ i n k e. func_import i.ty n k.has_type e) p.imports imports) (funcs_can p.func_types p.bodies types);
       tables = All-append HasTable (imported_items table_of p.imports) (map local_item p.tables) (imported_can table_of HasTable (λ i t k e. table_import i.ty t k.has_type e) p.imports imports) (made_can local_item HasTable IsTable (λ t k. k) p.tables tables);
       memories = All-append HasMemory (imported_items memory_of p.imports) (map local_item p.memories) (imported_can memory_of HasMemory (λ i m k e. memory_import i.ty m k.has_type e) p.imports imports) (made_can local_item HasMemory IsWritableMemory (λ m k. k) p.memories memories);
+      globals = All-append HasGlobalType (imported_items global_of p.imports) (map defined_global p.globals)
+          (imported_can global_of HasGlobalType (λ i g k e. global_import i.ty g k.has_type e) p.imports imports)
+          (made_can defined_global HasGlobalType HasLocalType (λ g k. k) p.globals global_types);
       initialisers = All-append HasGlobal (imported_items global_of p.imports) (map defined_global p.globals) (imported_can global_of HasGlobal (λ i g k e. tt) p.imports imports) (made_can defined_global HasGlobal HasInit (λ g k. k) p.globals globals);
       exports = items_can SpellsExport IsExport export_is (content_of 7 sections) p.exports (content_bytes 7 sections all) h.has_exports;
       start = start_can (content_of 8 sections) p.start (content_bytes 8 sections all) h.has_start;

@@ -1,6 +1,6 @@
 -- The values that bytes can spell (WebAssembly core specification, 5.2.4, 5.3, 5.4, 5.5.5 and 5.5.13).
-use Rattle.std.specs.Prelude.{◌≡◌, ℕ, ℤ, ◌^◌, ◌<◌, List, length, All, Bool, Option, Some, IfSome, IsUtf8}
-use Rattle.wc_read.specs.Types.{IsReference}
+use Rattle.std.specs.Prelude.{◌≡◌, ℕ, ℤ, ◌^◌, ◌<◌, List, length, All, Bool, true, Option, Some, IfSome, IsUtf8}
+use Rattle.wc_read.specs.Types.{FuncTypeValue, IsReference}
 use Rattle.wc_read.specs.Limits.{bound_bits, AreOrdered, IsMemory}
 use Rattle.wc_read.specs.Imports.{ImportValue}
 use Rattle.wc_read.specs.Signed.{FitsBits}
@@ -8,6 +8,7 @@ use Rattle.wc_read.specs.Operators.{form_of, index_of, ImmediatesValue, WithNone
 use Rattle.wc_read.specs.Nesting.{tokens, IsExpression}
 use Rattle.wc_read.specs.Bodies.{BodyValue, local_count}
 use Rattle.wc_read.specs.declared.types.ValType.{ValType}
+use Rattle.wc_read.specs.declared.types.ValType.TheVariants.{FuncRef, ExternRef, FuncRefNonNull, ExternRefNonNull, TypeRef}
 use Rattle.wc_read.specs.declared.operators.BlockType.{BlockType}
 use Rattle.wc_read.specs.declared.operators.BlockType.TheVariants.{Empty, Value, FuncType}
 use Rattle.wc_read.specs.declared.operators.MemArg.{MemArg}
@@ -32,8 +33,27 @@ pub record AreBounds (is_64 : Bool) (initial : ℕ) (maximum : Option ℕ) : Typ
   pub initial_fits : initial < 2 ^ bound_bits is_64
   pub maximum_fits : IfSome maximum (λ limit. limit < 2 ^ bound_bits is_64)
 
+-- a value type that bytes can spell: so far none of the references without null, and none to a type by its index
+abbrev pub IsValType : ValType → Type 0
+IsValType FuncRefNonNull = ⊥
+IsValType ExternRefNonNull = ⊥
+IsValType (TypeRef nullable index) = ⊥
+IsValType t = Unit {0}
+
+-- a function type: each of its value types can be spelled
+abbrev pub IsFuncType : FuncTypeValue → Type 0
+IsFuncType f = All IsValType f.params × All IsValType f.results
+
+-- the type of a null: one of references with null
+abbrev pub IsNullType : ValType → Type 0
+IsNullType FuncRef = Unit {0}
+IsNullType ExternRef = Unit {0}
+IsNullType (TypeRef nullable index) = (nullable ≡ true) × IsValType (TypeRef nullable index)
+IsNullType t = ⊥
+
 -- a table type: its elements are references, and its maximum is not below its minimum
 pub record IsTable (t : TableType) : Type 0 where
+  pub element_fits : IsValType t.element_type
   pub element_is_reference : IsReference t.element_type
   pub bounds : AreBounds t.table64 t.initial t.maximum
   pub ordered : AreOrdered t.initial t.maximum
@@ -43,7 +63,7 @@ abbrev pub IsImportType : ImportType → Type 0
 IsImportType (Func index) = IsU32 index
 IsImportType (Table t) = IsTable t
 IsImportType (Memory m) = IsMemory m × AreBounds m.memory64 m.initial m.maximum
-IsImportType (Global g) = Unit {0}
+IsImportType (Global g) = IsValType g.content_type
 
 -- an import: its module, its name, and its type
 pub record IsImport (i : ImportValue) : Type 0 where
@@ -55,10 +75,10 @@ pub record IsImport (i : ImportValue) : Type 0 where
 abbrev pub AreBytes : List ℕ → Type 0
 AreBytes bytes = All (λ b. b < 256) bytes
 
--- a block's type: an index has 32 bits
+-- a block's type: indices have 32 bits
 abbrev pub IsBlockType : BlockType → Type 0
 IsBlockType Empty = Unit {0}
-IsBlockType (Value t) = Unit {0}
+IsBlockType (Value t) = IsValType t
 IsBlockType (FuncType index) = IsU32 index
 
 -- a memory argument: the alignment's exponent has six bits
@@ -76,8 +96,8 @@ HasForm (form_indices first second) v =
     (n m : ℕ) × (v ≡ WithIndices (index_of first n) (index_of second m)) × IsU32 n × IsU32 m
 HasForm form_labels v =
     (labels : List ℕ) × (default : ℕ) × (v ≡ WithLabels labels default) × All IsU32 labels × IsU32 default
-HasForm form_val_types v = (ts : List ValType) × (v ≡ WithValTypes ts)
-HasForm form_ref_type v = (t : ValType) × (v ≡ WithRefType t) × IsReference t
+HasForm form_val_types v = (ts : List ValType) × (v ≡ WithValTypes ts) × All IsValType ts
+HasForm form_ref_type v = (t : ValType) × (v ≡ WithRefType t) × IsNullType t
 HasForm form_mem_arg v = (m : MemArg) × (v ≡ WithMemArg m) × IsMemArg m
 HasForm form_mem_arg_lane v = (m : MemArg) × (lane : ℕ) × (v ≡ WithMemArgLane m lane) × IsMemArg m × (lane < 256)
 HasForm form_i32 v = (n : ℤ) × (v ≡ WithI32 n) × FitsBits 32 n
@@ -95,5 +115,6 @@ pub record IsInstr (i : InstrValue) : Type 0 where
 -- a body: fewer than 2^32 locals, and operators in which blocks nest
 pub record IsBody (b : BodyValue) : Type 0 where
   pub few_locals : IsU32 (local_count b.locals)
+  pub has_locals : All (λ l. IsValType l.ty) b.locals
   pub has_operators : All IsInstr b.operators
   pub nests : IsExpression (tokens b.operators)

@@ -1,27 +1,14 @@
-//! Types of core functions in rows: `i32 i64 -> f32`.
+//! Types of core functions in rows: `i32 i64 -> f32`, or `ref:func ref-null:3 ->`.
 
 use wc_fixtures::bad::Bad;
 use wc_fixtures::words::Words;
 use wc_read::{FuncType, ValType};
-
-/// The words of the core types.
-const CORE_TYPES: [(&str, ValType); 7] = [
-    ("i32", ValType::I32),
-    ("i64", ValType::I64),
-    ("f32", ValType::F32),
-    ("f64", ValType::F64),
-    ("v128", ValType::V128),
-    ("funcref", ValType::FuncRef),
-    ("externref", ValType::ExternRef),
-];
+use wc_rows::imports::parse_val_type;
 
 fn take_core_type(words: &mut Words) -> Option<ValType> {
-    for (word, ty) in CORE_TYPES {
-        if words.take(word) {
-            return Some(ty);
-        }
-    }
-    None
+    let ty = parse_val_type(words.peek()?)?;
+    words.skip();
+    Some(ty)
 }
 
 /// Core types, up to a word that is none.

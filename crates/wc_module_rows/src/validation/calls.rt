@@ -232,6 +232,7 @@ fn put_faults(out: &mut Lines) {
         ValidateFault::MissingInterfaceExport,
         ValidateFault::MissingWorldExport,
         ValidateFault::AdapterExportType,
+        ValidateFault::TypedReference,
     ];
     for fault in &faults {
         writeln!(out, "{fault}");

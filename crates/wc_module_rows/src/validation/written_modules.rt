@@ -22,7 +22,12 @@ fn initialiser(ty: ValType) -> Result<&'static [u8], Bad> {
         ValType::I64 => Ok(&[0x42, 0x00, 0x0b]),
         ValType::FuncRef => Ok(&[0xd0, 0x70, 0x0b]),
         ValType::ExternRef => Ok(&[0xd0, 0x6f, 0x0b]),
-        ValType::F32 | ValType::F64 | ValType::V128 => Err(Bad::Line("no type of a global")),
+        ValType::F32
+        | ValType::F64
+        | ValType::V128
+        | ValType::FuncRefNonNull
+        | ValType::ExternRefNonNull
+        | ValType::TypeRef { .. } => Err(Bad::Line("no type of a global")),
     }
 }
 

@@ -4,7 +4,8 @@ use Rattle.wc_read.specs.Options.{◌>>=◌}
 use Rattle.wc_read.specs.Operators.{index_of, ImmediatesValue, WithNone, WithBlock, WithIndex, WithIndices, WithLabels, WithValTypes, WithRefType, WithMemArg, WithMemArgLane, WithI32, WithI64, WithBytes, WithLane, InstrValue, form_of}
 use Rattle.wc_read.specs.Reading.Bytes.{Read, number_at, as_made, byte_at, where_at, optional_at, bytes_at, vector_at}
 use Rattle.wc_read.specs.Reading.Signed.{signed_at}
-use Rattle.wc_read.specs.Reading.Types.{val_type_at, is_reference}
+use Rattle.wc_read.specs.Types.{is_reference}
+use Rattle.wc_read.specs.Reading.Types.{val_type_at}
 use Rattle.wc_read.specs.declared.operators.Opcode.{Opcode}
 use Rattle.wc_read.specs.declared.operators.Opcode.TheVariants.{Byte, Misc, Vector, Atomic}
 use Rattle.wc_read.specs.declared.operators.BlockType.{BlockType}

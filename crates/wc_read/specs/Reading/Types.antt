@@ -1,7 +1,8 @@
 -- Value types, types of globals, and functions without parameters and results (5.3.1 to 5.3.4 and 5.3.10).
 use Rattle.std.specs.Prelude.{ℕ, ◌==◌, if◌then◌else◌, Option, Some, None, Bool, true, false, length, ◌&&◌}
+use Rattle.std.specs.List.{list_all}
 use Rattle.wc_read.specs.Options.{◌>>=◌}
-use Rattle.wc_read.specs.Types.{FuncTypeValue}
+use Rattle.wc_read.specs.Types.{FuncTypeValue, has_type_index}
 use Rattle.wc_read.specs.Reading.Bytes.{Read, coded_at}
 use Rattle.wc_read.specs.declared.types.ValType.{ValType}
 use Rattle.wc_read.specs.declared.types.ValType.TheVariants.{I32, I64, F32, F64, V128, FuncRef, ExternRef}
@@ -15,15 +16,6 @@ val_type_of b =
 unfoldable pub val_type_at : Read ValType
 val_type_at bytes = coded_at val_type_of bytes
 
-abbrev pub is_reference : ValType → Bool
-is_reference FuncRef = true
-is_reference ExternRef = true
-is_reference I32 = false
-is_reference I64 = false
-is_reference F32 = false
-is_reference F64 = false
-is_reference V128 = false
-
 abbrev pub mutable_of : ℕ → Option Bool
 mutable_of b = if b == 0 then Some false else (if b == 1 then Some true else None)
 
@@ -35,6 +27,10 @@ global_at bytes = do
   content ← val_type_at bytes
   mutable ← mutable_at content.1
   Some (record { content_type = content.0; mutable = mutable.0 }, mutable.1)
+
+-- whether each index of a type in a function type is below a number
+abbrev pub have_type_indices : ℕ → FuncTypeValue → Bool
+have_type_indices types f = list_all (has_type_index types) f.params && list_all (has_type_index types) f.results
 
 -- whether nothing is taken and nothing given
 abbrev pub is_nullary : FuncTypeValue → Bool

@@ -1,4 +1,3 @@
-use Rattle.std.proofs.Common.{ℕ}
 use Rattle.wc_gc.specs.Ranges.{in_ranges}
 use Rattle.wc_gc.proofs.MergingLemmas.{appended_one}
 use Rattle.wc_gc.proofs.merging.append_at.Goals as goal

@@ -1,4 +1,4 @@
-use Rattle.std.proofs.Common.{◌≡◌, ◌+◌, length, get_or, take, arith}
+use Rattle.std.proofs.Common.{◌≡◌, length, get_or, take, arith}
 use Rattle.wc_gc.specs.Ranges.{holds, in_ranges}
 use Rattle.wc_gc.proofs.MergingLemmas.{begun_ascending, begun_before, number_more, all_merged}
 use Rattle.wc_gc.proofs.merging.merged.Goals as goal

@@ -13,13 +13,10 @@ pub returns-then-is_main_module : goal.returns-then-is_main_module
 returns-then-is_main_module c =
     of_main_item (setting_of c.args.names.now) c.args.module_name.now c.args.name.now (func_type (func_type_value c.args.ty.now)) _ _ (c.is_main_module.ensures.0 c.if-is_main_module.true) c.in_ok-main_item.ensures refl
 
-pub returns-in_err-adapter_function : goal.returns-in_err-adapter_function
-returns-in_err-adapter_function c = failed_import _ _ _ _ _ c.from_residual-in_err-adapter_function.ensures.1
-
 pub returns-then-contains_key : goal.returns-then-contains_key
 returns-then-contains_key c =
     of_adapter (setting_of c.args.names.now) c.args.module_name.now c.args.name.now (func_type_value c.args.ty.now) (not_so _ _ c.is_main_module.ensures c.if-is_main_module.false) _
-    (adapter_there c.args.module_name.now c.args.names.now.adapters.now.entries (sym c.contains_key.ensures ∙ c.if-contains_key.true)) c.in_ok-adapter_function.ensures
+    (adapter_there c.args.module_name.now c.args.names.now.adapters.now.entries (sym c.contains_key.ensures ∙ c.if-contains_key.true)) c.adapter_function.ensures
 
 pub returns : goal.returns
 returns c =
