@@ -45,7 +45,6 @@ fn put_document(read: Result<Document, JsonFault>, out: &mut Lines) -> Result<()
             put_package_worlds(out, &document.package_worlds);
             Ok(())
         }
-        Err(JsonFault::Memory) => Err(Stop::Memory),
         Err(fault) => {
             put_fault(out, fault);
             Ok(())
