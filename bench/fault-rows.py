@@ -41,7 +41,6 @@ BARRED = {
     ("GcFault", "TooLarge"): "a section of 2^32 bytes",
     ("ValidateFault", "WholeDiffers"): "of the arguments of a name the first counts",
     ("ValidateFault", "Mixed"): "of the arguments of a name the first counts",
-    ("ValidateFault", "TypedReference"): "no bytes that are read spell a type by its index",
 }
 FAILED = "where an allocation fails"
 

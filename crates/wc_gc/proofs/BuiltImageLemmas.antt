@@ -1,11 +1,11 @@
 -- The image of a module that was read can be spelled.
-use Rattle.std.proofs.Common.{◌≡◌, ◌≢◌, ℕ, ◌<◌, ◌^◌, List, [], length, map, refl, sym, ◌∙◌, ap, subst, Bool, true, Option, Some, arith}
+use Rattle.std.proofs.Common.{◌≡◌, ◌≢◌, ℕ, ◌<◌, ◌^◌, List, [], ◌∷◌, length, map, refl, sym, ◌∙◌, ap, subst, Bool, true, Option, Some, arith}
 use Rattle.std.specs.Prelude.{All, AllPairs, IfSome, IsTrue, Contains}
 use Rattle.std.specs.List.{AllByRecursion, slice_get}
 use Rattle.std.specs.Option.{option_map, option_map_or}
 use Rattle.std.proofs.lemmas.Bool.{lt-ltb}
 use Rattle.std.proofs.lemmas.List.{length-map, map-id}
-use Rattle.std.proofs.lemmas.List.Elements.{All-append, All-map, All-weaker, All-contains, All-contains_itself, All-from_recursion, recursion_from_All}
+use Rattle.std.proofs.lemmas.List.Elements.{All-append, All-map, All-weaker, All-contains, All-contains_itself, recursion_from_All}
 use Rattle.std.proofs.lemmas.Option.{slice_get-map, slice_get_within, IfSome_then}
 use Rattle.wc_read.specs.Bodies.{BodyValue}
 use Rattle.wc_read.specs.Types.{FuncTypeValue, HasTypeIndex, HaveTypeIndices}
@@ -15,64 +15,50 @@ use Rattle.wc_read.specs.InitTypes.{AreTyped}
 use Rattle.wc_read.specs.Items.{ItemValue, FuncValue, GlobalValue, TableValue, MemoryValue}
 use Rattle.wc_read.specs.Modules.{ModuleValue, IsModule, IsStart, AreFew, NameTypes, count_of}
 use Rattle.wc_read.specs.Operators.{InstrValue}
-use Rattle.wc_read.specs.Renumbering.{Renumbering}
+use Rattle.wc_read.specs.Renumbering.{Renumbering, renumber_func_type}
 use Rattle.wc_read.specs.declared.exports.ExportKind.{ExportKind}
 use Rattle.wc_read.specs.declared.exports.ExportKind.TheVariants.{Func as func_kind, Table as table_kind, Memory as memory_kind, Global as global_kind}
 use Rattle.wc_read.specs.declared.operators.Space.{Space}
 use Rattle.wc_read.specs.declared.operators.Space.TheVariants.{Types, Funcs, Tables, Memories, Globals}
 use Rattle.wc_read.specs.declared.types.GlobalType.{GlobalType}
-use Rattle.wc_read.specs.declared.types.ValType.{ValType}
-use Rattle.wc_read.specs.declared.types.ValType.TheVariants.{I32, I64, F32, F64, V128, FuncRef, ExternRef, FuncRefNonNull, ExternRefNonNull, TypeRef}
 use Rattle.wc_read.specs.declared.types.ImportType.TheVariants.{Func, Table, Memory, Global}
 use Rattle.wc_write.specs.BodyText.{body_text}
-use Rattle.wc_write.specs.BuiltValues.{item_seen, written_module, IsExport, IsWritableMemory, IsInitialiser, HasInitialiser, HasImportsFirst, IsBuilt, IsWritable}
+use Rattle.wc_write.specs.BuiltValues.{def_seen, item_seen, written_module, IsExport, IsWritableMemory, IsInitialiser, HasInitialiser, HasImportsFirst, IsBuilt, IsWritable}
 use Rattle.wc_write.specs.ModuleText.{BuiltValue, built_imports, init_text}
 use Rattle.wc_write.specs.Spaces.{imports_of, defined_contents}
 use Rattle.wc_write.specs.Values.{IsU32, IsBody, IsFuncType, IsImport, IsTable, IsValType}
 use Rattle.wc_write.proofs.SpaceLemmas.{map_again}
 use Rattle.wc_gc.specs.Decoded.{ItemIndex, decode, exported_item, is_in, space_of}
-use Rattle.wc_gc.specs.Entries.{entry_at, entry_refs, func_entry, global_entry, no_entry, refs_in}
-use Rattle.wc_gc.specs.Image.{rank, kept_items, new_export}
+use Rattle.wc_gc.specs.Entries.{Entry, def_refs, entry_at, entry_refs, func_entry, global_entry, init_refs, no_entry, refs_in, table_entry, type_entry, val_type_refs}
+use Rattle.wc_gc.specs.Image.{rank, kept_items, new_export, new_table}
 use Rattle.wc_gc.specs.Laws.{KeepsBits}
 use Rattle.wc_gc.specs.Soundness.{is_sound_at, is_sound_def, is_sound_entry}
-use Rattle.wc_gc.proofs.BuiltPartLemmas.{global_written, all_at, each_weaker, kept_imports, kept_imports_same, global_has_import, global_imported, contents_can, types_can, global_can, HasShortInit, kept_item_at}
+use Rattle.wc_gc.proofs.BuiltPartLemmas.{global_written, all_at, kept_imports, kept_imports_same, table_has_import, global_has_import, global_imported, contents_can, types_can, global_can, HasShortInit, kept_item_at}
 use Rattle.wc_gc.proofs.ImageLemmas.{all_kept, kept_mapped}
-use Rattle.wc_gc.proofs.InitTypeLemmas.{Follows}
+use Rattle.wc_gc.proofs.InitTypeLemmas.{Follows, all-left, all-right}
 use Rattle.wc_gc.proofs.KeptExportLemmas.{names_of_pairs}
 use Rattle.wc_gc.proofs.KeptItemLemmas.{few_kept, kept_first, rank_below}
 use Rattle.wc_gc.proofs.LiveItemLemmas.{named_kept}
+use Rattle.wc_gc.proofs.NamedTypeLemmas.{func_type_names, table_at, type_at, val_type_names}
+use Rattle.wc_gc.proofs.SpellableLemmas.{func_type_fits, table_type_fits, val_type_fits}
 use Rattle.wc_gc.proofs.SpelledItemLemmas.{HasImport, IfLocal, HaveItems}
 use Rattle.wc_gc.proofs.TypedGlobalLemmas.{CanMove, kept_typed, scope_after}
 use Rattle.wc_gc.proofs.WrittenGlobalLemmas.{def_moves}
-
--- a value type that can be spelled names no type, so what it names is there
-
-val_type_names : (count : ℕ) (t : ValType) → IsValType t → HasTypeIndex count t
-val_type_names count I32 h = refl
-val_type_names count I64 h = refl
-val_type_names count F32 h = refl
-val_type_names count F64 h = refl
-val_type_names count V128 h = refl
-val_type_names count FuncRef h = refl
-val_type_names count ExternRef h = refl
-val_type_names count FuncRefNonNull h = refl
-val_type_names count ExternRefNonNull h = refl
-val_type_names count (TypeRef nullable index) h = absurd h
-
-func_type_names : (count : ℕ) (f : FuncTypeValue) → IsFuncType f → HaveTypeIndices count f
-func_type_names count f h = (
-  All-weaker IsValType (HasTypeIndex count) (val_type_names count) f.params h.0,
-  All-weaker IsValType (HasTypeIndex count)
-      (val_type_names count) f.results h.1,
-)
 
 -- the kept items of a space
 abbrev pub kept_in : {A : Type 0} → (ItemIndex → Bool) → Space → List A → List A
 kept_in kept space xs = kept_items (λ n. kept (space, n)) (length xs) xs
 
-pub kept_types_spelled : (m : ModuleValue) (kept : ItemIndex → Bool) → IsWritable m → All IsFuncType (kept_in kept Types m.types)
-kept_types_spelled m kept w = all_kept IsFuncType (λ n. kept (Types, n)) m.types
-    (λ n t h e. all_at IsFuncType m.types n t (recursion_from_All IsFuncType m.types w.types) e) (length m.types)
+-- kept types under new indices
+abbrev pub types_written : ModuleValue → (ItemIndex → Bool) → Renumbering → List FuncTypeValue
+types_written m kept new = map (renumber_func_type new) (kept_in kept Types m.types)
+
+pub kept_types_spelled : (m : ModuleValue) (kept : ItemIndex → Bool) (new : Renumbering) → KeepsBits new → IsWritable m
+    → All IsFuncType (types_written m kept new)
+kept_types_spelled m kept new keeps w =
+    let P : FuncTypeValue → Type 0 = λ t. IsFuncType (renumber_func_type new t) in
+    All-map IsFuncType (renumber_func_type new) (kept_in kept Types m.types) (all_kept P (λ n. kept (Types, n)) m.types
+    (λ n t h e. func_type_fits new keeps t (all_at IsFuncType m.types n t (recursion_from_All IsFuncType m.types w.types) e)) (length m.types))
 
 -- an image by the items that were read: its types, functions and start function are given, and what is kept besides has
 -- new indices
@@ -80,7 +66,7 @@ abbrev pub image_with : ModuleValue → List ExportValue → (ItemIndex → Bool
 image_with m exports kept new types funcs start = record {
   types = types;
   funcs = funcs;
-  tables = kept_in kept Tables m.tables;
+  tables = map (new_table new) (kept_in kept Tables m.tables);
   memories = kept_in kept Memories m.memories;
   globals = map (global_written new) (kept_in kept Globals m.globals);
   exports = map (new_export new) exports;
@@ -150,9 +136,46 @@ module _ (m : ModuleValue) (kept : ItemIndex → Bool) where
   global_there : (n : ℕ) → n < length m.globals → IsTrue (is_in (decode m) (Globals, n))
   global_there n h = let l = length-map m.globals (item_seen init_in) in lt-ltb n (length (map (item_seen init_in) m.globals)) (omega arith)
 
-  -- globals under new indices, in an image of so many types and functions
+  -- in an image of so many types and functions
   module _ (w : IsWritable m) (v : IsModule m) (named : (x y : ItemIndex) → IsTrue (kept x) → Contains (refs_in (decode m) x) y → IsTrue (kept y))
       (new : Renumbering) (types functions : ℕ) (are_new : AreNew m kept new types functions) where
+    -- what kept types, tables and globals name is in it
+
+    may_name : (x : ItemIndex) (e : Entry) → IsTrue (kept x) → entry_at (decode m) x ≡ e → AllByRecursion May (entry_refs e)
+    may_name x e h at = subst (λ z. AllByRecursion May (entry_refs z)) at (named_kept (decode m) kept named x h)
+
+    type_there : (n : ℕ) → n < length m.types → May (Types, n) → new Types n < types
+    type_there n below may = are_new.types n below (may (lt-ltb n (length m.types) below))
+
+    pub kept_types_named : All (HaveTypeIndices types) (types_written m kept new)
+    kept_types_named =
+        let P : FuncTypeValue → Type 0 = HaveTypeIndices types in
+        let old : AllByRecursion (HaveTypeIndices (length m.types)) m.types = recursion_from_All (HaveTypeIndices (length m.types)) m.types v.named.types in
+        All-map P (renumber_func_type new) (kept_in kept Types m.types) (all_kept (λ t. P (renumber_func_type new t)) (λ n. kept (Types, n)) m.types
+        (λ n t h e. func_type_names May new (length m.types) types type_there t (all_at (HaveTypeIndices (length m.types)) m.types n t old e)
+        (may_name (Types, n) (type_entry t) h (type_at m n t e))) (length m.types))
+
+    pub kept_tables_named : All (λ t. HasTypeIndex types t.ty.element_type) (map (new_table new) (kept_in kept Tables m.tables))
+    kept_tables_named =
+        let P : TableValue → Type 0 = λ t. HasTypeIndex types t.ty.element_type in
+        let Q : TableValue → Type 0 = λ t. HasTypeIndex (length m.types) t.ty.element_type in
+        All-map P (new_table new) (kept_in kept Tables m.tables) (all_kept (λ t. P (new_table new t)) (λ n. kept (Tables, n)) m.tables
+        (λ n t h e. val_type_names May new (length m.types) types type_there t.ty.element_type
+        (all_at Q m.tables n t (recursion_from_All Q m.tables v.named.tables) e)
+        (may_name (Tables, n) (table_entry t) h (table_at m n t e))) (length m.tables))
+
+    pub kept_globals_named : All (λ g. HasTypeIndex types g.ty.content_type) (map (global_written new) (kept_in kept Globals m.globals))
+    kept_globals_named =
+        let P : ItemValue GlobalType (List InstrValue) → Type 0 = λ g. HasTypeIndex types g.ty.content_type in
+        let Q : GlobalValue → Type 0 = λ g. HasTypeIndex (length m.types) g.ty.content_type in
+        All-map P (global_written new) (kept_in kept Globals m.globals) (all_kept (λ g. P (global_written new g)) (λ n. kept (Globals, n)) m.globals
+        (λ n g h e. val_type_names May new (length m.types) types type_there g.ty.content_type
+        (all_at Q m.globals n g (recursion_from_All Q m.globals v.named.globals) e)
+        (all-left May (val_type_refs (g.ty.content_type ∷ [])) (def_refs init_refs (def_seen init_in g.def))
+        (may_name (Globals, n) (global_entry (item_seen init_in g)) h (global_at m n g e)))) (length m.globals))
+
+    -- globals under new indices
+
     has_initialiser : (n : ℕ) (g : GlobalValue) → slice_get m.globals n ≡ Some g → HasInitialiser g.def
     has_initialiser n g e = all_at (λ (g : GlobalValue). HasInitialiser g.def) m.globals n g (recursion_from_All (λ (g : GlobalValue). HasInitialiser g.def) m.globals w.initialisers) e
 
@@ -163,11 +186,12 @@ module _ (m : ModuleValue) (kept : ItemIndex → Bool) where
         let can = has_initialiser n g e in
         let below = slice_get_within m.globals n g e in
         let follows : Follows May (scope_after (length m.types) (length m.funcs) done) (scope_after types functions done') new = record {
-          types = λ k may under. are_new.types k under (may (lt-ltb k (length m.types) under));
+          types = λ k may under. type_there k under may;
           funcs = λ k may under. are_new.funcs k under (may (func_there k under));
           globals = λ k t may at. moved k t (may (global_there k (let under = slice_get_within done k t at in omega (arith, below, long, under)))) at;
         } in
-        let refs = subst (λ z. AllByRecursion May (entry_refs z)) (global_at m n g e) (named_kept (decode m) kept named (Globals, n) h) in
+        let refs = all-right May (val_type_refs (g.ty.content_type ∷ [])) (def_refs init_refs (def_seen init_in g.def))
+        (may_name (Globals, n) (global_entry (item_seen init_in g)) h (global_at m n g e)) in
         def_moves May (scope_after (length m.types) (length m.funcs) done) (scope_after types functions done') new follows g.ty.content_type g.def can refs
         (global_can new are_new.keeps g.def can)
         (kept_item_at HasShortInit (global_written new) (λ k. kept (Globals, k)) m.globals n g short h e) typed
@@ -183,7 +207,8 @@ module _ (m : ModuleValue) (kept : ItemIndex → Bool) where
 
 module _ (m : ModuleValue) (exports : List ExportValue) (kept : ItemIndex → Bool) (w : IsWritable m) (items : HaveItems m) (v : IsModule m) (k : AreKept m exports kept) (x : AreExports m exports)
     (new : Renumbering) (types : List FuncTypeValue) (funcs : List (ItemValue ℕ BodyValue)) (start : Option ℕ)
-    (are_new : AreNew m kept new (length types) (length funcs)) (spelled : All IsFuncType types) (f : AreFuncs types funcs) where
+    (are_new : AreNew m kept new (length types) (length funcs)) (spelled : All IsFuncType types) (names : All (HaveTypeIndices (length types)) types)
+    (f : AreFuncs types funcs) where
   abbrev image : BuiltValue
   image = image_with m exports kept new types funcs start
 
@@ -193,8 +218,10 @@ module _ (m : ModuleValue) (exports : List ExportValue) (kept : ItemIndex → Bo
   imports_can : All IsImport (built_imports image)
   imports_can =
       let memories = kept_imports_same Memory (live Memories) m.memories items.memories in
-      let tables = kept_imports_same Table (live Tables) m.tables items.tables in
-      let globals = kept_imports Global (global_written new) (live Globals) m.globals (λ n g h e. global_has_import new g (all_at (HasImport Global) m.globals n g items.globals e)) in
+      let tables = kept_imports Table (new_table new) (live Tables) m.tables
+      (λ n t h e. table_has_import new are_new.keeps t (all_at (HasImport Table) m.tables n t items.tables e)) in
+      let globals = kept_imports Global (global_written new) (live Globals) m.globals
+      (λ n g h e. global_has_import new are_new.keeps g (all_at (HasImport Global) m.globals n g items.globals e)) in
       All-append IsImport (imports_of Memory image.memories) _ memories
       (All-append IsImport (imports_of Table image.tables) _ tables (All-append IsImport (imports_of Global image.globals) _ globals f.imports))
 
@@ -232,7 +259,10 @@ module _ (m : ModuleValue) (exports : List ExportValue) (kept : ItemIndex → Bo
 
   index_there : (kind : ExportKind) (n : ℕ) → n < count_of m kind → IsTrue (kept (space_of kind, n)) → new (space_of kind) n < count_of (written_module image) kind
   index_there func_kind n h is_live = let all = length-map funcs (item_seen body_text) in let r = are_new.funcs n h is_live in omega (arith, all, r)
-  index_there table_kind n h is_live = rw (are_new.tables n is_live) (rank_below (live Tables) m.tables n h is_live)
+  index_there table_kind n h is_live =
+      let all = length-map (kept_in kept Tables m.tables) (new_table new) in
+      let r = rank_below (live Tables) m.tables n h is_live in
+      omega (arith, are_new.tables n is_live, all, r)
   index_there memory_kind n h is_live = rw (are_new.memories n is_live) (rank_below (live Memories) m.memories n h is_live)
   index_there global_kind n h is_live = global_below n h is_live
 
@@ -248,7 +278,10 @@ module _ (m : ModuleValue) (exports : List ExportValue) (kept : ItemIndex → Bo
   few : AreFew (written_module image)
   few = record {
     funcs = (let all = length-map funcs (item_seen body_text) in omega (arith, all, f.few));
-    tables = omega (arith, few_kept (live Tables) m.tables, v.few.tables);
+    tables = (
+        let all = length-map (kept_in kept Tables m.tables) (new_table new) in
+        omega (arith, all, few_kept (live Tables) m.tables, v.few.tables)
+        );
     memories = omega (arith, few_kept (live Memories) m.memories, v.few.memories);
     globals = (
         let one = length-map (kept_in kept Globals m.globals) (global_written new) in
@@ -273,25 +306,26 @@ module _ (m : ModuleValue) (exports : List ExportValue) (kept : ItemIndex → Bo
   global_types_can : AllByRecursion (λ (g : ItemValue GlobalType (List InstrValue)). IsValType g.ty.content_type) image.globals
   global_types_can =
       let P : ItemValue GlobalType (List InstrValue) → Type 0 = λ g. IsValType g.ty.content_type in
+      let Q : GlobalValue → Type 0 = λ g. IsValType g.ty.content_type in
       let ks = kept_in kept Globals m.globals in
-      recursion_from_All P image.globals (All-map P (global_written new) ks (All-from_recursion (λ (g : GlobalValue). IsValType g.ty.content_type) ks
-      (same_kept (λ (g : GlobalValue). IsValType g.ty.content_type) Globals m.globals w.globals)))
+      recursion_from_All P image.globals (All-map P (global_written new) ks (all_kept (λ g. P (global_written new g)) (live Globals) m.globals
+      (λ n g h e. val_type_fits new are_new.keeps g.ty.content_type (all_at Q m.globals n g (recursion_from_All Q m.globals w.globals) e)) (length m.globals)))
 
-  -- no value type that can be spelled names a type
+  table_types_can : AllByRecursion (λ (t : TableValue). IsTable t.ty) image.tables
+  table_types_can =
+      let P : TableValue → Type 0 = λ t. IsTable t.ty in
+      let ks = kept_in kept Tables m.tables in
+      recursion_from_All P image.tables (All-map P (new_table new) ks (all_kept (λ t. P (new_table new t)) (live Tables) m.tables
+      (λ n t h e. table_type_fits new are_new.keeps t.ty (all_at P m.tables n t (recursion_from_All P m.tables w.tables) e)) (length m.tables)))
+
+  -- the types that are named are there
   named : NameTypes (written_module image)
-  named =
-      let Q : ItemValue GlobalType (List InstrValue) → Type 0 = λ g. HasTypeIndex (length types) g.ty.content_type in
-      record {
-        types = All-weaker IsFuncType (HaveTypeIndices (length types)) (func_type_names (length types)) types spelled;
-        tables = All-from_recursion (λ (t : TableValue). HasTypeIndex (length types) t.ty.element_type) image.tables
-            (each_weaker (λ (t : TableValue). IsTable t.ty) (λ (t : TableValue). HasTypeIndex (length types) t.ty.element_type) image.tables
-            (λ t h. val_type_names (length types) t.ty.element_type h.element_fits)
-            (same_kept (λ (t : TableValue). IsTable t.ty) Tables m.tables w.tables));
-        globals = All-map (λ (g : GlobalValue). HasTypeIndex (length types) g.ty.content_type) (item_seen init_text) image.globals
-            (All-from_recursion Q image.globals
-            (each_weaker (λ (g : ItemValue GlobalType (List InstrValue)). IsValType g.ty.content_type) Q image.globals
-            (λ g h. val_type_names (length types) g.ty.content_type h) global_types_can));
-      }
+  named = record {
+    types = names;
+    tables = kept_tables_named m kept w v k.named new (length types) (length funcs) are_new;
+    globals = All-map (λ (g : GlobalValue). HasTypeIndex (length types) g.ty.content_type) (item_seen init_text) image.globals
+        (kept_globals_named m kept w v k.named new (length types) (length funcs) are_new);
+  }
 
   valid : IfSome start (IsStartOf types funcs) → AllByRecursion HasShortInit image.globals → IsModule (written_module image)
   valid starts short = record {
@@ -309,7 +343,7 @@ module _ (m : ModuleValue) (exports : List ExportValue) (kept : ItemIndex → Bo
     types = spelled;
     imports = imports_can;
     func_types = types_can IsU32 funcs (recursion_from_All (λ (f : ItemValue ℕ BodyValue). IsU32 f.ty) funcs f.indices);
-    tables = types_can IsTable image.tables (same_kept (λ (t : TableValue). IsTable t.ty) Tables m.tables w.tables);
+    tables = types_can IsTable image.tables table_types_can;
     memories = types_can IsWritableMemory image.memories (same_kept (λ (t : MemoryValue). IsWritableMemory t.ty) Memories m.memories w.memories);
     globals = types_can (λ (g : GlobalType). IsValType g.content_type) image.globals global_types_can;
     initialisers = initialisers_can;
@@ -318,7 +352,7 @@ module _ (m : ModuleValue) (exports : List ExportValue) (kept : ItemIndex → Bo
     bodies = contents_can IsBody funcs (recursion_from_All (λ (f : ItemValue ℕ BodyValue). IfLocal IsBody f.def) funcs f.bodies);
     producers = w.producers;
     funcs_ordered = f.ordered;
-    tables_ordered = same_first Tables m.tables w.tables_ordered;
+    tables_ordered = kept_first (new_table new) (λ t. refl) (live Tables) m.tables w.tables_ordered;
     memories_ordered = same_first Memories m.memories w.memories_ordered;
     globals_ordered = kept_first (global_written new) (global_imported new) (live Globals) m.globals w.globals_ordered;
     valid = valid starts short;

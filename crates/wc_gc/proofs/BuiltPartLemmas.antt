@@ -7,26 +7,26 @@ use Rattle.std.proofs.lemmas.List.{map-id}
 use Rattle.std.proofs.lemmas.List.Elements.{All-map, All-from_recursion, recursion_from_All}
 use Rattle.std.proofs.lemmas.Option.{slice_get-map}
 use Rattle.wc_read.specs.Decoding.{init_in}
-use Rattle.wc_read.specs.Items.{DefValue, imported, local, ItemValue, GlobalValue}
+use Rattle.wc_read.specs.Items.{DefValue, imported, local, ItemValue, GlobalValue, TableValue}
 use Rattle.wc_read.specs.Operators.{InstrValue}
-use Rattle.wc_read.specs.Renumbering.{Renumbering}
+use Rattle.wc_read.specs.Renumbering.{Renumbering, renumber_global_type, renumber_table_type}
 use Rattle.wc_read.specs.declared.types.ImportType.{ImportType}
-use Rattle.wc_read.specs.declared.types.ImportType.TheVariants.{Global}
+use Rattle.wc_read.specs.declared.types.ImportType.TheVariants.{Table, Global}
 use Rattle.wc_read.specs.declared.types.GlobalType.{GlobalType}
 use Rattle.wc_read.proofs.DecodingLemmas.{init_found}
 use Rattle.wc_write.specs.Spaces.{imports_of, import_by, DefinedValue, defined, defined_by, defined_types, defined_contents}
 use Rattle.wc_write.specs.Text.{FitsSize, global_text}
-use Rattle.wc_write.specs.Values.{IsImport}
+use Rattle.wc_write.specs.Values.{IsImport, IsImportType}
 use Rattle.wc_write.specs.ModuleText.{BuiltValue, SizesFit, SizeFits, OptionalSection, optional_sections, init_text, defined_global_text}
 use Rattle.wc_write.specs.BuiltValues.{def_seen, item_seen, is_import, is_imported, IsInitialiser, HasInitialiser}
 use Rattle.wc_write.proofs.VectorTextLemmas.{back_shorter}
 use Rattle.wc_write.proofs.ContentLemmas.{all_item_sizes_fit}
 use Rattle.wc_gc.specs.Counts.{count_below}
-use Rattle.wc_gc.specs.Image.{kept_items, new_init, new_global}
+use Rattle.wc_gc.specs.Image.{kept_items, new_init, new_global, new_table}
 use Rattle.wc_gc.specs.Laws.{KeepsBits}
 use Rattle.wc_gc.proofs.ImageLemmas.{all_kept}
 use Rattle.wc_gc.proofs.KeptItemLemmas.{rank_at}
-use Rattle.wc_gc.proofs.SpellableLemmas.{init_stays}
+use Rattle.wc_gc.proofs.SpellableLemmas.{init_stays, table_type_fits, val_type_fits}
 use Rattle.wc_gc.proofs.SpelledItemLemmas.{HasImport, IfLocal, all_given, all_give, defined_from, defined_to}
 
 -- a global that was read, under new indices
@@ -68,9 +68,6 @@ seen_import ty view (imported m n) h = h
 seen_import ty view (local x) h = tt
 
 module _ (new : Renumbering) where
-  pub global_has_import : (g : GlobalValue) → HasImport Global g → HasImport Global (global_written new g)
-  global_has_import g h = seen_import (Global g.ty) (new_init new) (def_seen init_in g.def) (seen_import (Global g.ty) init_in g.def h)
-
   pub global_imported : (g : GlobalValue) → is_imported (global_written new g) ≡ is_imported g
   global_imported g = seen_imported (new_init new) (def_seen init_in g.def) ∙ seen_imported init_in g.def
 
@@ -94,9 +91,23 @@ types_can {T} {C} P items all =
     (all_given (λ (o : DefinedValue T C). P o.ty) (λ (i : ItemValue T C). defined_by i.ty i.def) items
     (each_weaker (λ (i : ItemValue T C). P i.ty) (λ (i : ItemValue T C). IfSome (defined_by i.ty i.def) (λ o. P o.ty)) items (λ i h. type_from P i.ty i.def h) all)))
 
--- initialisers
+-- imports and initialisers under new indices
+
+other_import : {C : Type 0} (ty ty' : ImportType) (d : DefValue C) → (IsImportType ty → IsImportType ty') → IfSome (import_by ty d) IsImport
+    → IfSome (import_by ty' d) IsImport
+other_import ty ty' (imported m n) fits h = record { has_module = h.has_module; has_name = h.has_name; has_type = fits h.has_type }
+other_import ty ty' (local x) fits h = tt
 
 module _ (new : Renumbering) (keeps : KeepsBits new) where
+  pub table_has_import : (t : TableValue) → HasImport Table t → HasImport Table (new_table new t)
+  table_has_import t h = other_import (Table t.ty) (Table (renumber_table_type new t.ty)) t.def (table_type_fits new keeps t.ty) h
+
+  pub global_has_import : (g : GlobalValue) → HasImport Global g → HasImport Global (global_written new g)
+  global_has_import g h =
+      let ty : ImportType = Global (renumber_global_type new g.ty) in
+      seen_import ty (new_init new) (def_seen init_in g.def) (seen_import ty init_in g.def
+      (other_import (Global g.ty) ty g.def (val_type_fits new keeps g.ty.content_type) h))
+
   pub global_can : (def : DefValue (List ℕ)) → HasInitialiser def → IfLocal IsInitialiser (def_seen (new_init new) (def_seen init_in def))
   global_can (imported m n) h = tt
   global_can (local bytes) h = subst (λ (o : Option (List InstrValue)). IsInitialiser (new_init new o)) (sym (init_found bytes h.0 h.1)) (init_stays new keeps h.0 h.2)

@@ -7,6 +7,7 @@ use Rattle.std.specs.Option.{option_map, option_map_or, option_to_list}
 use Rattle.std.proofs.lemmas.Option.{slice_get-map}
 use Rattle.wc_read.specs.Exports.{ExportValue}
 use Rattle.wc_read.specs.Items.{MemoryValue}
+use Rattle.wc_read.specs.Renumbering.{renumber_func_type}
 use Rattle.wc_read.specs.declared.operators.Space.TheVariants.{Types, Funcs, Tables, Memories, Globals}
 use Rattle.wc_write.specs.BuiltValues.{is_defined}
 use Rattle.wc_gc.specs.Causes.{IsFoundCause, called_reallocs, grows_memory, has_page_size, has_page_size_at, has_realloc_type, is_realloc_type_at}
@@ -26,9 +27,10 @@ use Rattle.wc_gc.specs.declared.fault.GcFault.TheVariants.{TooLarge}
 use Rattle.wc_gc.specs.declared.parts.Parts.{Parts}
 use Rattle.wc_gc.proofs.AddedUnderLemmas.{last_has}
 use Rattle.wc_gc.proofs.BuiltPartLemmas.{each_weaker}
-use Rattle.wc_gc.proofs.CutFoundLemmas.{AreRanks, cut, cut_is, found_moved, parts_same, same_length, test_at}
+use Rattle.wc_gc.proofs.CutFoundLemmas.{AreRanks, cut, cut_is, found_moved, parts_same, same_length, test_at, test_seen}
 use Rattle.wc_gc.proofs.CutImageLemmas.{image_is_of_cut, last_mapped}
 use Rattle.wc_gc.proofs.KeptItemLemmas.{get_some, rank_at}
+use Rattle.wc_gc.proofs.TypeTestLemmas.{realloc_type_under}
 
 -- lists
 
@@ -84,7 +86,9 @@ module _ (s : SettingsValue) (m : DecodedModule) (exports : List ExportValue) (l
   -- reallocs that are called
 
   type_same : (n : ℕ) → live (Types, n) ≡ true → is_realloc_type_at C (rank live Types n) ≡ is_realloc_type_at m n
-  type_same n h = test_at (λ i. live (Types, i)) m.types n (k.there (Types, n) h) h is_realloc_type
+  type_same n h =
+      test_seen (λ i. live (Types, i)) m.types n (k.there (Types, n) h) h is_realloc_type is_realloc_type (renumber_func_type (rank live))
+      (realloc_type_under (rank live))
 
   realloc_type_same : (n : ℕ) → live (Funcs, n) ≡ true → has_realloc_type C (rank live Funcs n) ≡ has_realloc_type m n
   realloc_type_same n h =

@@ -2,13 +2,15 @@
 use Rattle.std.proofs.Common.{◌≡◌, ℕ, List, [], ◌∷◌, ◌++◌, map, refl, ◌∙◌, ap, Option, Some, None}
 use Rattle.std.specs.List.{AllByRecursion, cons_option}
 use Rattle.std.specs.Option.{option_map, option_to_list}
-use Rattle.wc_read.specs.Bodies.{BodyValue}
-use Rattle.wc_read.specs.Items.{DefValue, ItemValue, imported, local}
+use Rattle.wc_read.specs.Bodies.{BodyValue, local_types}
+use Rattle.wc_read.specs.Items.{DefValue, ItemValue, TableValue, imported, local}
 use Rattle.wc_read.specs.Operators.{ImmediatesValue, WithNone, WithBlock, WithIndex, WithIndices, WithLabels, WithValTypes, WithRefType, WithMemArg}
 use Rattle.wc_read.specs.Operators.{WithMemArgLane, WithI32, WithI64, WithBytes, WithLane, InstrValue}
 use Rattle.wc_read.specs.Refs.{in_space, reference, one_ref, two_refs, refs_of, type_reference, type_refs_of}
 use Rattle.wc_read.specs.Renumbering.{Renumbering, renumber, renumber_index, renumber_immediates, renumber_instr, renumber_val_type}
-use Rattle.wc_read.specs.Types.{type_index, type_indices}
+use Rattle.wc_read.specs.Renumbering.{renumber_func_type, renumber_global_type}
+use Rattle.wc_read.specs.Types.{FuncTypeValue, type_index, type_indices}
+use Rattle.wc_read.specs.declared.bodies.Locals.{Locals}
 use Rattle.wc_read.specs.declared.operators.Index.{Index}
 use Rattle.wc_read.specs.declared.operators.IndexKind.{IndexKind}
 use Rattle.wc_read.specs.declared.operators.IndexKind.TheVariants.{In, Elem, Data, Local, Label}
@@ -18,10 +20,11 @@ use Rattle.wc_read.specs.declared.operators.Space.TheVariants.{Types}
 use Rattle.wc_read.specs.declared.types.ValType.{ValType}
 use Rattle.wc_read.specs.declared.types.ValType.TheVariants.{I32, I64, F32, F64, V128, FuncRef, ExternRef, FuncRefNonNull, ExternRefNonNull, TypeRef}
 use Rattle.wc_read.specs.declared.types.GlobalType.{GlobalType}
+use Rattle.wc_read.specs.declared.types.TableType.{TableType}
 use Rattle.wc_write.specs.BuiltValues.{def_seen}
 use Rattle.wc_gc.specs.Decoded.{GlobalCode, ItemIndex}
-use Rattle.wc_gc.specs.Entries.{code_refs, def_refs, init_refs, instr_refs, refs_list, type_items, val_type_refs}
-use Rattle.wc_gc.specs.Image.{new_global, new_init, renumber_body, renumber_code}
+use Rattle.wc_gc.specs.Entries.{code_body_refs, code_refs, def_refs, func_type_refs, global_refs, init_refs, instr_refs, refs_list, type_items, val_type_refs}
+use Rattle.wc_gc.specs.Image.{new_global, new_init, new_table, renumber_body, renumber_code, renumber_locals}
 use Rattle.wc_gc.specs.Unfolding.{renumber_global}
 use Rattle.wc_gc.proofs.CutListLemmas.{split_all}
 
@@ -85,6 +88,28 @@ module _ (first second both : Renumbering) where
       ap (λ u. u ∷ map (renumber_val_type second) (map (renumber_val_type first) ts)) (type_agrees t p.0)
       ∙ ap (λ us. renumber_val_type both t ∷ us) (types_agree ts p.1)
 
+  one_type_agrees : (t : ValType) → Agree (val_type_refs (t ∷ [])) → renumber_val_type second (renumber_val_type first t) ≡ renumber_val_type both t
+  one_type_agrees t h = type_agrees t (first_type (type_index t) [] h).0
+
+  abbrev func_type_with : List ValType → List ValType → FuncTypeValue
+  func_type_with ps rs = record { params = ps; results = rs }
+
+  pub func_type_agrees : (t : FuncTypeValue) → Agree (func_type_refs t)
+      → renumber_func_type second (renumber_func_type first t) ≡ renumber_func_type both t
+  func_type_agrees t h =
+      let p = split_all (Agrees first second both) (val_type_refs t.params) (val_type_refs t.results) h in
+      ap (λ ps. func_type_with ps (map (renumber_val_type second) (map (renumber_val_type first) t.results))) (types_agree t.params p.0)
+      ∙ ap (func_type_with (map (renumber_val_type both) t.params)) (types_agree t.results p.1)
+
+  abbrev table_type_with : TableType → ValType → TableType
+  table_type_with t e = record { element_type = e; table64 = t.table64; initial = t.initial; maximum = t.maximum }
+
+  abbrev table_with : TableValue → TableType → TableValue
+  table_with t ty = record { ty = ty; def = t.def }
+
+  pub table_agrees : (t : TableValue) → Agree (val_type_refs (t.ty.element_type ∷ [])) → new_table second (new_table first t) ≡ new_table both t
+  table_agrees t h = ap (λ e. table_with t (table_type_with t.ty e)) (one_type_agrees t.ty.element_type h)
+
   immediates_agree : (v : ImmediatesValue) → Agree (type_items (type_refs_of v) ++ refs_list (refs_of v))
       → renumber_immediates second (renumber_immediates first v)
       ≡ renumber_immediates both v
@@ -117,23 +142,63 @@ module _ (first second both : Renumbering) where
       ap (λ v. instr_with i v ∷ renumber_code second (renumber_code first is)) (immediates_agree i.immediates p.0)
       ∙ ap (λ js. renumber_instr both i ∷ js) (code_agrees is p.1)
 
-  abbrev body_with : BodyValue → List InstrValue → BodyValue
-  body_with b is = record { locals = b.locals; operators = is }
+  abbrev locals_with : Locals → ValType → Locals
+  locals_with l t = record { count = l.count; ty = t }
 
-  pub body_agrees : (b : BodyValue) → Agree (code_refs b.operators) → renumber_body second (renumber_body first b) ≡ renumber_body both b
-  body_agrees b h = ap (body_with b) (code_agrees b.operators h)
+  locals_agree : (ls : List Locals) → Agree (val_type_refs (local_types ls))
+      → map (renumber_locals second) (map (renumber_locals first) ls) ≡ map (renumber_locals both) ls
+  locals_agree [] h = refl
+  locals_agree (l ∷ ls) h =
+      let p = first_type (type_index l.ty) (type_indices (local_types ls)) h in
+      ap (λ t. locals_with l t ∷ map (renumber_locals second) (map (renumber_locals first) ls)) (type_agrees l.ty p.0)
+      ∙ ap (λ ks. renumber_locals both l ∷ ks) (locals_agree ls p.1)
+
+  abbrev body_with : List Locals → List InstrValue → BodyValue
+  body_with ls is = record { locals = ls; operators = is }
+
+  pub body_agrees : (b : BodyValue) → Agree (code_body_refs b) → renumber_body second (renumber_body first b) ≡ renumber_body both b
+  body_agrees b h =
+      let p = split_all (Agrees first second both) (val_type_refs (local_types b.locals)) (code_refs b.operators) h in
+      ap (λ ls. body_with ls (renumber_code second (renumber_code first b.operators))) (locals_agree b.locals p.0)
+      ∙ ap (body_with (map (renumber_locals both) b.locals)) (code_agrees b.operators p.1)
 
   init_agrees : (o : Option (List InstrValue)) → Agree (init_refs o) → new_init second (option_map (renumber_code first) o) ≡ new_init both o
   init_agrees None h = refl
   init_agrees (Some is) h = code_agrees is h
 
-  global_def : (d : DefValue (Option (List InstrValue))) → Agree (def_refs init_refs d)
-      → def_seen (new_init second) (def_seen (option_map (renumber_code first)) d) ≡ def_seen (new_init both) d
-  global_def (imported a b) h = refl
-  global_def (local o) h = ap local (init_agrees o h)
+  init_twice : (o : Option (List InstrValue)) → Agree (init_refs o)
+      → option_map (renumber_code second) (option_map (renumber_code first) o) ≡ option_map (renumber_code both) o
+  init_twice None h = refl
+  init_twice (Some is) h = ap Some (code_agrees is h)
 
-  abbrev global_with : GlobalCode → DefValue (List InstrValue) → ItemValue GlobalType (List InstrValue)
-  global_with g d = record { ty = g.ty; def = d }
+  def_agrees : {C E : Type 0} (f : C → C) (g g' : C → E) (refs : C → List ItemIndex) → ((c : C) → Agree (refs c) → g (f c) ≡ g' c)
+      → (d : DefValue C) → Agree (def_refs refs d) → def_seen g (def_seen f d) ≡ def_seen g' d
+  def_agrees f g g' refs each (imported a b) h = refl
+  def_agrees f g g' refs each (local c) h = ap local (each c h)
 
-  pub global_agrees : (g : GlobalCode) → Agree (def_refs init_refs g.def) → new_global second (renumber_global first g) ≡ new_global both g
-  global_agrees g h = ap (global_with g) (global_def g.def h)
+  abbrev global_type_with : GlobalType → ValType → GlobalType
+  global_type_with g t = record { content_type = t; mutable = g.mutable }
+
+  global_type_agrees : (g : GlobalType) → Agree (val_type_refs (g.content_type ∷ []))
+      → renumber_global_type second (renumber_global_type first g) ≡ renumber_global_type both g
+  global_type_agrees g h = ap (global_type_with g) (one_type_agrees g.content_type h)
+
+  abbrev global_with : {C : Type 0} → GlobalType → DefValue C → ItemValue GlobalType C
+  global_with ty d = record { ty = ty; def = d }
+
+  -- a global whose type and initialiser agree
+  item_agrees : {E : Type 0} (g g' : Option (List InstrValue) → E)
+      → ((o : Option (List InstrValue)) → Agree (init_refs o) → g (option_map (renumber_code first) o) ≡ g' o) → (x : GlobalCode) → Agree (global_refs x)
+      → global_with (renumber_global_type second (renumber_global_type first x.ty)) (def_seen g (def_seen (option_map (renumber_code first)) x.def))
+      ≡ global_with (renumber_global_type both x.ty) (def_seen g' x.def)
+  item_agrees g g' each x h =
+      let p = split_all (Agrees first second both) (val_type_refs (x.ty.content_type ∷ [])) (def_refs init_refs x.def) h in
+      ap (λ ty. global_with ty (def_seen g (def_seen (option_map (renumber_code first)) x.def))) (global_type_agrees x.ty p.0)
+      ∙ ap (global_with (renumber_global_type both x.ty)) (def_agrees (option_map (renumber_code first)) g g' init_refs each x.def p.1)
+
+  pub global_agrees : (g : GlobalCode) → Agree (global_refs g) → new_global second (renumber_global first g) ≡ new_global both g
+  global_agrees g h = item_agrees (new_init second) (new_init both) init_agrees g h
+
+  -- and so where it is renumbered in the module itself
+  pub global_twice : (g : GlobalCode) → Agree (global_refs g) → renumber_global second (renumber_global first g) ≡ renumber_global both g
+  global_twice g h = item_agrees (option_map (renumber_code second)) (option_map (renumber_code both)) init_twice g h

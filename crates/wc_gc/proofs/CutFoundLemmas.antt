@@ -13,13 +13,14 @@ use Rattle.std.proofs.lemmas.Option.{slice_get-map}
 use Rattle.std.proofs.lemmas.Slice.Eq.{bytes_eq-Decides}
 use Rattle.wc_read.specs.Exports.{ExportValue}
 use Rattle.wc_read.specs.Names.{GlobalNameValue}
+use Rattle.wc_read.specs.Renumbering.{renumber_func_type}
 use Rattle.wc_read.specs.declared.operators.Space.TheVariants.{Types, Funcs, Tables, Memories, Globals}
 use Rattle.wc_gc.specs.Counts.{count_below}
 use Rattle.wc_gc.specs.Cut.{cut_of, ranks_named, part_names}
 use Rattle.wc_gc.specs.Decoded.{DecodedModule, FuncCode, GlobalCode, ItemIndex}
 use Rattle.wc_gc.specs.Found.{FoundValue, allocation_state, found_in, has_name, is_empty_type, is_empty_type_at, is_mutable_i32, is_mutable_i32_at}
 use Rattle.wc_gc.specs.Found.{is_named_at, is_realloc, is_realloc_at, stack_pointer}
-use Rattle.wc_gc.specs.Image.{kept_items, kept_of, new_export, rank, renumber_body}
+use Rattle.wc_gc.specs.Image.{kept_items, kept_of, new_export, new_table, rank, renumber_body}
 use Rattle.wc_gc.specs.Parts.{SettingsValue, parts_of}
 use Rattle.wc_gc.specs.Traces.{all_items}
 use Rattle.wc_gc.specs.Unfolding.{renumber_func, renumber_global}
@@ -32,6 +33,7 @@ use Rattle.wc_gc.proofs.EditedIndexLemmas.{both_true}
 use Rattle.wc_gc.proofs.FoundLemmas.{realloc_seen}
 use Rattle.wc_gc.proofs.KeptItemLemmas.{get_some, kept_count, rank_at}
 use Rattle.wc_gc.proofs.RankLawLemmas.{counts_differ}
+use Rattle.wc_gc.proofs.TypeTestLemmas.{empty_type_under, mutable_under}
 
 -- a range
 
@@ -163,9 +165,9 @@ pub record AreRanks (live : ItemIndex → Bool) (f g : FoundValue) : Type 0 wher
 module _ (m : DecodedModule) (exports : List ExportValue) (live : ItemIndex → Bool) where
   abbrev pub cut : DecodedModule
   cut = record {
-    types = kept_of m live Types m.types;
+    types = map (renumber_func_type (rank live)) (kept_of m live Types m.types);
     funcs = map (renumber_func (rank live)) (kept_of m live Funcs m.funcs);
-    tables = kept_of m live Tables m.tables;
+    tables = map (new_table (rank live)) (kept_of m live Tables m.tables);
     memories = kept_of m live Memories m.memories;
     globals = map (renumber_global (rank live)) (kept_of m live Globals m.globals);
     exports = map (new_export (rank live)) exports;
@@ -182,13 +184,13 @@ module _ (m : DecodedModule) (exports : List ExportValue) (live : ItemIndex → 
   -- the sizes of spaces
 
   pub types_kept : length cut.types ≡ rank live Types (length m.types)
-  types_kept = kept_count (λ n. live (Types, n)) m.types
+  types_kept = length-map (kept_of m live Types m.types) (renumber_func_type (rank live)) ∙ kept_count (λ n. live (Types, n)) m.types
 
   pub funcs_kept : length cut.funcs ≡ rank live Funcs (length m.funcs)
   funcs_kept = length-map (kept_of m live Funcs m.funcs) (renumber_func (rank live)) ∙ kept_count (λ n. live (Funcs, n)) m.funcs
 
   pub tables_kept : length cut.tables ≡ rank live Tables (length m.tables)
-  tables_kept = kept_count (λ n. live (Tables, n)) m.tables
+  tables_kept = length-map (kept_of m live Tables m.tables) (new_table (rank live)) ∙ kept_count (λ n. live (Tables, n)) m.tables
 
   pub memories_kept : length cut.memories ≡ rank live Memories (length m.memories)
   memories_kept = kept_count (λ n. live (Memories, n)) m.memories
@@ -207,7 +209,7 @@ module _ (m : DecodedModule) (exports : List ExportValue) (live : ItemIndex → 
   mutable_at : (n : ℕ) → n < length m.globals → live (Globals, n) ≡ true → is_mutable_i32_at cut (rank live Globals n) ≡ is_mutable_i32_at m n
   mutable_at n l h =
       test_seen (λ k. live (Globals, k)) m.globals n l h (λ (g : GlobalCode). is_mutable_i32 g.ty) (λ (g : GlobalCode). is_mutable_i32 g.ty)
-      (renumber_global (rank live)) (λ g. refl)
+      (renumber_global (rank live)) (λ g. mutable_under (rank live) g.ty)
 
   abbrev name_of : ℕ → Option (List ℕ)
   name_of n = cond (is_named_at m stack_pointer n) (Some stack_pointer) (cond (is_named_at m allocation_state n) (Some allocation_state) None)
@@ -248,7 +250,8 @@ module _ (m : DecodedModule) (exports : List ExportValue) (live : ItemIndex → 
       (renumber_func (rank live)) (λ f. realloc_seen (option_map (renumber_body (rank live))) f.def)
 
   empty_at : (n : ℕ) → n < length m.types → live (Types, n) ≡ true → is_empty_type_at cut (rank live Types n) ≡ is_empty_type_at m n
-  empty_at n l h = test_at (λ k. live (Types, k)) m.types n l h is_empty_type
+  empty_at n l h =
+      test_seen (λ k. live (Types, k)) m.types n l h is_empty_type is_empty_type (renumber_func_type (rank live)) (empty_type_under (rank live))
 
   -- what is sought, in a space
   moved : (has old new : ℕ → Bool) (size kept : ℕ) → kept ≡ count_below has size → AreSameTests has size old new → filter new (range_with_len 0 kept)

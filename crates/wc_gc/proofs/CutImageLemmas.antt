@@ -10,16 +10,14 @@ use Rattle.std.proofs.lemmas.List.Elements.{recursion_from_All}
 use Rattle.std.proofs.lemmas.Option.{slice_get-map}
 use Rattle.wc_read.specs.Bodies.{BodyValue}
 use Rattle.wc_read.specs.Exports.{ExportValue}
-use Rattle.wc_read.specs.Items.{DefValue, ItemValue, MemoryValue, TableValue, imported, local}
+use Rattle.wc_read.specs.Items.{DefValue, ItemValue, TableValue, imported, local}
 use Rattle.wc_read.specs.Types.{FuncTypeValue}
 use Rattle.wc_read.specs.Operators.{InstrValue}
-use Rattle.wc_read.specs.Renumbering.{Renumbering}
+use Rattle.wc_read.specs.Renumbering.{Renumbering, renumber_func_type}
 use Rattle.wc_read.specs.declared.exports.ExportKind.{ExportKind}
 use Rattle.wc_read.specs.declared.exports.ExportKind.TheVariants.{Func, Table, Memory, Global}
-use Rattle.wc_read.specs.declared.operators.Space.TheVariants.{Types, Funcs, Memories, Globals}
-use Rattle.wc_read.specs.declared.types.GlobalType.{GlobalType}
+use Rattle.wc_read.specs.declared.operators.Space.TheVariants.{Types, Funcs, Tables, Memories, Globals}
 use Rattle.wc_write.specs.BuiltValues.{def_seen}
-use Rattle.wc_write.specs.ModuleText.{BuiltValue}
 use Rattle.wc_gc.specs.AddedCode.{call, growing_body, stack_body}
 use Rattle.wc_gc.specs.Decoded.{DecodedModule, FuncCode, GlobalCode, ItemIndex, exported_item}
 use Rattle.wc_gc.specs.Edited.{EditedModule, added_imports, added_funcs, added_types, allocation_code, called_realloc, edit, edited_by, edited_def}
@@ -27,9 +25,10 @@ use Rattle.wc_gc.specs.Edited.{growing_code, growing_func, growing_position, imp
 use Rattle.wc_gc.specs.Edited.{memory_of, only_if, replaced, stack_of, start_func, start_of, start_position, start_type, state_of, types_added}
 use Rattle.wc_gc.specs.Edited.{with_call}
 use Rattle.wc_gc.specs.EditedImage.{edited_image, edited_rank, is_kept_defined, is_kept_import}
-use Rattle.wc_gc.specs.Entries.{body_refs, code_refs, def_refs, entry_refs, func_entry, func_refs, global_entry, init_refs, no_entry}
+use Rattle.wc_gc.specs.Entries.{body_refs, code_body_refs, def_refs, entry_refs, func_entry, func_refs, func_type_refs, global_entry, global_refs}
+use Rattle.wc_gc.specs.Entries.{no_entry, table_entry, type_entry, val_type_refs}
 use Rattle.wc_gc.specs.Found.{FoundValue, found_in, is_realloc, main_module}
-use Rattle.wc_gc.specs.Image.{kept_items, kept_of, new_body, new_export, new_global, rank, renumber_body}
+use Rattle.wc_gc.specs.Image.{kept_items, kept_of, new_body, new_export, new_global, new_table, rank, renumber_body}
 use Rattle.wc_gc.specs.Image.{new_func as func_under}
 use Rattle.wc_gc.specs.Parts.{SettingsValue, first_of, last_of, parts_of}
 use Rattle.wc_gc.specs.Traces.{AreClosed, ImageIsOfCut, all_items}
@@ -37,7 +36,7 @@ use Rattle.wc_gc.specs.Unfolding.{renumber_func, renumber_global}
 use Rattle.wc_gc.specs.declared.parts.Parts.{Parts}
 use Rattle.wc_gc.proofs.AddedUnderLemmas.{growing_under, last_has, stack_under}
 use Rattle.wc_gc.proofs.BuiltPartLemmas.{each_weaker}
-use Rattle.wc_gc.proofs.CutCodeLemmas.{Agrees, body_agrees, global_agrees}
+use Rattle.wc_gc.proofs.CutCodeLemmas.{Agrees, body_agrees, func_type_agrees, global_agrees, table_agrees}
 use Rattle.wc_gc.proofs.CutFoundLemmas.{AreRanks, cut, cut_is, found_moved, parts_same, same_length}
 use Rattle.wc_gc.proofs.CutListLemmas.{edited_moved, keep_all}
 use Rattle.wc_gc.proofs.CutRankLemmas.{added_same, added_type_same, defined_same, global_same, imports_same, memory_same, new_edit, new_func}
@@ -45,6 +44,7 @@ use Rattle.wc_gc.proofs.CutRankLemmas.{old_edit, old_func, ranks_same}
 use Rattle.wc_gc.proofs.ImageLemmas.{all_kept, map_twice}
 use Rattle.wc_gc.proofs.RankLawLemmas.{counts_differ}
 use Rattle.wc_gc.proofs.TrimLemmas.{bools}
+use Rattle.wc_gc.proofs.TypeTestLemmas.{added_types_stay}
 
 -- lists
 
@@ -58,6 +58,16 @@ last_mapped g xs ys e =
 pub both_mapped : {A B : Type 0} (f g : A → B) (xs : List A) → AllByRecursion (λ x. f x ≡ g x) xs → map f xs ≡ map g xs
 both_mapped f g [] h = refl
 both_mapped f g (x ∷ xs) h = ap (λ y. y ∷ map f xs) h.0 ∙ ap (λ ys. g x ∷ ys) (both_mapped f g xs h.1)
+
+-- what is kept of a list, mapped twice
+pub kept_twice : {A B C : Type 0} (has : ℕ → Bool) (xs : List A) (first : A → B) (second : B → C) (both : A → C)
+    → ((n : ℕ) (x : A) → has n ≡ true → slice_get xs n ≡ Some x → second (first x) ≡ both x)
+    → map second (map first (kept_items has (length xs) xs)) ≡ map both (kept_items has (length xs) xs)
+kept_twice has xs first second both each =
+    let kept = kept_items has (length xs) xs in
+    map_twice first second kept
+    ∙ both_mapped (λ x. second (first x)) both kept
+    (recursion_from_All (λ x. second (first x) ≡ both x) kept (all_kept (λ x. second (first x) ≡ both x) has xs each (length xs)))
 
 module _ (s : SettingsValue) (m : DecodedModule) (exports : List ExportValue) (live : ItemIndex → Bool) (k : AreClosed m exports live) (p : Parts)
     (f g : FoundValue) (a : AreRanks live f g) where
@@ -98,10 +108,21 @@ module _ (s : SettingsValue) (m : DecodedModule) (exports : List ExportValue) (l
       all_same (func_refs x)
       (subst (λ o. AllByRecursion (λ y. live y ≡ true) (entry_refs (option_map_or func_entry o no_entry))) at (k.named (Funcs, n) h))
 
-  global_names : (n : ℕ) (x : GlobalCode) → slice_get m.globals n ≡ Some x → live (Globals, n) ≡ true → AllByRecursion Same (def_refs init_refs x.def)
+  global_names : (n : ℕ) (x : GlobalCode) → slice_get m.globals n ≡ Some x → live (Globals, n) ≡ true → AllByRecursion Same (global_refs x)
   global_names n x at h =
-      all_same (def_refs init_refs x.def)
+      all_same (global_refs x)
       (subst (λ o. AllByRecursion (λ y. live y ≡ true) (entry_refs (option_map_or global_entry o no_entry))) at (k.named (Globals, n) h))
+
+  type_names : (n : ℕ) (x : FuncTypeValue) → slice_get m.types n ≡ Some x → live (Types, n) ≡ true → AllByRecursion Same (func_type_refs x)
+  type_names n x at h =
+      all_same (func_type_refs x)
+      (subst (λ o. AllByRecursion (λ y. live y ≡ true) (entry_refs (option_map_or type_entry o no_entry))) at (k.named (Types, n) h))
+
+  table_names : (n : ℕ) (x : TableValue) → slice_get m.tables n ≡ Some x → live (Tables, n) ≡ true
+      → AllByRecursion Same (val_type_refs (x.ty.element_type ∷ []))
+  table_names n x at h =
+      all_same (val_type_refs (x.ty.element_type ∷ []))
+      (subst (λ o. AllByRecursion (λ y. live y ≡ true) (entry_refs (option_map_or table_entry o no_entry))) at (k.named (Tables, n) h))
 
   -- whether a function is exported
 
@@ -283,7 +304,7 @@ module _ (s : SettingsValue) (m : DecodedModule) (exports : List ExportValue) (l
   abbrev body_with : InstrValue → BodyValue → BodyValue
   body_with i b = record { locals = b.locals; operators = i ∷ b.operators }
 
-  called_body : (x : BodyValue) → AllByRecursion Same (code_refs x.operators) → (b : Bool)
+  called_body : (x : BodyValue) → AllByRecursion Same (code_body_refs x) → (b : Bool)
       → new_body D (cond b (option_map (with_call (K + lazy_position p)) (option_map (renumber_body R) (Some x)))
       (option_map (renumber_body R) (Some x))) ≡ new_body E (cond b (option_map (with_call (L + lazy_position p)) (Some x)) (Some x))
   called_body x h true =
@@ -347,18 +368,28 @@ module _ (s : SettingsValue) (m : DecodedModule) (exports : List ExportValue) (l
       (λ n x at h. ((defined_same s m exports live k p f g).same n (k.there (Funcs, n) h) h, old_is n x at h))
       (defined_same s m exports live k p f g).none
 
-  -- globals, exports
+  -- types, tables, globals, exports
+
+  types_kept : map (renumber_func_type D) (kept_of (cut m exports live) all_items Types (cut m exports live).types)
+      ≡ map (renumber_func_type E) (kept_of m live Types m.types)
+  types_kept =
+      ap (map (renumber_func_type D)) (keep_all (cut m exports live).types)
+      ∙ kept_twice (λ n. live (Types, n)) m.types (renumber_func_type R) (renumber_func_type D) (renumber_func_type E)
+      (λ n x h at. func_type_agrees R D E x (type_names n x at h))
+
+  tables_is : map (new_table D) (kept_of (cut m exports live) all_items Tables (cut m exports live).tables)
+      ≡ map (new_table E) (kept_of m live Tables m.tables)
+  tables_is =
+      ap (map (new_table D)) (keep_all (cut m exports live).tables)
+      ∙ kept_twice (λ n. live (Tables, n)) m.tables (new_table R) (new_table D) (new_table E)
+      (λ n x h at. table_agrees R D E x (table_names n x at h))
 
   globals_is : map (new_global D) (kept_of (cut m exports live) all_items Globals (cut m exports live).globals)
       ≡ map (new_global E) (kept_of m live Globals m.globals)
   globals_is =
-      let kept = kept_of m live Globals m.globals in
       ap (map (new_global D)) (keep_all (cut m exports live).globals)
-      ∙ (map_twice (renumber_global R) (new_global D) kept
-      ∙ both_mapped (λ x. new_global D (renumber_global R x)) (new_global E) kept
-      (recursion_from_All (λ x. new_global D (renumber_global R x) ≡ new_global E x) kept
-      (all_kept (λ x. new_global D (renumber_global R x) ≡ new_global E x) (λ n. live (Globals, n)) m.globals
-      (λ n x h at. global_agrees R D E x (global_names n x at h)) (length m.globals))))
+      ∙ kept_twice (λ n. live (Globals, n)) m.globals (renumber_global R) (new_global D) (new_global E)
+      (λ n x h at. global_agrees R D E x (global_names n x at h))
 
   one_export : (kind : ExportKind) (name : List ℕ) (i : ℕ) → live (exported_item (record { name = name; kind = kind; index = i })) ≡ true
       → new_export D (new_export R (record { name = name; kind = kind; index = i })) ≡ new_export E (record { name = name; kind = kind; index = i })
@@ -375,30 +406,18 @@ module _ (s : SettingsValue) (m : DecodedModule) (exports : List ExportValue) (l
 
   -- added types, and all together
 
-  types_is : added_types p g ≡ added_types p f
-  types_is = ap (λ (n : ℕ). types_added p (n == 0)) (same_length f.empties g.empties (R Types) a.empties)
-
-  abbrev image_by : (types : List FuncTypeValue) (i j u v : List (ItemValue ℕ BodyValue)) (tables : List TableValue) (memories : List MemoryValue)
-      (globals : List (ItemValue GlobalType (List InstrValue))) (exports : List ExportValue) (start : Option ℕ) → BuiltValue
-  image_by types i j u v tables memories globals exports start = record {
-    types = types;
-    funcs = i ++ (j ++ (u ++ v));
-    tables = tables;
-    memories = memories;
-    globals = globals;
-    exports = exports;
-    start = start;
-    producers = m.producers;
-  }
+  types_is : map (renumber_func_type D) (added_types p g) ≡ map (renumber_func_type E) (added_types p f)
+  types_is =
+      added_types_stay D p g
+      ∙ (ap (λ (n : ℕ). types_added p (n == 0)) (same_length f.empties g.empties (R Types) a.empties) ∙ sym (added_types_stay E p f))
 
   pub image_is : edited_image O ≡ edited_image N
   unfolding edited_image
   image_is =
       rw (
-        keep_all (cut m exports live).types,
-        keep_all (cut m exports live).tables,
-        keep_all
-            (cut m exports live).memories,
+        types_kept,
+        tables_is,
+        keep_all (cut m exports live).memories,
         types_is,
         globals_is,
         exports_is,

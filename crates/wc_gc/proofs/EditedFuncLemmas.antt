@@ -15,7 +15,7 @@ use Rattle.wc_read.specs.Exports.{ExportValue}
 use Rattle.wc_read.specs.Imports.{ImportValue}
 use Rattle.wc_read.specs.Items.{DefValue, imported, local, ItemValue, FuncValue}
 use Rattle.wc_read.specs.Modules.{ModuleValue, IsModule}
-use Rattle.wc_read.specs.Renumbering.{Renumbering}
+use Rattle.wc_read.specs.Renumbering.{Renumbering, renumber_func_type, renumber_val_type}
 use Rattle.wc_read.specs.declared.types.ImportType.TheVariants.{Func, Table, Memory, Global}
 use Rattle.wc_read.specs.declared.operators.Space.TheVariants.{Types, Funcs, Memories, Globals}
 use Rattle.wc_read.proofs.DecodingLemmas.{body_spelled}
@@ -39,7 +39,7 @@ use Rattle.wc_gc.specs.Soundness.{is_sound_body, is_sound_def}
 use Rattle.wc_gc.specs.declared.parts.Parts.{Parts}
 use Rattle.wc_gc.proofs.AddedBodyLemmas.{growing_is_body, stack_is_body}
 use Rattle.wc_gc.proofs.AddedUnderLemmas.{called_is_body, first_has, first_rank, growing_under, last_has, main_is_name, members, stack_under}
-use Rattle.wc_gc.proofs.BuiltImageLemmas.{AreFuncs, AreKept, AreSound, IsStartOf, func_sound, func_typed, kept_in, type_kept}
+use Rattle.wc_gc.proofs.BuiltImageLemmas.{AreFuncs, AreKept, AreSound, IsStartOf, func_sound, func_typed, kept_in, type_kept, types_written}
 use Rattle.wc_gc.proofs.BuiltPartLemmas.{all_at, each_weaker, seen_imported}
 use Rattle.wc_gc.proofs.EditedIndexLemmas.{both_true, added_few, added_new, added_type, cond_has, edited, funcs_written, kept_defined, kept_imports, new, new_keeps, old_type, olds, was_read}
 use Rattle.wc_gc.proofs.ImageLemmas.{all_kept}
@@ -108,22 +108,6 @@ pub all_only : {A : Type 0} (P : A → Type 0) (b : Bool) (x : A) → (b ≡ tru
 all_only P true x h = (h refl, tt)
 all_only P false x h = tt
 
--- types that are added can be spelled
-
-empty_spelled : IsFuncType empty_type
-empty_spelled = (All-nil IsValType, All-nil IsValType)
-
-realloc_spelled : IsFuncType realloc_type
-realloc_spelled = (All-from_recursion IsValType realloc_type.params (tt, (tt, (tt, (tt, tt)))), All-from_recursion IsValType realloc_type.results (tt, tt))
-
-pub added_types_spelled : (p : Parts) (no_empty : Bool) → All IsFuncType (types_added p no_empty)
-added_types_spelled p no_empty =
-    All-from_recursion IsFuncType (types_added p no_empty)
-    (all_joined IsFuncType (only_if p.import_realloc realloc_type) _ (all_only IsFuncType p.import_realloc realloc_type (λ h. realloc_spelled))
-    (all_joined IsFuncType (only_if p.lazy empty_type) _ (all_only IsFuncType p.lazy empty_type (λ h. empty_spelled))
-    (all_joined IsFuncType (only_if p.growing realloc_type) _ (all_only IsFuncType p.growing realloc_type (λ h. realloc_spelled))
-    (all_only IsFuncType (p.start && no_empty) empty_type (λ h. empty_spelled)))))
-
 pub only_count : {A : Type 0} (b : Bool) (x : A) → length (only_if b x) ≡ one_if b
 only_count true x = refl
 only_count false x = refl
@@ -186,11 +170,11 @@ module _ (s : SettingsValue) (m : ModuleValue) (exports : List ExportValue) (liv
   abbrev found : FoundValue
   found = found_in (decode m) live
 
-  abbrev types : List FuncTypeValue
-  types = kept_in live Types m.types ++ added_types p found
-
   abbrev ranks : Renumbering
   ranks = new s m exports live p found
+
+  abbrev types : List FuncTypeValue
+  types = types_written m live ranks ++ added_types p found
 
   abbrev written : List (ItemValue ℕ BodyValue)
   written = funcs_written s m exports live p found
@@ -202,7 +186,11 @@ module _ (s : SettingsValue) (m : ModuleValue) (exports : List ExportValue) (liv
   L = length (decode m).funcs
 
   types_long : length types ≡ rank live Types T + length (added_types p found)
-  types_long = let a = length-append (kept_in live Types m.types) (added_types p found) in let b = kept_count (λ n. live (Types, n)) m.types in omega (arith, a, b)
+  types_long =
+      let a = length-append (types_written m live ranks) (added_types p found) in
+      let b = kept_count (λ n. live (Types, n)) m.types in
+      let c = length-map (kept_in live Types m.types) (renumber_func_type ranks) in
+      omega (arith, a, b, c)
 
   -- what was found
 
@@ -315,8 +303,9 @@ module _ (s : SettingsValue) (m : ModuleValue) (exports : List ExportValue) (liv
         let below = func_typed m exports live w items v k sound n g e in
         let r = type_kept m exports live w items v k sound n g l e in
         let same = old_type s m exports live p found g.ty below in
-        let all = length-append (kept_in live Types m.types) (added_types p found) in
-        omega (arith, same, r, all)
+        let all = length-append (types_written m live ranks) (added_types p found) in
+        let as_many = length-map (kept_in live Types m.types) (renumber_func_type ranks) in
+        omega (arith, same, r, all, as_many)
 
     old_written : (n : ℕ) (h : FuncCode) → live (Funcs, n) ≡ true → slice_get (olds s m exports live p found) n ≡ Some h → IsWritten types (new_func ranks h)
     old_written n h l e =
@@ -363,10 +352,13 @@ module _ (s : SettingsValue) (m : ModuleValue) (exports : List ExportValue) (liv
     empty_at n (Some t) e h l below =
         let both = both_true (is_empty t.params) (is_empty t.results) h in
         record {
-          ty = t;
-          at = ap (slice_get types) (old_type s m exports live p found n below) ∙ get_front (kept_in live Types m.types) (added_types p found) (rank live Types n) t (rank_at (λ n. live (Types, n)) m.types n t e l);
-          no_params = empty_is t.params both.0;
-          no_results = empty_is t.results both.1;
+          ty = renumber_func_type ranks t;
+          at = ap (slice_get types) (old_type s m exports live p found n below)
+              ∙ get_front (types_written m live ranks) (added_types p found) (rank live Types n) (renumber_func_type ranks t)
+              (slice_get-map (renumber_func_type ranks) (kept_in live Types m.types) (rank live Types n)
+              ∙ ap (option_map (renumber_func_type ranks)) (rank_at (λ n. live (Types, n)) m.types n t e l));
+          no_params = ap (map (renumber_val_type ranks)) (empty_is t.params both.0);
+          no_results = ap (map (renumber_val_type ranks)) (empty_is t.results both.1);
         }
 
     empties_are : IfSome (last_of found.empties) (λ n. ((live (Types, n) && is_empty_type_at (decode m) n) ≡ true) × (n < T))
@@ -379,8 +371,8 @@ module _ (s : SettingsValue) (m : ModuleValue) (exports : List ExportValue) (liv
         empty_at n (slice_get m.types n) refl both.1 both.0 is.1
     start_empty_by h None e is =
         let none : (p.start && is_empty found.empties) ≡ true = ap (λ (b : Bool). b && is_empty found.empties) h ∙ none_last found.empties e in
-        let ks = kept_in live Types m.types in
-        let kept = kept_count (λ n. live (Types, n)) m.types in
+        let ks = types_written m live ranks in
+        let kept = length-map (kept_in live Types m.types) (renumber_func_type ranks) ∙ kept_count (λ n. live (Types, n)) m.types in
         let index : ranks Types (T + start_position p) ≡ length ks + start_position p = (let at = added_type s m exports live p found (start_position p) in omega (arith, at, kept)) in
         record {
           ty = empty_type;

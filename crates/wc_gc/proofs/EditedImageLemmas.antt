@@ -14,7 +14,7 @@ use Rattle.wc_read.specs.Operators.{InstrValue}
 use Rattle.wc_read.specs.Bodies.{BodyValue}
 use Rattle.wc_read.specs.Decoding.{body_in, init_in}
 use Rattle.wc_read.specs.Items.{DefValue, imported, local, ItemValue, func_value, global_value, table_value, memory_value}
-use Rattle.wc_read.specs.Renumbering.{Renumbering}
+use Rattle.wc_read.specs.Renumbering.{Renumbering, renumber_func_type}
 use Rattle.wc_read.specs.declared.core_module.Module.{Module}
 use Rattle.wc_read.specs.declared.items.Item.{Item}
 use Rattle.wc_read.specs.declared.types.GlobalType.{GlobalType}
@@ -30,7 +30,7 @@ use Rattle.wc_gc.specs.EditedImage.{edited_image, edited_rank, is_kept_defined, 
 use Rattle.wc_gc.specs.Edits.{AreCoded, edited_of, edited_at, found_of, funcs_added, funcs_of, imports_added, live_funcs, new_funcs, new_indices, settings_of, types_of}
 use Rattle.wc_gc.specs.Found.{FoundValue, is_realloc, main_module}
 use Rattle.wc_gc.specs.FuncGroups.{AreGroups, has_func, is_import_after, is_in_group}
-use Rattle.wc_gc.specs.Image.{kept_items, new_export, new_func, new_global}
+use Rattle.wc_gc.specs.Image.{kept_items, new_export, new_func, new_global, new_table}
 use Rattle.wc_gc.specs.NewIndices.{AreRanksOf, new_of}
 use Rattle.wc_gc.specs.Parts.{SettingsValue}
 use Rattle.wc_gc.specs.Ranks.{has_number}
@@ -41,6 +41,7 @@ use Rattle.wc_gc.specs.declared.new_indices.NewIndices.{NewIndices}
 use Rattle.wc_gc.specs.declared.parts.Parts.{Parts}
 use Rattle.wc_gc.proofs.FoundLemmas.{size_is}
 use Rattle.wc_gc.proofs.ImageLemmas.{enumerated, enumerated_map, kept_mapped, live_coded, map_twice}
+use Rattle.wc_gc.proofs.TypeTestLemmas.{added_types_stay}
 
 -- a function that was edited is imported where it was, but for a realloc that becomes a growing realloc
 
@@ -198,29 +199,45 @@ module _ (edit : Edit) (a : Module) (exports : List ExportValue) (live : ItemInd
       ∙ ap (λ (k : ℕ). map (new_func (edited_rank (edited_of edit (decoded_module a) exports live))) (added_funcs (length (decoded_module a).types) k (settings_of edit) edit.parts (found_of edit))) (funcs ∙ sym (size_is a Funcs)))
 
   pub edited_image_is : {L : Type 0} (has : L → ℕ → Bool) (g : FuncGroups L) → AreGroups has (settings_of edit) a.funcs.items (λ n. live (Funcs, n)) exports g
-      → (ts : List FuncTypeValue) → ts ≡ kept_items (λ n. live (Types, n)) (length a.types.items) (map func_type_value a.types.items) ++ added_types edit.parts (found_of edit)
+      → (ts : List FuncTypeValue)
+      → ts ≡ map (renumber_func_type (new_indices edit)) (kept_items (λ n. live (Types, n)) (length a.types.items) (map func_type_value a.types.items))
+      ++ added_types edit.parts (found_of edit)
       → (fs : List (ItemValue ℕ BodyValue)) → fs ≡ live_funcs edit (has g.imports) (has g.exported) a.funcs.items ++ (new_funcs edit (imports_added edit) ++ (live_funcs edit (has g.defined) (has g.exported) a.funcs.items ++ new_funcs edit (funcs_added edit)))
-      → (bs : List (Item TableType ⊤)) → bs ≡ kept_items (λ n. live (Tables, n)) (length a.tables.items) a.tables.items
+      → (tables bs : List (Item TableType ⊤)) → bs ≡ kept_items (λ n. live (Tables, n)) (length a.tables.items) a.tables.items
+      → map table_value tables ≡ map (new_table (new_indices edit)) (map table_value bs)
       → (ms : List (Item MemoryType ⊤)) → ms ≡ kept_items (λ n. live (Memories, n)) (length a.memories.items) a.memories.items
       → (globals : List (ItemValue GlobalType (List InstrValue))) (gs : List (Item GlobalType (Bor (List ℕ)))) → gs ≡ kept_items (λ n. live (Globals, n)) (length a.globals.items) a.globals.items
       → globals ≡ map (λ g. new_global (new_indices edit) (global_code g)) gs
       → (exps : List ExportValue) → exps ≡ map (new_export (new_indices edit)) exports
       → (start : Option ℕ) → start ≡ option_map (new_indices edit Funcs) (start_of (funcs_of edit) edit.parts)
-      → record { types = ts; funcs = fs; tables = map table_value bs; memories = map memory_value ms; globals = globals; exports = exps; start = start; producers = option_map (λ b. b.now) a.producers }
+      → record {
+        types = ts;
+        funcs = fs;
+        tables = map table_value tables;
+        memories = map memory_value ms;
+        globals = globals;
+        exports = exps;
+        start = start;
+        producers = option_map (λ b. b.now) a.producers;
+      }
       ≡ edited_image (edited_of edit (decoded_module a) exports live)
   unfolding edited_image decoded_module
-  edited_image_is has g groups ts t fs f bs b ms m globals gs gk gn exps x start s =
+  edited_image_is has g groups ts t fs f tables bs bk bn ms m globals gs gk gn exps x start s =
       let e = edited_of edit (decoded_module a) exports live in
       let r = edited_rank e in
       let s' = settings_of edit in
-      let t2 = t ∙ ap (λ (k : ℕ). kept_items (λ n. live (Types, n)) k (map func_type_value a.types.items) ++ added_types edit.parts (found_of edit)) (sym (size_is a Types)) in
+      let old_types : ℕ → List FuncTypeValue = λ k. kept_items (λ n. live (Types, n)) k (map func_type_value a.types.items) in
+      let t2 = t ∙ (ap (λ (r : Renumbering). map (renumber_func_type r) (old_types (length a.types.items)) ++ added_types edit.parts (found_of edit)) indices
+      ∙ (ap (λ (k : ℕ). map (renumber_func_type r) (old_types k) ++ added_types edit.parts (found_of edit)) (sym (size_is a Types))
+      ∙ ap (λ ts. map (renumber_func_type r) (old_types (size_of (decoded_module a) Types)) ++ ts) (sym (added_types_stay r edit.parts (found_of edit))))) in
       let i2 = live_read (has g.exported) (has g.imports) (is_kept_import e) groups.exported (λ n. groups.imports n ∙ sym (imports_same exports s' edit.parts (found_of edit) a live n)) in
       let d2 = live_read (has g.exported) (has g.defined) (is_kept_defined e) groups.exported (λ n. groups.defined n ∙ sym (defined_same exports s' edit.parts (found_of edit) a live n)) in
       let f2 = f ∙ (ap (λ z. z ++ (new_funcs edit (imports_added edit) ++ (live_funcs edit (has g.defined) (has g.exported) a.funcs.items ++ new_funcs edit (funcs_added edit)))) i2
       ∙ ap (λ z. map (new_func r) (kept_items (is_kept_import e) (length e.value.funcs) e.value.funcs) ++ z) (ap (λ z. z ++ (live_funcs edit (has g.defined) (has g.exported) a.funcs.items ++ new_funcs edit (funcs_added edit))) imports_read
       ∙ ap (λ z. map (new_func r) e.imports ++ z) (ap (λ z. z ++ new_funcs edit (funcs_added edit)) d2
       ∙ ap (λ z. map (new_func r) (kept_items (is_kept_defined e) (length e.value.funcs) e.value.funcs) ++ z) added_read))) in
-      let b2 = ap (map table_value) b ∙ kept_once table_value (λ n. live (Tables, n)) (length a.tables.items) (size_of (decoded_module a) Tables) a.tables.items (sym (size_is a Tables)) in
+      let b2 = bn ∙ (ap (λ (r : Renumbering). map (new_table r) (map table_value bs)) indices ∙ ap (map (new_table r)) (ap (map table_value) bk
+      ∙ kept_once table_value (λ n. live (Tables, n)) (length a.tables.items) (size_of (decoded_module a) Tables) a.tables.items (sym (size_is a Tables)))) in
       let m2 = ap (map memory_value) m ∙ kept_once memory_value (λ n. live (Memories, n)) (length a.memories.items) (size_of (decoded_module a) Memories) a.memories.items (sym (size_is a Memories)) in
       let g2 = gn ∙ (ap (λ (r : Renumbering). map (λ g. new_global r (global_code g)) gs) indices ∙ (ap (map (λ g. new_global r (global_code g))) gk
       ∙ kept_twice (new_global r) (item_seen init_in) global_value (λ n. live (Globals, n)) (length a.globals.items) (size_of (decoded_module a) Globals) a.globals.items (sym (size_is a Globals)))) in

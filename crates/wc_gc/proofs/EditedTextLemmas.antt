@@ -6,6 +6,7 @@ use Rattle.std.proofs.lemmas.List.{length-append, length-map}
 use Rattle.std.proofs.lemmas.List.Elements.{filter-append}
 use Rattle.std.proofs.lemmas.List.Sums.{length-filter}
 use Rattle.wc_read.specs.Exports.{ExportValue}
+use Rattle.wc_read.specs.Renumbering.{renumber_func_type}
 use Rattle.wc_read.specs.declared.core_module.Module.{Module}
 use Rattle.wc_read.specs.declared.operators.Space.TheVariants.{Types, Funcs, Memories}
 use Rattle.wc_write.specs.ModuleText.{BuiltValue, SizesFit}
@@ -126,8 +127,10 @@ module _ (e : EditedModule) where
   image_types : length (edited_image e).types ≡ count_below (λ n. e.kept (Types, n)) (length e.value.types) + length e.types
   unfolding edited_image
   image_types =
-      let all = length-append (kept_items (λ n. e.kept (Types, n)) (length e.value.types) e.value.types) e.types in
-      omega (arith, all, kept_length (λ n. e.kept (Types, n)) (length e.value.types) e.value.types (omega arith))
+      let ks = kept_items (λ n. e.kept (Types, n)) (length e.value.types) e.value.types in
+      let new = renumber_func_type (edited_rank e) in
+      let many = kept_length (λ n. e.kept (Types, n)) (length e.value.types) e.value.types (omega arith) in
+      omega (arith, length-append (map new ks) (map new e.types), length-map ks new, length-map e.types new, many)
 
   image_funcs : length (edited_image e).funcs ≡ count_imports e + (length e.imports + (count_defined e + length e.funcs))
   unfolding edited_image

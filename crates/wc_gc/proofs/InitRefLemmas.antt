@@ -32,10 +32,11 @@ use Rattle.wc_read.proofs.OptionsLemmas.{some_same}
 use Rattle.wc_write.specs.BuiltValues.{def_seen, item_seen, HasInitialiser, IsInitialiser, IsWritable}
 use Rattle.wc_write.specs.Values.{HasForm, IsInstr}
 use Rattle.wc_gc.specs.Decoded.{ItemIndex, decode, is_in}
-use Rattle.wc_gc.specs.Entries.{code_refs, def_refs, init_refs, instr_refs}
+use Rattle.wc_gc.specs.Entries.{code_refs, def_refs, global_refs, init_refs, instr_refs, val_type_refs}
 use Rattle.wc_gc.specs.Unfolding.{is_code}
 use Rattle.wc_gc.proofs.BuiltPartLemmas.{all_at}
 use Rattle.wc_gc.proofs.InitTypeLemmas.{all-left, all-right, func_code, func_form, global_code, global_form, named_by}
+use Rattle.wc_gc.proofs.NamedThereLemmas.{There, global_type_there}
 use Rattle.wc_gc.proofs.SpelledItemLemmas.{all_joined}
 
 -- what each of some operators names, and what all of them name
@@ -259,8 +260,8 @@ module _ (m : ModuleValue) (w : IsWritable m) (v : IsModule m) where
   pub global_coded : (n : ℕ) (g : GlobalValue) → slice_get m.globals n ≡ Some g → IsTrue (is_code (def_seen init_in g.def))
   global_coded n g e = init_coded g.def (initialiser_at n g e)
 
-  pub global_names_there : (n : ℕ) (g : GlobalValue) → slice_get m.globals n ≡ Some g → AllByRecursion (λ y. IsTrue (is_in (decode m) y)) (def_refs init_refs (def_seen init_in g.def))
-  global_names_there n g e =
+  init_there : (n : ℕ) (g : GlobalValue) → slice_get m.globals n ≡ Some g → AllByRecursion (There (decode m)) (def_refs init_refs (def_seen init_in g.def))
+  init_there n g e =
       let c = cut_at m.globals n g e in
       let scope : InitScope = record { types = length m.types; functions = length m.funcs; globals = types_of c.0 } in
       init_named (λ y. IsTrue (is_in (decode m) y)) scope (record {
@@ -274,3 +275,7 @@ module _ (m : ModuleValue) (w : IsWritable m) (v : IsModule m) where
             let four = length-map m.globals (item_seen init_in) in
             lt-ltb k (length (decode m).globals) (omega (arith, below, one, two, three, four));
       }) g.ty.content_type g.def (initialiser_at n g e) (v.initialised c.0 c.1 g c.2)
+
+  pub global_names_there : (n : ℕ) (g : GlobalValue) → slice_get m.globals n ≡ Some g → AllByRecursion (There (decode m)) (global_refs (item_seen init_in g))
+  global_names_there n g e =
+      all_joined (There (decode m)) (val_type_refs (g.ty.content_type ∷ [])) (def_refs init_refs (def_seen init_in g.def)) (global_type_there m v n g e) (init_there n g e)

@@ -9,7 +9,7 @@ use Rattle.wc_read.specs.Options.{◌>>=◌}
 use Rattle.wc_read.specs.Operators.{byte_form, form_of, ImmediatesValue, WithNone, WithBlock, WithIndex, WithIndices, WithLabels, WithValTypes, WithRefType, WithMemArg, WithMemArgLane, WithI32, WithI64, WithBytes, WithLane, InstrValue, index_of}
 use Rattle.wc_read.specs.Inits.{constant_byte, constant_of}
 use Rattle.wc_read.specs.InitTypes.{InitScope, class_of, is_non_null, class_named, global_value_class, given_by, LeavesOne, alone, joined}
-use Rattle.wc_read.specs.Renumbering.{Renumbering, renumber_immediates, renumber_instr, renumber_val_type}
+use Rattle.wc_read.specs.Renumbering.{Renumbering, renumber_global_type, renumber_immediates, renumber_instr, renumber_val_type}
 use Rattle.wc_read.specs.declared.types.ValType.{ValType}
 use Rattle.wc_read.specs.declared.types.ValType.TheVariants.{I32, I64, F32, F64, V128, FuncRef, ExternRef, FuncRefNonNull, ExternRefNonNull, TypeRef}
 use Rattle.wc_read.specs.declared.inits.ValueClass.{ValueClass}
@@ -31,11 +31,12 @@ use Rattle.wc_gc.specs.Entries.{instr_refs}
 use Rattle.wc_gc.specs.Image.{renumber_code}
 
 -- what an initialiser may name: each type and each function that it may name has an index of one in the new scope, and
--- each global that it may name the type there that it had
+-- each global that it may name the type there that it had, under the new indices
 pub record Follows (may : ItemIndex → Type 0) (old after : InitScope) (new : Renumbering) : Type 0 where
   pub types : (n : ℕ) → may (Types, n) → n < old.types → new Types n < after.types
   pub funcs : (n : ℕ) → may (Funcs, n) → n < old.functions → new Funcs n < after.functions
-  pub globals : (n : ℕ) (t : GlobalType) → may (Globals, n) → slice_get old.globals n ≡ Some t → slice_get after.globals (new Globals n) ≡ Some t
+  pub globals : (n : ℕ) (t : GlobalType) → may (Globals, n) → slice_get old.globals n ≡ Some t
+      → slice_get after.globals (new Globals n) ≡ Some (renumber_global_type new t)
 
 -- an operator that can be spelled, and names only such items
 abbrev pub NamesOnly : (ItemIndex → Type 0) → InstrValue → Type 0
@@ -66,12 +67,40 @@ named_by code v i kind e =
     let h = subst (λ (f : Form). HasForm f v) same i.has_form in
     (h.0, h.1)
 
-value_class_of : (old after : List GlobalType) (n k : ℕ) (c : ValueClass) → ((g : GlobalType) → slice_get old n ≡ Some g → slice_get after k ≡ Some g)
+-- a value type under new indices keeps its class, and null if it has it
+
+class_under : (new : Renumbering) (t : ValType) → class_of (renumber_val_type new t) ≡ class_of t
+class_under new I32 = refl
+class_under new I64 = refl
+class_under new F32 = refl
+class_under new F64 = refl
+class_under new V128 = refl
+class_under new FuncRef = refl
+class_under new ExternRef = refl
+class_under new FuncRefNonNull = refl
+class_under new ExternRefNonNull = refl
+class_under new (TypeRef nullable index) = refl
+
+null_under : (new : Renumbering) (t : ValType) → is_non_null (renumber_val_type new t) ≡ is_non_null t
+null_under new I32 = refl
+null_under new I64 = refl
+null_under new F32 = refl
+null_under new F64 = refl
+null_under new V128 = refl
+null_under new FuncRef = refl
+null_under new ExternRef = refl
+null_under new FuncRefNonNull = refl
+null_under new ExternRefNonNull = refl
+null_under new (TypeRef nullable index) = refl
+
+value_class_of : (new : Renumbering) (old after : List GlobalType) (n k : ℕ) (c : ValueClass)
+    → ((g : GlobalType) → slice_get old n ≡ Some g → slice_get after k ≡ Some (renumber_global_type new g))
     → (o : Option GlobalType) → slice_get old n ≡ o → (o >>= λ g. if g.mutable then None else Some (class_of g.content_type)) ≡ Some c
     → global_value_class after k ≡ Some c
-value_class_of old after n k c h None e given = absurd cc
-value_class_of old after n k c h (Some g) e given = ap (λ (o : Option GlobalType). o >>= λ g. if g.mutable then None else Some (class_of g.content_type))
-    (h g e) ∙ given
+value_class_of new old after n k c h None e given = absurd cc
+value_class_of new old after n k c h (Some g) e given =
+    ap (λ (o : Option GlobalType). o >>= λ g. if g.mutable then None else Some (class_of g.content_type)) (h g e)
+    ∙ (ap (λ (x : ValueClass). if g.mutable then None else Some x) (class_under new g.content_type) ∙ given)
 
 -- what an index below a bound gives, an index that is below its own bound then gives too
 given_below : (a c : ValueClass) (n bound n' bound' : ℕ) → (n < bound → n' < bound') → (if nat_lt n bound then Some a else None) ≡ Some c
@@ -82,9 +111,12 @@ given_below a c n bound n' bound' below h = go (nat_lt n bound) refl h
     go true under e = rw (lt-ltb n' bound' (below (ltb-true n bound under))) e
     go false under e = absurd cc
 
--- where a value of a type is wanted
+-- where a value of a type is wanted, and then one of that type under new indices
 
 module _ (may : ItemIndex → Type 0) (old after : InitScope) (new : Renumbering) (f : Follows may old after new) (wanted : ValType) where
+  abbrev wanted' : ValType
+  wanted' = renumber_val_type new wanted
+
   abbrev MayName : ImmediatesValue → Type 0
   MayName v = AllByRecursion may (instr_refs (record { opcode = Byte 0; immediates = v }))
 
@@ -123,40 +155,43 @@ module _ (may : ItemIndex → Type 0) (old after : InitScope) (new : Renumbering
   null_stays v k c false h = class_stays v k c h
 
   func_given : (n : ℕ) (c : ValueClass) → may (Funcs, n) → given_by old wanted (WithIndex (index_of (In Funcs) n)) Func ≡ Some c
-      → given_by after wanted (renumber_immediates new (WithIndex (index_of (In Funcs) n))) Func ≡ Some c
+      → given_by after wanted' (renumber_immediates new (WithIndex (index_of (In Funcs) n))) Func ≡ Some c
   func_given n c k h = given_below FuncClass c n old.functions (new Funcs n) after.functions (f.funcs n k) h
 
   given_stays : (b : ℕ) (v : ImmediatesValue) → IsInstr (record { opcode = Byte b; immediates = v }) → MayName v
       → (o : Constant) → constant_byte b ≡ Some o → (c : ValueClass) → given_by old wanted v o ≡ Some c
-      → given_by after wanted (renumber_immediates new v) o ≡ Some c
+      → given_by after wanted' (renumber_immediates new v) o ≡ Some c
   given_stays b v i k (Value u) e c h = h
-  given_stays b v i k Null e c h = null_stays v k c (is_non_null wanted) h
+  given_stays b v i k Null e c h =
+      subst (λ (z : Bool). (if z then None else class_named after.types (renumber_immediates new v)) ≡ Some c) (sym (null_under new wanted))
+      (null_stays v k c (is_non_null wanted) h)
   given_stays b v i k (Integer u) e c h = h
   given_stays b v i k Func e c h =
       let n = named_by (Byte b) v i (In Funcs) (func_form b (func_code b e)) in
-      subst (λ (w : ImmediatesValue). given_by after wanted (renumber_immediates new w) Func ≡ Some c) (sym n.1)
+      subst (λ (w : ImmediatesValue). given_by after wanted' (renumber_immediates new w) Func ≡ Some c) (sym n.1)
       (func_given n.0 c (subst MayName n.1 k).0 (subst (λ (w : ImmediatesValue). given_by old wanted w Func ≡ Some c) n.1 h))
   given_stays b v i k Global e c h =
       let n = named_by (Byte b) v i (In Globals) (global_form b (global_code b e)) in
-      subst (λ (w : ImmediatesValue). given_by after wanted (renumber_immediates new w) Global ≡ Some c) (sym n.1)
-      (value_class_of old.globals after.globals n.0 (new Globals n.0) c (λ g at. f.globals n.0 g (subst MayName n.1 k).0 at) (slice_get old.globals n.0) refl
+      subst (λ (w : ImmediatesValue). given_by after wanted' (renumber_immediates new w) Global ≡ Some c) (sym n.1)
+      (value_class_of new old.globals after.globals n.0 (new Globals n.0) c (λ g at. f.globals n.0 g (subst MayName n.1 k).0 at)
+      (slice_get old.globals n.0) refl
       (subst (λ (w : ImmediatesValue). given_by old wanted w Global ≡ Some c) n.1 h))
 
   byte_stays : (b : ℕ) (v : ImmediatesValue) → IsInstr (record { opcode = Byte b; immediates = v }) → MayName v
       → (c : ValueClass) (o : Option Constant) → constant_byte b ≡ o → (o >>= given_by old wanted v) ≡ Some c
-      → (o >>= given_by after wanted (renumber_immediates new v)) ≡ Some c
+      → (o >>= given_by after wanted' (renumber_immediates new v)) ≡ Some c
   byte_stays b v i k c None e h = absurd cc
   byte_stays b v i k c (Some o) e h = given_stays b v i k o e c h
 
   vector_stays : (v : ImmediatesValue) (c : ValueClass) (b : Bool)
       → ((if b then Some (Value V128) else None) >>= given_by old wanted v) ≡ Some c
-      → ((if b then Some (Value V128) else None) >>= given_by after wanted (renumber_immediates new v)) ≡ Some c
+      → ((if b then Some (Value V128) else None) >>= given_by after wanted' (renumber_immediates new v)) ≡ Some c
   vector_stays v c true h = h
   vector_stays v c false h = absurd cc
 
   constant_class_stays : (code : Opcode) (v : ImmediatesValue) → IsInstr (record { opcode = code; immediates = v }) → MayName v
       → (c : ValueClass) → (constant_of code >>= given_by old wanted v) ≡ Some c
-      → (constant_of code >>= given_by after wanted (renumber_immediates new v)) ≡ Some c
+      → (constant_of code >>= given_by after wanted' (renumber_immediates new v)) ≡ Some c
   constant_class_stays (Byte b) v i k c h = byte_stays b v i k c (constant_byte b) refl h
   constant_class_stays (Misc n) v i k c h = absurd cc
   constant_class_stays (Vector n) v i k c h = vector_stays v c (n == 12) h
@@ -172,11 +207,13 @@ all-right P (x ∷ xs) ys h = all-right P xs ys h.1
 
 -- it leaves one value that fits its type, where what it may name follows
 pub leaves_stays : {old : InitScope} {t : ValType} {is : List InstrValue} (may : ItemIndex → Type 0) (after : InitScope) (new : Renumbering) → Follows may old after new → LeavesOne old t is
-    → AllByRecursion (NamesOnly may) is → LeavesOne after t (renumber_code new is)
+    → AllByRecursion (NamesOnly may) is → LeavesOne after (renumber_val_type new t) (renumber_code new is)
 leaves_stays {old} {t} may after new f (alone i e) k = alone (renumber_instr new i)
-    (constant_class_stays may old after new f t i.opcode i.immediates k.0.1 k.0.0 (class_of t) e)
+    (constant_class_stays may old after new f t i.opcode i.immediates k.0.1 k.0.0 (class_of t) e ∙ ap Some (sym (class_under new t)))
 leaves_stays {old} {t} may after new f (joined xs ys i e a b) k =
-    subst (λ (z : List InstrValue). LeavesOne after t z) (sym (map-append (renumber_instr new) xs (ys ++ (i ∷ [])) ∙ ap (λ (z : List InstrValue). renumber_code new xs ++ z) (map-append (renumber_instr new) ys (i ∷ []))))
-    (joined (renumber_code new xs) (renumber_code new ys) (renumber_instr new i) e
+    subst (λ (z : List InstrValue). LeavesOne after (renumber_val_type new t) z)
+    (sym (map-append (renumber_instr new) xs (ys ++ (i ∷ []))
+    ∙ ap (λ (z : List InstrValue). renumber_code new xs ++ z) (map-append (renumber_instr new) ys (i ∷ []))))
+    (joined (renumber_code new xs) (renumber_code new ys) (renumber_instr new i) (e ∙ ap Some (sym (class_under new t)))
     (leaves_stays may after new f a (all-left (NamesOnly may) xs (ys ++ (i ∷ [])) k))
     (leaves_stays may after new f b (all-left (NamesOnly may) ys (i ∷ []) (all-right (NamesOnly may) xs (ys ++ (i ∷ [])) k))))

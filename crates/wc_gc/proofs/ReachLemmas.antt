@@ -2,34 +2,36 @@
 use Rattle.std.proofs.Common.{◌≡◌, ℕ, zero, suc, ◌+◌, ◌-◌, ◌<◌, ◌≤◌, List, [], ◌∷◌, ◌++◌, map, take, length, get_or, subst, sym, ◌∙◌, ap, refl, Bool, true, false, ◌⊎◌, inl, inr, arith, ◌&&◌, Option, Some, None, append_assoc, append-nil}
 use Rattle.std.proofs.Common.{ltb-true}
 use Rattle.std.proofs.lemmas.Bool.{ltb-false}
-use Rattle.std.specs.Prelude.{IsTrue, nat_lt, Contains, All, ◌↔◌, Result, Ok, Err, OnOk}
-use Rattle.std.proofs.lemmas.List.{take_more, take_all, get_or_append_left}
+use Rattle.std.specs.Prelude.{IsTrue, nat_lt, Contains, All, ◌↔◌, Result, Ok, Err, OnOk, ⊤}
+use Rattle.std.proofs.lemmas.List.{take_more, take_all, get_or_append_left, map-append}
 use Rattle.std.proofs.lemmas.List.Elements.{filter-append, filter_passes, All-contains, Contains-get_or}
 use Rattle.std.specs.List.{slice_get, cons_option, list_all}
 use Rattle.std.specs.Borrow.{Bor}
 use Rattle.std.proofs.lemmas.Option.{slice_get-map, slice_get_past}
-use Rattle.wc_read.specs.Decoding.{body_in, init_in}
-use Rattle.wc_read.specs.Items.{func_value, global_value}
+use Rattle.wc_read.specs.Decoding.{body_in, body_of, init_in}
+use Rattle.wc_read.specs.Items.{TableValue, func_value, global_value, table_value}
 use Rattle.wc_read.specs.declared.core_module.Module.{Module}
 use Rattle.wc_read.specs.declared.items.Item.{Item}
+use Rattle.wc_read.specs.declared.types.FuncType.{FuncType}
+use Rattle.wc_read.specs.declared.types.TableType.{TableType}
 use Rattle.wc_read.specs.declared.types.GlobalType.{GlobalType}
 use Rattle.wc_read.specs.declared.types.ValType.{ValType}
 use Rattle.wc_read.specs.declared.operators.Space.{Space}
-use Rattle.wc_read.specs.declared.operators.Space.TheVariants.{Types, Funcs, Globals, Memories}
+use Rattle.wc_read.specs.declared.operators.Space.TheVariants.{Types, Funcs, Tables, Memories, Globals}
 use Rattle.wc_write.specs.BuiltValues.{item_seen}
 use Rattle.std.specs.Option.{option_map, option_map_or, option_to_list}
 use Rattle.std.proofs.lemmas.List.Folds.{list_all-append}
 use Rattle.std.proofs.lemmas.Grind.{flat_map-append}
 use Rattle.wc_read.specs.Operators.{InstrValue, instr_value, instr_values}
-use Rattle.wc_read.specs.Bodies.{BodyValue}
-use Rattle.wc_read.specs.Decoding.{body_operators}
+use Rattle.wc_read.specs.Bodies.{BodyValue, local_types}
+use Rattle.wc_read.specs.declared.bodies.Locals.{Locals}
 use Rattle.wc_read.specs.Refs.{refs_of, type_reference, type_refs_of}
-use Rattle.wc_read.specs.Types.{type_index, type_indices}
+use Rattle.wc_read.specs.Types.{FuncTypeValue, func_type_value, type_index, type_indices}
 use Rattle.wc_read.specs.Passing.{ArePassable, IsPassable, IsPassableCode, run_and_left}
 use Rattle.wc_read.specs.declared.operators.Refs.{Refs}
 use Rattle.wc_read.specs.declared.operators.Instr.{Instr}
 use Rattle.wc_gc.specs.Decoded.{DecodedModule, FuncCode, GlobalCode, ItemIndex, decoded_module, func_code, is_in, size_of}
-use Rattle.wc_gc.specs.Entries.{no_entry, func_entry, global_entry, entry_in, refs_in, entry_refs, entry_at}
+use Rattle.wc_gc.specs.Entries.{no_entry, type_entry, func_entry, table_entry, global_entry, entry_in, refs_in, entry_refs, entry_at}
 use Rattle.wc_gc.specs.Reached.{IsPath, IsReachedFrom}
 use Rattle.wc_gc.specs.Searches.{IsTied, HasGrown, IsGrown}
 use Rattle.wc_gc.specs.Soundness.{is_sound, is_sound_code, is_sound_body, is_sound_at}
@@ -171,19 +173,36 @@ pub record AreTypesFound {L : Type 0} (has : L → ℕ → Bool) (m : DecodedMod
   pub found : Finds has a b (present m (val_type_refs ts))
   pub all : there ≡ list_all (is_in m) (val_type_refs ts)
 
+types_push_more : {L : Type 0} (has : L → ℕ → Bool) (m : DecodedModule) (ts : List ValType) (t : ValType) (a b c : Search L) (there now : Bool)
+    → AreTypesFound has m ts a b there → Finds has b c (present m (option_to_list (type_reference t)))
+    → now ≡ list_all (is_in m) (option_to_list (type_reference t)) → AreTypesFound has m (ts ++ t ∷ []) a c (there && now)
+types_push_more has m ts t a b c there now s f k = record {
+  found = subst (λ (z : List ItemIndex). Finds has a c (present m z)) (sym (types_push ts t))
+      (finds_present has m a b c (val_type_refs ts) (option_to_list (type_reference t)) s.found f);
+  all = ap (λ (x : Bool). x && now) s.all ∙ (ap (λ (x : Bool). list_all (is_in m) (val_type_refs ts) && x) k
+      ∙ sym (ap (list_all (is_in m)) (types_push ts t) ∙ list_all-append (is_in m) (val_type_refs ts) (option_to_list (type_reference t))));
+}
+
 pub types_more : {L : Type 0} (has : L → ℕ → Bool) (m : DecodedModule) (ts : List ValType) (i : ℕ) (d : ValType) (a b c : Search L) (there now : Bool)
     → i < length ts → AreTypesFound has m (take i ts) a b there
     → Finds has b c (present m (option_to_list (type_reference (get_or ts i d))))
     → now ≡ list_all (is_in m) (option_to_list (type_reference (get_or ts i d))) → AreTypesFound has m (take (i + 1) ts) a c (there && now)
 types_more has m ts i d a b c there now h s f k =
-    let t = get_or ts i d in
-    let refs = ap val_type_refs (take_more ts i d h) ∙ types_push (take i ts) t in
-    record {
-      found = subst (λ (z : List ItemIndex). Finds has a c (present m z)) (sym refs)
-          (finds_present has m a b c (val_type_refs (take i ts)) (option_to_list (type_reference t)) s.found f);
-      all = ap (λ (x : Bool). x && now) s.all ∙ (ap (λ (x : Bool). list_all (is_in m) (val_type_refs (take i ts)) && x) k
-          ∙ sym (ap (list_all (is_in m)) refs ∙ list_all-append (is_in m) (val_type_refs (take i ts)) (option_to_list (type_reference t))));
-    }
+    subst (λ (z : List ValType). AreTypesFound has m z a c (there && now)) (sym (take_more ts i d h))
+    (types_push_more has m (take i ts) (get_or ts i d) a b c there now s f k)
+
+-- the type of one
+pub type_alone : (t : ValType) → val_type_refs (t ∷ []) ≡ option_to_list (type_reference t)
+type_alone t = types_push [] t
+
+-- a run of locals more
+pub run_more : {L : Type 0} (has : L → ℕ → Bool) (m : DecodedModule) (runs : List Locals) (i : ℕ) (d : Locals) (a b c : Search L) (there now : Bool)
+    → i < length runs → AreTypesFound has m (local_types (take i runs)) a b there
+    → Finds has b c (present m (option_to_list (type_reference (get_or runs i d).ty)))
+    → now ≡ list_all (is_in m) (option_to_list (type_reference (get_or runs i d).ty)) → AreTypesFound has m (local_types (take (i + 1) runs)) a c (there && now)
+run_more has m runs i d a b c there now h s f k =
+    subst (λ (z : List ValType). AreTypesFound has m z a c (there && now)) (sym (ap local_types (take_more runs i d h) ∙ map-append (λ (l : Locals). l.ty) (take i runs) (get_or runs i d ∷ [])))
+    (types_push_more has m (local_types (take i runs)) (get_or runs i d).ty a b c there now s f k)
 
 -- operators that were gone through
 
@@ -197,30 +216,45 @@ pub finds_code : {L : Type 0} (has : L → ℕ → Bool) (m : DecodedModule) (a 
     → Finds has a b (present m (code_refs is)) → Finds has b c (present m (instr_refs i)) → Finds has a c (present m (code_refs (is ++ i ∷ [])))
 finds_code has m a b c is i p q = subst (λ (z : List ItemIndex). Finds has a c (present m z)) (sym (code_push is i)) (finds_present has m a b c (code_refs is) (instr_refs i) p q)
 
--- those of a body, of which some are left
-pub record IsBodyFound {L : Type 0} (has : L → ℕ → Bool) (m : DecodedModule) (body : Option BodyValue) (a b : Search L) (left : Option (List InstrValue)) : Type 0 where
+-- those of a body, of which some are left: the types of its locals, and what the operators before name
+pub record IsBodyFound {L : Type 0} (has : L → ℕ → Bool) (m : DecodedModule) (body : Option BodyValue) (locals : List Locals) (a b : Search L) (left : Option (List InstrValue)) : Type 0 where
   pub before : List InstrValue
-  pub split : body_operators body ≡ option_map (λ is. before ++ is) left
-  pub found : Finds has a b (present m (code_refs before))
+  pub split : body ≡ option_map (λ is. body_of locals (before ++ is)) left
+  pub found : Finds has a b (present m (val_type_refs (local_types locals) ++ code_refs before))
+  pub there : list_all (is_in m) (val_type_refs (local_types locals)) ≡ true
   pub sound : is_sound_code m before ≡ true
 
-map_nothing : (o : Option (List InstrValue)) → option_map (λ is. [] ++ is) o ≡ o
-map_nothing None = refl
-map_nothing (Some is) = refl
+map_push : (locals : List Locals) (before : List InstrValue) (i : InstrValue) (o : Option (List InstrValue))
+    → option_map (λ is. body_of locals (before ++ is)) (option_map (λ is. i ∷ is) o) ≡ option_map (λ is. body_of locals ((before ++ i ∷ []) ++ is)) o
+map_push locals before i None = refl
+map_push locals before i (Some is) = ap (λ (z : List InstrValue). Some (body_of locals z)) (sym (append_assoc before (i ∷ []) is))
 
-map_push : (before : List InstrValue) (i : InstrValue) (o : Option (List InstrValue)) → option_map (λ is. before ++ is) (option_map (λ is. i ∷ is) o) ≡ option_map (λ is. (before ++ i ∷ []) ++ is) o
-map_push before i None = refl
-map_push before i (Some is) = ap Some (sym (append_assoc before (i ∷ []) is))
+pub body_start : {L : Type 0} (has : L → ℕ → Bool) (m : DecodedModule) (body : Option BodyValue) (locals : List Locals) (a b : Search L) (left : Option (List InstrValue))
+    → body ≡ option_map (body_of locals) left → Finds has a b (present m (val_type_refs (local_types locals)))
+    → list_all (is_in m) (val_type_refs (local_types locals)) ≡ true → IsBodyFound has m body locals a b left
+body_start has m body locals a b left e f there = record {
+  before = [];
+  split = e;
+  found = subst (λ (z : List ItemIndex). Finds has a b (present m z)) (sym (append-nil (val_type_refs (local_types locals)))) f;
+  there = there;
+  sound = refl;
+}
 
-pub body_start : {L : Type 0} (has : L → ℕ → Bool) (m : DecodedModule) (body : Option BodyValue) (a : Search L) (left : Option (List InstrValue)) → left ≡ body_operators body → IsBodyFound has m body a a left
-body_start has m body a left e = record { before = []; split = sym e ∙ sym (map_nothing left); found = finds_none has a; sound = refl }
+-- one more of what a body names
+refs_more : {L : Type 0} (has : L → ℕ → Bool) (m : DecodedModule) (a b c : Search L) (types : List ItemIndex) (before is : List InstrValue)
+    → Finds has a b (present m (types ++ code_refs before)) → Finds has b c (present m (code_refs is)) → Finds has a c (present m (types ++ code_refs (before ++ is)))
+refs_more has m a b c types before is p q =
+    subst (λ (z : List ItemIndex). Finds has a c (present m z))
+    (append_assoc types (code_refs before) (code_refs is) ∙ ap (λ (z : List ItemIndex). types ++ z) (sym (flat_map-append instr_refs before is)))
+    (finds_present has m a b c (types ++ code_refs before) (code_refs is) p q)
 
-pub body_more : {L : Type 0} (has : L → ℕ → Bool) (m : DecodedModule) (body : Option BodyValue) (a b c : Search L) (left after : Option (List InstrValue)) (i : InstrValue)
-    → IsBodyFound has m body a b left → left ≡ option_map (λ is. i ∷ is) after → Finds has b c (present m (instr_refs i)) → is_sound m i ≡ true → IsBodyFound has m body a c after
-body_more has m body a b c left after i s e f good = record {
+pub body_more : {L : Type 0} (has : L → ℕ → Bool) (m : DecodedModule) (body : Option BodyValue) (locals : List Locals) (a b c : Search L) (left after : Option (List InstrValue)) (i : InstrValue)
+    → IsBodyFound has m body locals a b left → left ≡ option_map (λ is. i ∷ is) after → Finds has b c (present m (instr_refs i)) → is_sound m i ≡ true → IsBodyFound has m body locals a c after
+body_more has m body locals a b c left after i s e f good = record {
   before = s.before ++ i ∷ [];
-  split = s.split ∙ ap (option_map (λ is. s.before ++ is)) e ∙ map_push s.before i after;
-  found = finds_code has m a b c s.before i s.found f;
+  split = s.split ∙ ap (option_map (λ is. body_of locals (s.before ++ is))) e ∙ map_push locals s.before i after;
+  found = refs_more has m a b c (val_type_refs (local_types locals)) s.before (i ∷ []) s.found (subst (λ (z : List ItemIndex). Finds has b c (present m z)) (sym (append-nil (instr_refs i))) f);
+  there = s.there;
   sound = sound_push m s.before i ∙ (ap (λ (z : Bool). z && (is_sound m i && true)) s.sound ∙ ap (λ (z : Bool). true && (z && true)) good);
 }
 
@@ -247,27 +281,44 @@ known_code has m a memory (i ∷ is) known n =
       rw (sound_passable m memory i (λ may. (known may).1) n.0, rest.1) refl,
     )
 
-map_those : (before is : List InstrValue) (o : Option (List InstrValue)) → option_map (λ xs. before ++ xs) (run_and_left is o) ≡ option_map (λ xs. (before ++ is) ++ xs) o
-map_those before is None = refl
-map_those before is (Some xs) = ap Some (sym (append_assoc before is xs))
+map_those : (locals : List Locals) (before is : List InstrValue) (o : Option (List InstrValue))
+    → option_map (λ xs. body_of locals (before ++ xs)) (run_and_left is o) ≡ option_map (λ xs. body_of locals ((before ++ is) ++ xs)) o
+map_those locals before is None = refl
+map_those locals before is (Some xs) = ap (λ (z : List InstrValue). Some (body_of locals z)) (sym (append_assoc before is xs))
 
-pub body_passed : {L : Type 0} (has : L → ℕ → Bool) (m : DecodedModule) (body : Option BodyValue) (a b : Search L) (left after : Option (List InstrValue)) (is : List InstrValue)
-    → IsBodyFound has m body a b left → left ≡ run_and_left is after → IsKnownCode has m b is → IsBodyFound has m body a b after
-body_passed has m body a b left after is s e n = record {
+pub body_passed : {L : Type 0} (has : L → ℕ → Bool) (m : DecodedModule) (body : Option BodyValue) (locals : List Locals) (a b : Search L) (left after : Option (List InstrValue)) (is : List InstrValue)
+    → IsBodyFound has m body locals a b left → left ≡ run_and_left is after → IsKnownCode has m b is → IsBodyFound has m body locals a b after
+body_passed has m body locals a b left after is s e n = record {
   before = s.before ++ is;
-  split = s.split ∙ (ap (option_map (λ xs. s.before ++ xs)) e ∙ map_those s.before is after);
-  found = subst (λ (z : List ItemIndex). Finds has a b (present m z)) (sym (flat_map-append instr_refs s.before is)) (finds_present has m a b b (code_refs s.before) (code_refs is) s.found n.0);
+  split = s.split ∙ (ap (option_map (λ xs. body_of locals (s.before ++ xs))) e ∙ map_those locals s.before is after);
+  found = refs_more has m a b b (val_type_refs (local_types locals)) s.before is s.found n.0;
+  there = s.there;
   sound = list_all-append (is_sound m) s.before is ∙ (ap (λ (z : Bool). z && is_sound_code m is) s.sound ∙ n.1);
 }
 
-whole_body : {L : Type 0} (has : L → ℕ → Bool) (m : DecodedModule) (body : Option BodyValue) (a b : Search L) (left : Option (List InstrValue)) (s : IsBodyFound has m body a b left) → left ≡ Some [] → body_operators body ≡ Some s.before
-whole_body has m body a b left s e = s.split ∙ ap (option_map (λ is. s.before ++ is)) e ∙ ap Some (append-nil s.before)
+whole_body : {L : Type 0} (has : L → ℕ → Bool) (m : DecodedModule) (body : Option BodyValue) (locals : List Locals) (a b : Search L) (left : Option (List InstrValue))
+    → (s : IsBodyFound has m body locals a b left) → left ≡ Some [] → body ≡ Some (body_of locals s.before)
+whole_body has m body locals a b left s e =
+    s.split ∙ ap (option_map (λ is. body_of locals (s.before ++ is))) e ∙ ap (λ (z : List InstrValue). Some (body_of locals z)) (append-nil s.before)
 
-pub body_end : {L : Type 0} (has : L → ℕ → Bool) (m : DecodedModule) (body : Option BodyValue) (a b : Search L) (left : Option (List InstrValue)) → IsBodyFound has m body a b left → left ≡ Some [] → Finds has a b (present m (body_refs body))
-body_end has m body a b left s e = subst (λ (z : Option (List InstrValue)). Finds has a b (present m (init_refs z))) (sym (whole_body has m body a b left s e)) s.found
+pub body_end : {L : Type 0} (has : L → ℕ → Bool) (m : DecodedModule) (body : Option BodyValue) (locals : List Locals) (a b : Search L) (left : Option (List InstrValue))
+    → IsBodyFound has m body locals a b left → left ≡ Some [] → Finds has a b (present m (body_refs body))
+body_end has m body locals a b left s e = subst (λ (z : Option BodyValue). Finds has a b (present m (body_refs z))) (sym (whole_body has m body locals a b left s e)) s.found
 
-pub body_sound : {L : Type 0} (has : L → ℕ → Bool) (m : DecodedModule) (body : Option BodyValue) (a b : Search L) (left : Option (List InstrValue)) → IsBodyFound has m body a b left → left ≡ Some [] → is_sound_body m body ≡ true
-body_sound has m body a b left s e = ap (λ (z : Option (List InstrValue)). option_map_or (is_sound_code m) z false) (whole_body has m body a b left s e) ∙ s.sound
+pub body_sound : {L : Type 0} (has : L → ℕ → Bool) (m : DecodedModule) (body : Option BodyValue) (locals : List Locals) (a b : Search L) (left : Option (List InstrValue))
+    → IsBodyFound has m body locals a b left → left ≡ Some [] → is_sound_body m body ≡ true
+body_sound has m body locals a b left s e =
+    ap (is_sound_body m) (whole_body has m body locals a b left s e)
+    ∙ (ap (λ (z : Bool). z && is_sound_code m s.before) s.there ∙ s.sound)
+
+-- no body is sound whose locals name a type that is not there
+pub locals_unsound : (m : DecodedModule) (body : Option BodyValue) (locals : List Locals) (left : Option (List InstrValue))
+    → body ≡ option_map (body_of locals) left → list_all (is_in m) (val_type_refs (local_types locals)) ≡ false → is_sound_body m body ≡ false
+locals_unsound m body locals left e bad = ap (is_sound_body m) e ∙ go left
+  where
+    go : (o : Option (List InstrValue)) → is_sound_body m (option_map (body_of locals) o) ≡ false
+    go None = refl
+    go (Some is) = ap (λ (z : Bool). z && is_sound_code m is) bad
 
 unsound_in : (m : DecodedModule) (before is : List InstrValue) (i : InstrValue) → is_sound m i ≡ false → is_sound_code m (before ++ i ∷ is) ≡ false
 unsound_in m [] is i bad = ap (λ (z : Bool). z && is_sound_code m is) bad
@@ -277,16 +328,17 @@ unsound_in m (x ∷ before) is i bad = ap (λ (z : Bool). is_sound m x && z) (un
     and_false true = refl
     and_false false = refl
 
-pub body_unsound : {L : Type 0} (has : L → ℕ → Bool) (m : DecodedModule) (body : Option BodyValue) (a b : Search L) (left after : Option (List InstrValue)) (i : InstrValue)
-    → IsBodyFound has m body a b left → left ≡ option_map (λ is. i ∷ is) after → is_sound m i ≡ false → is_sound_body m body ≡ false
-body_unsound has m body a b left after i s e bad = ap (λ (z : Option (List InstrValue)). option_map_or (is_sound_code m) z false) (s.split ∙ ap (option_map (λ is. s.before ++ is)) e) ∙ go after
+pub body_unsound : {L : Type 0} (has : L → ℕ → Bool) (m : DecodedModule) (body : Option BodyValue) (locals : List Locals) (a b : Search L) (left after : Option (List InstrValue)) (i : InstrValue)
+    → IsBodyFound has m body locals a b left → left ≡ option_map (λ is. i ∷ is) after → is_sound m i ≡ false → is_sound_body m body ≡ false
+body_unsound has m body locals a b left after i s e bad = ap (is_sound_body m) (s.split ∙ ap (option_map (λ is. body_of locals (s.before ++ is))) e) ∙ go after
   where
-    go : (o : Option (List InstrValue)) → option_map_or (is_sound_code m) (option_map (λ is. s.before ++ is) (option_map (λ is. i ∷ is) o)) false ≡ false
+    go : (o : Option (List InstrValue)) → is_sound_body m (option_map (λ is. body_of locals (s.before ++ is)) (option_map (λ is. i ∷ is) o)) ≡ false
     go None = refl
-    go (Some is) = unsound_in m s.before is i bad
+    go (Some is) = ap (λ (z : Bool). z && is_sound_code m (s.before ++ i ∷ is)) s.there ∙ unsound_in m s.before is i bad
 
-pub body_none : {L : Type 0} (has : L → ℕ → Bool) (m : DecodedModule) (body : Option BodyValue) (a b : Search L) (left : Option (List InstrValue)) → IsBodyFound has m body a b left → left ≡ None → is_sound_body m body ≡ false
-body_none has m body a b left s e = ap (λ (z : Option (List InstrValue)). option_map_or (is_sound_code m) z false) (s.split ∙ ap (option_map (λ is. s.before ++ is)) e)
+pub body_none : {L : Type 0} (has : L → ℕ → Bool) (m : DecodedModule) (body : Option BodyValue) (locals : List Locals) (a b : Search L) (left : Option (List InstrValue))
+    → IsBodyFound has m body locals a b left → left ≡ None → is_sound_body m body ≡ false
+body_none has m body locals a b left s e = ap (is_sound_body m) (s.split ∙ ap (option_map (λ is. body_of locals (s.before ++ is))) e)
 
 -- one more of the operators of an initialiser
 pub code_more : (is : List Instr) (i : ℕ) (x : Instr) → i < length is → x ≡ get_or is i x → instr_values (take (i + 1) is) ≡ instr_values (take i is) ++ instr_value x ∷ []
@@ -298,7 +350,21 @@ code_more is i x h e =
     map-push [] x = refl
     map-push (y ∷ xs) x = ap (λ zs. instr_value y ∷ zs) (map-push xs x)
 
--- functions and globals of a module that was read
+-- items of a module that was read
+
+pub type_at : (a : Module) (x : ItemIndex) (o : Option FuncType) → x.0 ≡ Types → slice_get a.types.items x.1 ≡ o → entry_at (decoded_module a) x ≡ option_map_or type_entry (option_map func_type_value o) no_entry
+unfolding decoded_module
+type_at a x o s e =
+    ap (λ (z : Space). entry_in (decoded_module a) z x.1) s
+    ∙ ap (λ (t : Option FuncTypeValue). option_map_or type_entry t no_entry)
+    (slice_get-map func_type_value a.types.items x.1 ∙ ap (option_map func_type_value) e)
+
+pub table_at : (a : Module) (x : ItemIndex) (o : Option (Item TableType ⊤)) → x.0 ≡ Tables → slice_get a.tables.items x.1 ≡ o → entry_at (decoded_module a) x ≡ option_map_or table_entry (option_map table_value o) no_entry
+unfolding decoded_module
+table_at a x o s e =
+    ap (λ (z : Space). entry_in (decoded_module a) z x.1) s
+    ∙ ap (λ (t : Option TableValue). option_map_or table_entry t no_entry)
+    (slice_get-map table_value a.tables.items x.1 ∙ ap (option_map table_value) e)
 
 pub func_at : (a : Module) (x : ItemIndex) (f : Item ℕ (Bor (List ℕ))) → x.0 ≡ Funcs → slice_get a.funcs.items x.1 ≡ Some f → entry_at (decoded_module a) x ≡ func_entry (func_code f)
 unfolding decoded_module
@@ -332,6 +398,12 @@ no_global_at a x s e =
 pub finds_present_then : {L E : Type 0} (has : L → ℕ → Bool) (m : DecodedModule) (a b c : Search L) (xs ys : List ItemIndex) (r : Result Unit E) → Finds has a b (present m xs) → OnOk r (Finds has b c (present m ys)) → OnOk r (Finds has a c (present m (xs ++ ys)))
 finds_present_then has m a b c xs ys (Ok u) p q = finds_present has m a b c xs ys p q
 finds_present_then has m a b c xs ys (Err e) p q = q
+
+-- the type of a global, and then what its initialiser names
+pub finds_global_then : {L E : Type 0} (has : L → ℕ → Bool) (m : DecodedModule) (a b c : Search L) (t : ValType) (ys : List ItemIndex) (r : Result Unit E)
+    → Finds has a b (present m (option_to_list (type_reference t))) → OnOk r (Finds has b c (present m ys)) → OnOk r (Finds has a c (present m (val_type_refs (t ∷ []) ++ ys)))
+finds_global_then has m a b c t ys r p q =
+    subst (λ (z : List ItemIndex). OnOk r (Finds has a c (present m (z ++ ys)))) (sym (type_alone t)) (finds_present_then has m a b c (option_to_list (type_reference t)) ys r p q)
 
 pub no_item : {X : Type 0} (xs : List X) (i : ℕ) → false ≡ nat_lt i (length xs) → slice_get xs i ≡ None
 no_item xs i e = slice_get_past xs i (ltb-false i (length xs) (sym e))

@@ -15,7 +15,7 @@ use Rattle.wc_read.specs.Bodies.{BodyValue}
 use Rattle.wc_read.specs.Exports.{ExportValue}
 use Rattle.wc_read.specs.Items.{ItemValue, FuncValue, GlobalValue, MemoryValue, TableValue}
 use Rattle.wc_read.specs.Modules.{ModuleValue, SpellsModule, count_of}
-use Rattle.wc_read.specs.Renumbering.{Renumbering}
+use Rattle.wc_read.specs.Renumbering.{Renumbering, renumber_func_type}
 use Rattle.wc_read.specs.declared.exports.ExportKind.{ExportKind}
 use Rattle.wc_read.specs.declared.exports.ExportKind.TheVariants as export
 use Rattle.wc_read.specs.declared.operators.Space.TheVariants.{Types, Funcs, Tables, Memories, Globals}
@@ -30,11 +30,12 @@ use Rattle.wc_gc.specs.Edited.{EditedModule, added_types}
 use Rattle.wc_gc.specs.EditedImage.{count_imports, is_kept_defined, is_kept_import}
 use Rattle.wc_gc.specs.Entries.{entry_refs}
 use Rattle.wc_gc.specs.Found.{FoundValue, found_in}
-use Rattle.wc_gc.specs.Image.{new_export, new_func, rank}
+use Rattle.wc_gc.specs.Image.{new_export, new_func, new_table, rank}
 use Rattle.wc_gc.specs.KeptExports.{dropped_names, export_names, is_required, kept_exports, without}
 use Rattle.wc_gc.specs.Parts.{SettingsValue, parts_of}
-use Rattle.wc_gc.specs.Restriction.{IsNewExport, IsOldExport, export_type, func_item, global_item, memory_item, table_item, without_indices}
+use Rattle.wc_gc.specs.Restriction.{AreTypesAlike, IsNewExport, IsOldExport, export_type, func_item, global_item, memory_item, table_item}
 use Rattle.wc_gc.specs.declared.parts.Parts.{Parts}
+use Rattle.wc_gc.proofs.AlikeTypeLemmas.{alike_under, func_item_under, item_under}
 use Rattle.wc_gc.proofs.BuiltImageLemmas.{func_at, kept_in}
 use Rattle.wc_gc.proofs.BuiltPartLemmas.{all_at, global_written}
 use Rattle.wc_gc.proofs.EditedFuncLemmas.{get_back}
@@ -138,11 +139,16 @@ module _ (bytes : List ℕ) (required : List (List ℕ)) (v : ModuleValue) (live
       let refs = subst (λ z. AllByRecursion (λ y. IsTrue (is_in (decode v) y) → IsTrue (live y)) (entry_refs z)) (func_at v n g at) (named_kept (decode v) live kept.named (Funcs, n) l) in
       refs.0 (lt-ltb g.ty (length v.types) (func_typed n g at))
 
-  pub type_same : (n : ℕ) → n < length v.types → live (Types, n) ≡ true → slice_get image.types (ranks Types n) ≡ slice_get v.types n
+  pub type_same : (n : ℕ) → n < length v.types → live (Types, n) ≡ true
+      → slice_get image.types (ranks Types n) ≡ option_map (renumber_func_type ranks) (slice_get v.types n)
   type_same n h l =
       let t = get_some v.types n h in
+      let renew = renumber_func_type ranks in
+      let kept = kept_in live Types v.types in
       ap (slice_get image.types) (old_type set v exports live parts found n h)
-      ∙ (get_front (kept_in live Types v.types) (added_types parts found) (rank live Types n) t.0 (rank_at (λ k. live (Types, k)) v.types n t.0 t.1 l) ∙ sym t.1)
+      ∙ (get_front (map renew kept) (added_types parts found) (rank live Types n) (renew t.0)
+      (slice_get-map renew kept (rank live Types n) ∙ ap (option_map renew) (rank_at (λ k. live (Types, k)) v.types n t.0 t.1 l))
+      ∙ sym (ap (option_map renew) t.1))
 
   abbrev renew : FuncCode → ItemValue ℕ BodyValue
   renew = new_func ranks
@@ -184,33 +190,45 @@ module _ (bytes : List ℕ) (required : List (List ℕ)) (v : ModuleValue) (live
 
   -- and so have their types
 
-  export_same : (kind : ExportKind) (n : ℕ) → n < count_of v kind → live (space_of kind, n) ≡ true → export_type trimmed kind (ranks (space_of kind) n) ≡ export_type v kind n
-  export_same export.Func n h l =
+  export_under : (kind : ExportKind) (n : ℕ) → n < count_of v kind → live (space_of kind, n) ≡ true
+      → export_type trimmed kind (ranks (space_of kind) n) ≡ option_map (item_under ranks) (export_type v kind n)
+  export_under export.Func n h l =
       let g = get_some v.funcs n h in
       let new_type = λ (f : FuncValue). option_map func_item (slice_get image.types f.ty) in
       let old_type = λ (f : FuncValue). option_map func_item (slice_get v.types f.ty) in
-      ap (option_and_then new_type) (slice_get-map (item_seen body_text) image.funcs (ranks Funcs n) ∙ ap (option_map (item_seen body_text)) (func_at_rank n g.0 l g.1))
-      ∙ (ap (option_map func_item) (type_same g.0.ty (func_typed n g.0 g.1) (type_live n g.0 l g.1)) ∙ sym (ap (option_and_then old_type) g.1))
-  export_same export.Table n h l =
+      let at = slice_get-map (item_seen body_text) image.funcs (ranks Funcs n) ∙ ap (option_map (item_seen body_text)) (func_at_rank n g.0 l g.1) in
+      ap (option_and_then new_type) at
+      ∙ (ap (option_map func_item) (type_same g.0.ty (func_typed n g.0 g.1) (type_live n g.0 l g.1))
+      ∙ (func_item_under ranks (slice_get v.types g.0.ty) ∙ sym (ap (λ o. option_map (item_under ranks) (option_and_then old_type o)) g.1)))
+  export_under export.Table n h l =
       let t = get_some v.tables n h in
-      ap (option_map (λ (t : TableValue). table_item t.ty)) (rank_at (λ k. live (Tables, k)) v.tables n t.0 t.1 l ∙ sym t.1)
-  export_same export.Memory n h l =
+      let ty = λ (t : TableValue). table_item t.ty in
+      let kept = kept_in live Tables v.tables in
+      let r = count_below (λ k. live (Tables, k)) n in
+      let at = slice_get-map (new_table ranks) kept r ∙ ap (option_map (new_table ranks)) (rank_at (λ k. live (Tables, k)) v.tables n t.0 t.1 l) in
+      ap (option_map ty) at ∙ sym (ap (λ o. option_map (item_under ranks) (option_map ty o)) t.1)
+  export_under export.Memory n h l =
       let t = get_some v.memories n h in
-      ap (option_map (λ (t : MemoryValue). memory_item t.ty)) (rank_at (λ k. live (Memories, k)) v.memories n t.0 t.1 l ∙ sym t.1)
-  export_same export.Global n h l =
+      let ty = λ (t : MemoryValue). memory_item t.ty in
+      ap (option_map ty) (rank_at (λ k. live (Memories, k)) v.memories n t.0 t.1 l)
+      ∙ sym (ap (λ o. option_map (item_under ranks) (option_map ty o)) t.1)
+  export_under export.Global n h l =
       let g = get_some v.globals n h in
+      let ty = λ (g : GlobalValue). global_item g.ty in
       let kept = kept_in live Globals v.globals in
       let r = count_below (λ k. live (Globals, k)) n in
-      ap (option_map (λ (g : GlobalValue). global_item g.ty))
-      (slice_get-map (item_seen init_text) image.globals r
-      ∙ (ap (option_map (item_seen init_text)) (slice_get-map (global_written ranks) kept r ∙ ap (option_map (global_written ranks)) (rank_at (λ k. live (Globals, k)) v.globals n g.0 g.1 l))))
-      ∙ sym (ap (option_map (λ (g : GlobalValue). global_item g.ty)) g.1)
+      let written = slice_get-map (global_written ranks) kept r
+      ∙ ap (option_map (global_written ranks)) (rank_at (λ k. live (Globals, k)) v.globals n g.0 g.1 l) in
+      ap (option_map ty) (slice_get-map (item_seen init_text) image.globals r ∙ ap (option_map (item_seen init_text)) written)
+      ∙ sym (ap (λ o. option_map (item_under ranks) (option_map ty o)) g.1)
 
-  kept_same : (e : ExportValue) → Contains exports e → export_type v e.kind e.index ≡ export_type trimmed e.kind (ranks (space_of e.kind) e.index)
+  kept_same : (e : ExportValue) → Contains exports e
+      → AreTypesAlike (export_type v e.kind e.index) (export_type trimmed e.kind (ranks (space_of e.kind) e.index))
   kept_same e c =
       let kept = live_are_kept bytes required v live all s decides in
       let there = all_kept (λ x. x.index < count_of v x.kind) required v.exports s.has_sections.valid.exported in
-      sym (export_same e.kind e.index (All-contains (λ x. x.index < count_of v x.kind) exports e there c) (kept.exported e c))
+      alike_under ranks (export_type v e.kind e.index) (export_type trimmed e.kind (ranks (space_of e.kind) e.index))
+      (export_under e.kind e.index (All-contains (λ x. x.index < count_of v x.kind) exports e there c) (kept.exported e c))
 
   pub old_exports : All (IsOldExport v trimmed) trimmed.exports
   old_exports =
@@ -219,12 +237,13 @@ module _ (bytes : List ℕ) (required : List (List ℕ)) (v : ModuleValue) (live
     where
       each : (e : ExportValue) → Contains exports e → IsOldExport v trimmed (new_export ranks e)
       each e c =
-          (e, All-contains (Contains v.exports) exports e (all_kept (Contains v.exports) required v.exports (All-contains_itself v.exports)) c, record { name = refl; kind = refl; ty = ap (option_map without_indices) (kept_same e c) })
+          let old = all_kept (Contains v.exports) required v.exports (All-contains_itself v.exports) in
+          (e, All-contains (Contains v.exports) exports e old c, record { name = refl; kind = refl; ty = kept_same e c })
 
   pub new_exports : (x : ExportValue) → Contains v.exports x → Contains required x.name → IsNewExport v trimmed x
   new_exports x c h =
       let kept = required_there required v.exports x c h in
-      (new_export ranks x, contains_mapped (new_export ranks) exports x kept, record { name = refl; kind = refl; ty = ap (option_map without_indices) (kept_same x kept) })
+      (new_export ranks x, contains_mapped (new_export ranks) exports x kept, record { name = refl; kind = refl; ty = kept_same x kept })
 
   pub new_export_names : All (λ y. Contains required y.name) trimmed.exports
   new_export_names =

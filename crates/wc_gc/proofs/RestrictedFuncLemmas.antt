@@ -3,6 +3,7 @@ use Rattle.std.proofs.Common.{◌≡◌, ℕ, ◌+◌, List, [], ◌++◌, lengt
 use Rattle.std.specs.Prelude.{Contains, is_some}
 use Rattle.std.specs.List.{AllZip, filter_map, slice_get}
 use Rattle.std.specs.Option.{option_map, option_map_or}
+use Rattle.std.proofs.lemmas.List.{length-map}
 use Rattle.std.proofs.lemmas.List.Elements.{All-map, filter_map-append, recursion_from_All}
 use Rattle.std.proofs.lemmas.Option.{slice_get-map}
 use Rattle.wc_read.specs.Bodies.{BodyValue}
@@ -11,7 +12,7 @@ use Rattle.wc_read.specs.Exports.{ExportValue}
 use Rattle.wc_read.specs.Imports.{ImportValue}
 use Rattle.wc_read.specs.Items.{DefValue, imported, local, ItemValue, FuncValue}
 use Rattle.wc_read.specs.Modules.{ModuleValue, SpellsModule}
-use Rattle.wc_read.specs.Renumbering.{Renumbering}
+use Rattle.wc_read.specs.Renumbering.{Renumbering, renumber_func_type}
 use Rattle.wc_read.specs.Spaces.{func_of}
 use Rattle.wc_read.specs.Types.{FuncTypeValue}
 use Rattle.wc_read.specs.declared.operators.Space.TheVariants.{Types, Funcs}
@@ -30,6 +31,7 @@ use Rattle.wc_gc.specs.Image.{new_body, new_func}
 use Rattle.wc_gc.specs.Parts.{SettingsValue, is_any}
 use Rattle.wc_gc.specs.Restriction.{HasOrigin, IsMainImport, func_item, positions_from}
 use Rattle.wc_gc.specs.declared.parts.Parts.{Parts}
+use Rattle.wc_gc.proofs.AlikeTypeLemmas.{alike_under, func_item_under}
 use Rattle.wc_gc.proofs.BuiltImageLemmas.{kept_in}
 use Rattle.wc_gc.proofs.BuiltPartLemmas.{seen_imported}
 use Rattle.wc_gc.proofs.EditedFuncLemmas.{get_back}
@@ -111,9 +113,11 @@ module _ (bytes : List ℕ) (required : List (List ℕ)) (v : ModuleValue) (live
     abbrev has : ℕ → Bool
     has n = is_kept_import edit_of n
 
-    old_type : (n : ℕ) (g : FuncValue) → live (Funcs, n) ≡ true → slice_get v.funcs n ≡ Some g → slice_get image.types (ranks Types g.ty) ≡ slice_get v.types g.ty
+    old_type : (n : ℕ) (g : FuncValue) → live (Funcs, n) ≡ true → slice_get v.funcs n ≡ Some g
+        → slice_get image.types (ranks Types g.ty) ≡ option_map (renumber_func_type ranks) (slice_get v.types g.ty)
     old_type n g l at =
-        restricted.type_same bytes required v live all s decides set g.ty (restricted.func_typed bytes required v live all s decides set n g at) (restricted.type_live bytes required v live all s decides set n g l at)
+        restricted.type_same bytes required v live all s decides set g.ty (restricted.func_typed bytes required v live all s decides set n g at)
+        (restricted.type_live bytes required v live all s decides set n g l at)
 
     was_import : (n : ℕ) (d : DefValue (List ℕ)) (ty : ℕ) (i : ImportValue) → import_by (Func ty) (edited_one n d) ≡ Some i → is_import d ≡ true
     was_import n (imported a b) ty i e = refl
@@ -123,11 +127,19 @@ module _ (bytes : List ℕ) (required : List (List ℕ)) (v : ModuleValue) (live
         → (c : Bool) → is_realloc_at (decode v) n ≡ c → HasFuncOrigin (cond c None (position n)) i
     origin_by n g i at l e true c =
         let t = get_some v.types g.ty (restricted.func_typed bytes required v live all s decides set n g at) in
-        record { origin = becomes_main n g.def (sym (realloc_is n g at) ∙ c) (ranks Types g.ty) t.0 i (old_type n g l at ∙ t.1) e; kept = tt; within = tt }
+        let there = old_type n g l at ∙ ap (option_map (renumber_func_type ranks)) t.1 in
+        record {
+          origin = becomes_main n g.def (sym (realloc_is n g at) ∙ c) (ranks Types g.ty) (renumber_func_type ranks t.0) i there e;
+          kept = tt;
+          within = tt;
+        }
     origin_by n g i at l e false c =
         let is = was_import n g.def (ranks Types g.ty) i e in
-        origin_from bytes required v live all s decides set (List ℕ) func_of Func Funcs func_space func_kind n g (from_at (List ℕ) func_of Funcs func_space v.imports v.funcs h n g at is) (Func (ranks Types g.ty)) i
-        (sym (stays n g.def (sym (realloc_is n g at) ∙ c) is (ranks Types g.ty)) ∙ e) (sym (ap (option_map func_item) (old_type n g l at))) l c
+        let r = from_at (List ℕ) func_of Funcs func_space v.imports v.funcs h n g at is in
+        let alike = alike_under ranks (option_map func_item (slice_get v.types g.ty)) (option_map func_item (slice_get image.types (ranks Types g.ty)))
+        (ap (option_map func_item) (old_type n g l at) ∙ func_item_under ranks (slice_get v.types g.ty)) in
+        origin_from bytes required v live all s decides set (List ℕ) func_of Func Funcs func_space func_kind n g r (Func (ranks Types g.ty)) i
+        (sym (stays n g.def (sym (realloc_is n g at) ∙ c) is (ranks Types g.ty)) ∙ e) alike l c
 
     origin_at : (n : ℕ) (f : FuncCode) → slice_get olds_of n ≡ Some f → has n ≡ true → (i : ImportValue) → read f ≡ Some i → HasFuncOrigin (origin n) i
     origin_at n f at k i e =
@@ -176,12 +188,14 @@ module _ (bytes : List ℕ) (required : List (List ℕ)) (v : ModuleValue) (live
   added_type_at : parts.import_realloc ≡ true → slice_get image.types (ranks Types (length v.types)) ≡ Some realloc_type
   added_type_at h =
       let kept = kept_in live Types v.types in
+      let new_kept = map (renumber_func_type ranks) kept in
       let T = length v.types in
       let start : T ≡ T + 0 = omega arith in
       let index = ap (ranks Types) start ∙ added_type set v exports live parts found 0 in
-      let count = kept_count (λ k. live (Types, k)) v.types in
-      let rank_is : ranks Types T ≡ length kept + 0 = omega (arith, index, count) in
-      ap (slice_get image.types) rank_is ∙ (get_back kept (added_types parts found) 0 ∙ realloc_at parts.import_realloc (parts.start && is_empty found.empties) h)
+      let count = length-map kept (renumber_func_type ranks) ∙ kept_count (λ k. live (Types, k)) v.types in
+      let rank_is : ranks Types T ≡ length new_kept + 0 = omega (arith, index, count) in
+      ap (slice_get image.types) rank_is
+      ∙ (get_back new_kept (added_types parts found) 0 ∙ realloc_at parts.import_realloc (parts.start && is_empty found.empties) h)
 
   some_name : (o : Option (List ℕ)) (a b : Bool) → (is_some o && a && b) ≡ true → o ≡ Some (unwrap_or o [])
   some_name None a b h = absurd cc

@@ -2,7 +2,7 @@
 use Rattle.std.proofs.Common.{◌≡◌, ℕ, ◌+◌, ◌<◌, List, [], ◌∷◌, map, refl, sym, ◌∙◌, ap, subst, Bool, true, false, cond, Option, Some, None, arith}
 use Rattle.std.specs.Prelude.{AllPairs, Contains, IfSome, is_some}
 use Rattle.std.specs.List.{AllByRecursion, AllZip, filter_map, slice_get, zip}
-use Rattle.std.specs.Option.{option_map, option_map_or}
+use Rattle.std.specs.Option.{option_map_or}
 use Rattle.std.proofs.lemmas.Bool.{false≢true}
 use Rattle.wc_read.specs.Imports.{ImportValue}
 use Rattle.wc_read.specs.Items.{DefValue, imported, local, ItemValue, FuncValue, GlobalValue}
@@ -18,7 +18,7 @@ use Rattle.wc_write.specs.Values.{AreBytes}
 use Rattle.wc_gc.specs.Causes.{DecidesLive}
 use Rattle.wc_gc.specs.Decoded.{ItemIndex}
 use Rattle.wc_gc.specs.Parts.{SettingsValue}
-use Rattle.wc_gc.specs.Restriction.{HasOrigin, IsKeptImport, SameImport, import_type, is_in_space, is_realloc_item, positions_from, without_indices}
+use Rattle.wc_gc.specs.Restriction.{AreTypesAlike, HasOrigin, IsKeptImport, SameImport, import_type, is_in_space, is_realloc_item, positions_from}
 use Rattle.wc_gc.proofs.BuiltImageLemmas.{kept_in}
 use Rattle.wc_gc.proofs.ImportOriginLemmas.{HasSpace, IsFrom, from_at, imported_item_at, kept_pairs, kept_there, kept_zip, origins_of, rising}
 use Rattle.wc_gc.proofs.KeptItemLemmas.{kept_is}
@@ -160,13 +160,22 @@ module _ (bytes : List ℕ) (required : List (List ℕ)) (v : ModuleValue) (live
   -- an item of the adapter that stays imported
 
   module _ {T : Type 0} (C : Type 0) (of : ImportType → Option T) (kind : T → ImportType) (space : Space) (same : IsSpaceOf space of) (back : IsKindOf kind of) (n : ℕ) (x : ItemValue T C) (r : IsFrom C of space same v.imports n x) where
-    import_from : (ty : ImportType) (i : ImportValue) → import_by ty x.def ≡ Some i → import_type v.types (kind x.ty) ≡ import_type new_module.types ty → SameImport v new_module r.value i
+    abbrev AreAlike : ImportType → Type 0
+    AreAlike ty = AreTypesAlike (import_type v.types (kind x.ty)) (import_type new_module.types ty)
+
+    import_from : (ty : ImportType) (i : ImportValue) → import_by ty x.def ≡ Some i → AreAlike ty → SameImport v new_module r.value i
     import_from ty i e types =
         let made : ImportValue = record { module_name = r.value.module_name; name = r.value.name; ty = ty } in
         let is : made ≡ i = (let one = sym (ap (import_by ty) r.def) ∙ e in cc one) in
-        subst (SameImport v new_module r.value) is (record { from = refl; name = refl; ty = ap (option_map without_indices) (ap (import_type v.types) (back r.value.ty x.ty r.ty) ∙ types) })
+        let same = sym (back r.value.ty x.ty r.ty) in
+        subst (SameImport v new_module r.value) is (record {
+          from = refl;
+          name = refl;
+          ty = subst (λ t. AreTypesAlike (import_type v.types t) (import_type new_module.types ty)) same types;
+        })
 
-    pub origin_from : (ty : ImportType) (i : ImportValue) → import_by ty x.def ≡ Some i → import_type v.types (kind x.ty) ≡ import_type new_module.types ty → live (space, n) ≡ true → is_realloc_item v (space, n) ≡ false
+    pub origin_from : (ty : ImportType) (i : ImportValue) → import_by ty x.def ≡ Some i → AreAlike ty → live (space, n) ≡ true
+        → is_realloc_item v (space, n) ≡ false
         → HasOriginIn space (slice_get (positions_from space 0 v.imports) n) i
     origin_from ty i e types l none = subst (λ o. HasOriginIn space o i) (sym r.is_position) (record {
       origin = (r.value, r.at, import_from ty i e types);
@@ -174,12 +183,14 @@ module _ (bytes : List ℕ) (required : List (List ℕ)) (v : ModuleValue) (live
       within = ap (λ o. option_map_or (λ (i : ImportValue). is_in_space space i.ty) o false) r.at ∙ (same r.value.ty ∙ ap is_some r.ty);
     })
 
-  -- tables, memories and globals
+  -- tables, memories and globals: their types are renewed
 
-  module _ {T : Type 0} (C : Type 0) (of : ImportType → Option T) (kind : T → ImportType) (space : Space) (same : IsSpaceOf space of) (back : IsKindOf kind of) (plain : (t : T) → import_type v.types (kind t) ≡ import_type new_module.types (kind t))
+  module _ {T : Type 0} (C : Type 0) (of : ImportType → Option T) (kind : T → ImportType) (space : Space) (same : IsSpaceOf space of)
+      (back : IsKindOf kind of) (renew : T → T)
+      (alike : (t : T) → AreTypesAlike (import_type v.types (kind t)) (import_type new_module.types (kind (renew t))))
       (none : (n : ℕ) → is_realloc_item v (space, n) ≡ false) (xs : List (ItemValue T C)) (h : HasSpace of v.imports xs) where
     abbrev read : ItemValue T C → Option ImportValue
-    read x = import_by (kind x.ty) x.def
+    read x = import_by (kind (renew x.ty)) x.def
 
     abbrev origin : ℕ → Option ℕ
     origin n = slice_get (positions_from space 0 v.imports) n
@@ -188,17 +199,20 @@ module _ (bytes : List ℕ) (required : List (List ℕ)) (v : ModuleValue) (live
     has n = live (space, n)
 
     origin_at : (n : ℕ) (x : ItemValue T C) → slice_get xs n ≡ Some x → has n ≡ true → (i : ImportValue) → read x ≡ Some i → HasOriginIn space (origin n) i
-    origin_at n x at l i e = origin_from C of kind space same back n x (from_at C of space same v.imports xs h n x at (import_is (kind x.ty) x.def i e)) (kind x.ty) i e (plain x.ty) l (none n)
+    origin_at n x at l i e =
+        let ty = kind (renew x.ty) in
+        origin_from C of kind space same back n x (from_at C of space same v.imports xs h n x at (import_is ty x.def i e)) ty i e (alike x.ty) l (none n)
 
     all_there : (n p : ℕ) → has n ≡ true → origin n ≡ Some p → Contains (origins_of read origin has 0 xs) (Some p)
     all_there n p l e =
         let x = imported_item_at C of space same v.imports xs h n p e in
         let r = from_at C of space same v.imports xs h n x.0 x.1 x.2 in
         let start : 0 + n ≡ n = omega arith in
+        let made : ImportValue = record { module_name = r.value.module_name; name = r.value.name; ty = kind (renew x.0.ty) } in
         subst (Contains (origins_of read origin has 0 xs)) (ap origin start ∙ e)
-        (kept_there read origin has xs 0 n x.0 (record { module_name = r.value.module_name; name = r.value.name; ty = kind x.0.ty }) x.1 (ap has start ∙ l) (ap (import_by (kind x.0.ty)) r.def))
+        (kept_there read origin has xs 0 n x.0 made x.1 (ap has start ∙ l) (ap (import_by (kind (renew x.0.ty))) r.def))
 
-    pub plain_part : IsPart space (origins_of read origin has 0 xs) (imports_of kind (kept_in live space xs))
+    pub plain_part : IsPart space (origins_of read origin has 0 xs) (filter_map read (kept_in live space xs))
     plain_part = record {
       each = subst (λ ys. AllZip (HasOriginIn space) (origins_of read origin has 0 xs) (filter_map read ys)) (sym (kept_is has xs))
           (kept_zip read origin has (HasOriginIn space) xs 0 (λ n x at. let start : n ≡ 0 + n = omega arith in subst (λ k. has k ≡ true → (i : ImportValue) → read x ≡ Some i → HasOriginIn space (origin k) i) start (origin_at n x at)));

@@ -7,9 +7,9 @@ use Rattle.std.proofs.lemmas.Bool.{false≢true}
 use Rattle.std.proofs.lemmas.List.Elements.{All-append, All-contains, All-weaker, Contains-append_left, Contains-append_right}
 use Rattle.wc_read.specs.Decoding.{init_in}
 use Rattle.wc_read.specs.Imports.{ImportValue}
-use Rattle.wc_read.specs.Items.{DefValue, imported, local, GlobalValue}
+use Rattle.wc_read.specs.Items.{DefValue, imported, local, GlobalValue, TableValue}
 use Rattle.wc_read.specs.Modules.{ModuleValue, SpellsModule}
-use Rattle.wc_read.specs.Renumbering.{Renumbering}
+use Rattle.wc_read.specs.Renumbering.{Renumbering, renumber_global_type, renumber_table_type}
 use Rattle.wc_read.specs.Spaces.{global_of, memory_of, table_of}
 use Rattle.wc_read.specs.declared.operators.Space.{Space}
 use Rattle.wc_read.specs.declared.operators.Space.TheVariants.{Types, Funcs, Tables, Memories, Globals}
@@ -22,9 +22,11 @@ use Rattle.wc_write.specs.Values.{AreBytes}
 use Rattle.wc_gc.specs.Causes.{DecidesLive}
 use Rattle.wc_gc.specs.Decoded.{ItemIndex}
 use Rattle.wc_gc.specs.Edited.{only_if}
-use Rattle.wc_gc.specs.Image.{new_func, new_init}
+use Rattle.wc_gc.specs.Image.{new_func, new_init, new_table}
 use Rattle.wc_gc.specs.Parts.{SettingsValue}
-use Rattle.wc_gc.specs.Restriction.{HasOrigin, IsKeptImport, IsRestriction, TrimmedIsRestriction, is_in_space, is_realloc_item, positions_from}
+use Rattle.wc_gc.specs.Restriction.{HasOrigin, IsKeptImport, IsRestriction, TrimmedIsRestriction, global_item, is_in_space, is_realloc_item}
+use Rattle.wc_gc.specs.Restriction.{positions_from, table_item}
+use Rattle.wc_gc.proofs.AlikeTypeLemmas.{alike_under}
 use Rattle.wc_gc.proofs.BuiltImageLemmas.{kept_in}
 use Rattle.wc_gc.proofs.BuiltPartLemmas.{global_written}
 use Rattle.wc_gc.proofs.EditedIndexLemmas.{kept_imports}
@@ -75,25 +77,34 @@ module _ (bytes : List ℕ) (required : List (List ℕ)) (v : ModuleValue) (live
     origins : List (Option ℕ)
     part : Part space origins imports
 
+  abbrev ranks : Renumbering
+  ranks = restricted.ranks bytes required v live all s decides set
+
   memories : Group Memories (imports_of Memory image.memories)
   memories = record {
     origins = _;
-    part = plain_part bytes required v live all s decides set ⊤ memory_of Memory Memories memory_space memory_kind (λ t. refl) (λ n. refl) v.memories (have_spaces bytes v s).memories;
+    part = plain_part bytes required v live all s decides set ⊤ memory_of Memory Memories memory_space memory_kind (λ t. t) (λ t. refl) (λ n. refl)
+        v.memories (have_spaces bytes v s).memories;
   }
 
   tables : Group Tables (imports_of Table image.tables)
-  tables = record {
-    origins = _;
-    part = plain_part bytes required v live all s decides set ⊤ table_of Table Tables table_space table_kind (λ t. refl) (λ n. refl) v.tables (have_spaces bytes v s).tables;
-  }
+  tables =
+      let renew = renumber_table_type ranks in
+      let read = λ (t : TableValue). import_by (Table (renew t.ty)) t.def in
+      let kept = kept_in live Tables v.tables in
+      let part = plain_part bytes required v live all s decides set ⊤ table_of Table Tables table_space table_kind renew
+      (λ t. alike_under ranks (Some (table_item t)) (Some (table_item (renew t))) refl) (λ n. refl) v.tables (have_spaces bytes v s).tables in
+      subst (Group Tables) (sym (imports_mapped Table (new_table ranks) read (λ t. refl) kept)) (record { origins = _; part = part })
 
   globals : Group Globals (imports_of Global image.globals)
   globals =
-      let ranks = restricted.ranks bytes required v live all s decides set in
-      let read = λ (g : GlobalValue). import_by (Global g.ty) g.def in
+      let renew = renumber_global_type ranks in
+      let read = λ (g : GlobalValue). import_by (Global (renew g.ty)) g.def in
       let kept = kept_in live Globals v.globals in
-      let part = plain_part bytes required v live all s decides set (List ℕ) global_of Global Globals global_space global_kind (λ t. refl) (λ n. refl) v.globals (have_spaces bytes v s).globals in
-      subst (Group Globals) (sym (imports_mapped Global (global_written ranks) read (λ g. global_read g.def (Global g.ty) ranks) kept)) (record { origins = _; part = part })
+      let part = plain_part bytes required v live all s decides set (List ℕ) global_of Global Globals global_space global_kind renew
+      (λ t. alike_under ranks (Some (global_item t)) (Some (global_item (renew t))) refl) (λ n. refl) v.globals (have_spaces bytes v s).globals in
+      let same = imports_mapped Global (global_written ranks) read (λ g. global_read g.def (Global (renew g.ty)) ranks) kept in
+      subst (Group Globals) (sym same) (record { origins = _; part = part })
 
   abbrev old_imports : List ImportValue
   old_imports = imports_of Func (map (new_func (restricted.ranks bytes required v live all s decides set)) (kept_imports set v (restricted.exports bytes required v live all s decides set) live (restricted.parts bytes required v live all s decides set) (restricted.found bytes required v live all s decides set)))

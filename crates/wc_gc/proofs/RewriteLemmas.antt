@@ -8,6 +8,7 @@ use Rattle.std.proofs.lemmas.List.{map-append}
 use Rattle.wc_read.specs.Operators.{InstrValue, ImmediatesValue, WithNone, WithBlock, WithIndex, WithIndices, WithLabels, WithValTypes, WithRefType, WithMemArg, WithMemArgLane, WithI32, WithI64, WithBytes, WithLane, index_of}
 use Rattle.wc_read.specs.Refs.{refs_of, one_ref, two_refs, reference, in_space, type_reference, type_refs_of}
 use Rattle.wc_read.specs.Reading.Operators.{instr_of}
+use Rattle.wc_read.specs.Reading.Bodies.{locals_of}
 use Rattle.wc_read.specs.Passing.{ArePassable, IsPassableCode, IsRunText, run_and_left}
 use Rattle.wc_read.specs.declared.operators.Space.{Space}
 use Rattle.wc_read.specs.declared.operators.Space.TheVariants.{Types, Memories}
@@ -17,7 +18,7 @@ use Rattle.wc_read.specs.declared.operators.Index.{Index}
 use Rattle.wc_read.specs.declared.operators.MemArg.{MemArg}
 use Rattle.wc_read.specs.declared.operators.Refs.{Refs}
 use Rattle.wc_read.specs.declared.operators.BlockType.TheVariants.{Empty, Value, FuncType}
-use Rattle.wc_read.specs.Bodies.{BodyValue}
+use Rattle.wc_read.specs.Bodies.{BodyValue, local_types}
 use Rattle.wc_read.specs.Decoding.{body_of}
 use Rattle.wc_read.specs.Renumbering.{Renumbering, renumber, renumber_index, renumber_mem_arg, renumber_immediates, renumber_instr, renumber_val_type}
 use Rattle.wc_read.specs.Types.{type_index, type_indices}
@@ -27,7 +28,7 @@ use Rattle.wc_read.specs.declared.bodies.Locals.{Locals}
 use Rattle.wc_write.specs.Text.{vector_text}
 use Rattle.wc_write.specs.OperatorText.{instr_text}
 use Rattle.wc_write.specs.BodyText.{locals_text, body_text}
-use Rattle.wc_gc.specs.Image.{new_body, renumber_code}
+use Rattle.wc_gc.specs.Image.{new_body, renumber_code, renumber_locals}
 use Rattle.wc_gc.specs.NewBodies.{calls_of, text_left}
 use Rattle.wc_gc.specs.NewIndices.{new_of}
 use Rattle.wc_gc.specs.declared.new_indices.NewIndices.{NewIndices}
@@ -56,12 +57,12 @@ write_end new old all out left w e = sym (append-nil out) ∙ (ap (λ o. out ++ 
 -- a whole body, after a call
 
 pub body_text_is : (new : Renumbering) (call : Option ℕ) (old a b out : List ℕ) (locals : List Locals) (body : Option BodyValue) (all : Option (List InstrValue)) → is_some body ≡ true → body ≡ option_map (body_of locals) all
-    → a ≡ old ++ vector_text locals_text locals → b ≡ a ++ flat_map instr_text (calls_of call) → out ≡ b ++ text_left new all
+    → a ≡ old ++ vector_text locals_text (map (renumber_locals new) locals) → b ≡ a ++ flat_map instr_text (calls_of call) → out ≡ b ++ text_left new all
     → out ≡ old ++ body_text (record { locals = (new_body new body).locals; operators = calls_of call ++ (new_body new body).operators })
 unfolding body_text
 body_text_is new call old a b out locals body None some is ea eb eo = let none = sym (ap is_some is) ∙ some in absurd cc
 body_text_is new call old a b out locals body (Some code) some is ea eb eo =
-    let l = vector_text locals_text locals in
+    let l = vector_text locals_text (map (renumber_locals new) locals) in
     let t = flat_map instr_text (calls_of call) in
     let r = text_left new (Some code) in
     let written = eo ∙ (ap (λ z. z ++ r) (eb ∙ ap (λ z. z ++ t) ea) ∙ (append_assoc (old ++ l) t r ∙ append_assoc old l (t ++ r))) in
@@ -105,6 +106,13 @@ same_types new [] e = refl
 same_types new (t ∷ ts) e =
     let p = no_first (type_index t) (type_indices ts) e in
     ap (λ u. u ∷ map (renumber_val_type new) ts) (same_type new t p.0) ∙ ap (λ us. t ∷ us) (same_types new ts p.1)
+
+-- so are locals whose types name none
+pub same_locals : (new : Renumbering) (ls : List Locals) → type_indices (local_types ls) ≡ [] → map (renumber_locals new) ls ≡ ls
+same_locals new [] e = refl
+same_locals new (l ∷ ls) e =
+    let p = no_first (type_index l.ty) (type_indices (local_types ls)) e in
+    ap (λ (t : ValType). locals_of l.count t ∷ map (renumber_locals new) ls) (same_type new l.ty p.0) ∙ ap (λ us. l ∷ us) (same_locals new ls p.1)
 
 no_type : (o : Option ℕ) → ◌≡◌ {A = Option (Space × ℕ)} (option_map (λ n. (Types, n)) o) None → o ≡ None
 no_type None e = refl

@@ -1,12 +1,15 @@
 -- Code that can be spelled can be under new indices.
-use Rattle.std.proofs.Common.{◌≡◌, ℕ, ◌<◌, ◌^◌, List, [], ◌∷◌, ◌++◌, map, sym, ◌∙◌, ap, subst, Bool, refl, arith}
+use Rattle.std.proofs.Common.{◌≡◌, ℕ, ◌+◌, ◌<◌, ◌^◌, List, [], ◌∷◌, ◌++◌, map, sym, ◌∙◌, ap, subst, Bool, refl, arith}
 use Rattle.std.specs.Prelude.{All}
 use Rattle.std.proofs.lemmas.List.Elements.{All-map, All-weaker}
 use Rattle.wc_read.specs.Operators.{ImmediatesValue, InstrValue}
 use Rattle.wc_read.specs.Nesting.{tokens, instr_token, IsExpression}
-use Rattle.wc_read.specs.Bodies.{BodyValue}
+use Rattle.wc_read.specs.Bodies.{BodyValue, local_count}
 use Rattle.wc_read.specs.Inits.{AreConstant, end_value}
-use Rattle.wc_read.specs.Renumbering.{Renumbering, renumber, renumber_block, renumber_immediates, renumber_instr, renumber_mem_arg, renumber_val_type}
+use Rattle.wc_read.specs.Renumbering.{Renumbering, renumber, renumber_block, renumber_func_type, renumber_immediates, renumber_instr, renumber_mem_arg, renumber_table_type, renumber_val_type}
+use Rattle.wc_read.specs.Types.{FuncTypeValue, is_reference}
+use Rattle.wc_read.specs.declared.bodies.Locals.{Locals}
+use Rattle.wc_read.specs.declared.types.TableType.{TableType}
 use Rattle.wc_read.specs.declared.operators.Space.TheVariants.{Types, Memories}
 use Rattle.wc_read.specs.declared.operators.IndexKind.{IndexKind}
 use Rattle.wc_read.specs.declared.operators.IndexKind.TheVariants.{In, Elem, Data, Local, Label}
@@ -16,16 +19,34 @@ use Rattle.wc_read.specs.declared.operators.Form.{Form}
 use Rattle.wc_read.specs.declared.operators.Form.TheVariants.{None as form_none, Block as form_block, Index as form_index, Indices as form_indices, Labels as form_labels, ValTypes as form_val_types, RefType as form_ref_type, MemArg as form_mem_arg, MemArgLane as form_mem_arg_lane, I32 as form_i32, I64 as form_i64, Bytes as form_bytes, Lane as form_lane, Zero as form_zero}
 use Rattle.wc_read.specs.declared.types.ValType.{ValType}
 use Rattle.wc_read.specs.declared.types.ValType.TheVariants.{I32, I64, F32, F64, V128, FuncRef, ExternRef, FuncRefNonNull, ExternRefNonNull, TypeRef}
-use Rattle.wc_write.specs.Values.{HasForm, IsBlockType, IsInstr, IsBody, IsNullType, IsValType}
+use Rattle.wc_write.specs.Values.{HasForm, IsBlockType, IsInstr, IsBody, IsFuncType, IsNullType, IsTable, IsValType}
 use Rattle.wc_write.specs.BuiltValues.{IsInitialiser}
 use Rattle.wc_gc.specs.Decoded.{ItemIndex}
-use Rattle.wc_gc.specs.Image.{rank, renumber_body, renumber_code}
+use Rattle.wc_gc.specs.Image.{rank, renumber_body, renumber_code, renumber_locals}
 use Rattle.wc_gc.specs.Laws.{KeepsBits}
 use Rattle.wc_gc.proofs.RankLemmas.{few_below}
 
 -- ranks are no larger than indices
 pub ranks_keep : (kept : ItemIndex → Bool) → KeepsBits (rank kept)
 ranks_keep kept space n h = let few = few_below (λ k. kept (space, k)) n in omega arith
+
+-- what is a reference stays one
+reference_stays : (new : Renumbering) (t : ValType) → is_reference (renumber_val_type new t) ≡ is_reference t
+reference_stays new I32 = refl
+reference_stays new I64 = refl
+reference_stays new F32 = refl
+reference_stays new F64 = refl
+reference_stays new V128 = refl
+reference_stays new FuncRef = refl
+reference_stays new ExternRef = refl
+reference_stays new FuncRefNonNull = refl
+reference_stays new ExternRefNonNull = refl
+reference_stays new (TypeRef nullable index) = refl
+
+-- locals are as many
+count_stays : (new : Renumbering) (ls : List Locals) → local_count (map (renumber_locals new) ls) ≡ local_count ls
+count_stays new [] = refl
+count_stays new (l ∷ ls) = ap (λ n. l.count + n) (count_stays new ls)
 
 module _ (new : Renumbering) (keeps : KeepsBits new) where
   index_fits : (kind : IndexKind) (n : ℕ) → n < 2 ^ 32 → renumber new kind n < 2 ^ 32
@@ -35,7 +56,7 @@ module _ (new : Renumbering) (keeps : KeepsBits new) where
   index_fits Local n h = h
   index_fits Label n h = h
 
-  val_type_fits : (t : ValType) → IsValType t → IsValType (renumber_val_type new t)
+  pub val_type_fits : (t : ValType) → IsValType t → IsValType (renumber_val_type new t)
   val_type_fits I32 h = h
   val_type_fits I64 h = h
   val_type_fits F32 h = h
@@ -45,10 +66,26 @@ module _ (new : Renumbering) (keeps : KeepsBits new) where
   val_type_fits ExternRef h = h
   val_type_fits FuncRefNonNull h = h
   val_type_fits ExternRefNonNull h = h
-  val_type_fits (TypeRef nullable index) h = h
+  val_type_fits (TypeRef nullable index) h = keeps Types index h
 
   val_types_fit : (ts : List ValType) → All IsValType ts → All IsValType (map (renumber_val_type new) ts)
   val_types_fit ts h = All-map IsValType (renumber_val_type new) ts (All-weaker IsValType (λ t. IsValType (renumber_val_type new t)) val_type_fits ts h)
+
+  pub func_type_fits : (f : FuncTypeValue) → IsFuncType f → IsFuncType (renumber_func_type new f)
+  func_type_fits f h = (val_types_fit f.params h.0, val_types_fit f.results h.1)
+
+  pub table_type_fits : (t : TableType) → IsTable t → IsTable (renumber_table_type new t)
+  table_type_fits t h = record {
+    element_fits = val_type_fits t.element_type h.element_fits;
+    element_is_reference = reference_stays new t.element_type ∙ h.element_is_reference;
+    bounds = h.bounds;
+    ordered = h.ordered;
+  }
+
+  locals_fit : (ls : List Locals) → All (λ l. IsValType l.ty) ls → All (λ l. IsValType l.ty) (map (renumber_locals new) ls)
+  locals_fit ls h =
+      All-map (λ (l : Locals). IsValType l.ty) (renumber_locals new) ls
+      (All-weaker (λ (l : Locals). IsValType l.ty) (λ (l : Locals). IsValType (renumber_val_type new l.ty)) (λ l h. val_type_fits l.ty h) ls h)
 
   null_type_fits : (t : ValType) → IsNullType t → IsNullType (renumber_val_type new t)
   null_type_fits I32 h = h
@@ -95,8 +132,8 @@ module _ (new : Renumbering) (keeps : KeepsBits new) where
 
   pub body_stays : (b : BodyValue) → IsBody b → IsBody (renumber_body new b)
   body_stays b h = record {
-    few_locals = h.few_locals;
-    has_locals = h.has_locals;
+    few_locals = subst (λ (n : ℕ). n < 2 ^ 32) (sym (count_stays new b.locals)) h.few_locals;
+    has_locals = locals_fit b.locals h.has_locals;
     has_operators = code_stays b.operators h.has_operators;
     nests = subst IsExpression (sym (tokens_stay b.operators)) h.nests;
   }

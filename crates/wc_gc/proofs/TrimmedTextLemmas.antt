@@ -1,22 +1,27 @@
 -- What trimming answers is read back as the image that it is the text of.
-use Rattle.std.proofs.Common.{◌++◌, ◌≡◌, ◌≢◌, ℕ, ◌<◌, ◌≤◌, ◌^◌, List, length, refl, sym, subst, Bool, true, false, Option, Some, None, inl, inr, arith}
-use Rattle.std.specs.Prelude.{IsTrue, IsSome}
+use Rattle.std.proofs.Common.{◌++◌, ◌≡◌, ◌∙◌, ap, map, ◌≢◌, ℕ, ◌<◌, ◌≤◌, ◌^◌, List, length, refl, sym, subst, Bool, true, false, Option, Some, None, inl, inr, arith}
+use Rattle.std.specs.Prelude.{All, IsTrue, IsSome, ◌&&◌}
 use Rattle.std.proofs.lemmas.Bool.{cases_lt}
-use Rattle.std.proofs.lemmas.List.{length-append}
-use Rattle.std.proofs.lemmas.List.Elements.{All-append}
+use Rattle.std.proofs.lemmas.List.{length-append, length-map}
+use Rattle.std.proofs.lemmas.List.Elements.{All-append, All-from_recursion, All-nil}
 use Rattle.std.specs.Option.{option_map}
 use Rattle.wc_read.specs.Decoding.{init_in}
 use Rattle.wc_read.specs.Exports.{ExportValue}
 use Rattle.wc_read.specs.Modules.{ModuleValue, SpellsModule, count_of}
+use Rattle.wc_read.specs.Renumbering.{renumber_func_type}
+use Rattle.wc_read.specs.Types.{FuncTypeValue, HasTypeIndex, HaveTypeIndices}
+use Rattle.wc_read.specs.declared.types.ValType.{ValType}
+use Rattle.wc_read.specs.declared.types.ValType.TheVariants.{I32}
 use Rattle.wc_read.specs.declared.operators.Space.TheVariants.{Types, Funcs, Globals}
-use Rattle.wc_write.specs.Values.{AreBytes, IsFuncType}
+use Rattle.wc_write.specs.Values.{AreBytes, IsFuncType, IsValType}
 use Rattle.wc_write.specs.ModuleText.{BuiltValue, SizeFits, SizesFit}
 use Rattle.wc_write.specs.BuiltValues.{item_seen, IsExport, IsRead}
 use Rattle.wc_write.proofs.ModuleTextLemmas.{module_read}
 use Rattle.wc_write.proofs.WritableModuleLemmas.{spelled_writable}
 use Rattle.wc_gc.specs.Causes.{DecidesLive}
 use Rattle.wc_gc.specs.Decoded.{ItemIndex, decode}
-use Rattle.wc_gc.specs.Edited.{added_types, edit, start_of}
+use Rattle.wc_gc.specs.AddedCode.{empty_type, realloc_type}
+use Rattle.wc_gc.specs.Edited.{added_types, edit, only_if, start_of, types_added}
 use Rattle.wc_gc.specs.EditedImage.{FitsBits, edited_image}
 use Rattle.wc_gc.specs.Found.{found_in, is_empty}
 use Rattle.wc_gc.specs.Image.{new_global}
@@ -27,19 +32,34 @@ use Rattle.wc_gc.specs.Liveness.{HasLiveBody, Wanted}
 use Rattle.wc_gc.specs.Soundness.{is_sound_at}
 use Rattle.wc_gc.specs.Trimming.{IsTrimCause, IsTrimmed}
 use Rattle.wc_gc.specs.declared.fault.GcFault.{GcFault}
+use Rattle.wc_gc.specs.declared.parts.Parts.{Parts}
 use Rattle.wc_gc.specs.declared.fault.GcFault.TheVariants.{LiveBody, TooLarge}
-use Rattle.wc_gc.proofs.BuiltImageLemmas.{AreExports, AreKept, image_built, image_with, kept_in, kept_seen, kept_types_spelled}
+use Rattle.wc_gc.proofs.BuiltImageLemmas.{AreExports, AreKept, image_built, image_with, kept_in, kept_seen, kept_types_named, kept_types_spelled, types_written}
 use Rattle.wc_gc.proofs.BuiltPartLemmas.{short_inits}
-use Rattle.wc_gc.proofs.EditedFuncLemmas.{added_types_spelled, edited_funcs_can, edited_start, short_names}
+use Rattle.wc_gc.proofs.EditedFuncLemmas.{all_only, edited_funcs_can, edited_start, short_names}
 use Rattle.wc_gc.proofs.EditedIndexLemmas.{are_new, funcs_written, new}
 use Rattle.wc_gc.proofs.ExportLemmas.{all_kept}
 use Rattle.wc_gc.proofs.KeptExportLemmas.{pairs_kept, pairs_named}
 use Rattle.wc_gc.proofs.LiveItemLemmas.{live_named, live_root}
-use Rattle.wc_gc.proofs.SpelledItemLemmas.{have_items}
+use Rattle.wc_gc.proofs.SpelledItemLemmas.{all_joined, have_items}
+use Rattle.wc_gc.proofs.TypeTestLemmas.{added_types_stay}
 
 no_start : (o : Option ℕ) → ¬ (IsSome o) → o ≡ None
 no_start None h = refl
 no_start (Some n) h = absurd (h refl)
+
+-- types that are added have no parameters and results but i32
+added_types_have : (P : ValType → Type 0) → P I32 → (p : Parts) (no_empty : Bool) → All (λ t. All P t.params × All P t.results) (types_added p no_empty)
+added_types_have P one p no_empty =
+    let Q : FuncTypeValue → Type 0 = λ t. All P t.params × All P t.results in
+    let empty : Q empty_type = (All-nil P, All-nil P) in
+    let params = All-from_recursion P realloc_type.params (one, (one, (one, (one, tt)))) in
+    let realloc : Q realloc_type = (params, All-from_recursion P realloc_type.results (one, tt)) in
+    All-from_recursion Q (types_added p no_empty)
+    (all_joined Q (only_if p.import_realloc realloc_type) _ (all_only Q p.import_realloc realloc_type (λ h. realloc))
+    (all_joined Q (only_if p.lazy empty_type) _ (all_only Q p.lazy empty_type (λ h. empty))
+    (all_joined Q (only_if p.growing realloc_type) _ (all_only Q p.growing realloc_type (λ h. realloc))
+    (all_only Q (p.start && no_empty) empty_type (λ h. empty)))))
 
 module _ (bytes : List ℕ) (required : List (List ℕ)) (m : ModuleValue) (live : ItemIndex → Bool) (all : AreBytes bytes) (s : SpellsModule bytes m) (decides : DecidesLive required m live) where
   abbrev exports : List ExportValue
@@ -71,12 +91,21 @@ module _ (bytes : List ℕ) (required : List (List ℕ)) (m : ModuleValue) (live
   edited_value set =
       let p = parts_of set (found_in (decode m) live) in
       let f = found_in (decode m) live in
-      image_with m exports live (new set m exports live p f) (kept_in live Types m.types ++ added_types p f) (funcs_written set m exports live p f)
-      (option_map (new set m exports live p f Funcs) (start_of (length (decode m).funcs) p))
+      let r = new set m exports live p f in
+      image_with m exports live r (types_written m live r ++ added_types p f) (funcs_written set m exports live p f)
+      (option_map (r Funcs) (start_of (length (decode m).funcs) p))
 
   pub edited_value_is : (set : SettingsValue) → edited_image (edit set (decode m) exports live) ≡ edited_value set
   unfolding edited_image edit
-  edited_value_is set = rw (kept_seen (new_global (new set m exports live (parts_of set (found_in (decode m) live)) (found_in (decode m) live))) (item_seen init_in) (λ n. live (Globals, n)) m.globals) refl
+  edited_value_is set =
+      let p = parts_of set (found_in (decode m) live) in
+      let f = found_in (decode m) live in
+      let r = new set m exports live p f in
+      let by : List FuncTypeValue → BuiltValue = λ ts. image_with m exports live r (types_written m live r ++ ts) (funcs_written set m exports live p f)
+      (option_map (r Funcs) (start_of (length (decode m).funcs) p)) in
+      let same : edited_image (edit set (decode m) exports live) ≡ by (map (renumber_func_type r) (added_types p f)) =
+      rw (kept_seen (new_global r) (item_seen init_in) (λ n. live (Globals, n)) m.globals) refl in
+      same ∙ ap by (added_types_stay r p f)
 
   pub edited_text_read : (set : SettingsValue) → AreSettings set → ¬ (HasLiveBody required m) → FitsBits (edited_image (edit set (decode m) exports live)) → IsRead (edited_image (edit set (decode m) exports live))
   edited_text_read set are sound fits =
@@ -90,14 +119,21 @@ module _ (bytes : List ℕ) (required : List (List ℕ)) (m : ModuleValue) (live
       let b = edited_value set in
       let funcs = edited_funcs_can set m exports live p are w items v live_are_kept (live_sound sound) fit.funcs fit.types (short_names b fit.sizes) in
       let starts = edited_start set m exports live p are w items v live_are_kept (live_sound sound) fit.funcs in
-      let types = kept_in live Types m.types ++ added_types p f in
-      let most : length (kept_in live Types m.types) ≤ length types = let l = length-append (kept_in live Types m.types) (added_types p f) in
-      omega (arith, l) in
-      let spelled = All-append IsFuncType (kept_in live Types m.types) (added_types p f) (kept_types_spelled m live w)
-      (added_types_spelled p (is_empty f.empties)) in
+      let r = new set m exports live p f in
+      let written = funcs_written set m exports live p f in
+      let kept = types_written m live r in
+      let types = kept ++ added_types p f in
+      let all = length-append kept (added_types p f) in
+      let as_many = length-map (kept_in live Types m.types) (renumber_func_type r) in
+      let most : length (kept_in live Types m.types) ≤ length types = omega (arith, all, as_many) in
       let new_ones = are_new set m exports live p f fit.funcs (length types) most in
-      let built = image_built m exports live w items v live_are_kept kept_are_exports (new set m exports live p f) types (funcs_written set m exports live p f)
-      (option_map (new set m exports live p f Funcs) (start_of (length (decode m).funcs) p)) new_ones spelled funcs starts (short_inits b fit.sizes) in
+      let spelled = All-append IsFuncType kept (added_types p f) (kept_types_spelled m live r new_ones.keeps w)
+      (added_types_have IsValType tt p (is_empty f.empties)) in
+      let names = All-append (HaveTypeIndices (length types)) kept (added_types p f)
+      (kept_types_named m live w v live_are_kept.named r (length types) (length written) new_ones)
+      (added_types_have (HasTypeIndex (length types)) refl p (is_empty f.empties)) in
+      let built = image_built m exports live w items v live_are_kept kept_are_exports r types written
+      (option_map (r Funcs) (start_of (length (decode m).funcs) p)) new_ones spelled names funcs starts (short_inits b fit.sizes) in
       subst IsRead (sym is) (module_read b built fit.sizes)
 
 -- sizes that cannot be said not to fit fit

@@ -9,25 +9,27 @@ use Rattle.std.proofs.lemmas.List.{map-append}
 use Rattle.std.proofs.lemmas.List.Elements.{recursion_from_All}
 use Rattle.wc_read.specs.Bodies.{BodyValue}
 use Rattle.wc_read.specs.Exports.{ExportValue}
-use Rattle.wc_read.specs.Items.{DefValue, ItemValue, imported, local}
-use Rattle.wc_read.specs.Renumbering.{Renumbering}
+use Rattle.wc_read.specs.Items.{DefValue, ItemValue, TableValue, imported, local}
+use Rattle.wc_read.specs.Renumbering.{Renumbering, renumber_func_type}
+use Rattle.wc_read.specs.Types.{FuncTypeValue}
 use Rattle.wc_read.specs.declared.operators.Space.TheVariants.{Types, Funcs, Tables, Memories, Globals}
 use Rattle.wc_write.specs.BuiltValues.{HasImportsFirst, def_seen, is_defined, is_imported, item_seen}
 use Rattle.wc_write.specs.ModuleText.{BuiltValue}
 use Rattle.wc_gc.specs.Decoded.{DecodedModule, FuncCode, GlobalCode, ItemIndex, exported_item}
 use Rattle.wc_gc.specs.Edited.{EditedModule, added_types, edited_by, edited_def, edited_func, is_exported_func, replaced}
 use Rattle.wc_gc.specs.EditedImage.{added_func_rank, edited_image, edited_rank, func_rank}
-use Rattle.wc_gc.specs.Entries.{body_refs, def_refs, entry_refs, func_entry, func_refs, global_entry, init_refs, no_entry}
+use Rattle.wc_gc.specs.Entries.{body_refs, def_refs, entry_refs, func_entry, func_refs, func_type_refs, global_entry, global_refs, no_entry}
+use Rattle.wc_gc.specs.Entries.{table_entry, type_entry, val_type_refs}
 use Rattle.wc_gc.specs.Found.{FoundValue, is_realloc}
-use Rattle.wc_gc.specs.Image.{kept_items, kept_of, new_body, new_export, new_func, new_global, rank, renumber_body}
+use Rattle.wc_gc.specs.Image.{kept_items, kept_of, new_body, new_export, new_func, new_global, new_table, rank, renumber_body}
 use Rattle.wc_gc.specs.Parts.{SettingsValue, parts_of}
 use Rattle.wc_gc.specs.Traces.{AddsNothing, AreClosed, all_items}
 use Rattle.wc_gc.specs.Unfolding.{built_module, is_code, renumber_func, renumber_global}
 use Rattle.wc_gc.specs.declared.parts.Parts.{Parts}
 use Rattle.wc_gc.proofs.BuiltPartLemmas.{each_weaker}
-use Rattle.wc_gc.proofs.CutCodeLemmas.{Agrees, body_agrees, global_agrees}
+use Rattle.wc_gc.proofs.CutCodeLemmas.{Agrees, body_agrees, func_type_agrees, global_agrees, table_agrees}
 use Rattle.wc_gc.proofs.CutFoundLemmas.{cut, funcs_kept, types_kept}
-use Rattle.wc_gc.proofs.CutImageLemmas.{both_mapped}
+use Rattle.wc_gc.proofs.CutImageLemmas.{both_mapped, kept_twice}
 use Rattle.wc_gc.proofs.CutListLemmas.{count_all, keep_all}
 use Rattle.wc_gc.proofs.FoundLemmas.{realloc_seen}
 use Rattle.wc_gc.proofs.ImageLemmas.{all_kept, map_twice}
@@ -154,9 +156,19 @@ module _ (s : SettingsValue) (m : DecodedModule) (exports : List ExportValue) (l
       subst (λ o. AllByRecursion (λ y. live y ≡ true) (entry_refs (option_map_or func_entry o no_entry))) at (i.closed.named (Funcs, n) h)
 
   pub global_names : (n : ℕ) (x : GlobalCode) → live (Globals, n) ≡ true → slice_get m.globals n ≡ Some x
-      → AllByRecursion (λ y. live y ≡ true) (def_refs init_refs x.def)
+      → AllByRecursion (λ y. live y ≡ true) (global_refs x)
   global_names n x h at =
       subst (λ o. AllByRecursion (λ y. live y ≡ true) (entry_refs (option_map_or global_entry o no_entry))) at (i.closed.named (Globals, n) h)
+
+  pub type_names : (n : ℕ) (x : FuncTypeValue) → live (Types, n) ≡ true → slice_get m.types n ≡ Some x
+      → AllByRecursion (λ y. live y ≡ true) (func_type_refs x)
+  type_names n x h at =
+      subst (λ o. AllByRecursion (λ y. live y ≡ true) (entry_refs (option_map_or type_entry o no_entry))) at (i.closed.named (Types, n) h)
+
+  pub table_names : (n : ℕ) (x : TableValue) → live (Tables, n) ≡ true → slice_get m.tables n ≡ Some x
+      → AllByRecursion (λ y. live y ≡ true) (val_type_refs (x.ty.element_type ∷ []))
+  table_names n x h at =
+      subst (λ o. AllByRecursion (λ y. live y ≡ true) (entry_refs (option_map_or table_entry o no_entry))) at (i.closed.named (Tables, n) h)
 
   -- items that are renumbered twice
 
@@ -179,10 +191,7 @@ module _ (s : SettingsValue) (m : DecodedModule) (exports : List ExportValue) (l
       ∙ ap (item_with (r Types x.ty)) (def_stays x.def names.1)
 
   funcs_stay : map (new_func R) C.funcs ≡ map (new_func r) kept_funcs
-  funcs_stay =
-      map_twice (renumber_func r) (new_func R) kept_funcs
-      ∙ both_mapped (λ x. new_func R (renumber_func r x)) (new_func r) kept_funcs
-      (each_func (λ x. new_func R (renumber_func r x) ≡ new_func r x) one_stays)
+  funcs_stay = kept_twice (λ n. live (Funcs, n)) m.funcs (renumber_func r) (new_func R) (new_func r) one_stays
 
   abbrev grouped : List FuncCode → List (ItemValue ℕ BodyValue)
   grouped zs =
@@ -202,10 +211,14 @@ module _ (s : SettingsValue) (m : DecodedModule) (exports : List ExportValue) (l
   globals_are : map (new_global R) (kept_of C all_items Globals C.globals) ≡ map (new_global r) kept_globals
   globals_are =
       ap (map (new_global R)) (keep_all C.globals)
-      ∙ (map_twice (renumber_global r) (new_global R) kept_globals
-      ∙ both_mapped (λ x. new_global R (renumber_global r x)) (new_global r) kept_globals
-      (each_global (λ x. new_global R (renumber_global r x) ≡ new_global r x)
-      (λ n x h at. global_agrees r R r x (all_stay (def_refs init_refs x.def) (global_names n x h at)))))
+      ∙ kept_twice (λ n. live (Globals, n)) m.globals (renumber_global r) (new_global R) (new_global r)
+      (λ n x h at. global_agrees r R r x (all_stay (global_refs x) (global_names n x h at)))
+
+  tables_are : map (new_table R) (kept_of C all_items Tables C.tables) ≡ C.tables
+  tables_are =
+      ap (map (new_table R)) (keep_all C.tables)
+      ∙ kept_twice (λ n. live (Tables, n)) m.tables (new_table r) (new_table R) (new_table r)
+      (λ n x h at. table_agrees r R r x (all_stay (val_type_refs (x.ty.element_type ∷ [])) (table_names n x h at)))
 
   abbrev export_with : ExportValue → ℕ → ExportValue
   export_with e n = record { name = e.name; kind = e.kind; index = n }
@@ -230,12 +243,16 @@ module _ (s : SettingsValue) (m : DecodedModule) (exports : List ExportValue) (l
     producers = m.producers;
   }
 
-  types_are : kept_of C all_items Types C.types ++ added_types no_parts g ≡ C.types
-  types_are = ap (λ zs. zs ++ []) (keep_all C.types) ∙ append-nil C.types
+  types_are : map (renumber_func_type R) (kept_of C all_items Types C.types) ++ map (renumber_func_type R) (added_types no_parts g) ≡ C.types
+  types_are =
+      append-nil (map (renumber_func_type R) (kept_of C all_items Types C.types))
+      ∙ (ap (map (renumber_func_type R)) (keep_all C.types)
+      ∙ kept_twice (λ n. live (Types, n)) m.types (renumber_func_type r) (renumber_func_type R) (renumber_func_type r)
+      (λ n x h at. func_type_agrees r R r x (all_stay (func_type_refs x) (type_names n x h at))))
 
   pub plain_image : edited_image N ≡ plain
   unfolding edited_image
-  plain_image = rw (types_are, funcs_are, keep_all C.tables, keep_all C.memories, globals_are, exports_are) refl
+  plain_image = rw (types_are, funcs_are, tables_are, keep_all C.memories, globals_are, exports_are) refl
 
   -- and this the module that it spells
   abbrev pub unnamed : DecodedModule
@@ -244,11 +261,8 @@ module _ (s : SettingsValue) (m : DecodedModule) (exports : List ExportValue) (l
   pub plain_read : built_module plain ≡ unnamed
   plain_read =
       let funcs : map (item_seen Some) (map (new_func r) kept_funcs) ≡ C.funcs =
-      map_twice (new_func r) (item_seen Some) kept_funcs
-      ∙ both_mapped (λ x. item_seen Some (new_func r x)) (renumber_func r) kept_funcs
-      (each_func (λ x. item_seen Some (new_func r x) ≡ renumber_func r x) (λ n x h at. func_whole r x (i.func_code n x h at))) in
+      kept_twice (λ n. live (Funcs, n)) m.funcs (new_func r) (item_seen Some) (renumber_func r) (λ n x h at. func_whole r x (i.func_code n x h at)) in
       let globals : map (item_seen Some) (map (new_global r) kept_globals) ≡ C.globals =
-      map_twice (new_global r) (item_seen Some) kept_globals
-      ∙ both_mapped (λ x. item_seen Some (new_global r x)) (renumber_global r) kept_globals
-      (each_global (λ x. item_seen Some (new_global r x) ≡ renumber_global r x) (λ n x h at. global_whole r x (i.global_code n x h at))) in
+      kept_twice (λ n. live (Globals, n)) m.globals (new_global r) (item_seen Some) (renumber_global r)
+      (λ n x h at. global_whole r x (i.global_code n x h at)) in
       rw (funcs, globals) refl

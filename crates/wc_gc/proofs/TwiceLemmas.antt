@@ -1,31 +1,24 @@
 -- A text that an adapter was trimmed to without an addition: it spells the cut, which is its own cut, so it is trimmed to itself.
 use Rattle.std.proofs.Common.{◌≡◌, ℕ, ◌≤◌, List, [], ◌∷◌, ◌++◌, length, map, refl, sym, ◌∙◌, ap, subst, Bool, true, false, ◌&&◌, ◌||◌, not, cond}
 use Rattle.std.proofs.Common.{Option, Some, None, arith, ltb-true, inl, inr}
-use Rattle.std.specs.Prelude.{Contains, IsSome, IsTrue, filter, fold, is_some, string_bytes}
-use Rattle.std.specs.List.{AllByRecursion, cons_option, find, list_all, list_any, range_with_len, slice_get}
+use Rattle.std.specs.Prelude.{Contains, IsSome, IsTrue, is_some, string_bytes}
+use Rattle.std.specs.List.{AllByRecursion, list_all, list_any, range_with_len, slice_get}
 use Rattle.std.specs.Option.{option_map, option_map_or, option_to_list}
 use Rattle.std.specs.Str.{bytes_eq}
-use Rattle.std.proofs.lemmas.Bool.{false≢true, lt-ltb, true≢false}
+use Rattle.std.proofs.lemmas.Bool.{false≢true, lt-ltb}
 use Rattle.std.proofs.lemmas.List.{length-map}
-use Rattle.std.proofs.lemmas.List.Elements.{recursion_from_All}
 use Rattle.std.proofs.lemmas.Option.{slice_get-map, slice_get_within}
-use Rattle.std.proofs.lemmas.Slice.Eq.{bytes_eq-Decides}
 use Rattle.wc_read.specs.Bodies.{BodyValue}
 use Rattle.wc_read.specs.Decoding.{body_in, init_in}
 use Rattle.wc_read.specs.Exports.{ExportValue}
-use Rattle.wc_read.specs.Items.{DefValue, ItemValue, imported, local}
+use Rattle.wc_read.specs.Items.{DefValue, imported, local, TableValue}
 use Rattle.wc_read.specs.Modules.{IsModule, ModuleValue, SpellsModule}
-use Rattle.wc_read.specs.Operators.{InstrValue}
-use Rattle.wc_read.specs.Renumbering.{Renumbering}
+use Rattle.wc_read.specs.Renumbering.{Renumbering, renumber_func_type}
 use Rattle.wc_read.specs.declared.operators.Space.TheVariants.{Types, Funcs, Tables, Memories, Globals}
-use Rattle.wc_read.specs.declared.types.GlobalType.{GlobalType}
-use Rattle.wc_read.proofs.DecodingLemmas.{body_found, init_found}
 use Rattle.wc_read.proofs.ModulesLemmas.{modules_one}
 use Rattle.wc_read.proofs.OptionsLemmas.{some_same}
-use Rattle.wc_write.specs.BodyText.{body_text}
-use Rattle.wc_write.specs.BuiltValues.{HasImportsFirst, IsRead, IsReadBody, IsReadInit, IsWritable, def_seen, is_import, item_seen, written_module}
-use Rattle.wc_write.specs.ModuleText.{BuiltValue, built_text, init_text}
-use Rattle.wc_write.specs.Spaces.{DefinedValue, defined, defined_by, defined_contents}
+use Rattle.wc_write.specs.BuiltValues.{HasImportsFirst, IsRead, IsWritable, def_seen, item_seen, written_module}
+use Rattle.wc_write.specs.ModuleText.{BuiltValue, built_text}
 use Rattle.wc_write.specs.Values.{AreBytes}
 use Rattle.wc_write.proofs.WritableModuleLemmas.{spelled_writable}
 use Rattle.wc_gc.specs.Causes.{DecidesLive, IsFoundCause, called_reallocs, grows_memory, has_page_size_at, has_realloc_type}
@@ -33,10 +26,10 @@ use Rattle.wc_gc.specs.Cut.{cut_of, ranks_named, part_names}
 use Rattle.wc_gc.specs.Decoded.{DecodedModule, FuncCode, GlobalCode, ItemIndex, decode, exported_item, is_in, size_of}
 use Rattle.wc_gc.specs.Edited.{edit, edited_by}
 use Rattle.wc_gc.specs.EditedImage.{FitsBits, edited_image}
-use Rattle.wc_gc.specs.Entries.{body_refs, def_refs, func_entry, func_refs, init_refs, no_entry}
+use Rattle.wc_gc.specs.Entries.{body_refs, def_refs, func_entry, func_refs, no_entry, global_refs, func_type_refs, val_type_refs}
 use Rattle.wc_gc.specs.Found.{FoundValue, allocation_state, found_in, is_mutable_i32_at, is_own_memory_at, is_realloc, is_realloc_at, stack_pointer}
-use Rattle.wc_gc.specs.Image.{kept_of, new_export, rank, renumber_body, renumber_code}
-use Rattle.wc_gc.specs.KeptExports.{export_names, is_exported, is_required, kept_exports, missing_name, without}
+use Rattle.wc_gc.specs.Image.{kept_of, new_export, rank, renumber_body, kept_items, new_table}
+use Rattle.wc_gc.specs.KeptExports.{export_names, is_exported, is_required, kept_exports, missing_name}
 use Rattle.wc_gc.specs.Laws.{AreSettings}
 use Rattle.wc_gc.specs.Liveness.{HasLiveBody, HasUnsupported, IsCause, Wanted}
 use Rattle.wc_gc.specs.Parts.{SettingsValue, is_any, is_lazy, last_of, parts_of}
@@ -52,9 +45,9 @@ use Rattle.wc_gc.specs.declared.parts.Parts.{Parts}
 use Rattle.wc_gc.proofs.BuiltPartLemmas.{each_weaker}
 use Rattle.wc_gc.proofs.ChainLemmas.{any_fails, contains_unmapped, exports_required, fails_any, in_all, same_names}
 use Rattle.wc_gc.proofs.CutCauseLemmas.{causes_are_of_cut}
-use Rattle.wc_gc.proofs.CutCodeLemmas.{Agrees, body_agrees, code_agrees}
+use Rattle.wc_gc.proofs.CutCodeLemmas.{Agrees, body_agrees, func_type_agrees, global_twice, table_agrees}
 use Rattle.wc_gc.proofs.CutFoundLemmas.{cut, cut_is, found_moved, parts_same, parts_stackless}
-use Rattle.wc_gc.proofs.CutImageLemmas.{both_mapped, image_is_of_cut}
+use Rattle.wc_gc.proofs.CutImageLemmas.{both_mapped, image_is_of_cut, kept_twice}
 use Rattle.wc_gc.proofs.CutListLemmas.{keep_all}
 use Rattle.wc_gc.proofs.EditedIndexLemmas.{both_true}
 use Rattle.wc_gc.proofs.ImageLemmas.{map_twice}
@@ -64,93 +57,14 @@ use Rattle.wc_gc.proofs.LiveItemLemmas.{contains_mapped}
 use Rattle.wc_gc.proofs.TraceLemmas.{each_in, live_closed}
 use Rattle.wc_gc.proofs.TrimLemmas.{bools, tests_one}
 use Rattle.wc_gc.proofs.TrimmedTextLemmas.{live_sound, trimmed_text_read}
-use Rattle.wc_gc.proofs.TwiceImageLemmas.{IsPlain, each_func, each_global, func_names, global_names, mapped_each, no_parts, parts_none, plain}
+use Rattle.wc_gc.proofs.TwiceImageLemmas.{IsPlain, func_names, global_names, mapped_each, no_parts, parts_none, plain, type_names, table_names}
 use Rattle.wc_gc.proofs.TwiceImageLemmas.{plain_image, plain_read}
 use Rattle.wc_gc.proofs.TwiceListLemmas.{count_within, filter_none, kept_within, none_found, not_true}
 use Rattle.wc_gc.proofs.TwiceReachLemmas.{moved_in, named_cut, of_item, reached_moved, sound_moved}
 use Rattle.wc_gc.proofs.UntouchedLiveLemmas.{live_there}
-
--- the bodies and initialisers of a text
-
-one_body : (d : DefValue BodyValue) (ty : ℕ) (ds : List (DefinedValue ℕ BodyValue))
-    → AllByRecursion IsReadBody (map (λ o. o.content) (cons_option (defined_by ty d) ds))
-    → (def_seen body_in (def_seen body_text d) ≡ def_seen Some d) × AllByRecursion IsReadBody (map (λ o. o.content) ds)
-one_body (imported m n) ty ds h = (refl, h)
-one_body (local b) ty ds h = (ap local (body_found (body_text b) b h.0.0), h.1)
-
-abbrev func_of : ℕ → DefValue (Option BodyValue) → FuncCode
-func_of ty d = record { ty = ty; def = d }
-
-bodies_read : (xs : List (ItemValue ℕ BodyValue)) → AllByRecursion IsReadBody (defined_contents xs)
-    → map (item_seen body_in) (map (item_seen body_text) xs) ≡ map (item_seen Some) xs
-bodies_read [] h = refl
-bodies_read (x ∷ xs) h =
-    let one = one_body x.def x.ty (defined xs) h in
-    ap (λ d. func_of x.ty d ∷ map (item_seen body_in) (map (item_seen body_text) xs)) one.0 ∙ ap (λ ys. item_seen Some x ∷ ys) (bodies_read xs one.1)
-
-one_init : (d : DefValue (List InstrValue)) (ty : GlobalType) (ds : List (DefinedValue GlobalType (List InstrValue)))
-    → AllByRecursion IsReadInit (map (λ o. o.content) (cons_option (defined_by ty d) ds))
-    → (def_seen init_in (def_seen init_text d) ≡ def_seen Some d) × AllByRecursion IsReadInit (map (λ o. o.content) ds)
-one_init (imported m n) ty ds h = (refl, h)
-one_init (local is) ty ds h = (ap local (init_found (init_text is) is h.0.0), h.1)
-
-abbrev global_of : GlobalType → DefValue (Option (List InstrValue)) → GlobalCode
-global_of ty d = record { ty = ty; def = d }
-
-inits_read : (xs : List (ItemValue GlobalType (List InstrValue))) → AllByRecursion IsReadInit (defined_contents xs)
-    → map (item_seen init_in) (map (item_seen init_text) xs) ≡ map (item_seen Some) xs
-inits_read [] h = refl
-inits_read (x ∷ xs) h =
-    let one = one_init x.def x.ty (defined xs) h in
-    ap (λ d. global_of x.ty d ∷ map (item_seen init_in) (map (item_seen init_text) xs)) one.0 ∙ ap (λ ys. item_seen Some x ∷ ys) (inits_read xs one.1)
-
-built_read : (b : BuiltValue) → IsRead b → decode (written_module b) ≡ built_module b
-built_read b is =
-    let funcs = bodies_read b.funcs (recursion_from_All IsReadBody (defined_contents b.funcs) is.bodies) in
-    let globals = inits_read b.globals (recursion_from_All IsReadInit (defined_contents b.globals) is.initialisers) in
-    rw (funcs, globals) refl
-
--- tests
-
-rest_false : (b t : Bool) → b ≡ true → (b && t) ≡ false → t ≡ false
-rest_false true t h e = e
-rest_false false t h e = absurd (false≢true h)
-
-and_and_false : (b c : Bool) → (b && (c && false)) ≡ false
-and_and_false true true = refl
-and_and_false true false = refl
-and_and_false false c = refl
-
-seen_import : {C E : Type 0} (view : C → E) (d : DefValue C) → is_import (def_seen view d) ≡ is_import d
-seen_import view (imported m n) = refl
-seen_import view (local x) = refl
-
-filter_fails : {A : Type 0} (p : A → Bool) (xs : List A) → AllByRecursion (λ x. p x ≡ false) xs → filter p xs ≡ []
-filter_fails p [] h = refl
-filter_fails p (x ∷ xs) h = ap (λ b. cond b (x ∷ filter p xs) (filter p xs)) h.0 ∙ filter_fails p xs h.1
-
-find_same : {A : Type 0} (p q : A → Bool) (xs : List A) → AllByRecursion (λ x. p x ≡ q x) xs → find p xs ≡ find q xs
-find_same p q [] h = refl
-find_same p q (x ∷ xs) h = ap (λ b. cond b (Some x) (find p xs)) h.0 ∙ ap (λ o. cond (q x) (Some x) o) (find_same p q xs h.1)
-
--- no export is dropped, where all are required
-all_exports_kept : (required : List (List ℕ)) (es : List ExportValue) → AllByRecursion (λ e. is_required required e.name ≡ true) es
-    → kept_exports required es ≡ es
-all_exports_kept required es h =
-    ap (λ ns. fold without es ns)
-    (filter_fails (λ name. not (is_required required name)) (export_names es)
-    (mapped_each (λ name. not (is_required required name) ≡ false) (λ (e : ExportValue). e.name) es
-    (each_weaker (λ e. is_required required e.name ≡ true) (λ e. not (is_required required e.name) ≡ false) es (λ e k. ap not k) h)))
-
--- the names that are required
-required_there : (required : List (List ℕ)) (name : List ℕ) → Contains required name → is_required required name ≡ true
-required_there required name c = by (is_required required name) refl
-  where
-    by : (b : Bool) → is_required required name ≡ b → b ≡ true
-    by true e = refl
-    by false e =
-        absurd (true≢false (sym ((bytes_eq-Decides name name).1 refl)
-        ∙ in_all (λ n. bytes_eq name n ≡ false) required name (any_fails (bytes_eq name) required e) c))
+use Rattle.wc_read.specs.Types.{FuncTypeValue}
+use Rattle.wc_read.specs.declared.operators.Space.{Space}
+use Rattle.wc_gc.proofs.TwiceTextLemmas.{all_exports_kept, and_and_false, built_read, find_same, func_of, required_there, rest_false, seen_import}
 
 module _ (s : SettingsValue) (w : Wanted) (text : List ℕ) (are : AreSettings s) (all : AreBytes w.bytes) (bytes : AreBytes text)
     (t : IsTrimmedTo s w text) (none : AddsNothing s (found_in (decode t.trimmed.value) t.trimmed.live)) where
@@ -343,37 +257,46 @@ module _ (s : SettingsValue) (w : Wanted) (text : List ℕ) (are : AreSettings s
       ap (λ ty. func_of ty (def_seen (option_map (renumber_body q)) (def_seen (option_map (renumber_body r)) x.def))) names.0
       ∙ ap (func_of (r Types x.ty)) (def_again x.def names.1)
 
-  init_again : (o : Option (List InstrValue)) → AllByRecursion (Agrees r q r) (init_refs o)
-      → option_map (renumber_code q) (option_map (renumber_code r) o) ≡ option_map (renumber_code r) o
-  init_again None h = refl
-  init_again (Some is) h = ap Some (code_agrees r q r is h)
-
-  init_def_again : (d : DefValue (Option (List InstrValue))) → AllByRecursion (Agrees r q r) (def_refs init_refs d)
-      → def_seen (option_map (renumber_code q)) (def_seen (option_map (renumber_code r)) d) ≡ def_seen (option_map (renumber_code r)) d
-  init_def_again (imported a c) h = refl
-  init_def_again (local o) h = ap local (init_again o h)
-
   global_again : (i : ℕ) (x : GlobalCode) → live (Globals, i) ≡ true → slice_get D.globals i ≡ Some x → renumber_global q (renumber_global r x)
       ≡ renumber_global r x
-  global_again i x h at =
-      ap (global_of x.ty) (init_def_again x.def (all_again (def_refs init_refs x.def) (global_names s D ex live is_plain g i x h at)))
+  global_again i x h at = global_twice r q r x (all_again (global_refs x) (global_names s D ex live is_plain g i x h at))
+
+  type_again : (i : ℕ) (x : FuncTypeValue) → live (Types, i) ≡ true → slice_get D.types i ≡ Some x
+      → renumber_func_type q (renumber_func_type r x) ≡ renumber_func_type r x
+  type_again i x h at = func_type_agrees r q r x (all_again (func_type_refs x) (type_names s D ex live is_plain g i x h at))
+
+  table_again : (i : ℕ) (x : TableValue) → live (Tables, i) ≡ true → slice_get D.tables i ≡ Some x → new_table q (new_table r x) ≡ new_table r x
+  table_again i x h at =
+      table_agrees r q r x (all_again (val_type_refs (x.ty.element_type ∷ [])) (table_names s D ex live is_plain g i x h at))
 
   abbrev export_with : ExportValue → ℕ → ExportValue
   export_with e i = record { name = e.name; kind = e.kind; index = i }
 
+  -- all of a space is kept again
+  all_there : {A B : Type 0} (f : A → B) (space : Space) (xs : List A) → size_of U space ≡ length xs
+      → map f (kept_items (λ i. there (space, i)) (length xs) xs) ≡ map f xs
+  all_there f space xs e =
+      ap (map f) (kept_within (λ i. there (space, i)) xs (λ i l. lt-ltb i (size_of U space) (omega (arith, e, l))))
+
+  types_again : map (renumber_func_type q) (kept_of U there Types C.types) ≡ C.types
+  types_again =
+      all_there (renumber_func_type q) Types C.types refl
+      ∙ kept_twice (λ i. live (Types, i)) D.types (renumber_func_type r) (renumber_func_type q) (renumber_func_type r) type_again
+
   funcs_again : map (renumber_func q) (kept_of U there Funcs C.funcs) ≡ C.funcs
   funcs_again =
-      ap (map (renumber_func q)) (kept_within (λ i. there (Funcs, i)) C.funcs (λ i l. lt-ltb i (length C.funcs) l))
-      ∙ (map_twice (renumber_func r) (renumber_func q) (kept_of D live Funcs D.funcs)
-      ∙ both_mapped (λ x. renumber_func q (renumber_func r x)) (renumber_func r) (kept_of D live Funcs D.funcs)
-      (each_func s D ex live is_plain g (λ x. renumber_func q (renumber_func r x) ≡ renumber_func r x) func_again))
+      all_there (renumber_func q) Funcs C.funcs refl
+      ∙ kept_twice (λ i. live (Funcs, i)) D.funcs (renumber_func r) (renumber_func q) (renumber_func r) func_again
+
+  tables_again : map (new_table q) (kept_of U there Tables C.tables) ≡ C.tables
+  tables_again =
+      all_there (new_table q) Tables C.tables refl
+      ∙ kept_twice (λ i. live (Tables, i)) D.tables (new_table r) (new_table q) (new_table r) table_again
 
   globals_again : map (renumber_global q) (kept_of U there Globals C.globals) ≡ C.globals
   globals_again =
-      ap (map (renumber_global q)) (kept_within (λ i. there (Globals, i)) C.globals (λ i l. lt-ltb i (length C.globals) l))
-      ∙ (map_twice (renumber_global r) (renumber_global q) (kept_of D live Globals D.globals)
-      ∙ both_mapped (λ x. renumber_global q (renumber_global r x)) (renumber_global r) (kept_of D live Globals D.globals)
-      (each_global s D ex live is_plain g (λ x. renumber_global q (renumber_global r x) ≡ renumber_global r x) global_again))
+      all_there (renumber_global q) Globals C.globals refl
+      ∙ kept_twice (λ i. live (Globals, i)) D.globals (renumber_global r) (renumber_global q) (renumber_global r) global_again
 
   exports_again : map (new_export q) C.exports ≡ C.exports
   exports_again =
@@ -398,11 +321,9 @@ module _ (s : SettingsValue) (w : Wanted) (text : List ℕ) (are : AreSettings s
   cut_again : cut U C.exports there ≡ U
   cut_again =
       rw (
-        kept_within (λ i. there (Types, i)) C.types (λ i l. lt-ltb i (length C.types) l),
-        kept_within (λ i. there (Tables, i)) C.tables
-            (λ i l. lt-ltb i (length C.tables) l),
-        kept_within (λ i. there (Memories, i)) C.memories
-            (λ i l. lt-ltb i (length C.memories) l),
+        types_again,
+        tables_again,
+        kept_within (λ i. there (Memories, i)) C.memories (λ i l. lt-ltb i (length C.memories) l),
         funcs_again,
         globals_again,
         exports_again,

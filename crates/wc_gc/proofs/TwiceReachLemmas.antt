@@ -1,30 +1,31 @@
 -- In a cut all items are reached by its exports, and code that is reached stays sound.
 use Rattle.std.proofs.Common.{◌≡◌, ℕ, List, [], ◌∷◌, map, refl, sym, ◌∙◌, ap, subst, Bool, true, false, ◌&&◌, not, cond, Option, Some, None, arith}
-use Rattle.std.proofs.Common.{ltb-true}
+use Rattle.std.proofs.Common.{◌<◌, length, ltb-true}
 use Rattle.std.specs.Prelude.{Contains, IsTrue, filter}
-use Rattle.std.specs.List.{AllByRecursion, list_all}
+use Rattle.std.specs.List.{AllByRecursion, list_all, slice_get}
 use Rattle.std.specs.Option.{option_map, option_map_or}
 use Rattle.std.proofs.lemmas.Bool.{false≢true, lt-ltb}
 use Rattle.std.proofs.lemmas.List.Elements.{All-contains_itself, recursion_from_All}
 use Rattle.std.proofs.lemmas.Option.{slice_get-map}
-use Rattle.wc_read.specs.Bodies.{BodyValue}
+use Rattle.wc_read.specs.Bodies.{BodyValue, local_types}
 use Rattle.wc_read.specs.Exports.{ExportValue}
 use Rattle.wc_read.specs.Items.{DefValue, imported, local}
 use Rattle.wc_read.specs.Names.{GlobalNameValue}
 use Rattle.wc_read.specs.Operators.{InstrValue}
 use Rattle.wc_read.specs.Refs.{names_segment}
-use Rattle.wc_read.specs.Renumbering.{Renumbering, renumber_immediates, renumber_instr, renumber_item}
+use Rattle.wc_read.specs.Renumbering.{Renumbering, renumber_func_type, renumber_immediates, renumber_instr, renumber_item}
 use Rattle.wc_read.specs.declared.operators.Space.{Space}
 use Rattle.wc_read.specs.declared.operators.Space.TheVariants.{Types, Funcs, Tables, Memories, Globals}
 use Rattle.wc_read.proofs.RenumberingLemmas.{segments_under}
 use Rattle.wc_write.specs.BuiltValues.{def_seen}
+use Rattle.wc_gc.specs.Counts.{count_below}
 use Rattle.wc_gc.specs.Cut.{part_names}
 use Rattle.wc_gc.specs.Decoded.{DecodedModule, ItemIndex, exported_item, is_in, size_of}
-use Rattle.wc_gc.specs.Entries.{Entry, body_refs, code_refs, def_refs, entry_at, entry_refs, func_entry, global_entry, instr_refs, memory_entry}
-use Rattle.wc_gc.specs.Entries.{no_entry, refs_in, table_entry, type_entry}
-use Rattle.wc_gc.specs.Image.{new_export, rank, renumber_body, renumber_code}
+use Rattle.wc_gc.specs.Entries.{Entry, body_refs, code_body_refs, code_refs, def_refs, entry_at, entry_refs, func_entry, global_entry, instr_refs}
+use Rattle.wc_gc.specs.Entries.{memory_entry, no_entry, refs_in, table_entry, type_entry, val_type_refs}
+use Rattle.wc_gc.specs.Image.{kept_items, new_export, new_table, rank, renumber_body, renumber_code}
 use Rattle.wc_gc.specs.Reached.{IsPath, IsReached}
-use Rattle.wc_gc.specs.Soundness.{is_sound, is_sound_at, is_sound_code, is_sound_def, is_sound_entry}
+use Rattle.wc_gc.specs.Soundness.{is_sound, is_sound_at, is_sound_code, is_sound_code_body, is_sound_def, is_sound_entry}
 use Rattle.wc_gc.specs.Traces.{AreClosed, CutIsReached}
 use Rattle.wc_gc.specs.Unfolding.{renumber_entry, renumber_func, renumber_global}
 use Rattle.wc_gc.proofs.BuiltPartLemmas.{each_weaker}
@@ -36,7 +37,7 @@ use Rattle.wc_gc.proofs.KeptItemLemmas.{get_some, rank_at}
 use Rattle.wc_gc.proofs.LiveItemLemmas.{contains_mapped}
 use Rattle.wc_gc.proofs.RankLawLemmas.{fewer_below}
 use Rattle.wc_gc.proofs.TwiceListLemmas.{of_rank}
-use Rattle.wc_gc.proofs.UnfoldingLemmas.{entry_refs_under, instr_under}
+use Rattle.wc_gc.proofs.UnfoldingLemmas.{entry_refs_under, instr_under, locals_under}
 
 -- lists
 
@@ -71,30 +72,26 @@ module _ (m : DecodedModule) (exports : List ExportValue) (live : ItemIndex → 
 
   -- entries
 
+  -- an item of a space that is renumbered
+  seen_at : {A : Type 0} (entry : A → Entry) (f : A → A) → ((x : A) → entry (f x) ≡ renumber_entry r (entry x)) → (has : ℕ → Bool) (xs : List A) (n : ℕ)
+      → n < length xs → has n ≡ true
+      → option_map_or entry (slice_get (map f (kept_items has (length xs) xs)) (count_below has n)) no_entry
+      ≡ renumber_entry r (option_map_or entry (slice_get xs n) no_entry)
+  seen_at entry f same has xs n l h =
+      let t = get_some xs n l in
+      let kept = kept_items has (length xs) xs in
+      ap (λ o. option_map_or entry o no_entry) (slice_get-map f kept (count_below has n) ∙ ap (option_map f) (rank_at has xs n t.0 t.1 h))
+      ∙ (same t.0 ∙ sym (ap (λ o. renumber_entry r (option_map_or entry o no_entry)) t.1))
+
   pub entry_is : (x : ItemIndex) → live x ≡ true → entry_at named_cut (moved x) ≡ renumber_entry r (entry_at m x)
-  entry_is (Types, n) h =
-      let t = get_some m.types n (k.there (Types, n) h) in
-      ap (λ o. option_map_or type_entry o no_entry) (rank_at (λ i. live (Types, i)) m.types n t.0 t.1 h)
-      ∙ sym (ap (λ o. renumber_entry r (option_map_or type_entry o no_entry)) t.1)
-  entry_is (Funcs, n) h =
-      let t = get_some m.funcs n (k.there (Funcs, n) h) in
-      ap (λ o. option_map_or func_entry o no_entry)
-      (slice_get-map (renumber_func r) _ (r Funcs n) ∙ ap (option_map (renumber_func r)) (rank_at (λ i. live (Funcs, i)) m.funcs n t.0 t.1 h))
-      ∙ sym (ap (λ o. renumber_entry r (option_map_or func_entry o no_entry)) t.1)
-  entry_is (Tables, n) h =
-      let t = get_some m.tables n (k.there (Tables, n) h) in
-      ap (λ o. option_map_or table_entry o no_entry) (rank_at (λ i. live (Tables, i)) m.tables n t.0 t.1 h)
-      ∙ sym (ap (λ o. renumber_entry r (option_map_or table_entry o no_entry)) t.1)
+  entry_is (Types, n) h = seen_at type_entry (renumber_func_type r) (λ t. refl) (λ i. live (Types, i)) m.types n (k.there (Types, n) h) h
+  entry_is (Funcs, n) h = seen_at func_entry (renumber_func r) (λ f. refl) (λ i. live (Funcs, i)) m.funcs n (k.there (Funcs, n) h) h
+  entry_is (Tables, n) h = seen_at table_entry (new_table r) (λ t. refl) (λ i. live (Tables, i)) m.tables n (k.there (Tables, n) h) h
   entry_is (Memories, n) h =
       let t = get_some m.memories n (k.there (Memories, n) h) in
       ap (λ o. option_map_or memory_entry o no_entry) (rank_at (λ i. live (Memories, i)) m.memories n t.0 t.1 h)
       ∙ sym (ap (λ o. renumber_entry r (option_map_or memory_entry o no_entry)) t.1)
-  entry_is (Globals, n) h =
-      let t = get_some m.globals n (k.there (Globals, n) h) in
-      ap (λ o. option_map_or global_entry o no_entry)
-      (slice_get-map (renumber_global r) _ (r Globals n)
-      ∙ ap (option_map (renumber_global r)) (rank_at (λ i. live (Globals, i)) m.globals n t.0 t.1 h))
-      ∙ sym (ap (λ o. renumber_entry r (option_map_or global_entry o no_entry)) t.1)
+  entry_is (Globals, n) h = seen_at global_entry (renumber_global r) (λ g. refl) (λ i. live (Globals, i)) m.globals n (k.there (Globals, n) h) h
 
   refs_are : (x : ItemIndex) → live x ≡ true → entry_refs (entry_at named_cut (moved x)) ≡ map moved (entry_refs (entry_at m x))
   refs_are x h = ap entry_refs (entry_is x h) ∙ entry_refs_under r (entry_at m x)
@@ -157,13 +154,16 @@ module _ (m : DecodedModule) (exports : List ExportValue) (live : ItemIndex → 
   abbrev IsLiveItem : ItemIndex → Type 0
   IsLiveItem y = live y ≡ true
 
+  -- live items are in the cut
+  all_moved_in : (xs : List ItemIndex) → AllByRecursion IsLiveItem xs → list_all (is_in named_cut) (map moved xs) ≡ true
+  all_moved_in xs all =
+      all_mapped_pass (is_in named_cut) moved xs (each_weaker IsLiveItem (λ y. is_in named_cut (moved y) ≡ true) xs moved_in all)
+
   instr_sound : (i : InstrValue) → is_sound m i ≡ true → AllByRecursion IsLiveItem (instr_refs i) → is_sound named_cut (renumber_instr r i) ≡ true
   instr_sound i h all =
       let both = both_true (list_all (is_in m) (instr_refs i)) (not (names_segment i.immediates)) h in
       ap (λ ys. list_all (is_in named_cut) ys && not (names_segment (renumber_immediates r i.immediates))) (instr_under r i)
-      ∙ (ap (λ b. b && not (names_segment (renumber_immediates r i.immediates)))
-      (all_mapped_pass (is_in named_cut) moved (instr_refs i)
-      (each_weaker IsLiveItem (λ y. is_in named_cut (moved y) ≡ true) (instr_refs i) moved_in all))
+      ∙ (ap (λ b. b && not (names_segment (renumber_immediates r i.immediates))) (all_moved_in (instr_refs i) all)
       ∙ (ap not (segments_under r i.immediates) ∙ both.1))
 
   code_sound : (is : List InstrValue) → is_sound_code m is ≡ true → AllByRecursion IsLiveItem (code_refs is)
@@ -174,11 +174,20 @@ module _ (m : DecodedModule) (exports : List ExportValue) (live : ItemIndex → 
       let parts = split_all IsLiveItem (instr_refs i) (code_refs is) all in
       ap (λ b. b && is_sound_code named_cut (renumber_code r is)) (instr_sound i both.0 parts.0) ∙ code_sound is both.1 parts.1
 
+  body_sound : (b : BodyValue) → is_sound_code_body m b ≡ true → AllByRecursion IsLiveItem (code_body_refs b)
+      → is_sound_code_body named_cut (renumber_body r b) ≡ true
+  body_sound b h all =
+      let types = val_type_refs (local_types b.locals) in
+      let both = both_true (list_all (is_in m) types) (is_sound_code m b.operators) h in
+      let parts = split_all IsLiveItem types (code_refs b.operators) all in
+      ap (λ ys. list_all (is_in named_cut) ys && is_sound_code named_cut (renumber_code r b.operators)) (locals_under r b.locals)
+      ∙ (ap (λ c. c && is_sound_code named_cut (renumber_code r b.operators)) (all_moved_in types parts.0) ∙ code_sound b.operators both.1 parts.1)
+
   def_sound : (d : DefValue (Option BodyValue)) → is_sound_def m d ≡ true → AllByRecursion IsLiveItem (def_refs body_refs d)
       → is_sound_def named_cut (def_seen (option_map (renumber_body r)) d) ≡ true
   def_sound (imported a b) h all = refl
   def_sound (local None) h all = absurd (false≢true h)
-  def_sound (local (Some b)) h all = code_sound b.operators h all
+  def_sound (local (Some b)) h all = body_sound b h all
 
   entry_sound : (e : Entry) → is_sound_entry m e ≡ true → AllByRecursion IsLiveItem (entry_refs e) → is_sound_entry named_cut (renumber_entry r e)
       ≡ true

@@ -5,7 +5,7 @@ use Rattle.std.proofs.lemmas.Bool.{false≢true}
 use Rattle.std.proofs.lemmas.List.{map-append}
 use Rattle.wc_read.specs.Items.{GlobalValue}
 use Rattle.wc_read.specs.InitTypes.{InitScope, types_of, IsTypedGlobal, AreTyped}
-use Rattle.wc_read.specs.Renumbering.{Renumbering}
+use Rattle.wc_read.specs.Renumbering.{Renumbering, renumber_global_type}
 use Rattle.wc_read.specs.declared.types.GlobalType.{GlobalType}
 use Rattle.wc_read.specs.declared.operators.Space.TheVariants.{Globals}
 use Rattle.wc_gc.specs.Counts.{count_below}
@@ -66,23 +66,25 @@ typed_all types functions done (x ∷ xs) h (y ∷ front) back g e =
 -- the kept ones under new indices: of types and functions, so many before and so many after; of globals, their ranks
 
 module _ (types types' functions functions' : ℕ) (new : Renumbering) (has : ℕ → Bool) (ranked : (n : ℕ) → has n ≡ true → new Globals n ≡ count_below has n)
-    (written : GlobalValue → GlobalValue) (typed_same : (g : GlobalValue) → (written g).ty ≡ g.ty) where
-  -- each kept global before one is at its new index
+    (written : GlobalValue → GlobalValue) (typed_same : (g : GlobalValue) → (written g).ty ≡ renumber_global_type new g.ty) where
+  -- each kept global before one is at its new index, its type under new indices
   abbrev pub AreMoved : List GlobalType → List GlobalType → Type 0
-  AreMoved done done' = (n : ℕ) (t : GlobalType) → has n ≡ true → slice_get done n ≡ Some t → slice_get done' (new Globals n) ≡ Some t
+  AreMoved done done' =
+      (n : ℕ) (t : GlobalType) → has n ≡ true → slice_get done n ≡ Some t → slice_get done' (new Globals n) ≡ Some (renumber_global_type new t)
 
   -- a global that leaves one value after some others leaves it where they have moved
   abbrev pub CanMove : ℕ → GlobalValue → Type 0
   CanMove n g = (done done' : List GlobalType) → length done ≡ n → AreMoved done done' → IsTypedGlobal (scope_after types functions done) g
       → IsTypedGlobal (scope_after types' functions' done') (written g)
 
-  moved_on : (a : ℕ) (done done' : List GlobalType) (t t' : GlobalType) → length done ≡ a → length done' ≡ count_below has a → t' ≡ t → has a ≡ true → AreMoved done done' → AreMoved (done ++ t ∷ []) (done' ++ t' ∷ [])
+  moved_on : (a : ℕ) (done done' : List GlobalType) (t t' : GlobalType) → length done ≡ a → length done' ≡ count_below has a → t' ≡ renumber_global_type new t
+      → has a ≡ true → AreMoved done done' → AreMoved (done ++ t ∷ []) (done' ++ t' ∷ [])
   moved_on a done done' t t' long long' same h moved n u k e =
       elim (get_push done t n u e) [
-        | inl old ↦ get_front done' (t' ∷ []) (new Globals n) u (moved n u k old)
+        | inl old ↦ get_front done' (t' ∷ []) (new Globals n) (renumber_global_type new u) (moved n u k old)
         | inr last ↦
             let here : new Globals n ≡ length done' = ranked n k ∙ (ap (count_below has) (last.0 ∙ long) ∙ sym long') in
-            ap (slice_get (done' ++ t' ∷ [])) here ∙ (get_last done' t' ∙ ap Some (same ∙ last.1))
+            ap (slice_get (done' ++ t' ∷ [])) here ∙ (get_last done' t' ∙ ap Some (same ∙ ap (renumber_global_type new) last.1))
       ]
 
   moved_past : (a : ℕ) (done done' : List GlobalType) (t : GlobalType) → length done ≡ a → has a ≡ false → AreMoved done done' → AreMoved (done ++ t ∷ []) done'

@@ -29,51 +29,14 @@ use Rattle.wc_gc.proofs.ExportLemmas.{all_kept}
 use Rattle.wc_gc.proofs.InitRefLemmas.{global_names_there}
 use Rattle.wc_gc.proofs.LiveItemLemmas.{each_named, reached_more}
 use Rattle.wc_gc.proofs.LivenessLemmas.{export_there}
+use Rattle.wc_gc.proofs.NamedThereLemmas.{There, func_there, table_names_there, type_names_there}
 use Rattle.wc_gc.proofs.ReachLemmas.{there_from}
 use Rattle.wc_gc.proofs.SpelledItemLemmas.{all_joined}
 use Rattle.wc_gc.proofs.UntouchedLemmas.{trees_same}
 
-both_true : (x y : Bool) → (x && y) ≡ true → (x ≡ true) × (y ≡ true)
-both_true true y h = (refl, h)
-both_true false y h = absurd cc
-
-all_pass : {A : Type 0} (p : A → Bool) (xs : List A) → list_all p xs ≡ true → AllByRecursion (λ x. IsTrue (p x)) xs
-all_pass p [] h = tt
-all_pass p (x ∷ xs) h = let b = both_true (p x) (list_all p xs) h in (b.0, all_pass p xs b.1)
-
--- what sound code names
-
-module _ (d : DecodedModule) where
-  abbrev There : ItemIndex → Type 0
-  There y = IsTrue (is_in d y)
-
-  code_there : (is : List InstrValue) → is_sound_code d is ≡ true → AllByRecursion There (code_refs is)
-  code_there [] h = tt
-  code_there (i ∷ is) h =
-      let b = both_true (is_sound d i) (is_sound_code d is) h in
-      let named = both_true (list_all (is_in d) (instr_refs i)) (not (names_segment i.immediates)) b.0 in
-      all_joined There (instr_refs i) (code_refs is) (all_pass (is_in d) (instr_refs i) named.0) (code_there is b.1)
-
-  def_there : (f : DefValue (Option BodyValue)) → is_sound_def d f ≡ true → AllByRecursion There (def_refs body_refs f)
-  def_there (imported m n) h = tt
-  def_there (local None) h = absurd cc
-  def_there (local (Some b)) h = code_there b.operators h
-
-  func_there : (f : FuncCode) → f.ty < length d.types → is_sound_def d f.def ≡ true → AllByRecursion There (func_refs f)
-  func_there f h k = (lt-ltb f.ty (length d.types) h, def_there f.def k)
-
-  -- other items name none
-  type_names : (o : Option FuncTypeValue) → AllByRecursion There (entry_refs (option_map_or type_entry o no_entry))
-  type_names None = tt
-  type_names (Some t) = tt
-
-  table_names : (o : Option TableValue) → AllByRecursion There (entry_refs (option_map_or table_entry o no_entry))
-  table_names None = tt
-  table_names (Some t) = tt
-
-  memory_names : (o : Option MemoryValue) → AllByRecursion There (entry_refs (option_map_or memory_entry o no_entry))
-  memory_names None = tt
-  memory_names (Some t) = tt
+memory_names : (d : DecodedModule) (o : Option MemoryValue) → AllByRecursion (There d) (entry_refs (option_map_or memory_entry o no_entry))
+memory_names d None = tt
+memory_names d (Some t) = tt
 
 module _ (required : List (List ℕ)) (m : ModuleValue) (w : IsWritable m) (v : IsModule m) (sound : ¬ (HasLiveBody required m)) where
   abbrev read : DecodedModule
@@ -99,11 +62,11 @@ module _ (required : List (List ℕ)) (m : ModuleValue) (w : IsWritable m) (v : 
 
   -- each item that a live one names
   each_there : (x : ItemIndex) → IsLive required m x → AllByRecursion (There read) (entry_refs (entry_at read x))
-  each_there (Types, n) l = type_names read (slice_get m.types n)
+  each_there (Types, n) l = type_names_there m v n (slice_get m.types n) refl
   each_there (Funcs, n) l =
       subst (λ o. AllByRecursion (There read) (entry_refs (option_map_or func_entry o no_entry))) (sym (slice_get-map (item_seen body_in) m.funcs n))
       (func_names n (is_sound_live (Funcs, n) l) (slice_get m.funcs n) refl)
-  each_there (Tables, n) l = table_names read (slice_get m.tables n)
+  each_there (Tables, n) l = table_names_there m v n (slice_get m.tables n) refl
   each_there (Memories, n) l = memory_names read (slice_get m.memories n)
   each_there (Globals, n) l =
       subst (λ o. AllByRecursion (There read) (entry_refs (option_map_or global_entry o no_entry))) (sym (slice_get-map (item_seen init_in) m.globals n))

@@ -7,12 +7,13 @@ use Rattle.std.proofs.lemmas.List.{length-map}
 use Rattle.wc_read.specs.Decoding.{body_in}
 use Rattle.wc_read.specs.Exports.{ExportValue}
 use Rattle.wc_read.specs.Modules.{ModuleValue}
+use Rattle.wc_read.specs.Types.{FuncTypeValue}
 use Rattle.wc_read.specs.declared.operators.Space.TheVariants.{Types, Funcs, Tables, Memories, Globals}
 use Rattle.wc_write.specs.BuiltValues.{item_seen}
-use Rattle.wc_gc.specs.AddedCode.{growing_body, stack_body}
+use Rattle.wc_gc.specs.AddedCode.{empty_type, growing_body, realloc_type, stack_body}
 use Rattle.wc_gc.specs.Decoded.{FuncCode, ItemIndex, decode, is_in}
-use Rattle.wc_gc.specs.Edited.{EditedModule, called_realloc, growing_func, growing_position, import_func, lazy_func, lazy_position, memory_of, one_if, only_if, stack_of, start_func, start_position, state_of}
-use Rattle.wc_gc.specs.Entries.{body_refs, code_refs, func_refs}
+use Rattle.wc_gc.specs.Edited.{EditedModule, called_realloc, growing_func, growing_position, import_func, lazy_func, lazy_position, memory_of, one_if, only_if, stack_of, start_func, start_position, state_of, types_added}
+use Rattle.wc_gc.specs.Entries.{body_refs, code_body_refs, func_refs, func_type_refs}
 use Rattle.wc_gc.specs.Found.{FoundValue, found_in, is_empty}
 use Rattle.wc_gc.specs.Parts.{SettingsValue, first_of, is_any, is_lazy, last_of, parts_of}
 use Rattle.wc_gc.specs.Unfolding.{in_image, is_code}
@@ -27,7 +28,7 @@ use Rattle.wc_gc.proofs.SpelledItemLemmas.{all_joined}
 
 pub growing_names : (has : ItemIndex → Type 0) (exponent memory : ℕ) → has (Memories, memory) → AllByRecursion has (body_refs (Some (growing_body exponent memory)))
 unfolding growing_body
-growing_names has exponent memory h = elim (nat_eq exponent 0) as (λ b. AllByRecursion has (code_refs (growing_by b exponent memory).operators)) [ true ↦ (h, tt) | false ↦ (h, tt) ]
+growing_names has exponent memory h = elim (nat_eq exponent 0) as (λ b. AllByRecursion has (code_body_refs (growing_by b exponent memory))) [ true ↦ (h, tt) | false ↦ (h, tt) ]
 
 stack_names : (has : ItemIndex → Type 0) (realloc stack : ℕ) (state : Option ℕ) → has (Funcs, realloc) → has (Globals, stack) → IfSome state (λ n. has (Globals, n)) → AllByRecursion has (body_refs (Some (stack_body realloc stack state)))
 unfolding stack_body
@@ -76,6 +77,14 @@ parts_are s f = record {
 pub first_or : {A : Type 0} (P : A → Type 0) (xs : List A) (d : A) → AllByRecursion P xs → is_any xs ≡ true → P (unwrap_or (first_of xs) d)
 first_or P [] d all h = absurd (false≢true h)
 first_or P (x ∷ xs) d all h = all.0
+
+-- types that are added name none
+pub added_types_name_none : (P : ItemIndex → Type 0) (p : Parts) (no_empty : Bool) → AllByRecursion (λ t. AllByRecursion P (func_type_refs t)) (types_added p no_empty)
+added_types_name_none P p no_empty =
+    let Q : FuncTypeValue → Type 0 = λ t. AllByRecursion P (func_type_refs t) in
+    all_joined Q (only_if p.import_realloc realloc_type) _ (all_only Q p.import_realloc realloc_type (λ h. tt))
+    (all_joined Q (only_if p.lazy empty_type) _ (all_only Q p.lazy empty_type (λ h. tt))
+    (all_joined Q (only_if p.growing realloc_type) _ (all_only Q p.growing realloc_type (λ h. tt)) (all_only Q (p.start && no_empty) empty_type (λ h. tt))))
 
 -- what is live is there
 abbrev pub AreThere : ModuleValue → (ItemIndex → Bool) → Type 0

@@ -7,7 +7,7 @@ use Rattle.std.proofs.lemmas.Bool.{false≢true, lt-ltb, ltb-false, ltb-true}
 use Rattle.std.proofs.lemmas.List.{length-append, length-map}
 use Rattle.std.proofs.lemmas.List.Elements.{All-contains, All-from_recursion, All-map, All-weaker, recursion_from_All}
 use Rattle.std.proofs.lemmas.Option.{slice_get-map, slice_get_within}
-use Rattle.wc_read.specs.Bodies.{BodyValue}
+use Rattle.wc_read.specs.Bodies.{BodyValue, local_types}
 use Rattle.wc_read.specs.Decoding.{body_in, init_in}
 use Rattle.wc_read.specs.Exports.{ExportValue}
 use Rattle.wc_read.specs.Items.{DefValue, imported, local, FuncValue, TableValue, MemoryValue}
@@ -23,7 +23,7 @@ use Rattle.wc_write.proofs.WritableModuleLemmas.{spelled_writable}
 use Rattle.wc_gc.specs.Causes.{DecidesLive, has_page_size_at}
 use Rattle.wc_gc.specs.Decoded.{DecodedModule, FuncCode, ItemIndex, decode, exported_item, is_in, size_of}
 use Rattle.wc_gc.specs.Edited.{EditedModule, edit, edited_def, growing_code, is_exported_func, lazy_position, memory_of, one_if, replaced, with_call}
-use Rattle.wc_gc.specs.Entries.{body_refs, code_refs, def_refs, entry_at, entry_refs, func_entry, func_refs, instr_refs, memory_entry, no_entry, refs_in, table_entry, type_entry}
+use Rattle.wc_gc.specs.Entries.{body_refs, code_refs, def_refs, entry_at, entry_refs, func_entry, func_refs, instr_refs, memory_entry, no_entry, refs_in, table_entry, type_entry, val_type_refs, func_type_refs}
 use Rattle.wc_gc.specs.Found.{FoundValue, found_in, is_empty, is_realloc, is_realloc_at, main_module}
 use Rattle.wc_gc.specs.KeptExports.{kept_exports}
 use Rattle.wc_gc.specs.Laws.{AreSettings}
@@ -44,14 +44,16 @@ use Rattle.wc_gc.proofs.ExportLemmas.{all_kept}
 use Rattle.wc_gc.proofs.FoundLemmas.{realloc_seen}
 use Rattle.wc_gc.proofs.ImageUnfoldingLemmas.{image_unfolds}
 use Rattle.wc_gc.proofs.InitRefLemmas.{global_coded, global_names_there}
+use Rattle.wc_gc.proofs.InitTypeLemmas.{all-left, all-right}
 use Rattle.wc_gc.proofs.KeptItemLemmas.{get_some}
+use Rattle.wc_gc.proofs.NamedThereLemmas.{There, def_there, table_names_there, type_names_there}
 use Rattle.wc_gc.proofs.LiveItemLemmas.{live_named, named_kept}
 use Rattle.wc_gc.proofs.LivenessLemmas.{export_there}
 use Rattle.wc_gc.proofs.ReachLemmas.{there_from}
 use Rattle.wc_gc.proofs.SpelledItemLemmas.{all_joined}
 use Rattle.wc_gc.proofs.TrimmedTextLemmas.{live_sound, trimmed_text_read}
 use Rattle.wc_gc.proofs.TypedGlobalLemmas.{get_front}
-use Rattle.wc_gc.proofs.WholeAddedLemmas.{AreParts, AreThere, Has, IsWholeFunc, added_whole, found, func_has, growing_names, live_has, memory_has, parts_are, whole}
+use Rattle.wc_gc.proofs.WholeAddedLemmas.{AreParts, AreThere, Has, IsWholeFunc, added_types_name_none, added_whole, found, func_has, growing_names, live_has, memory_has, parts_are, whole}
 
 -- what is live is there
 
@@ -63,30 +65,11 @@ live_there required m live v decides x h =
     (all_kept (λ (e : ExportValue). P (exported_item e)) required m.exports (All-weaker (λ (e : ExportValue). e.index < count_of m e.kind) (λ (e : ExportValue). P (exported_item e)) (export_there m) m.exports v.exported)) in
     there_from (decode m) r.0 r.2 x (All-contains P (map exported_item (kept_exports required m.exports)) r.0 roots r.1) r.3
 
--- sound code names what is there
+-- what is there and is kept
 
 both_each : {A : Type 0} (P Q : A → Type 0) (xs : List A) → AllByRecursion P xs → AllByRecursion (λ x. P x → Q x) xs → AllByRecursion Q xs
 both_each P Q [] a b = tt
 both_each P Q (x ∷ xs) a b = (b.0 a.0, both_each P Q xs a.1 b.1)
-
-each_passes : {A : Type 0} (p : A → Bool) (xs : List A) → list_all p xs ≡ true → AllByRecursion (λ x. IsTrue (p x)) xs
-each_passes p [] h = tt
-each_passes p (x ∷ xs) h = let b = both_true (p x) (list_all p xs) h in (b.0, each_passes p xs b.1)
-
-code_there : (d : DecodedModule) (is : List InstrValue) → is_sound_code d is ≡ true → AllByRecursion (λ y. IsTrue (is_in d y)) (code_refs is)
-code_there d [] h = tt
-code_there d (i ∷ is) h =
-    let b = both_true (is_sound d i) (is_sound_code d is) h in
-    let one = both_true (list_all (is_in d) (instr_refs i)) (not (names_segment i.immediates)) b.0 in
-    all_joined (λ y. IsTrue (is_in d y)) (instr_refs i) (code_refs is) (each_passes (is_in d) (instr_refs i) one.0) (code_there d is b.1)
-
-body_there : (d : DecodedModule) (b : Option BodyValue) → is_sound_body d b ≡ true → AllByRecursion (λ y. IsTrue (is_in d y)) (body_refs b)
-body_there d None h = tt
-body_there d (Some b) h = code_there d b.operators h
-
-def_there : (d : DecodedModule) (x : DefValue (List ℕ)) → is_sound_def d (def_seen body_in x) ≡ true → AllByRecursion (λ y. IsTrue (is_in d y)) (def_refs body_refs (def_seen body_in x))
-def_there d (imported a b) h = tt
-def_there d (local bytes) h = body_there d (body_in bytes) h
 
 -- a number of a range that passes a test is found
 
@@ -124,14 +107,6 @@ none_code_memory : (o : Option MemoryValue) → IsTrue (has_code (option_map_or 
 none_code_memory None = refl
 none_code_memory (Some t) = refl
 
-none_named_type : (P : ItemIndex → Type 0) (o : Option FuncTypeValue) → AllByRecursion P (entry_refs (option_map_or type_entry o no_entry))
-none_named_type P None = tt
-none_named_type P (Some t) = tt
-
-none_named_table : (P : ItemIndex → Type 0) (o : Option TableValue) → AllByRecursion P (entry_refs (option_map_or table_entry o no_entry))
-none_named_table P None = tt
-none_named_table P (Some t) = tt
-
 none_named_memory : (P : ItemIndex → Type 0) (o : Option MemoryValue) → AllByRecursion P (entry_refs (option_map_or memory_entry o no_entry))
 none_named_memory P None = tt
 none_named_memory P (Some t) = tt
@@ -163,11 +138,21 @@ module _ (s : SettingsValue) (m : ModuleValue) (exports : List ExportValue) (liv
   abbrev L : ℕ
   L = length (decode m).funcs
 
+  -- what a live item names is in the image, where it is there
+  live_names : (x : ItemIndex) → IsTrue (live x) → AllByRecursion (There (decode m)) (entry_refs (entry_at (decode m) x)) → AllByRecursion InImage (entry_refs (entry_at (decode m) x))
+  live_names x h there =
+      let names = entry_refs (entry_at (decode m) x) in
+      each_weaker (λ y. IsTrue (live y)) InImage names (live_has s m exports live p k.there)
+      (both_each (There (decode m)) (λ y. IsTrue (live y)) names there (named_kept (decode m) live k.named x h))
+
   -- functions that were there
 
   called_names : (o : Option BodyValue) → InImage (Funcs, L + lazy_position p) → AllByRecursion InImage (body_refs o) → AllByRecursion InImage (body_refs (option_map (with_call (L + lazy_position p)) o))
   called_names None c h = tt
-  called_names (Some b) c h = (c, h)
+  called_names (Some b) c h =
+      let types = val_type_refs (local_types b.locals) in
+      all_joined InImage types ((Funcs, L + lazy_position p) ∷ code_refs b.operators) (all-left InImage types (code_refs b.operators) h)
+      (c, all-right InImage types (code_refs b.operators) h)
 
   replaced_names : (o : Option (List ℕ)) → (o ≡ None → InImage (Memories, memory_of found_parts)) → AllByRecursion InImage (def_refs body_refs (option_map_or (λ name. imported main_module name) o (growing_code s found_parts)))
   replaced_names None h = growing_names InImage s.exponent (memory_of found_parts) (h refl)
@@ -211,7 +196,7 @@ module _ (s : SettingsValue) (m : ModuleValue) (exports : List ExportValue) (liv
       let sound : is_sound_def (decode m) (def_seen body_in g.def) ≡ true = sym (ap (is_sound_entry (decode m)) (func_at m n g at)) ∙ k.sound n l in
       let typed = all_at (λ (f : FuncValue). f.ty < length m.types) m.funcs n g (recursion_from_All (λ (f : FuncValue). f.ty < length m.types) m.funcs v.typed) at in
       let may = subst (λ z. AllByRecursion (λ y. IsTrue (is_in (decode m) y) → IsTrue (live y)) (entry_refs z)) (func_at m n g at) (named_kept (decode m) live k.named (Funcs, n) l) in
-      let there : AllByRecursion (λ y. IsTrue (is_in (decode m) y)) (func_refs (item_seen body_in g)) = (lt-ltb g.ty (length m.types) typed, def_there (decode m) g.def sound) in
+      let there : AllByRecursion (λ y. IsTrue (is_in (decode m) y)) (func_refs (item_seen body_in g)) = (lt-ltb g.ty (length m.types) typed, def_there (decode m) (def_seen body_in g.def) sound) in
       let all = each_weaker (λ y. IsTrue (live y)) InImage (func_refs (item_seen body_in g)) (live_has s m exports live p k.there) (both_each (λ y. IsTrue (is_in (decode m) y)) (λ y. IsTrue (live y)) (func_refs (item_seen body_in g)) there may) in
       ((all.0, edited_names g.def (memory_for n g l at) all.1 exported), edited_coded g.def sound exported)
 
@@ -254,9 +239,32 @@ module _ (s : SettingsValue) (m : ModuleValue) (exports : List ExportValue) (liv
   global_names : (n : ℕ) → InImage (Globals, n) → AllByRecursion InImage (entry_refs (entry_at (decode m) (Globals, n)))
   global_names n h =
       let g = get_some m.globals n (global_below n h) in
-      let there = subst (λ z. AllByRecursion (λ y. IsTrue (is_in (decode m) y)) (entry_refs z)) (sym (global_at m n g.0 g.1)) (global_names_there m w v n g.0 g.1) in
-      each_weaker (λ y. IsTrue (live y)) InImage (entry_refs (entry_at (decode m) (Globals, n))) (live_has s m exports live p k.there)
-      (both_each (λ y. IsTrue (is_in (decode m) y)) (λ y. IsTrue (live y)) (entry_refs (entry_at (decode m) (Globals, n))) there (named_kept (decode m) live k.named (Globals, n) h))
+      live_names (Globals, n) h (subst (λ z. AllByRecursion (There (decode m)) (entry_refs z)) (sym (global_at m n g.0 g.1)) (global_names_there m w v n g.0 g.1))
+
+  -- types, tables
+
+  type_names_by : (n : ℕ) (b : Bool) → nat_lt n (length m.types) ≡ b → cond b (live (Types, n)) (nat_lt n (length m.types + length edited.types)) ≡ true
+      → AllByRecursion InImage (entry_refs (option_map_or type_entry (slice_get (m.types ++ edited.types) n) no_entry))
+  type_names_by n true below h =
+      let t = get_some m.types n (ltb-true n (length m.types) below) in
+      subst (λ o. AllByRecursion InImage (entry_refs (option_map_or type_entry o no_entry))) (t.1 ∙ sym (get_front m.types edited.types n t.0 t.1))
+      (live_names (Types, n) h (type_names_there m v n (slice_get m.types n) refl))
+  type_names_by n false past h =
+      let over = ltb-false n (length m.types) past in
+      let split : length m.types + (n - length m.types) ≡ n = omega (arith, over) in
+      let back : slice_get (m.types ++ edited.types) n ≡ slice_get edited.types (n - length m.types) = sym (ap (slice_get (m.types ++ edited.types)) split) ∙ get_back m.types edited.types (n - length m.types) in
+      subst (λ o. AllByRecursion InImage (entry_refs (option_map_or type_entry o no_entry))) (sym back)
+      (added_at (n - length m.types) (slice_get edited.types (n - length m.types)) refl)
+    where
+      added_at : (k : ℕ) (o : Option FuncTypeValue) → slice_get edited.types k ≡ o → AllByRecursion InImage (entry_refs (option_map_or type_entry o no_entry))
+      added_at k None e = tt
+      added_at k (Some t) e = all_at (λ t. AllByRecursion InImage (func_type_refs t)) edited.types k t (added_types_name_none InImage p (is_empty found_parts.empties)) e
+
+  type_names : (n : ℕ) → InImage (Types, n) → AllByRecursion InImage (entry_refs (option_map_or type_entry (slice_get (m.types ++ edited.types) n) no_entry))
+  type_names n h = type_names_by n (nat_lt n (length m.types)) refl h
+
+  table_names : (n : ℕ) → InImage (Tables, n) → AllByRecursion InImage (entry_refs (option_map_or table_entry (slice_get m.tables n) no_entry))
+  table_names n h = live_names (Tables, n) h (table_names_there m v n (slice_get m.tables n) refl)
 
   -- all items
 
@@ -287,9 +295,9 @@ module _ (s : SettingsValue) (m : ModuleValue) (exports : List ExportValue) (liv
   all_coded (Globals, n) h = global_has_code n h
 
   all_names : (x : ItemIndex) → InImage x → AllByRecursion InImage (entry_refs (entry_at (whole_of edited) x))
-  all_names (Types, n) h = none_named_type InImage (slice_get (m.types ++ edited.types) n)
+  all_names (Types, n) h = type_names n h
   all_names (Funcs, n) h = func_names n h (slice_get (edited.value.funcs ++ (edited.imports ++ edited.funcs)) n) refl
-  all_names (Tables, n) h = none_named_table InImage (slice_get m.tables n)
+  all_names (Tables, n) h = table_names n h
   all_names (Memories, n) h = none_named_memory InImage (slice_get m.memories n)
   all_names (Globals, n) h = global_names n h
 

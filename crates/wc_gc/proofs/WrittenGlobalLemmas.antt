@@ -8,7 +8,7 @@ use Rattle.wc_read.specs.Operators.{InstrValue}
 use Rattle.wc_read.specs.Inits.{end_value}
 use Rattle.wc_read.specs.InitTypes.{InitScope, IsTyped, IsTypedDef}
 use Rattle.wc_read.specs.Decoding.{init_in}
-use Rattle.wc_read.specs.Renumbering.{Renumbering, renumber_instr}
+use Rattle.wc_read.specs.Renumbering.{Renumbering, renumber_instr, renumber_val_type}
 use Rattle.wc_read.specs.declared.types.ValType.{ValType}
 use Rattle.wc_read.proofs.DecodingLemmas.{init_found}
 use Rattle.wc_read.proofs.OptionsLemmas.{some_same}
@@ -31,7 +31,7 @@ each_instr may (i ∷ is) refs all =
 
 module _ (may : ItemIndex → Type 0) (old after : InitScope) (new : Renumbering) (f : Follows may old after new) (t : ValType) where
   code_moves : (bytes : List ℕ) (is : List InstrValue) → init_in bytes ≡ Some is → IsInitialiser is → AllByRecursion may (code_refs is) → IsInitialiser (renumber_code new is) → FitsSize (init_text (renumber_code new is))
-      → IsTyped old t bytes → IsTyped after t (init_text (renumber_code new is))
+      → IsTyped old t bytes → IsTyped after (renumber_val_type new t) (init_text (renumber_code new is))
   code_moves bytes is found can refs can' fits typed =
       let same : typed.operators ≡ is = some_same typed.operators is (sym (init_found bytes typed.operators typed.has_operators) ∙ found) in
       let cut : is ≡ typed.front ++ (end_value ∷ []) = sym same ∙ typed.cut in
@@ -46,10 +46,11 @@ module _ (may : ItemIndex → Type 0) (old after : InitScope) (new : Renumbering
 
   -- initialisers that can be spelled, before and after
   pub def_moves : (d : DefValue (List ℕ)) → HasInitialiser d → AllByRecursion may (def_refs init_refs (def_seen init_in d)) → IfLocal IsInitialiser (def_seen (new_init new) (def_seen init_in d))
-      → IfLocal (λ is. FitsSize (init_text is)) (def_seen (new_init new) (def_seen init_in d)) → IsTypedDef old t d → IsTypedDef after t (def_seen init_text (def_seen (new_init new) (def_seen init_in d)))
+      → IfLocal (λ is. FitsSize (init_text is)) (def_seen (new_init new) (def_seen init_in d)) → IsTypedDef old t d
+      → IsTypedDef after (renumber_val_type new t) (def_seen init_text (def_seen (new_init new) (def_seen init_in d)))
   def_moves (imported m n) can refs can' fits typed = tt
   def_moves (local bytes) can refs can' fits typed =
       let found : init_in bytes ≡ Some can.0 = init_found bytes can.0 can.1 in
-      subst (λ (o : Option (List InstrValue)). IsTyped after t (init_text (new_init new o))) (sym found)
+      subst (λ (o : Option (List InstrValue)). IsTyped after (renumber_val_type new t) (init_text (new_init new o))) (sym found)
       (code_moves bytes can.0 found can.2 (subst (λ (o : Option (List InstrValue)). AllByRecursion may (init_refs o)) found refs)
       (subst (λ (o : Option (List InstrValue)). IsInitialiser (new_init new o)) found can') (subst (λ (o : Option (List InstrValue)). FitsSize (init_text (new_init new o))) found fits) typed)

@@ -2,10 +2,11 @@
 use Rattle.std.specs.Prelude.{ℕ, List, [], ◌++◌, map, Bool, None}
 use Rattle.wc_read.specs.Exports.{ExportValue}
 use Rattle.wc_read.specs.Names.{GlobalNameValue}
+use Rattle.wc_read.specs.Renumbering.{renumber_func_type}
 use Rattle.wc_read.specs.declared.operators.Space.TheVariants.{Types, Funcs, Tables, Memories, Globals}
 use Rattle.wc_gc.specs.Decoded.{DecodedModule, ItemIndex}
 use Rattle.wc_gc.specs.Found.{allocation_state, found_in, stack_pointer}
-use Rattle.wc_gc.specs.Image.{kept_of, new_export, rank}
+use Rattle.wc_gc.specs.Image.{kept_of, new_export, new_table, rank}
 use Rattle.wc_gc.specs.Unfolding.{renumber_func, renumber_global}
 
 -- the ranks of some globals, each with this name
@@ -23,9 +24,9 @@ part_names m live =
 -- imports of different kinds is not part of it.
 unfoldable pub cut_of : DecodedModule → List ExportValue → (ItemIndex → Bool) → DecodedModule
 cut_of m exports live = record {
-  types = kept_of m live Types m.types;
+  types = map (renumber_func_type (rank live)) (kept_of m live Types m.types);
   funcs = map (renumber_func (rank live)) (kept_of m live Funcs m.funcs);
-  tables = kept_of m live Tables m.tables;
+  tables = map (new_table (rank live)) (kept_of m live Tables m.tables);
   memories = kept_of m live Memories m.memories;
   globals = map (renumber_global (rank live)) (kept_of m live Globals m.globals);
   exports = map (new_export (rank live)) exports;

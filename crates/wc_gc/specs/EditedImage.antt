@@ -3,14 +3,14 @@
 use Rattle.std.specs.Prelude.{ℕ, ◌+◌, ◌-◌, ◌<◌, ◌^◌, ◌++◌, map, Bool, false, ◌&&◌, cond, nat_lt, length}
 use Rattle.std.specs.List.{slice_get}
 use Rattle.std.specs.Option.{option_map, option_map_or}
-use Rattle.wc_read.specs.Renumbering.{Renumbering}
+use Rattle.wc_read.specs.Renumbering.{Renumbering, renumber_func_type}
 use Rattle.wc_read.specs.declared.operators.Space.TheVariants.{Types, Funcs, Tables, Memories, Globals}
 use Rattle.wc_write.specs.BuiltValues.{is_imported, is_defined}
 use Rattle.wc_write.specs.ModuleText.{BuiltValue, SizesFit}
 use Rattle.wc_gc.specs.Counts.{count_below}
 use Rattle.wc_gc.specs.Decoded.{FuncCode}
 use Rattle.wc_gc.specs.Edited.{EditedModule}
-use Rattle.wc_gc.specs.Image.{rank, kept_items, kept_of, new_func, new_global, new_export}
+use Rattle.wc_gc.specs.Image.{rank, kept_items, kept_of, new_func, new_table, new_global, new_export}
 
 -- kept functions that are imported, and those that are defined, after they were edited
 
@@ -47,13 +47,15 @@ edited_rank e Globals n = rank e.kept Globals n
 -- the image of an edited adapter
 unfoldable pub edited_image : EditedModule → BuiltValue
 edited_image e = record {
-  types = kept_of e.value e.kept Types e.value.types ++ e.types;
+  types =
+      map (renumber_func_type (edited_rank e)) (kept_of e.value e.kept Types e.value.types)
+      ++ map (renumber_func_type (edited_rank e)) e.types;
   funcs =
       map (new_func (edited_rank e)) (kept_items (is_kept_import e) (length e.value.funcs) e.value.funcs)
       ++ (map (new_func (edited_rank e)) e.imports
       ++ (map (new_func (edited_rank e)) (kept_items (is_kept_defined e) (length e.value.funcs) e.value.funcs)
       ++ map (new_func (edited_rank e)) e.funcs));
-  tables = kept_of e.value e.kept Tables e.value.tables;
+  tables = map (new_table (edited_rank e)) (kept_of e.value e.kept Tables e.value.tables);
   memories = kept_of e.value e.kept Memories e.value.memories;
   globals = map (new_global (edited_rank e)) (kept_of e.value e.kept Globals e.value.globals);
   exports = map (new_export (edited_rank e)) e.value.exports;

@@ -4,8 +4,7 @@ use Rattle.std.specs.List.{flat_map, slice_get}
 use Rattle.std.specs.Option.{option_map_or, option_to_list}
 use Rattle.wc_read.specs.Types.{FuncTypeValue, type_indices}
 use Rattle.wc_read.specs.Operators.{InstrValue}
-use Rattle.wc_read.specs.Bodies.{BodyValue}
-use Rattle.wc_read.specs.Decoding.{body_operators}
+use Rattle.wc_read.specs.Bodies.{BodyValue, local_types}
 use Rattle.wc_read.specs.Refs.{refs_of, type_refs_of}
 use Rattle.wc_read.specs.Items.{DefValue, imported, local, TableValue, MemoryValue}
 use Rattle.wc_read.specs.declared.operators.Space.{Space}
@@ -45,6 +44,10 @@ type_items ns = map (λ n. (Types, n)) ns
 abbrev pub val_type_refs : List ValType → List ItemIndex
 val_type_refs ts = type_items (type_indices ts)
 
+-- those of the parameters of a function type, and those of its results
+abbrev pub func_type_refs : FuncTypeValue → List ItemIndex
+func_type_refs t = val_type_refs t.params ++ val_type_refs t.results
+
 -- the types of a `select`, and the others
 abbrev pub instr_refs : InstrValue → List ItemIndex
 instr_refs i = type_items (type_refs_of i.immediates) ++ refs_list (refs_of i.immediates)
@@ -56,8 +59,12 @@ code_refs is = flat_map instr_refs is
 abbrev pub init_refs : Option (List InstrValue) → List ItemIndex
 init_refs is = option_map_or code_refs is []
 
+-- the types of a body's locals, and what its operators name
+abbrev pub code_body_refs : BodyValue → List ItemIndex
+code_body_refs b = val_type_refs (local_types b.locals) ++ code_refs b.operators
+
 abbrev pub body_refs : Option BodyValue → List ItemIndex
-body_refs b = init_refs (body_operators b)
+body_refs b = option_map_or code_body_refs b []
 
 -- none of an import
 abbrev pub def_refs : {C : Type 0} → (C → List ItemIndex) → DefValue C → List ItemIndex
@@ -68,13 +75,17 @@ def_refs refs (local x) = refs x
 abbrev pub func_refs : FuncCode → List ItemIndex
 func_refs f = (Types, f.ty) ∷ def_refs body_refs f.def
 
+-- the type of a global, and what its initialiser names
+abbrev pub global_refs : GlobalCode → List ItemIndex
+global_refs g = val_type_refs (g.ty.content_type ∷ []) ++ def_refs init_refs g.def
+
 abbrev pub entry_refs : Entry → List ItemIndex
 entry_refs no_entry = []
-entry_refs (type_entry t) = []
+entry_refs (type_entry t) = func_type_refs t
 entry_refs (func_entry f) = func_refs f
-entry_refs (table_entry t) = []
+entry_refs (table_entry t) = val_type_refs (t.ty.element_type ∷ [])
 entry_refs (memory_entry m) = []
-entry_refs (global_entry g) = def_refs init_refs g.def
+entry_refs (global_entry g) = global_refs g
 
 -- those of some items that the module has
 abbrev pub present : DecodedModule → List ItemIndex → List ItemIndex

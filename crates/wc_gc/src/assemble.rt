@@ -4,7 +4,8 @@ ghost use Rattle.std.specs.Prelude.{◌≡◌, ◌<◌, ◌^◌, ◌++◌, ℕ, 
 ghost use Rattle.std.specs.List.{slice_get};
 ghost use Rattle.wc_read.specs.Exports.{export_value};
 ghost use Rattle.wc_read.specs.Inits.{init_value};
-ghost use Rattle.wc_read.specs.Items.{item_value};
+ghost use Rattle.wc_read.specs.Items.{item_value, table_value};
+ghost use Rattle.wc_read.specs.Renumbering.{renumber_func_type};
 ghost use Rattle.wc_read.specs.Types.{func_type_value};
 ghost use Rattle.wc_read.specs.declared.operators.Space.TheVariants.{Funcs};
 ghost use Rattle.wc_write.specs.ModuleText.{built_value_by};
@@ -15,7 +16,7 @@ ghost use Rattle.wc_gc.specs.EditedImage.{edited_image, edited_rank};
 ghost use Rattle.wc_gc.specs.Edits.{AreCoded, edited_of, found_of, funcs_added, funcs_of, imports_added, live_funcs, new_funcs, new_indices, settings_of, types_of, written_funcs};
 ghost use Rattle.wc_gc.specs.Fewness.{AreFewItems};
 ghost use Rattle.wc_gc.specs.FuncGroups.{AreGroups};
-ghost use Rattle.wc_gc.specs.Image.{kept_items, new_export, new_global};
+ghost use Rattle.wc_gc.specs.Image.{kept_items, new_export, new_global, new_table};
 ghost use Rattle.wc_gc.specs.LiveSets.{has_item};
 ghost use Rattle.wc_gc.specs.NewBodies.{body_written};
 ghost use Rattle.wc_gc.specs.NewIndices.{new_of};
@@ -31,7 +32,8 @@ use crate::parts::Parts;
 use crate::rewrite::new_init;
 use std::alloc::{AllocError, Global};
 use wc_read::{
-    Def, Export, Func, FuncType, Global as ModuleGlobal, GlobalType, Init, Item, Module, ValType,
+    Def, Export, Func, FuncType, Global as ModuleGlobal, GlobalType, Init, Item, Module, Table,
+    ValType,
 };
 use wc_write::Built;
 
@@ -60,7 +62,8 @@ pub fn image<'a, 'n, L: LiveSet>(
 {
     let types = new_types(alloc, &live.types, &adapter.types, edit)?;
     let funcs = new_funcs(alloc, &adapter.funcs, groups, edit)?;
-    let tables = kept_items(alloc, &live.tables, &adapter.tables)?;
+    let mut tables = kept_items(alloc, &live.tables, &adapter.tables)?;
+    renumber_tables(&mut tables, edit.new);
     let memories = kept_items(alloc, &live.memories, &adapter.memories)?;
     let globals = kept_items(alloc, &live.globals, &adapter.globals)?;
     let globals = new_globals(alloc, &globals, edit.new)?;
@@ -86,10 +89,11 @@ fn new_types<L: LiveSet>(
 ) -> Result<Vec<FuncType>, AllocError>
     requires { length types.now < 2 ^ 32 }
     ensures { IfOk result (λ v. map func_type_value v.items
-        ≡ kept_items (L.has live.now) (length types.now) (map func_type_value types.now)
+        ≡ map (renumber_func_type (new_indices edit.entry))
+        (kept_items (L.has live.now) (length types.now) (map func_type_value types.now))
         ++ added_types edit.entry.parts (found_of edit.entry)) }
 {
-    let mut types = kept_types(alloc, live, types)?;
+    let mut types = kept_types(alloc, live, types, edit.new)?;
     append_types(alloc, &mut types, edit.parts, edit.found.empties.is_empty())?;
     Ok(types)
 }
@@ -216,24 +220,36 @@ fn kept_items<T: Copy, L: LiveSet>(
     Ok(kept)
 }
 
-/// The function types whose indices are in a set, in their order.
+/// The function types whose indices are in a set, in their order, under new indices.
 fn kept_types<L: LiveSet>(
     alloc: Global,
     live: &L,
     types: &[FuncType],
+    new: &NewIndices,
 ) -> Result<Vec<FuncType>, AllocError>
     requires { length types.now < 2 ^ 32 }
     ensures { IfOk result (λ v. map func_type_value v.items
-        ≡ kept_items (L.has live.now) (length types.now) (map func_type_value types.now)) }
+        ≡ map (renumber_func_type (new_of new.now))
+        (kept_items (L.has live.now) (length types.now) (map func_type_value types.now))) }
 {
     let mut kept = Vec::new(alloc);
     let mut place: usize = 0;
     for index in 0..types.len() {
         if live.contains_from(index as u32, &mut place) {
-            kept.push(types[index].clone(alloc)?)?;
+            kept.push(new.func_type(alloc, &types[index])?)?;
         }
     }
     Ok(kept)
+}
+
+/// Puts the new types of tables in place of their old ones.
+fn renumber_tables(tables: &mut [Table<'_>], new: &NewIndices)
+    ensures { map table_value tables.new
+        ≡ map (new_table (new_of new.now)) (map table_value tables.old) }
+{
+    for table in tables.iter_mut() {
+        table.ty = new.table_type(table.ty);
+    }
 }
 
 /// Globals under new indices.
@@ -261,7 +277,7 @@ fn new_global<'a>(
     ensures { IfOk result (λ g. item_value init_value g
         ≡ new_global (new_of new.now) (global_code global.now)) }
 {
-    let ty = global.ty;
+    let ty = new.global_type(global.ty);
     match global.def {
         Def::Import(module, name) => Ok(Item {
             ty,

@@ -4,6 +4,7 @@ ghost use Rattle.std.specs.Prelude.{◌≡◌, ◌+◌, ◌<◌, ◌^◌, ◌↔
 ghost use Rattle.wc_read.specs.Operators.{immediates_value, instr_value};
 ghost use Rattle.wc_read.specs.Renumbering.{renumber_block, renumber_func_type, renumber_global_type, renumber_immediates, renumber_index, renumber_instr, renumber_mem_arg, renumber_table_type, renumber_val_type};
 ghost use Rattle.wc_read.specs.Types.{func_type_value};
+ghost use Rattle.wc_gc.specs.Image.{renumber_locals};
 ghost use Rattle.wc_gc.specs.LiveSets.{has_item};
 ghost use Rattle.wc_read.specs.declared.operators.Space.TheVariants.{Funcs, Types};
 ghost use Rattle.wc_gc.specs.Counts.{AreDisjoint};
@@ -14,8 +15,8 @@ use crate::live::{LiveSet, LiveSets};
 use crate::ranks::Ranks;
 use std::alloc::{AllocError, Global};
 use wc_read::{
-    BlockType, FuncType, GlobalType, Immediates, Index, IndexKind, Instr, MemArg, Space, TableType,
-    ValType,
+    BlockType, FuncType, GlobalType, Immediates, Index, IndexKind, Instr, Locals, MemArg, Space,
+    TableType, ValType,
 };
 
 /// How many live items are below each index. Functions are in two groups.
@@ -251,6 +252,33 @@ impl NewIndices {
     {
         for ty in types.iter_mut() {
             *ty = self.val_type(*ty);
+        }
+    }
+
+    /// Locals under the new indices.
+    pub fn locals(&self, locals: Vec<Locals>) -> Vec<Locals>
+        ensures { result.items ≡ map (renumber_locals (new_of self.now)) locals.items }
+    {
+        let mut locals = locals;
+        self.renumber_runs(&mut locals);
+        locals
+    }
+
+    /// Puts each run's new type in place of its old one.
+    fn renumber_runs(&self, runs: &mut [Locals])
+        ensures { runs.new ≡ map (renumber_locals (new_of self.now)) runs.old }
+    {
+        for run in runs.iter_mut() {
+            *run = self.run(*run);
+        }
+    }
+
+    fn run(&self, run: Locals) -> Locals
+        ensures { result ≡ renumber_locals (new_of self.now) run }
+    {
+        Locals {
+            count: run.count,
+            ty: self.val_type(run.ty),
         }
     }
 

@@ -7,6 +7,8 @@ ghost use Rattle.wc_gc.specs.Restriction.{TrimmedIsRestriction};
 /// adapter, and these are all imports that its kept exports reach but reallocs.
 ///
 /// Each of its exports is an export of the adapter of the same name, kind and type, and these are the required ones.
+///
+/// Types are the same where they are but for the indices of types that they name, which mean nothing in another module.
 pub fn trimmed_restricts()
     ensures { TrimmedIsRestriction }
 {}

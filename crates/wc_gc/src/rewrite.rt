@@ -1,6 +1,6 @@
 //! Code under new indices.
 
-ghost use Rattle.std.specs.Prelude.{◌≡◌, ◌++◌, [], is_some, unwrap_or, true, IfOk, IfSome, OnOk, ◌<◌, ◌≤◌};
+ghost use Rattle.std.specs.Prelude.{◌≡◌, ◌++◌, [], map, is_some, unwrap_or, true, IfOk, IfSome, OnOk, ◌<◌, ◌≤◌};
 ghost use Rattle.std.specs.List.{flat_map};
 ghost use Rattle.std.specs.Option.{option_map};
 ghost use Rattle.wc_read.specs.Operators.{instr_value, instr_values};
@@ -9,7 +9,7 @@ ghost use Rattle.wc_read.specs.Renumbering.{Renumbering, renumber_instr};
 ghost use Rattle.wc_read.specs.Decoding.{body_in, body_of, bytes_left, init_in, KeepsLocals, locals_read, next_and_left, operators_left};
 ghost use Rattle.wc_write.specs.BodyText.{locals_text, body_text};
 ghost use Rattle.wc_write.specs.Text.{vector_text};
-ghost use Rattle.wc_gc.specs.Image.{new_init, renumber_code};
+ghost use Rattle.wc_gc.specs.Image.{new_init, renumber_code, renumber_locals};
 ghost use Rattle.wc_gc.specs.NewBodies.{calls_of, old_body_written, text_left};
 ghost use Rattle.wc_gc.specs.NewIndices.{new_of};
 ghost use Rattle.wc_gc.specs.Rewriting.{WritesRun};
@@ -33,16 +33,20 @@ pub fn append_old_body(out: &mut Vec<u8>, body: &OldBody<'_, '_>) -> Result<(), 
 {
     let alloc = *out.allocator();
     let mut operators = operators_of(alloc, body.bytes)?;
-    append_old_locals(out, &operators)?;
+    append_old_locals(out, &operators, body.new)?;
     append_call(out, body.call)?;
     append_operators(out, alloc, &mut operators, body.new)
 }
 
-/// Appends the locals of a body, by one copy where no fewer bytes spell them.
-fn append_old_locals(out: &mut Vec<u8>, operators: &Operators<'_>) -> Result<(), AllocError>
+/// Appends the locals of a body under new indices, by one copy where no fewer bytes spell them.
+fn append_old_locals(
+    out: &mut Vec<u8>,
+    operators: &Operators<'_>,
+    new: &NewIndices,
+) -> Result<(), AllocError>
     requires { KeepsLocals operators.now }
-    ensures { OnOk result (out.new.items
-        ≡ out.old.items ++ vector_text locals_text (locals_read operators.now)) }
+    ensures { OnOk result (out.new.items ≡ out.old.items ++ vector_text locals_text
+        (map (renumber_locals (new_of new.now)) (locals_read operators.now))) }
 {
     match operators.shortest_locals() {
         Some(bytes) => {
@@ -51,7 +55,7 @@ fn append_old_locals(out: &mut Vec<u8>, operators: &Operators<'_>) -> Result<(),
         }
         None => {
             let alloc = *out.allocator();
-            append_locals(out, &operators.locals(alloc)?)
+            append_locals(out, &new.locals(operators.locals(alloc)?))
         }
     }
 }

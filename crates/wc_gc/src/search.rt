@@ -3,13 +3,15 @@
 ghost use Rattle.std.specs.Prelude.{◌≡◌, ◌⊎◌, [], ◌∷◌, All, true, false, IsTrue, None, IsOk, IfOk, IfErr, IfSome, OnOk, ◌↔◌, ◌<◌, ◌≤◌};
 ghost use Rattle.std.specs.List.{list_all};
 ghost use Rattle.std.specs.Option.{option_map, option_to_list};
+ghost use Rattle.wc_read.specs.Bodies.{local_types};
 ghost use Rattle.wc_read.specs.Operators.{instr_value, instr_values};
 ghost use Rattle.wc_read.specs.declared.operators.Space.TheVariants.{Memories};
 ghost use Rattle.wc_read.specs.Refs.{type_reference, type_refs_of};
+ghost use Rattle.wc_read.specs.Types.{func_type_value};
 ghost use Rattle.wc_read.specs.Inits.{init_value};
-ghost use Rattle.wc_read.specs.Decoding.{body_in, body_operators, bytes_left, init_in, next_and_left, operators_left};
-ghost use Rattle.wc_gc.specs.Decoded.{ItemIndex, decoded_module, func_code, init_code, is_in};
-ghost use Rattle.wc_gc.specs.Entries.{body_refs, code_refs, def_refs, func_refs, init_refs, instr_refs, present, refs_in, refs_list, type_items, val_type_refs};
+ghost use Rattle.wc_read.specs.Decoding.{body_in, body_of, bytes_left, init_in, KeepsLocals, locals_read, next_and_left, operators_left};
+ghost use Rattle.wc_gc.specs.Decoded.{ItemIndex, decoded_module, func_code, global_code, is_in};
+ghost use Rattle.wc_gc.specs.Entries.{body_refs, code_refs, func_refs, func_type_refs, global_refs, instr_refs, present, refs_in, refs_list, type_items, val_type_refs};
 ghost use Rattle.wc_gc.specs.Reached.{IsReachedFrom};
 ghost use Rattle.wc_gc.specs.Searches.{Finds, IsConsistent, PassesKnown, finds};
 ghost use Rattle.wc_gc.specs.Soundness.{is_sound, is_sound_at, is_sound_body, is_sound_def};
@@ -19,8 +21,8 @@ use crate::fault::GcFault;
 use crate::live::{LiveSet, LiveSets};
 use std::alloc::{AllocError, Global};
 use wc_read::{
-    Def, Func, Immediates, Init, Instr, Module, Operators, ReadFault, Refs, Space, ValType,
-    names_segment, read_init, refs,
+    Def, Func, FuncType, Global as ModuleGlobal, Immediates, Init, Instr, Locals, Module,
+    Operators, ReadFault, Refs, Space, TableType, ValType, names_segment, read_init, refs,
 };
 
 /// The items found so far: as sets, and in the order in which they were found.
@@ -207,6 +209,44 @@ impl<L: LiveSet> Search<L> {
         self.live.contains(memory) && has_item(adapter, memory)
     }
 
+    /// Finds the types that the locals of a body name, and answers whether the adapter has them all.
+    #[inline(always)]
+    fn reach_locals(
+        &mut self,
+        alloc: Global,
+        adapter: &Module<'_>,
+        operators: &Operators<'_>,
+    ) -> Result<bool, AllocError>
+        requires { KeepsLocals operators.now }
+        ensures found { OnOk result (Finds L.has self.old self.new (present
+            (decoded_module adapter.now) (val_type_refs (local_types (locals_read operators.now))))) }
+        ensures there { IfOk result (λ there. there ≡ list_all
+            (is_in (decoded_module adapter.now))
+            (val_type_refs (local_types (locals_read operators.now)))) }
+    {
+        match operators.shortest_locals() {
+            Some(_) => Ok(true),
+            None => {
+                let locals = operators.locals(alloc)?;
+                self.reach_runs(adapter, &locals)
+            }
+        }
+    }
+
+    /// Finds the types that runs of locals name, and answers whether the adapter has them all.
+    fn reach_runs(&mut self, adapter: &Module<'_>, runs: &[Locals]) -> Result<bool, AllocError>
+        ensures found { OnOk result (Finds L.has self.old self.new
+            (present (decoded_module adapter.now) (val_type_refs (local_types runs.now)))) }
+        ensures there { IfOk result (λ there. there
+            ≡ list_all (is_in (decoded_module adapter.now)) (val_type_refs (local_types runs.now))) }
+    {
+        let mut there = true;
+        for run in runs {
+            there &= self.reach_type(adapter, run.ty)?;
+        }
+        Ok(there)
+    }
+
     /// Finds the items that a body names.
     fn reach_body(
         &mut self,
@@ -222,6 +262,9 @@ impl<L: LiveSet> Search<L> {
             × (is_sound_body (decoded_module adapter.now) (body_in bytes.now) ≡ false))) }
     {
         let mut operators = operators_of(alloc, bytes)?;
+        if !self.reach_locals(alloc, adapter, &operators)? {
+            return Err(GcFault::LiveBody);
+        }
         while let Some(instr) = self.next_unknown(alloc, adapter, &mut operators)? {
             if !self.reach_operator(adapter, &instr)? {
                 return Err(GcFault::LiveBody);
@@ -264,17 +307,37 @@ impl<L: LiveSet> Search<L> {
         }
     }
 
-    /// Finds the items that the initialiser of a global names.
+    /// Finds the types that the parameters and results of a function type name.
+    fn reach_func_type(&mut self, adapter: &Module<'_>, ty: &FuncType) -> Result<(), AllocError>
+        ensures { OnOk result (Finds L.has self.old self.new (present
+            (decoded_module adapter.now) (func_type_refs (func_type_value ty.now)))) }
+    {
+        self.reach_types(adapter, ty.params())?;
+        self.reach_types(adapter, ty.results())?;
+        Ok(())
+    }
+
+    /// Finds the type that the elements of a table name.
+    fn reach_table(&mut self, adapter: &Module<'_>, ty: TableType) -> Result<(), AllocError>
+        ensures { OnOk result (Finds L.has self.old self.new (present
+            (decoded_module adapter.now) (val_type_refs (ty.element_type ∷ [])))) }
+    {
+        self.reach_type(adapter, ty.element_type)?;
+        Ok(())
+    }
+
+    /// Finds the items that a global names: by its type, and by its initialiser.
     fn reach_global(
         &mut self,
         alloc: Global,
         adapter: &Module<'_>,
-        def: Def<'_, &[u8]>,
+        global: ModuleGlobal<'_>,
     ) -> Result<(), AllocError>
         ensures { OnOk result (Finds L.has self.old self.new (present
-            (decoded_module adapter.now) (def_refs init_refs (init_code def.entry)))) }
+            (decoded_module adapter.now) (global_refs (global_code global.entry)))) }
     {
-        match def {
+        self.reach_type(adapter, global.ty.content_type)?;
+        match global.def {
             Def::Import(_, _) => Ok(()),
             Def::Local(bytes) => match init_of(alloc, bytes)? {
                 Some(init) => self.reach_code(adapter, &init.operators),
@@ -296,19 +359,25 @@ impl<L: LiveSet> Search<L> {
         ensures fault { IfErr result (λ f. (f ≡ GcFault.Memory) ⊎ ((f ≡ GcFault.LiveBody)
             × (is_sound_at (decoded_module adapter.now) item ≡ false))) }
     {
+        let index = item.1 as usize;
         match item.0 {
-            Space::Funcs => match adapter.funcs.get(item.1 as usize) {
+            Space::Types => match adapter.types.get(index) {
+                Some(ty) => Ok(self.reach_func_type(adapter, ty)?),
+                None => Ok(()),
+            },
+            Space::Funcs => match adapter.funcs.get(index) {
                 Some(func) => self.reach_func(alloc, adapter, *func),
                 None => Ok(()),
             },
-            Space::Globals => match adapter.globals.get(item.1 as usize) {
-                Some(global) => {
-                    self.reach_global(alloc, adapter, global.def)?;
-                    Ok(())
-                }
+            Space::Tables => match adapter.tables.get(index) {
+                Some(table) => Ok(self.reach_table(adapter, table.ty)?),
                 None => Ok(()),
             },
-            _ => Ok(()),
+            Space::Globals => match adapter.globals.get(index) {
+                Some(global) => Ok(self.reach_global(alloc, adapter, *global)?),
+                None => Ok(()),
+            },
+            Space::Memories => Ok(()),
         }
     }
 
@@ -351,7 +420,9 @@ impl<L: LiveSet> Search<L> {
 /// The operators of a body.
 #[inline(always)]
 fn operators_of(alloc: Global, bytes: &[u8]) -> Result<Operators<'_>, GcFault>
-    ensures found { IfOk result (λ o. operators_left o ≡ body_operators (body_in bytes.now)) }
+    ensures body { IfOk result (λ o. body_in bytes.now
+        ≡ option_map (body_of (locals_read o)) (operators_left o)) }
+    ensures keeps_locals { IfOk result KeepsLocals }
     ensures fault { IfErr result (λ f. (f ≡ GcFault.Memory)
         ⊎ ((f ≡ GcFault.LiveBody) × (body_in bytes.now ≡ None))) }
 {

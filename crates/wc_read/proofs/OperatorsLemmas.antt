@@ -1,17 +1,19 @@
 -- Operators are read as they are spelled.
-use Rattle.std.proofs.Common.{◌≡◌, ℕ, ◌+◌, ◌%◌, ◌<◌, ◌≤◌, List, [], ◌∷◌, ◌++◌, true, false, Option, Some, None, ℤ, pos, negsuc, refl, sym, ◌∙◌, ap, arith, inl, inr, ◌⊎◌, subst, ltb-true, leb-true, eqb-true}
+use Rattle.std.proofs.Common.{◌≡◌, ℕ, ◌+◌, ◌%◌, ◌<◌, ◌≤◌, List, [], ◌∷◌, ◌++◌, true, false, Option, Some, None, refl, sym, ◌∙◌, ap, arith, inl, inr, ◌⊎◌, subst, ltb-true, leb-true, eqb-true}
 use Rattle.std.specs.Prelude.{nat_le, ◌==◌, is_some, unwrap_or, if◌then◌else◌}
 use Rattle.std.proofs.lemmas.Bool.{false≢true}
 use Rattle.std.proofs.lemmas.Bool.Decides.{nat_tests}
 use Rattle.wc_read.specs.Formats.{Format, SpellsNumber, SpellsVector, Joined}
-use Rattle.wc_read.specs.Types.{SpellsValType, is_reference}
-use Rattle.wc_read.specs.Signed.{SpellsSigned, last_positive, last_negative, more_signed}
+use Rattle.wc_read.specs.Types.{SpellsTypeIndex, SpellsValType}
+use Rattle.wc_read.specs.Signed.{SpellsSigned}
 use Rattle.wc_read.specs.Reading.Signed.{signed_at}
 use Rattle.wc_read.specs.Reading.Bytes.{Read, byte_at, bytes_at, number_at, vector_at, where_at, optional_at}
 use Rattle.wc_read.specs.Options.{◌>>=◌}
-use Rattle.wc_read.specs.Reading.Types.{val_type_at}
+use Rattle.wc_read.specs.Reading.Types.{type_index_at, reference_at, val_type_at}
 use Rattle.wc_read.specs.Operators.{form_of, index_of, is_prefix, SpellsOpcode, SpellsBlockType, SpellsMemArg, SpellsRefType, SpellsImmediates, SpellsInstr, ImmediatesValue, WithNone, WithBlock, WithIndex, WithIndices, WithLabels, WithValTypes, WithRefType, WithMemArg, WithMemArgLane, WithI32, WithI64, WithBytes, WithLane, InstrValue}
-use Rattle.wc_read.specs.Reading.Operators.{opcode_after, opcode_at, natural, func_type_at, is_value, block_type_after, block_type_at, are_flags, mem_arg_at, ref_type_at, is_zero, immediates_at, instr_of, instr_at}
+use Rattle.wc_read.specs.Reading.Operators.{opcode_after, opcode_at, is_value, block_type_after, block_type_at, are_flags, mem_arg_at, is_zero, immediates_at, instr_of, instr_at}
+use Rattle.wc_read.specs.declared.types.ValType.{ValType}
+use Rattle.wc_read.specs.declared.types.ValType.TheVariants.{I32, I64, F32, F64, V128, FuncRef, ExternRef, FuncRefNonNull, ExternRefNonNull, TypeRef}
 use Rattle.wc_read.specs.declared.operators.Opcode.{Opcode}
 use Rattle.wc_read.specs.declared.operators.Opcode.TheVariants.{Byte, Misc, Vector, Atomic}
 use Rattle.wc_read.specs.declared.operators.BlockType.{BlockType}
@@ -19,9 +21,9 @@ use Rattle.wc_read.specs.declared.operators.BlockType.TheVariants.{Empty, Value,
 use Rattle.wc_read.specs.declared.operators.MemArg.{MemArg}
 use Rattle.wc_read.specs.declared.operators.Form.{Form}
 use Rattle.wc_read.specs.declared.operators.Form.TheVariants.{None as form_none, Block as form_block, Index as form_index, Indices as form_indices, Labels as form_labels, ValTypes as form_val_types, RefType as form_ref_type, MemArg as form_mem_arg, MemArgLane as form_mem_arg_lane, I32 as form_i32, I64 as form_i64, Bytes as form_bytes, Lane as form_lane, Zero as form_zero}
-use Rattle.wc_read.proofs.OptionsLemmas.{some_same, some_none, some_pair, bind_some}
-use Rattle.wc_read.proofs.MeetsLemmas.{Meets, same_meets, bind_meets, bind_is, made_meets, made_at, where_meets, number_meets, byte_meets, bytes_meet, choice_meets, peek_meets, chosen, vector_meets, optional_meets, IsByte, AreBytes, IsOptional, Where, Made}
-use Rattle.wc_read.proofs.TypesLemmas.{cons_same, val_type_some, val_type_first, val_type_meets}
+use Rattle.wc_read.proofs.OptionsLemmas.{some_same, some_none, some_pair}
+use Rattle.wc_read.proofs.MeetsLemmas.{Meets, same_meets, bind_meets, made_meets, made_at, where_meets, number_meets, byte_meets, bytes_meet, choice_meets, peek_meets, chosen, vector_meets, optional_meets, IsByte, AreBytes, IsOptional, Where, Made}
+use Rattle.wc_read.proofs.TypesLemmas.{cons_same, first_is, type_index_meets, SpellsReference, reference_meets, val_type_some, val_type_first, val_type_meets}
 use Rattle.wc_read.proofs.SignedLemmas.{signed_meets}
 
 -- Codes.
@@ -94,35 +96,6 @@ opcode_meets = same_meets (Joined IsByte After) SpellsOpcode opcode_at (bind_mee
 
 -- Block types.
 
--- a function type's index
-natural_is : (z : ℤ) (n : ℕ) → natural z ≡ Some n → z ≡ pos n
-natural_is (pos m) n e = ap pos (some_same m n e)
-natural_is (negsuc m) n e = absurd (some_none n (sym e))
-
-abbrev index_with : List ℕ → ℕ → Option (BlockType × List ℕ)
-index_with rest n = Some (FuncType n, rest)
-
-func_taken : (bytes : List ℕ) (x : BlockType) (rest : List ℕ) → func_type_at bytes ≡ Some (x, rest) → (text : List ℕ) × (bytes ≡ text ++ rest) × SpellsBlockType text x
-func_taken bytes x rest e =
-    let s = bind_is (signed_at 33 bytes) (λ z. natural z.0 >>= index_with z.1) (x, rest) e in
-    let t = bind_is (natural s.0.0) (index_with s.0.1) (x, rest) s.2 in
-    let p = some_pair (FuncType t.0) x s.0.1 rest t.2 in
-    let u = (signed_meets 33).parses bytes s.0.0 s.0.1 s.1 in
-    let v : SpellsSigned 33 u.0 (pos t.0) = subst (λ (z : ℤ). SpellsSigned 33 u.0 z) (natural_is s.0.0 t.0 t.1) u.2 in
-    (u.0, u.1 ∙ ap (λ (r : List ℕ). u.0 ++ r) p.1, subst (λ (w : BlockType). SpellsBlockType u.0 w) p.0 v)
-
--- the first byte of a number that is at least 0
-abbrev IsFirst : List ℕ → ℤ → Type 0
-IsFirst [] z = ⊥
-IsFirst (b ∷ bytes) (pos n) = (b < 64) ⊎ (128 ≤ b)
-IsFirst (b ∷ bytes) (negsuc m) = Unit
-
-first_is : {bits : ℕ} {bytes : List ℕ} {z : ℤ} → SpellsSigned bits bytes z → IsFirst bytes z
-first_is (last_positive small fits) = inl small
-first_is (last_negative large small fits) = tt
-first_is (more_signed {high = pos n} left large s) = inr large
-first_is (more_signed {high = negsuc m} left large s) = tt
-
 beside : (b : ℕ) → (b < 64) ⊎ (128 ≤ b) → ((b == 0x40) ≡ false) × (is_value b ≡ false)
 beside b (inl small) = (grind (arith, nat_tests), grind (arith, nat_tests))
 beside b (inr large) = (grind (arith, nat_tests), grind (arith, nat_tests))
@@ -142,7 +115,9 @@ block_taken b bytes x rest e =
         | inl q ↦
             let t = (made_meets SpellsValType val_type_at Value val_type_meets).parses (b ∷ bytes) x rest q.1 in
             (t.0, t.1, subst (λ (w : BlockType). SpellsBlockType t.0 w) (sym t.2.2) t.2.1)
-        | inr q ↦ func_taken (b ∷ bytes) x rest q.1
+        | inr q ↦
+            let t = (made_meets SpellsTypeIndex type_index_at FuncType type_index_meets).parses (b ∷ bytes) x rest q.1 in
+            (t.0, t.1, subst (λ (w : BlockType). SpellsBlockType t.0 w) (sym t.2.2) t.2.1)
       ]
     ]
 
@@ -157,7 +132,7 @@ block_again b text (Value t) rest s =
     rw (p.0, p.1) ((made_meets SpellsValType val_type_at Value val_type_meets).again (b ∷ text) (Value t) rest (t, s, refl))
 block_again b text (FuncType n) rest s =
     let p = beside b (first_is s) in
-    rw (p.0, p.1) (bind_some (signed_at 33 (b ∷ (text ++ rest))) _ (pos n, rest) ((signed_meets 33).again (b ∷ text) (pos n) rest s))
+    rw (p.0, p.1) ((made_meets SpellsTypeIndex type_index_at FuncType type_index_meets).again (b ∷ text) (FuncType n) rest (n, s, refl))
 
 pub block_type_meets : Meets SpellsBlockType block_type_at
 unfolding block_type_at
@@ -228,8 +203,32 @@ mem_arg_meets =
 
 -- Immediates.
 
-ref_type_meets : Meets SpellsRefType ref_type_at
-ref_type_meets = where_meets SpellsValType val_type_at is_reference val_type_meets
+ref_type_to : (bytes : List ℕ) (t : ValType) → SpellsReference true bytes t → SpellsRefType bytes t
+ref_type_to bytes FuncRef s = s.1
+ref_type_to bytes ExternRef s = s.1
+ref_type_to bytes FuncRefNonNull s = absurd (cc s.0)
+ref_type_to bytes ExternRefNonNull s = absurd (cc s.0)
+ref_type_to bytes (TypeRef nullable index) s = (sym s.0, s.1)
+ref_type_to bytes I32 s = s
+ref_type_to bytes I64 s = s
+ref_type_to bytes F32 s = s
+ref_type_to bytes F64 s = s
+ref_type_to bytes V128 s = s
+
+ref_type_from : (bytes : List ℕ) (t : ValType) → SpellsRefType bytes t → SpellsReference true bytes t
+ref_type_from bytes FuncRef s = (refl, s)
+ref_type_from bytes ExternRef s = (refl, s)
+ref_type_from bytes FuncRefNonNull s = absurd s
+ref_type_from bytes ExternRefNonNull s = absurd s
+ref_type_from bytes (TypeRef nullable index) s = (sym s.0, s.1)
+ref_type_from bytes I32 s = s
+ref_type_from bytes I64 s = s
+ref_type_from bytes F32 s = s
+ref_type_from bytes F64 s = s
+ref_type_from bytes V128 s = s
+
+ref_type_meets : Meets SpellsRefType (reference_at true)
+ref_type_meets = same_meets (SpellsReference true) SpellsRefType (reference_at true) (reference_meets true) ref_type_to ref_type_from
 
 nothing_meets : {A : Type 0} (v : A) → Meets (λ bytes w. (bytes ≡ []) × (w ≡ v)) (λ bytes. Some (v, bytes))
 nothing_meets v = record {
@@ -258,7 +257,7 @@ immediates_meet form_labels =
     bind_meets (SpellsVector (SpellsNumber 32)) (vector_at (number_at 32)) (λ ls. Made (SpellsNumber 32) (WithLabels ls)) (λ ls bytes. number_at 32 bytes >>= made_at (WithLabels ls))
     (vector_meets (SpellsNumber 32) (number_at 32) (number_meets 32)) (λ ls. made_meets (SpellsNumber 32) (number_at 32) (WithLabels ls) (number_meets 32))
 immediates_meet form_val_types = made_meets (SpellsVector SpellsValType) (vector_at val_type_at) WithValTypes (vector_meets SpellsValType val_type_at val_type_meets)
-immediates_meet form_ref_type = made_meets SpellsRefType ref_type_at WithRefType ref_type_meets
+immediates_meet form_ref_type = made_meets SpellsRefType (reference_at true) WithRefType ref_type_meets
 immediates_meet form_mem_arg = made_meets SpellsMemArg mem_arg_at WithMemArg mem_arg_meets
 immediates_meet form_mem_arg_lane =
     bind_meets SpellsMemArg mem_arg_at (λ m. Made IsByte (WithMemArgLane m)) (λ m bytes. byte_at bytes >>= made_at (WithMemArgLane m))

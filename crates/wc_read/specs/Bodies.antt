@@ -5,6 +5,7 @@ use Rattle.wc_read.specs.Types.{SpellsValType}
 use Rattle.wc_read.specs.Operators.{InstrValue, instr_value, SpellsInstr}
 use Rattle.wc_read.specs.Nesting.{tokens, IsExpression}
 use Rattle.wc_read.specs.declared.bodies.Locals.{Locals}
+use Rattle.wc_read.specs.declared.types.ValType.{ValType}
 use Rattle.wc_read.specs.declared.bodies.Body.{Body}
 
 -- a body: runs of locals, and operators
@@ -18,6 +19,10 @@ body_value b = record { locals = b.locals.items; operators = map instr_value b.o
 -- a run of locals: how many, and their type
 abbrev pub SpellsLocals : Format Locals
 SpellsLocals bytes l = (count ty : List ℕ) × (bytes ≡ count ++ ty) × SpellsNumber 32 count l.count × SpellsValType ty l.ty
+
+-- the types of runs of locals
+abbrev pub local_types : List Locals → List ValType
+local_types ls = map (λ l. l.ty) ls
 
 abbrev pub local_count : List Locals → ℕ
 local_count [] = 0

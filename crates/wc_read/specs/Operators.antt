@@ -1,10 +1,11 @@
 -- Operators (WebAssembly core specification, 5.4 "Instructions"): one table from codes to the shapes of immediates, and
 -- how bytes spell an operator by that table.
-use Rattle.std.specs.Prelude.{◌≡◌, ℕ, ◌+◌, ◌<◌, List, [], ◌∷◌, ◌++◌, length, map, Bool, false, ◌||◌, ◌&&◌, ◌==◌, nat_le, if◌then◌else◌, Option, Some, None, is_some, unwrap_or, ℤ, pos}
+use Rattle.std.specs.Prelude.{◌≡◌, ℕ, ◌+◌, ◌<◌, List, [], ◌∷◌, ◌++◌, length, map, Bool, true, false, ◌||◌, ◌&&◌, ◌==◌, nat_le, if◌then◌else◌, Option, Some, None, is_some, unwrap_or, ℤ}
 use Rattle.wc_read.specs.Formats.{Format, SpellsNumber, SpellsOptional, SpellsVector, Joined}
-use Rattle.wc_read.specs.Types.{SpellsValType, IsReference}
+use Rattle.wc_read.specs.Types.{SpellsTypeIndex, SpellsValType}
 use Rattle.wc_read.specs.Signed.{SpellsSigned}
 use Rattle.wc_read.specs.declared.types.ValType.{ValType}
+use Rattle.wc_read.specs.declared.types.ValType.TheVariants.{FuncRef, ExternRef, TypeRef}
 use Rattle.wc_read.specs.declared.operators.Opcode.{Opcode}
 use Rattle.wc_read.specs.declared.operators.Opcode.TheVariants.{Byte, Misc, Vector, Atomic}
 use Rattle.wc_read.specs.declared.operators.Space.TheVariants.{Types, Funcs, Tables, Memories, Globals}
@@ -35,14 +36,16 @@ byte_form b =
     if b == 0x00 || b == 0x01 || b == 0x05 || b == 0x0b || b == 0x0f || b == 0x1a || b == 0x1b then Some form_none
     -- block, loop, if
     else (if is_between 0x02 0x04 b then Some form_block
-    -- br, br_if
-    else (if b == 0x0c || b == 0x0d then Some (form_index Label)
+    -- br, br_if, br_on_null, br_on_non_null
+    else (if b == 0x0c || b == 0x0d || b == 0xd5 || b == 0xd6 then Some (form_index Label)
     -- br_table
     else (if b == 0x0e then Some form_labels
     -- call, return_call, ref.func
     else (if b == 0x10 || b == 0x12 || b == 0xd2 then Some (form_index (In Funcs))
     -- call_indirect, return_call_indirect
     else (if b == 0x11 || b == 0x13 then Some (form_indices (In Types) (In Tables))
+    -- call_ref, return_call_ref
+    else (if b == 0x14 || b == 0x15 then Some (form_index (In Types))
     -- select, with the types of its values
     else (if b == 0x1c then Some form_val_types
     -- local.get, local.set, local.tee
@@ -63,10 +66,10 @@ byte_form b =
     else (if b == 0x43 then Some (form_bytes 4)
     -- f64.const
     else (if b == 0x44 then Some (form_bytes 8)
-    -- i32.eqz to i64.extend32_s, ref.is_null
-    else (if is_between 0x45 0xc4 b || b == 0xd1 then Some form_none
+    -- i32.eqz to i64.extend32_s, ref.is_null, ref.as_non_null
+    else (if is_between 0x45 0xc4 b || b == 0xd1 || b == 0xd4 then Some form_none
     -- ref.null
-    else (if b == 0xd0 then Some form_ref_type else None)))))))))))))))))
+    else (if b == 0xd0 then Some form_ref_type else None))))))))))))))))))
 
 unfoldable pub misc_form : ℕ → Option Form
 misc_form n =
@@ -175,7 +178,7 @@ SpellsOpcode bytes (Atomic n) = (number : List ℕ) × (bytes ≡ 0xfe ∷ numbe
 abbrev pub SpellsBlockType : Format BlockType
 SpellsBlockType bytes Empty = bytes ≡ 0x40 ∷ []
 SpellsBlockType bytes (Value t) = SpellsValType bytes t
-SpellsBlockType bytes (FuncType index) = SpellsSigned 33 bytes (pos index)
+SpellsBlockType bytes (FuncType index) = SpellsTypeIndex bytes index
 
 -- a memory argument: flags, which are the alignment's exponent and 64 where a memory is named; the memory, 0 where none
 -- is named; the offset
@@ -191,8 +194,13 @@ pub record SpellsMemArg (bytes : List ℕ) (m : MemArg) : Type 0 where
   pub memory_is : m.memory ≡ unwrap_or named 0
   pub has_offset : SpellsNumber 64 offset m.offset
 
+-- the type of a `ref.null`: a reference type with null, without the byte that begins one (5.4.2, and the proposal of
+-- typed function references)
 abbrev pub SpellsRefType : Format ValType
-SpellsRefType bytes t = SpellsValType bytes t × IsReference t
+SpellsRefType bytes FuncRef = bytes ≡ 0x70 ∷ []
+SpellsRefType bytes ExternRef = bytes ≡ 0x6f ∷ []
+SpellsRefType bytes (TypeRef nullable index) = (nullable ≡ true) × SpellsTypeIndex bytes index
+SpellsRefType bytes _ = ⊥
 
 abbrev pub SpellsByte : Format ℕ
 SpellsByte bytes b = bytes ≡ b ∷ []

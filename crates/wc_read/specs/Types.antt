@@ -1,9 +1,10 @@
 -- The types of a module: the values that they stand for in contracts, and how bytes spell them
 -- (WebAssembly core specification, 2.3 and 5.3).
-use Rattle.std.specs.Prelude.{◌≡◌, ℕ, nat_lt, List, [], ◌∷◌, ◌++◌, Bool, true, false, ◌||◌, Option, Some, None, is_some, IsTrue, All}
+use Rattle.std.specs.Prelude.{◌≡◌, ℕ, nat_lt, pos, List, [], ◌∷◌, ◌++◌, Bool, true, false, ◌||◌, ◌⊎◌, Option, Some, None, is_some, IsTrue, All}
 use Rattle.std.specs.List.{filter_map, list_any}
 use Rattle.std.specs.Option.{option_map_or}
-use Rattle.wc_read.specs.Formats.{Format}
+use Rattle.wc_read.specs.Formats.{Format, Tagged}
+use Rattle.wc_read.specs.Signed.{SpellsSigned}
 use Rattle.wc_read.specs.declared.types.ValType.{ValType}
 use Rattle.wc_read.specs.declared.types.ValType.TheVariants.{I32, I64, F32, F64, V128, FuncRef, ExternRef, FuncRefNonNull, ExternRefNonNull, TypeRef}
 use Rattle.wc_read.specs.declared.types.FuncType.{FuncType}
@@ -17,23 +18,38 @@ pub record FuncTypeValue : Type 0 where
 abbrev pub func_type_value : FuncType → FuncTypeValue
 func_type_value f = record { params = f.params.items; results = f.results.items }
 
+-- references to functions of any type, and to values of the host: with null, or without
+
+abbrev pub func_ref : Bool → ValType
+func_ref true = FuncRef
+func_ref false = FuncRefNonNull
+
+abbrev pub extern_ref : Bool → ValType
+extern_ref true = ExternRef
+extern_ref false = ExternRefNonNull
+
 -- the byte that begins a reference type: with null, or without (proposal of typed function references)
 abbrev pub nullable_code : Bool → ℕ
 nullable_code true = 0x63
 nullable_code false = 0x64
 
--- a value type (5.3.1 to 5.3.4). Those of the proposal of typed function references are values, and no bytes spell them
+-- the index of a type, as a signed number of 33 bits (5.4.1, and the proposal of typed function references)
+abbrev pub SpellsTypeIndex : Format ℕ
+SpellsTypeIndex bytes index = SpellsSigned 33 bytes (pos index)
+
+-- a value type (5.3.1 to 5.3.4, and the proposal of typed function references): `FuncRef` and `ExternRef` have a short
+-- encoding and a long one
 abbrev pub SpellsValType : Format ValType
 SpellsValType bytes I32 = bytes ≡ 0x7f ∷ []
 SpellsValType bytes I64 = bytes ≡ 0x7e ∷ []
 SpellsValType bytes F32 = bytes ≡ 0x7d ∷ []
 SpellsValType bytes F64 = bytes ≡ 0x7c ∷ []
 SpellsValType bytes V128 = bytes ≡ 0x7b ∷ []
-SpellsValType bytes FuncRef = bytes ≡ 0x70 ∷ []
-SpellsValType bytes ExternRef = bytes ≡ 0x6f ∷ []
-SpellsValType bytes FuncRefNonNull = ⊥
-SpellsValType bytes ExternRefNonNull = ⊥
-SpellsValType bytes (TypeRef nullable index) = ⊥
+SpellsValType bytes FuncRef = (bytes ≡ 0x70 ∷ []) ⊎ (bytes ≡ 0x63 ∷ 0x70 ∷ [])
+SpellsValType bytes ExternRef = (bytes ≡ 0x6f ∷ []) ⊎ (bytes ≡ 0x63 ∷ 0x6f ∷ [])
+SpellsValType bytes FuncRefNonNull = bytes ≡ 0x64 ∷ 0x70 ∷ []
+SpellsValType bytes ExternRefNonNull = bytes ≡ 0x64 ∷ 0x6f ∷ []
+SpellsValType bytes (TypeRef nullable index) = Tagged (nullable_code nullable) SpellsTypeIndex bytes index
 
 -- reference types: those of the elements of tables
 abbrev pub is_reference : ValType → Bool

@@ -56,7 +56,7 @@ impl<'a> Spelled<'a> for Locals {
 /// - `Truncated`: the bytes end inside the locals or an operator.
 /// - `BadNumber`: a number does not fit its bits in LEB128, flags of a memory argument are 128 or more, or the index of
 ///   the type of a block is negative.
-/// - `BadType`: a byte is no value type, or no reference type where one is needed.
+/// - `BadType`: a byte is no value type, or the index of a type in a reference is negative.
 /// - `TooLarge`: there are 2^32 locals or more.
 /// - `UnknownOperator`: an opcode is not assigned, or the byte of a fence is not 0.
 /// - `BadNesting`: blocks do not nest, an `else` is not the only one of an `if`, or the last operator is not

@@ -4,6 +4,8 @@ ghost use Rattle.std.specs.Prelude.{◌≡◌, ◌≢◌, ◌<◌, ◌≤◌, �
 ghost use Rattle.std.specs.Option.{option_map};
 ghost use Rattle.wc_read.specs.Faults.{IfRefused};
 ghost use Rattle.wc_read.specs.Operators.{InstrValue, instr_value};
+ghost use Rattle.wc_read.specs.Bodies.{local_types};
+ghost use Rattle.wc_read.specs.Types.{type_indices};
 ghost use Rattle.wc_read.specs.Text.{vector_text, locals_text};
 ghost use Rattle.wc_read.specs.Passing.{IsRunText, may_pass, run_and_left};
 ghost use Rattle.wc_read.specs.Decoding.{body_in, body_of, body_operators, bytes_left, KeepsLocals, locals_read, next_and_left, operators_left};
@@ -24,7 +26,7 @@ use std::alloc::{AllocError, Global};
 pub struct Operators<'a> {
     /// The bytes of the body's locals in runs, which were read already.
     locals: &'a [u8],
-    /// Whether these bytes are the fewest.
+    /// Whether these bytes are the fewest, and no type of locals names a type of the module.
     is_shortest: bool,
     reader: Reader<'a>,
     blocks: Blocks,
@@ -67,10 +69,12 @@ impl<'a> Operators<'a> {
         self.reader.rest.is_empty() && self.blocks.is_empty()
     }
 
-    /// The bytes of the body's locals, where no fewer bytes spell them; asked before its operators are read.
+    /// The bytes of the body's locals, where no fewer bytes spell them and none of their types is an index of a type;
+    /// asked before its operators are read.
     pub fn shortest_locals(&self) -> Option<&'a [u8]>
         requires { KeepsLocals self.now }
-        ensures { IfSome result (λ b. b.now ≡ vector_text locals_text (locals_read self.now)) }
+        ensures text { IfSome result (λ b. b.now ≡ vector_text locals_text (locals_read self.now)) }
+        ensures no_types { IfSome result (λ _. type_indices (local_types (locals_read self.now)) ≡ []) }
     {
         if self.is_shortest {
             Some(self.locals)

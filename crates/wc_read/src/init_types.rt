@@ -1,6 +1,6 @@
 //! What initialisers leave.
 
-ghost use Rattle.std.specs.Prelude.{◌≡◌, ◌↔◌, ◌<◌, ◌-◌, ◌^◌, IfOk, IfErr, IsTrue};
+ghost use Rattle.std.specs.Prelude.{◌≡◌, ◌⊎◌, ◌↔◌, ◌<◌, ◌-◌, ◌^◌, IfOk, IfErr, IsTrue};
 ghost use Rattle.wc_read.specs.Faults.{IfRefused};
 ghost use Rattle.wc_read.specs.Reading.Bytes.{Gives};
 ghost use Rattle.wc_read.specs.Types.{has_type_index};
@@ -62,6 +62,41 @@ pub fn are_typed(
         }
     }
     Ok(true)
+}
+
+/// The fault of initialisers that leave something else: `BadIndex`, where one of them has a null of a type whose index
+/// is not below `types`, else `BadInitialiser`.
+pub fn init_fault(alloc: Global, types: usize, globals: &[items::Global<'_>]) -> ReadFault
+    ensures { (result ≡ ReadFault.BadIndex) ⊎ (result ≡ ReadFault.BadInitialiser) }
+{
+    for global in globals {
+        match global.def {
+            Def::Local(init) if names_missing_type(alloc, types, init) => {
+                return ReadFault::BadIndex;
+            }
+            _ => {}
+        }
+    }
+    ReadFault::BadInitialiser
+}
+
+/// Whether an initialiser has a null of a type whose index is not below `types`. There is a byte at least to each
+/// operator.
+fn names_missing_type(alloc: Global, types: usize, init: &[u8]) -> bool {
+    let mut reader = Reader::new(init);
+    for _ in 0..init.len() {
+        match reader.operator(alloc) {
+            Ok(
+                Instr {
+                    immediates: Immediates::RefType(ty),
+                    ..
+                },
+            ) if !has_type_index(types, ty) => return true,
+            Ok(_) => {}
+            Err(_) => return false,
+        }
+    }
+    false
 }
 
 fn is_typed(alloc: Global, scope: &Scope<'_>, global: &items::Global<'_>) -> Result<bool, ReadFault>

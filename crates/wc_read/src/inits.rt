@@ -57,7 +57,7 @@ pub enum Constant {
 /// - `Truncated`: the bytes end before the `end` of the initialiser.
 /// - `BadNumber`: a number does not fit its bits in LEB128, or an operator that is not constant has immediates that are
 ///   `BadNumber` in a body.
-/// - `BadType`: a byte of an immediate is no value type, or no reference type where one is needed.
+/// - `BadType`: a byte of an immediate is no value type, or the index of a type in a reference is negative.
 /// - `UnknownOperator`: an opcode is not assigned, or the byte of a fence is not 0.
 /// - `BadInitialiser`: an operator is not constant, or bytes follow the `end`.
 /// - `Memory`: an allocation failed.

@@ -8,7 +8,8 @@ use crate::reader::Reader;
 use crate::text_sizes::{are_bytes, is_shortest};
 
 impl<'a> Reader<'a> {
-    /// Goes past the runs of a body's locals (5.5.13), and answers whether their bytes are their text.
+    /// Goes past the runs of a body's locals (5.5.13), and answers whether their bytes are their text, and each type is one
+    /// byte.
     pub fn pass_locals(&mut self) -> Result<bool, ReadFault>
         ensures { PassesLocals result self.old.rest.now self.new.rest.now }
     {
@@ -26,15 +27,18 @@ impl<'a> Reader<'a> {
         Ok(is_text)
     }
 
-    /// Goes past a run of locals, and answers how many they are and whether its bytes are its text.
+    /// Goes past a run of locals, and answers how many they are, and whether its bytes are its text and its type is one
+    /// byte.
     #[inline(always)]
     #[tactic(auto, unfolding(crate::specs::Reading::Bodies::locals_at))]
     fn pass_locals_run(&mut self) -> Result<(u32, bool), ReadFault>
         ensures { ReadsLocals result self.old.rest.now self.new.rest.now }
     {
         let (count, is_text) = self.u32_and_is_text()?;
+        let input = self.rest;
         self.val_type()?;
-        Ok((count, is_text))
+        let is_one_byte = input.len() - self.rest.len() == 1;
+        Ok((count, both(is_text, is_one_byte)))
     }
 
     /// A number, and whether its bytes are its text.

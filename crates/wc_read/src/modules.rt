@@ -36,7 +36,8 @@ use std::alloc::{AllocError, Global};
 /// - `UnknownSection`: the id of a section is above 12.
 /// - `SectionOrder`: a section is out of order, or is there twice.
 /// - `SectionSize`: bytes of a section follow its last item.
-/// - `BadType`: a byte is no type, not the type that is needed, no mutability, or no kind of import or export.
+/// - `BadType`: a byte is no type, not the type that is needed, no mutability, or no kind of import or export, or the
+///   index of a type in a reference is negative.
 /// - `BadLimits`: limits are those that `read_imports` refuses.
 /// - `CountMismatch`: there are not as many bodies as defined functions.
 /// - `TooLarge`: an index space has 2^32 items or more.

@@ -80,7 +80,7 @@ pub enum Immediates<'a> {
     Labels(Vec<u32>, u32),
     /// The types of a `select`.
     ValTypes(Vec<ValType>),
-    /// The type of a `ref.null`: `FuncRef` or `ExternRef`.
+    /// The type of a `ref.null`: `FuncRef`, `ExternRef`, or a `TypeRef` with null.
     RefType(ValType),
     MemArg(MemArg),
     /// An address, and a lane of a vector.
@@ -124,7 +124,7 @@ pub enum Form {
     Labels,
     /// A vector of value types.
     ValTypes,
-    /// A reference type.
+    /// A reference type with null, without the byte that begins one.
     RefType,
     /// A memory argument.
     MemArg,
@@ -189,14 +189,16 @@ pub fn byte_form(code: u8) -> Option<Form>
         0x04 => Some(Form::Block),
         // br
         0x0c => Some(Form::Index(IndexKind::Label)),
-        // br_if
-        0x0d => Some(Form::Index(IndexKind::Label)),
+        // br_if, br_on_null, br_on_non_null
+        0x0d | 0xd5 | 0xd6 => Some(Form::Index(IndexKind::Label)),
         // br_table
         0x0e => Some(Form::Labels),
         // call, return_call, ref.func
         0x10 | 0x12 | 0xd2 => Some(Form::Index(FUNC)),
         // call_indirect, return_call_indirect
         0x11 | 0x13 => Some(Form::Indices(TYPE, TABLE)),
+        // call_ref, return_call_ref
+        0x14 | 0x15 => Some(Form::Index(TYPE)),
         // select, with the types of its values
         0x1c => Some(Form::ValTypes),
         // local.get
@@ -223,8 +225,8 @@ pub fn byte_form(code: u8) -> Option<Form>
         0x43 => Some(Form::Bytes(4)),
         // f64.const
         0x44 => Some(Form::Bytes(8)),
-        // i32.eqz to i64.extend32_s, ref.is_null
-        0x45..=0xc4 | 0xd1 => Some(Form::None),
+        // i32.eqz to i64.extend32_s, ref.is_null, ref.as_non_null
+        0x45..=0xc4 | 0xd1 | 0xd4 => Some(Form::None),
         // ref.null
         0xd0 => Some(Form::RefType),
         _ => None,

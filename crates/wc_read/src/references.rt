@@ -103,7 +103,7 @@ impl<'a> Iterator for TypeRefs<'a> {
 }
 
 /// The types named by the value types of a `select` (5.4.3), in order. `refs` gives none of these; of any other operator
-/// this gives none. No module that was read has such a `select`, as no bytes are read as a type with an index.
+/// this gives none.
 pub fn type_refs<'a>(instr: &'a Instr<'_>) -> TypeRefs<'a>
     ensures { type_refs_left result ≡ type_refs_of (immediates_value instr.now.immediates) }
 {

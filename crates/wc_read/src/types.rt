@@ -1,21 +1,21 @@
 //! The types of core modules (WebAssembly core specification, 2.3 "Types" and 2.5.11 "Imports"), and the reading of
 //! value types and of types of globals.
 
-ghost use Rattle.std.specs.Prelude.{◌≡◌, ◌-◌, ◌^◌, ◌<◌, ◌≤◌};
+ghost use Rattle.std.specs.Prelude.{◌≡◌, ◌≢◌, ◌-◌, ◌^◌, ◌<◌, ◌≤◌};
 ghost use Rattle.wc_read.specs.Limits.{page_exponent};
 ghost use Rattle.wc_read.specs.Reading.Bytes.{Gives, GivesWithoutMemory, vector_at};
-ghost use Rattle.wc_read.specs.Types.{is_reference};
-ghost use Rattle.wc_read.specs.Reading.Types.{val_type_at, mutable_at, global_at};
+ghost use Rattle.wc_read.specs.Types.{func_ref, extern_ref, is_reference};
+ghost use Rattle.wc_read.specs.Reading.Types.{type_index_at, reference_at, val_type_at, mutable_at, global_at};
 ghost use Rattle.wc_read.specs.declared.types.ValType.{ValType as val_type};
 
+use crate::codes::{NON_NULLABLE, NULLABLE};
 use crate::fault::ReadFault;
 use crate::reader::{Reader, Spelled};
 use std::alloc::{AllocError, Global};
 
 /// A value type (2.3.1 to 2.3.4, and the proposal of typed function references): a number of 32 or 64 bits, a
 /// vector of 128 bits, or a reference. References to functions are of any type or of one, by its index among the
-/// module's types; null is among them or not. Of references, the readers know `FuncRef` and `ExternRef` alone: no
-/// bytes are read as one of the others.
+/// module's types; null is among them or not.
 #[derive(Clone, Copy, Debug, PartialEq, Eq)]
 pub enum ValType {
     I32,
@@ -177,6 +177,28 @@ pub fn is_reference(ty: ValType) -> bool
     }
 }
 
+/// References to functions of any type.
+fn func_ref(nullable: bool) -> ValType
+    ensures { result ≡ func_ref nullable }
+{
+    if nullable {
+        ValType::FuncRef
+    } else {
+        ValType::FuncRefNonNull
+    }
+}
+
+/// References to values of the host.
+fn extern_ref(nullable: bool) -> ValType
+    ensures { result ≡ extern_ref nullable }
+{
+    if nullable {
+        ValType::ExternRef
+    } else {
+        ValType::ExternRefNonNull
+    }
+}
+
 impl<'a> Reader<'a> {
     /// A value type.
     #[tactic(auto, unfolding(crate::specs::Reading::Types::val_type_at))]
@@ -192,8 +214,48 @@ impl<'a> Reader<'a> {
             0x7b => Ok(ValType::V128),
             0x70 => Ok(ValType::FuncRef),
             0x6f => Ok(ValType::ExternRef),
+            NULLABLE => self.reference(true),
+            NON_NULLABLE => self.reference(false),
             _ => Err(ReadFault::BadType),
         }
+    }
+
+    /// What references refer to, after whether null is among them.
+    #[inline(never)]
+    #[tactic(auto, unfolding(crate::specs::Reading::Types::reference_at))]
+    pub fn reference(&mut self, nullable: bool) -> Result<ValType, ReadFault>
+        ensures { GivesWithoutMemory (λ x. x) result self.new.rest.now
+            (reference_at nullable self.old.rest.now) }
+    {
+        match Reader::new(self.rest).byte()? {
+            0x70 => {
+                self.byte()?;
+                Ok(func_ref(nullable))
+            }
+            0x6f => {
+                self.byte()?;
+                Ok(extern_ref(nullable))
+            }
+            _ => {
+                let index = self.type_index(ReadFault::BadType)?;
+                Ok(ValType::TypeRef { nullable, index })
+            }
+        }
+    }
+
+    /// The index of a type, as a signed number of 33 bits; the fault `negative` where it is below 0.
+    #[tactic(auto, unfolding(crate::specs::Reading::Types::type_index_at))]
+    pub fn type_index(&mut self, negative: ReadFault) -> Result<u32, ReadFault>
+        requires no_memory { negative ≢ ReadFault.Memory }
+        requires no_component { negative ≢ ReadFault.Component }
+        ensures { GivesWithoutMemory (λ x. x) result self.new.rest.now
+            (type_index_at self.old.rest.now) }
+    {
+        let index = self.signed(33)?;
+        if index < 0 {
+            return Err(negative);
+        }
+        Ok(index as u32)
     }
 
     /// Whether a global is mutable.

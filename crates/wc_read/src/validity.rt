@@ -11,7 +11,7 @@ use crate::core_module::Module;
 use crate::distinct::have_distinct_names;
 use crate::exports::{Export, ExportKind};
 use crate::fault::ReadFault;
-use crate::init_types::{are_typed, has_type_index};
+use crate::init_types::{are_typed, has_type_index, init_fault};
 use crate::items::{self, Func, Table};
 use crate::types::{FuncType, ValType};
 use std::alloc::Global;
@@ -44,7 +44,7 @@ pub fn check_module(alloc: Global, module: &Module) -> Result<(), ReadFault>
         module.funcs.len(),
         &module.globals,
     )? {
-        return Err(ReadFault::BadInitialiser);
+        return Err(init_fault(alloc, module.types.len(), &module.globals));
     }
     match module.start {
         Some(index) => check_start(module, index)?,

@@ -36,7 +36,7 @@ pub fn put_opcode(out: &mut Lines, opcode: Opcode) {
     }
 }
 
-fn put_block_type(out: &mut Lines, ty: &BlockType) {
+pub fn put_block_type(out: &mut Lines, ty: &BlockType) {
     match ty {
         BlockType::Empty => out.push_str(" block empty"),
         BlockType::Value(ty) => {

@@ -4,17 +4,16 @@
 use crate::gc_calls::names_from;
 use crate::input::{Stop, answered, bad_row, bytes_of};
 use crate::lines::Lines;
-use crate::operators::{put_immediates, put_index, put_opcode, space_word};
+use crate::operators::{put_block_type, put_immediates, put_index, put_opcode, space_word};
 use crate::rows::Row;
 use crate::values::{
-    put_def, put_fault, put_func_type, put_global_type, put_memory_type, put_table_type,
-    put_val_type,
+    put_def, put_fault, put_memory_type, put_mutable, put_table_limits, put_val_type,
 };
 use std::alloc::{AllocError, Global};
 use wc_gc::{realloc_via_memory_grow, run};
 use wc_read::{
     BlockType, Body, Def, ExportKind, Immediates, Index, IndexKind, Instr, MemArg, Module, Space,
-    read_body, read_init, read_module, refs,
+    ValType, read_body, read_init, read_module, refs,
 };
 
 /// The exponent of the page size of all memories.
@@ -204,9 +203,9 @@ fn put_entry(
 ) -> Result<(), AllocError> {
     let index = item.1 as usize;
     match item.0 {
-        Space::Types => put_type(out, module, index),
+        Space::Types => put_type(out, module, index, named)?,
         Space::Funcs => put_func(alloc, out, module, realloc, index, named)?,
-        Space::Tables => put_table(out, module, index),
+        Space::Tables => put_table(out, module, index, named)?,
         Space::Memories => put_memory(out, module, index),
         Space::Globals => put_global(alloc, out, module, index, named)?,
     }
@@ -217,22 +216,74 @@ fn put_none(out: &mut Lines) {
     out.push_str("none\n");
 }
 
-fn put_type(out: &mut Lines, module: &Module<'_>, index: usize) {
+fn put_type(
+    out: &mut Lines,
+    module: &Module<'_>,
+    index: usize,
+    named: &mut Vec<(Space, u32)>,
+) -> Result<(), AllocError> {
     let Some(ty) = module.types.get(index) else {
-        return put_none(out);
+        put_none(out);
+        return Ok(());
     };
     out.push_str("type");
-    put_func_type(out, ty);
+    put_blank_types(out, ty.params(), named)?;
+    out.push_str(" ->");
+    put_blank_types(out, ty.results(), named)?;
     out.push_str("\n");
+    Ok(())
 }
 
-fn put_table(out: &mut Lines, module: &Module<'_>, index: usize) {
+/// Value types without their indices, and the types that they name.
+fn put_blank_types(
+    out: &mut Lines,
+    types: &[ValType],
+    named: &mut Vec<(Space, u32)>,
+) -> Result<(), AllocError> {
+    for ty in types {
+        out.push_str(" ");
+        put_blank_type(out, *ty, named)?;
+    }
+    Ok(())
+}
+
+/// A value type without its index, and the type that it names.
+fn put_blank_type(
+    out: &mut Lines,
+    ty: ValType,
+    named: &mut Vec<(Space, u32)>,
+) -> Result<(), AllocError> {
+    put_val_type(out, blank(ty));
+    match ty {
+        ValType::TypeRef { index, .. } => named.push((Space::Types, index))?,
+        _ => {}
+    }
+    Ok(())
+}
+
+/// A value type with 0 in the place of its index.
+fn blank(ty: ValType) -> ValType {
+    match ty {
+        ValType::TypeRef { nullable, .. } => ValType::TypeRef { nullable, index: 0 },
+        _ => ty,
+    }
+}
+
+fn put_table(
+    out: &mut Lines,
+    module: &Module<'_>,
+    index: usize,
+    named: &mut Vec<(Space, u32)>,
+) -> Result<(), AllocError> {
     let Some(table) = module.tables.get(index) else {
-        return put_none(out);
+        put_none(out);
+        return Ok(());
     };
-    out.push_str("table");
-    put_table_type(out, &table.ty);
+    out.push_str("table ");
+    put_blank_type(out, table.ty.element_type, named)?;
+    put_table_limits(out, &table.ty);
     put_def(out, &table.def);
+    Ok(())
 }
 
 fn put_memory(out: &mut Lines, module: &Module<'_>, index: usize) {
@@ -296,7 +347,7 @@ fn put_code(
     for run in &body.locals {
         let count = run.count;
         write!(out, "locals {count} ");
-        put_val_type(out, run.ty);
+        put_blank_type(out, run.ty, named)?;
         out.push_str("\n");
     }
     put_operators(out, &body.operators, named)
@@ -313,8 +364,9 @@ fn put_global(
         put_none(out);
         return Ok(());
     };
-    out.push_str("global");
-    put_global_type(out, &global.ty);
+    out.push_str("global ");
+    put_blank_type(out, global.ty.content_type, named)?;
+    put_mutable(out, &global.ty);
     match global.def {
         Def::Import(module, name) => writeln!(out, " import {module:?} {name:?}"),
         Def::Local(init) => put_init(alloc, out, init, named)?,
@@ -344,15 +396,20 @@ fn put_operators(
     named: &mut Vec<(Space, u32)>,
 ) -> Result<(), AllocError> {
     for operator in operators {
-        let refs = refs(operator);
-        push_some(named, refs.first)?;
-        push_some(named, refs.second)?;
         out.push_str("operator ");
         put_opcode(out, operator.opcode);
-        put_blank(out, &operator.immediates);
+        put_blank(out, &operator.immediates, named)?;
         out.push_str("\n");
+        push_refs(named, operator)?;
     }
     Ok(())
+}
+
+/// The items that an operator names, but for the types of a `select`.
+fn push_refs(named: &mut Vec<(Space, u32)>, operator: &Instr<'_>) -> Result<(), AllocError> {
+    let refs = refs(operator);
+    push_some(named, refs.first)?;
+    push_some(named, refs.second)
 }
 
 fn push_some(named: &mut Vec<(Space, u32)>, item: Option<(Space, u32)>) -> Result<(), AllocError> {
@@ -362,10 +419,22 @@ fn push_some(named: &mut Vec<(Space, u32)>, item: Option<(Space, u32)>) -> Resul
     Ok(())
 }
 
-/// What comes after an operator's code, without indices of items.
-fn put_blank(out: &mut Lines, immediates: &Immediates<'_>) {
+/// What comes after an operator's code, without indices of items, and the types that a `select` names.
+fn put_blank(
+    out: &mut Lines,
+    immediates: &Immediates<'_>,
+    named: &mut Vec<(Space, u32)>,
+) -> Result<(), AllocError> {
     match immediates {
         Immediates::Block(BlockType::FuncType(_)) => out.push_str(" block type"),
+        Immediates::Block(BlockType::Value(ty)) => {
+            put_block_type(out, &BlockType::Value(blank(*ty)));
+        }
+        Immediates::ValTypes(types) => {
+            out.push_str(" types");
+            put_blank_types(out, types, named)?;
+        }
+        Immediates::RefType(ty) => put_immediates(out, &Immediates::RefType(blank(*ty))),
         Immediates::Index(index) => put_blank_index(out, *index),
         Immediates::Indices(first, second) => {
             put_blank_index(out, *first);
@@ -378,6 +447,7 @@ fn put_blank(out: &mut Lines, immediates: &Immediates<'_>) {
         }
         _ => put_immediates(out, immediates),
     }
+    Ok(())
 }
 
 fn put_blank_index(out: &mut Lines, index: Index) {

@@ -87,6 +87,11 @@ fn put_bounds(out: &mut Lines, initial: u64, maximum: Option<u64>) {
 pub fn put_table_type(out: &mut Lines, ty: &TableType) {
     out.push_str(" ");
     put_val_type(out, ty.element_type);
+    put_table_limits(out, ty);
+}
+
+/// The limits of a table, as ` 64 min 1 max 2`.
+pub fn put_table_limits(out: &mut Lines, ty: &TableType) {
     if ty.table64 {
         out.push_str(" 64");
     }
@@ -110,6 +115,11 @@ pub fn put_memory_type(out: &mut Lines, ty: &MemoryType) {
 pub fn put_global_type(out: &mut Lines, ty: &GlobalType) {
     out.push_str(" ");
     put_val_type(out, ty.content_type);
+    put_mutable(out, ty);
+}
+
+/// ` mut`, where a global may be written.
+pub fn put_mutable(out: &mut Lines, ty: &GlobalType) {
     if ty.mutable {
         out.push_str(" mut");
     }

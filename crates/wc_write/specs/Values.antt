@@ -8,7 +8,7 @@ use Rattle.wc_read.specs.Operators.{form_of, index_of, ImmediatesValue, WithNone
 use Rattle.wc_read.specs.Nesting.{tokens, IsExpression}
 use Rattle.wc_read.specs.Bodies.{BodyValue, local_count}
 use Rattle.wc_read.specs.declared.types.ValType.{ValType}
-use Rattle.wc_read.specs.declared.types.ValType.TheVariants.{FuncRef, ExternRef, FuncRefNonNull, ExternRefNonNull, TypeRef}
+use Rattle.wc_read.specs.declared.types.ValType.TheVariants.{FuncRef, ExternRef, TypeRef}
 use Rattle.wc_read.specs.declared.operators.BlockType.{BlockType}
 use Rattle.wc_read.specs.declared.operators.BlockType.TheVariants.{Empty, Value, FuncType}
 use Rattle.wc_read.specs.declared.operators.MemArg.{MemArg}
@@ -33,14 +33,12 @@ pub record AreBounds (is_64 : Bool) (initial : ℕ) (maximum : Option ℕ) : Typ
   pub initial_fits : initial < 2 ^ bound_bits is_64
   pub maximum_fits : IfSome maximum (λ limit. limit < 2 ^ bound_bits is_64)
 
--- a value type that bytes can spell: so far none of the references without null, and none to a type by its index
+-- a value type: the index of a type has 32 bits
 abbrev pub IsValType : ValType → Type 0
-IsValType FuncRefNonNull = ⊥
-IsValType ExternRefNonNull = ⊥
-IsValType (TypeRef nullable index) = ⊥
+IsValType (TypeRef nullable index) = IsU32 index
 IsValType t = Unit {0}
 
--- a function type: each of its value types can be spelled
+-- a function type: indices in its value types have 32 bits
 abbrev pub IsFuncType : FuncTypeValue → Type 0
 IsFuncType f = All IsValType f.params × All IsValType f.results
 
@@ -48,7 +46,7 @@ IsFuncType f = All IsValType f.params × All IsValType f.results
 abbrev pub IsNullType : ValType → Type 0
 IsNullType FuncRef = Unit {0}
 IsNullType ExternRef = Unit {0}
-IsNullType (TypeRef nullable index) = (nullable ≡ true) × IsValType (TypeRef nullable index)
+IsNullType (TypeRef nullable index) = (nullable ≡ true) × IsU32 index
 IsNullType t = ⊥
 
 -- a table type: its elements are references, and its maximum is not below its minimum

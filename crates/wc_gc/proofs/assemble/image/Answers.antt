@@ -1,4 +1,7 @@
-use Rattle.std.proofs.Common.{true, false, map}
+use Rattle.std.proofs.Common.{◌∙◌, ap, true, false, map, arith}
+use Rattle.std.specs.Vec.{with_items}
+use Rattle.std.proofs.lemmas.List.{with_items_is}
+use Rattle.wc_read.specs.Items.{table_value}
 use Rattle.wc_read.specs.Exports.{export_value}
 use Rattle.wc_gc.specs.FuncGroups.{is_in_group}
 use Rattle.wc_gc.specs.LiveSets.{has_item}
@@ -19,7 +22,9 @@ returns g c =
     edited_image_is c.args.edit c.args.adapter.now (map export_value c.args.exports.now) (has_item g.L.LiveSet.has c.args.live.now) c.requires.indices c.requires.types c.requires.funcs g.L.LiveSet.has c.args.groups.now c.requires.groups
     _ (rw c.deref.ensures.value at c.in_ok-types.ensures)
     _ (rw c.deref-2.ensures.value at c.in_ok-funcs.ensures)
-    c.in_ok-tables.tables.items (rw c.deref-3.ensures.value at c.in_ok-tables.ensures)
+    (with_items c.in_ok-tables.tables c.renumber_tables.new.tables).items c.in_ok-tables.tables.items (rw c.deref-3.ensures.value at c.in_ok-tables.ensures)
+    (ap (map table_value) (with_items_is c.in_ok-tables.tables c.renumber_tables.new.tables (omega arith))
+    ∙ rw c.deref_mut.ensures.value at c.renumber_tables.ensures)
     c.in_ok-memories.memories.items (rw c.deref-4.ensures.value at c.in_ok-memories.ensures)
     _ c.in_ok-globals.globals.items (rw c.deref-5.ensures.value at c.in_ok-globals.ensures) (rw c.deref-6.ensures.value at c.in_ok-globals-2.ensures)
     _ c.in_ok-exports.ensures
