@@ -30,6 +30,7 @@ REACHED = {
     "wc_gc::liveness_counted": "liveness_counted",
     "wc_gc::realloc_via_memory_grow": "realloc_via_memory_grow",
     "wc_gc::run": "trim",
+    "wc_json::document_from_json": "document",
     "wc_names::ExportNames::function": "match_wit_export",
     "wc_names::Import::clone": "env_import",
     "wc_names::InterfaceNames::interface": "interface_names",

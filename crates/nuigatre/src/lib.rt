@@ -15,7 +15,7 @@ ghost use Rattle.wc_read.specs.Sections.{IsComponent};
 ghost use Rattle.wc_dedupe.specs.Dedupe.{IsDeduped};
 ghost use Rattle.wc_calls.specs.Answers.{IsPut, IsTooLong, done, failed, too_small, same, bad_argument};
 ghost use Rattle.wc_calls.specs.Renaming.{IsRenamed, IsRenamingFault};
-ghost use Rattle.wc_calls.specs.Required.{texts, wanted_of};
+ghost use Rattle.wc_calls.specs.Required.{texts, trim_input_of};
 ghost use Rattle.wc_calls.specs.Trimming.{AreArguments, IsRun, IsTrimmingFault};
 ghost use Rattle.nuigatre.specs.Arguments.{optional_name, settings_of};
 
@@ -52,10 +52,10 @@ pub extern "C" fn nuigatre_trim(
 ) -> Answer
     ensures done { result.status ≡ done
         → IsPut (IsRun (settings_of has_realloc realloc.now page_size_log2)
-        (wanted_of wasm.now (texts required.now))) result.length out.old out.new }
+        (trim_input_of wasm.now (texts required.now))) result.length out.old out.new }
     ensures too_small { result.status ≡ too_small
         → IsTooLong (IsRun (settings_of has_realloc realloc.now page_size_log2)
-        (wanted_of wasm.now (texts required.now))) result.length out.old }
+        (trim_input_of wasm.now (texts required.now))) result.length out.old }
     ensures fault { result.status ≡ failed
         → IsTrimmingFault (settings_of has_realloc realloc.now page_size_log2) wasm.now
         (texts required.now) result.fault result.position }

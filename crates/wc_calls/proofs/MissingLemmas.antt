@@ -12,7 +12,7 @@ use Rattle.wc_gc.specs.Parts.{SettingsValue}
 use Rattle.wc_gc.specs.Trimming.{IsTrimFault}
 use Rattle.wc_gc.specs.declared.fault.GcFault.{GcFault}
 use Rattle.wc_gc.specs.declared.fault.GcFault.TheVariants.{Memory, MissingExport}
-use Rattle.wc_calls.specs.Required.{distinct_names, position_of, wanted_of}
+use Rattle.wc_calls.specs.Required.{distinct_names, position_of, trim_input_of}
 use Rattle.wc_calls.specs.Trimming.{IsPosition, position_in}
 
 -- what is found is among the names
@@ -81,7 +81,7 @@ missing_there names p x e =
     ]
 
 -- the position that an answer has for a fault that has its cause
-pub named_position : (s : SettingsValue) (wasm : List ℕ) (names : List (List ℕ)) (f : GcFault) → f ≢ Memory → IsTrimFault s (wanted_of wasm names) f → IsPosition names f (position_in names f)
+pub named_position : (s : SettingsValue) (wasm : List ℕ) (names : List (List ℕ)) (f : GcFault) → f ≢ Memory → IsTrimFault s (trim_input_of wasm names) f → IsPosition names f (position_in names f)
 named_position s wasm names (MissingExport name) other fault =
     elim fault [
       | inl memory ↦ absurd (other memory)

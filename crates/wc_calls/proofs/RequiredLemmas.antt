@@ -1,5 +1,6 @@
 -- The texts of slices, one after another.
-use Rattle.std.proofs.Common.{◌≡◌, ◌≢◌, ℕ, ◌+◌, ◌<◌, ◌≤◌, Bool, List, [], ◌∷◌, ◌++◌, ◌||◌, length, take, map, fold, get_or, zero, suc, Bor, Result, Ok, Err, refl, sym, ◌∙◌, ap, subst, String, Global, inl, inr, arith}
+use Rattle.std.proofs.Common.{◌≡◌, ◌≢◌, ℕ, ◌+◌, ◌<◌, ◌≤◌, List, [], ◌∷◌, ◌++◌, length, take, map, fold, get_or, zero, suc, Bor, Result, Ok, Err}
+use Rattle.std.proofs.Common.{refl, sym, ◌∙◌, ap, subst, String, Global, inl, inr, arith}
 use Rattle.std.proofs.lemmas.Bool.{cases_Bool}
 use Rattle.std.proofs.lemmas.List.{take_more, take_all, map-append}
 use Rattle.std.proofs.lemmas.List.Elements.{All-append, All-from_recursion}
@@ -9,15 +10,18 @@ use Rattle.std.specs.List.{All, list_any}
 use Rattle.std.specs.Result.{MatchResult, IsOk}
 use Rattle.std.specs.Str.{IsUtf8, bytes_eq}
 use Rattle.indexmap.specs.IndexSet.{insert_key}
+use Rattle.wc_gc.proofs.NameSetLemmas.{same_text, text_more}
 use Rattle.wc_calls.specs.Required.{texts, distinct_names}
 
 texts_more : (xs : List (Bor (List ℕ))) (i : ℕ) (d : Bor (List ℕ)) → i < length xs → texts (take (i + 1) xs) ≡ texts (take i xs) ++ (get_or xs i d).now ∷ []
 texts_more xs i d within = ap texts (take_more xs i d within) ∙ map-append (λ (s : Bor (List ℕ)). s.now) (take i xs) (get_or xs i d ∷ [])
 
 -- what is so of the texts that were passed is so of one more
-pub all_more : (P : List ℕ → Type 0) (xs : List (Bor (List ℕ))) (i : ℕ) (d : Bor (List ℕ)) → i < length xs → All P (texts (take i xs)) → P (get_or xs i d).now → All P (texts (take (i + 1) xs))
+pub all_more : (P : List ℕ → Type 0) (xs : List (Bor (List ℕ))) (i : ℕ) (d : Bor (List ℕ)) → i < length xs → All P (texts (take i xs))
+    → P (get_or xs i d).now → All P (texts (take (i + 1) xs))
 all_more P xs i d within all one =
-    subst (All P) (sym (texts_more xs i d within)) (All-append P (texts (take i xs)) ((get_or xs i d).now ∷ []) all (All-from_recursion P ((get_or xs i d).now ∷ []) (one, tt)))
+    subst (All P) (sym (texts_more xs i d within)) (All-append P (texts (take i xs)) ((get_or xs i d).now ∷ []) all
+    (All-from_recursion P ((get_or xs i d).now ∷ []) (one, tt)))
 
 -- what is so of all texts is so of each
 pub text_at : (P : List ℕ → Type 0) (xs : List (Bor (List ℕ))) (i : ℕ) (d : Bor (List ℕ)) → i < length xs → All P (texts xs) → P (get_or xs i d).now
@@ -30,7 +34,8 @@ pub all_passed : (P : List ℕ → Type 0) (xs : List (Bor (List ℕ))) (i : ℕ
 all_passed P xs i end all = subst (λ ys. All P (texts ys)) (take_all i xs end) all
 
 -- bytes that are text are read as such
-pub read_text : {A E : Type 0} (read : Result A E) (bytes : List ℕ) (P : A → Type 0) (Q : E → Type 0) → MatchResult read P (λ e. (¬ (IsUtf8 bytes)) × Q e) → IsUtf8 bytes → IsOk read
+pub read_text : {A E : Type 0} (read : Result A E) (bytes : List ℕ) (P : A → Type 0) (Q : E → Type 0)
+    → MatchResult read P (λ e. (¬ (IsUtf8 bytes)) × Q e) → IsUtf8 bytes → IsOk read
 read_text (Ok s) bytes P Q read is = refl
 read_text (Err e) bytes P Q read is = absurd (read.0 is)
 
@@ -39,22 +44,10 @@ pub text_read : {A E : Type 0} (read : Result A E) (s : A) (P : A → Type 0) (Q
 text_read (Ok t) s P Q is e = let same : t ≡ s = cc in subst P same is
 text_read (Err f) s P Q is e = absurd cc
 
-abbrev same_text : String Global → String Global → Bool
-same_text a b = bytes_eq (string_bytes a) (string_bytes b)
-
-any_text : (keys : List (String Global)) (name : String Global) → list_any (same_text name) keys ≡ list_any (bytes_eq (string_bytes name)) (map string_bytes keys)
-any_text [] name = refl
-any_text (k ∷ keys) name = ap (λ b. same_text name k || b) (any_text keys name)
-
-text_more : (keys : List (String Global)) (name : String Global) → map string_bytes (insert_key same_text keys name) ≡ insert_key bytes_eq (map string_bytes keys) (string_bytes name)
-text_more keys name =
-    elim (cases_Bool (list_any (same_text name) keys)) [
-      | inl there ↦ rw (sym (any_text keys name), there) refl
-      | inr new ↦ rw (sym (any_text keys name), new) (map-append string_bytes keys (name ∷ []))
-    ]
-
 -- the set of the texts that were passed, after one more is put into it
-pub set_more : (keys : List (String Global)) (xs : List (Bor (List ℕ))) (i : ℕ) (d : Bor (List ℕ)) (name : String Global) → i < length xs → map string_bytes keys ≡ distinct_names (texts (take i xs)) → string_bytes name ≡ (get_or xs i d).now → map string_bytes (insert_key same_text keys name) ≡ distinct_names (texts (take (i + 1) xs))
+pub set_more : (keys : List (String Global)) (xs : List (Bor (List ℕ))) (i : ℕ) (d : Bor (List ℕ)) (name : String Global) → i < length xs
+    → map string_bytes keys ≡ distinct_names (texts (take i xs)) → string_bytes name ≡ (get_or xs i d).now
+    → map string_bytes (insert_key same_text keys name) ≡ distinct_names (texts (take (i + 1) xs))
 set_more keys xs i d name within known is =
     text_more keys name
     ∙ (ap (λ l. insert_key bytes_eq l (string_bytes name)) known

@@ -8,12 +8,12 @@ use Rattle.wc_gc.specs.declared.fault.GcFault.{GcFault}
 use Rattle.wc_gc.specs.declared.fault.GcFault.TheVariants.{Memory}
 use Rattle.wc_calls.specs.Answers.{IsBytesStatus, IsFront, IsPut, IsTooLong, done, failed, too_small, out_of_memory}
 use Rattle.wc_calls.specs.FaultNumbers.{gc_fault_number}
-use Rattle.wc_calls.specs.Required.{distinct_names, wanted_of}
+use Rattle.wc_calls.specs.Required.{distinct_names, trim_input_of}
 use Rattle.wc_calls.specs.Trimming.{IsRun, IsTrimmingFault, IsPosition, position_in}
 use Rattle.wc_calls.proofs.MissingLemmas.{named_position}
 
 -- what `run` promises, with each name once
-pub run_of : {V : Type 0} (items : V → List ℕ) (s : SettingsValue) (wasm : List ℕ) (keys names : List (List ℕ)) (r : Result V GcFault) → keys ≡ distinct_names names → IfOk r (λ v. IsTrimmed s (record { bytes = wasm; required = keys }) (items v)) → (IsOk r → (f : GcFault) → ¬ (IsTrimCause s (record { bytes = wasm; required = keys }) f)) → IfOk r (λ v. IsTrimmedRead s (record { bytes = wasm; required = keys }) (items v)) → IfOk r (λ v. IsRun s (wanted_of wasm names) (items v))
+pub run_of : {V : Type 0} (items : V → List ℕ) (s : SettingsValue) (wasm : List ℕ) (keys names : List (List ℕ)) (r : Result V GcFault) → keys ≡ distinct_names names → IfOk r (λ v. IsTrimmed s (record { bytes = wasm; required = keys }) (items v)) → (IsOk r → (f : GcFault) → ¬ (IsTrimCause s (record { bytes = wasm; required = keys }) f)) → IfOk r (λ v. IsTrimmedRead s (record { bytes = wasm; required = keys }) (items v)) → IfOk r (λ v. IsRun s (trim_input_of wasm names) (items v))
 run_of items s wasm keys names (Ok v) same trimmed none read = record {
   trimmed = subst (λ (ns : List (List ℕ)). IsTrimmed s (record { bytes = wasm; required = ns }) (items v)) same trimmed;
   no_cause = subst (λ (ns : List (List ℕ)). (f : GcFault) → ¬ (IsTrimCause s (record { bytes = wasm; required = ns }) f)) same (none refl);

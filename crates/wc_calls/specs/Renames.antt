@@ -8,6 +8,6 @@ use Rattle.wc_dedupe.specs.Renaming.{RenameValue}
 abbrev pub rename_text : RenameValue → List ℕ
 rename_text r = name_text r.module_name ++ (name_text r.original ++ name_text r.name)
 
--- how many renames, and the renames
+-- renames as text: how many there are, and then each
 abbrev pub renames_text : List RenameValue → List ℕ
 renames_text renames = vector_text rename_text renames

@@ -2,20 +2,20 @@
 use Rattle.std.specs.Prelude.{◌≡◌, ◌≢◌, ◌≤◌, ℕ, List, [], IfSome, Some, string_bytes}
 use Rattle.std.specs.List.{All, slice_get}
 use Rattle.std.specs.Str.{IsUtf8}
-use Rattle.wc_gc.specs.Liveness.{Wanted}
+use Rattle.wc_gc.specs.Liveness.{TrimInput}
 use Rattle.wc_gc.specs.Parts.{SettingsValue}
 use Rattle.wc_gc.specs.Trimming.{IsTrimmed, IsTrimCause, IsTrimFault}
 use Rattle.wc_gc.specs.TrimmedText.{IsTrimmedRead}
 use Rattle.wc_gc.specs.declared.fault.GcFault.{GcFault}
 use Rattle.wc_gc.specs.declared.fault.GcFault.TheVariants.{Memory, MissingExport}
 use Rattle.wc_calls.specs.FaultNumbers.{gc_fault_number}
-use Rattle.wc_calls.specs.Required.{position_of, wanted_of}
+use Rattle.wc_calls.specs.Required.{position_of, trim_input_of}
 
--- for a main module that exports a realloc of this name, and has pages of 2^16 bytes
+-- how an adapter is trimmed for a main module that exports a realloc of this name, and has pages of 2^16 bytes
 abbrev pub with_realloc : List ℕ → SettingsValue
 with_realloc name = record { realloc = Some name; exponent = 16 }
 
--- there is a name at least, all of them are text, and pages have 2^16 bytes at most
+-- arguments that can be trimmed by: there is a name at least, all of them are text, and pages have 2^16 bytes at most
 pub record AreArguments (s : SettingsValue) (names : List (List ℕ)) : Type 0 where
   pub paged : s.exponent ≤ 16
   pub realloc_is_text : IfSome s.realloc IsUtf8
@@ -24,7 +24,7 @@ pub record AreArguments (s : SettingsValue) (names : List (List ℕ)) : Type 0 w
 
 -- all that `run` promises of the bytes that it answers: they are the text of the trimmed adapter, for which there is no
 -- cause of a fault; they spell its image, and what is kept or added unfolds there as in the edited adapter
-pub record IsRun (s : SettingsValue) (w : Wanted) (text : List ℕ) : Type 0 where
+pub record IsRun (s : SettingsValue) (w : TrimInput) (text : List ℕ) : Type 0 where
   pub trimmed : IsTrimmed s w text
   pub no_cause : (f : GcFault) → ¬ (IsTrimCause s w f)
   pub read : IsTrimmedRead s w text
@@ -43,5 +43,5 @@ IsPosition names f position = position ≡ 0
 -- the numbers are those of a fault that has its cause, and is not Memory
 abbrev pub IsTrimmingFault : SettingsValue → List ℕ → List (List ℕ) → ℕ → ℕ → Type 0
 IsTrimmingFault s wasm names number position =
-    (f : GcFault) × IsTrimFault s (wanted_of wasm names) f × (f ≢ Memory)
+    (f : GcFault) × IsTrimFault s (trim_input_of wasm names) f × (f ≢ Memory)
     × (number ≡ gc_fault_number f) × IsPosition names f position

@@ -10,7 +10,7 @@
 //! /// `realloc`.
 //! pub fn trim_to_write(alloc: Global, adapter: &[u8], out: &mut [u8]) -> Answer
 //!     ensures done { result.status ≡ done → IsPut (IsRun (with_realloc (codes "realloc"))
-//!         (wanted_of adapter.now (codes "write" ∷ []))) result.length out.old out.new }
+//!         (trim_input_of adapter.now (codes "write" ∷ []))) result.length out.old out.new }
 //!     ensures unchanged { result.status ≢ done → out.new ≡ out.old }
 //! {
 //!     trim(alloc, adapter, &[b"write"], Some(b"realloc"), 16, out)

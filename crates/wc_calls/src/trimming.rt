@@ -6,7 +6,7 @@ ghost use Rattle.std.specs.Str.{IsUtf8};
 ghost use Rattle.wc_gc.specs.Parts.{settings};
 ghost use Rattle.wc_calls.specs.Answers.{IsBytesStatus, IsFront, IsPut, IsTooLong, done, failed, too_small, same, bad_argument, out_of_memory};
 ghost use Rattle.wc_calls.specs.FaultNumbers.{gc_fault_number};
-ghost use Rattle.wc_calls.specs.Required.{texts, wanted_of};
+ghost use Rattle.wc_calls.specs.Required.{texts, trim_input_of};
 ghost use Rattle.wc_calls.specs.Trimming.{AreArguments, IsRun, IsTrimmingFault, position_in};
 
 use crate::answers::{Answer, BAD_ARGUMENT, MEMORY, answer_without_bytes, fault_answer, put};
@@ -39,10 +39,10 @@ pub fn trim(
     out: &mut [u8],
 ) -> Answer
     ensures done { result.status ≡ done → IsPut (IsRun (settings realloc.entry page_size_log2)
-        (wanted_of wasm.now (texts required.now))) result.length out.old out.new }
+        (trim_input_of wasm.now (texts required.now))) result.length out.old out.new }
     ensures too_small { result.status ≡ too_small
         → IsTooLong (IsRun (settings realloc.entry page_size_log2)
-        (wanted_of wasm.now (texts required.now))) result.length out.old }
+        (trim_input_of wasm.now (texts required.now))) result.length out.old }
     ensures fault { result.status ≡ failed
         → IsTrimmingFault (settings realloc.entry page_size_log2) wasm.now (texts required.now)
         result.fault result.position }
@@ -76,10 +76,10 @@ fn trim_for_names(
     requires are_texts { All IsUtf8 (texts required.now) }
     requires paged { page_size_log2 ≤ 16 }
     ensures done { result.status ≡ done → IsPut (IsRun (settings realloc.entry page_size_log2)
-        (wanted_of wasm.now (texts required.now))) result.length out.old out.new }
+        (trim_input_of wasm.now (texts required.now))) result.length out.old out.new }
     ensures too_small { result.status ≡ too_small
         → IsTooLong (IsRun (settings realloc.entry page_size_log2)
-        (wanted_of wasm.now (texts required.now))) result.length out.old }
+        (trim_input_of wasm.now (texts required.now))) result.length out.old }
     ensures fault { result.status ≡ failed
         → IsTrimmingFault (settings realloc.entry page_size_log2) wasm.now (texts required.now)
         result.fault result.position }
@@ -106,7 +106,8 @@ fn put_trimmed(trimmed: &Result<Vec<u8>, GcFault>, required: &[&[u8]], out: &mut
     ensures ok { IfOk trimmed.now (λ v. IsBytesStatus result.status) }
     ensures refused { IfErr trimmed.now (λ _. (result.status ≢ done)
         × (result.status ≢ too_small)) }
-    ensures memory { IfErr trimmed.now (λ f. f ≡ GcFault.Memory → result.status ≡ out_of_memory) }
+    ensures memory { IfErr trimmed.now (λ f. f ≡ GcFault.Memory
+        → result.status ≡ out_of_memory) }
     ensures fault { IfErr trimmed.now (λ f. f ≢ GcFault.Memory → (result.status ≡ failed)
         × (result.fault ≡ gc_fault_number f)
         × (result.position ≡ position_in (texts required.now) f)) }

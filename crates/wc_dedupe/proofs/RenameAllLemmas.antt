@@ -7,7 +7,7 @@ use Rattle.std.proofs.lemmas.Bool.{cases_Bool, true≢false}
 use Rattle.std.proofs.lemmas.List.Elements.{Contains-append_left, Contains-push, Contains-push_cases}
 use Rattle.std.proofs.lemmas.Slice.Eq.{bytes_eq-Decides}
 use Rattle.wc_dedupe.specs.NamesInModules.{Records}
-use Rattle.wc_dedupe.specs.Next.{KeepsName, GetsNumber, RenamesNext}
+use Rattle.wc_dedupe.specs.Private.Next.{KeepsName, GetsNumber, RenamesNext}
 use Rattle.wc_dedupe.specs.Renames.{index_of_rename, IsIndexed}
 use Rattle.wc_dedupe.specs.Renaming.{ImportName, RenameValue, name_with_number, IsGiven, IsLeastNumberedName, Renamed, renames_of, renamed_names, originals, import_name, IsRenaming}
 use Rattle.wc_read.specs.Imports.{ImportValue, import_value, import_values}

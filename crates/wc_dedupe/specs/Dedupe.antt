@@ -15,8 +15,8 @@ pub record IsRenamedModule (bytes : List ℕ) (renamed : List ParsedSectionValue
   pub named : Renamed [] (originals (imports_of parts)) (originals (imports_of renamed))
   pub listed : renames ≡ renames_of (originals (imports_of parts)) (originals (imports_of renamed))
 
--- the same bytes where they are a component's or no import repeats, else the text of the renamed module, whose sections
--- all have contents of fewer than 2^32 bytes
+-- what bytes are deduped to: themselves where they are a component's or no import repeats, else the text of the renamed
+-- module, whose sections all have contents of fewer than 2^32 bytes
 abbrev pub IsDeduped : List ℕ → List ℕ → List RenameValue → Type 0
 IsDeduped bytes out renames =
     (IsComponent bytes × (out ≡ bytes) × (renames ≡ []))

@@ -3,7 +3,7 @@ pub mod Renaming
 pub mod Modules
 pub mod Renames
 pub mod Laws
-pub mod Next
 pub mod ParsedSections
 pub mod Dedupe
 pub mod Faults
+pub mod Private

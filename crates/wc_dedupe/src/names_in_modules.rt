@@ -162,8 +162,8 @@ impl NamesInModules {
             original.now index (option_map string_bytes name)) }
         ensures others { (m : List ℕ) → bytes_eq «module».now m ≡ false
             → (n : List ℕ) → name_record_in self.new m n ≡ name_record_in self.old m n }
-        ensures err { OnErr result ((n : List ℕ)
-            → name_record_in self.new «module».now n ≡ name_record_in self.old «module».now n) }
+        ensures err { OnErr result ((n : List ℕ) → name_record_in self.new «module».now n
+            ≡ name_record_in self.old «module».now n) }
     {
         self.add(alloc, module)?;
         self.modules

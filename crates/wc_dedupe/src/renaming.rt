@@ -5,9 +5,9 @@ ghost use Rattle.std.specs.Option.{option_map};
 ghost use Rattle.std.specs.Str.{bytes_eq};
 ghost use Rattle.wc_read.specs.Imports.{import_value, import_values};
 ghost use Rattle.wc_dedupe.specs.Modules.{name_record_in};
-ghost use Rattle.wc_dedupe.specs.Next.{RenamesNext};
+ghost use Rattle.wc_dedupe.specs.Private.Next.{RenamesImport};
 ghost use Rattle.wc_dedupe.specs.Renames.{rename_value, rename_values};
-ghost use Rattle.wc_dedupe.specs.Renaming.{original_in, import_name, renamed_import, renamed_imports, IsRenaming};
+ghost use Rattle.wc_dedupe.specs.Renaming.{original_in, renamed_import, renamed_imports, IsRenaming};
 
 use crate::names_in_modules::NamesInModules;
 use std::alloc::{AllocError, Global};
@@ -103,11 +103,8 @@ fn rename_next(
 ) -> Result<Option<usize>, AllocError>
     ensures elsewhere { (m : List ℕ) → bytes_eq import.now.module.now m ≡ false
         → (n : List ℕ) → name_record_in names.new m n ≡ name_record_in names.old m n }
-    ensures here { IfOk result (RenamesNext
-        (name_record_in names.old import.now.module.now)
-        (name_record_in names.new import.now.module.now)
-        (rename_values renames.old.items) (rename_values renames.new.items)
-        (import_name (import_value import.now))) }
+    ensures here { IfOk result (RenamesImport names.old names.new
+        renames.old.items renames.new.items import.now) }
 {
     let index = renames.len();
     let Some(name) = names.give(alloc, import.module, import.name, index)? else {

@@ -1,10 +1,12 @@
 -- Things that were seen, and whether one of them comes again.
-use Rattle.std.proofs.Common.{String, Option, Some, string_bytes, ◌≡◌, ◌≢◌, ◌↔◌, ℕ, ◌⊎◌, Bool, true, false, not, ◌||◌, cond, List, [], ◌∷◌, ◌++◌, map, AllPairs, Contains, refl, sym, ap, ◌∙◌, subst, inl, inr, arith, append-nil, append_assoc}
+use Rattle.std.proofs.Common.{String, Option, Some, string_bytes, ◌≡◌, ◌≢◌, ◌↔◌, ℕ, Bool, true, false, not, cond, List, [], ◌∷◌, ◌++◌, map, AllPairs, Contains}
+use Rattle.std.proofs.Common.{refl, sym, ap, ◌∙◌, subst, inl, inr, arith, append-nil, append_assoc}
 use Rattle.std.specs.List.{list_any}
 use Rattle.std.specs.declared.alloc.Global.{Global}
 use Rattle.std.proofs.lemmas.List.{map-append}
 use Rattle.std.proofs.lemmas.List.Elements.{All-contains, Contains-append_right, Contains-get_or}
 use Rattle.std.proofs.lemmas.List.Quantifiers.{all_pairs_push}
+use Rattle.std.proofs.lemmas.Bool.{or_cases, or_left, or_right, not-true, not-false}
 use Rattle.wc_encoder.proofs.PairLemmas.{pairs_head, pairs_tail}
 use Rattle.wc_resolve.proofs.SearchLemmas.{contains_cons, contains_head, contains_none, contains_tail}
 
@@ -12,31 +14,12 @@ use Rattle.wc_resolve.proofs.SearchLemmas.{contains_cons, contains_head, contain
 abbrev pub name_text : String Global → Option (List ℕ)
 name_text s = Some (string_bytes s)
 
-either : (b c : Bool) → (b || c) ≡ true → (b ≡ true) ⊎ (c ≡ true)
-either true c h = inl refl
-either false c h = inr h
-
-or_left : (b c : Bool) → b ≡ true → (b || c) ≡ true
-or_left true c h = refl
-or_left false c h = absurd (let bad : ⊥ = cc h in bad)
-
-or_right : (b c : Bool) → c ≡ true → (b || c) ≡ true
-or_right true c h = refl
-or_right false c h = h
-
-unseen : (b : Bool) → not b ≡ true → b ≡ false
-unseen true h = absurd (let bad : ⊥ = cc h in bad)
-unseen false h = refl
-
-unfresh : (b : Bool) → not b ≡ false → b ≡ true
-unfresh true h = refl
-unfresh false h = absurd (let bad : ⊥ = cc h in bad)
-
 twice : {V : Type 0} (xs rest : List V) (n : V) → Contains xs n → AllPairs (λ x y. x ≢ y) (xs ++ n ∷ rest) → ⊥
 twice [] rest n h distinct = contains_none n h
 twice (x ∷ xs) rest n h distinct =
     elim (contains_cons x xs n h) [
-      | inl same ↦ All-contains (λ y. x ≢ y) (xs ++ n ∷ rest) n (pairs_head (λ x y. x ≢ y) x (xs ++ n ∷ rest) distinct) (Contains-append_right xs (n ∷ rest) n (contains_head rest n)) same
+      | inl same ↦ All-contains (λ y. x ≢ y) (xs ++ n ∷ rest) n (pairs_head (λ x y. x ≢ y) x (xs ++ n ∷ rest) distinct)
+          (Contains-append_right xs (n ∷ rest) n (contains_head rest n)) same
       | inr later ↦ twice xs rest n later (pairs_tail (λ x y. x ≢ y) x (xs ++ n ∷ rest) distinct)
     ]
 
@@ -44,7 +27,7 @@ module _ {K V : Type 0} (v : K → V) where
   any_contains : (test : K → Bool) (n : V) → ((y : K) → (test y ≡ true) ↔ (n ≡ v y)) → (keys : List K) → list_any test keys ≡ true → Contains (map v keys) n
   any_contains test n law [] h = absurd (let e : false ≡ true = h in let bad : ⊥ = cc e in bad)
   any_contains test n law (x ∷ keys) h =
-      elim (either (test x) (list_any test keys) h) [
+      elim (or_cases (test x) (list_any test keys) h) [
         | inl e ↦ subst (λ (z : V). Contains (v x ∷ map v keys) z) (sym ((law x).0 e)) (contains_head (map v keys) (v x))
         | inr rest ↦ contains_tail (v x) (map v keys) n (any_contains test n law keys rest)
       ]
@@ -70,7 +53,7 @@ module _ {K V : Type 0} (v : K → V) where
       → ((y : K) → (test y ≡ true) ↔ (n ≡ v y)) → v k ≡ n → IsSeen all_items left keys → left ≡ n ∷ rest → new ≡ not (list_any test keys) → new ≡ true
       → after ≡ cond (list_any test keys) keys (keys ++ k ∷ []) → IsSeen all_items rest after
   seen_more all_items left rest test keys after k n new law is s next e t made =
-      let fresh : list_any test keys ≡ false = unseen (list_any test keys) (sym e ∙ t) in
+      let fresh : list_any test keys ≡ false = not-true (list_any test keys) (sym e ∙ t) in
       let grown : after ≡ keys ++ k ∷ [] = made ∙ ap (λ b. cond b keys (keys ++ k ∷ [])) fresh in
       let mapped : map v after ≡ map v keys ++ n ∷ [] = ap (λ ks. map v ks) grown ∙ map-append v keys (k ∷ []) ∙ ap (λ z. map v keys ++ z ∷ []) is in
       let absent : Contains (map v keys) n → ⊥ = λ h.
@@ -78,14 +61,17 @@ module _ {K V : Type 0} (v : K → V) where
       let bad : true ≡ false = sym found ∙ fresh in let none : ⊥ = cc bad in none in
       record {
         split = s.split ∙ ap (λ z. map v keys ++ z) next ∙ sym (append_assoc (map v keys) (n ∷ []) rest) ∙ ap (λ z. z ++ rest) (sym mapped);
-        distinct = subst (AllPairs (λ x y. x ≢ y)) (sym mapped) (all_pairs_push (λ x y. x ≢ y) (map v keys) n s.distinct (λ i d small same. absent (subst (Contains (map v keys)) same (Contains-get_or (map v keys) i d small))));
+        distinct = subst (AllPairs (λ x y. x ≢ y)) (sym mapped)
+            (all_pairs_push (λ x y. x ≢ y) (map v keys) n s.distinct
+            (λ i d small same. absent (subst (Contains (map v keys)) same (Contains-get_or (map v keys) i d small))));
       }
 
   -- one that was seen comes again
   pub seen_again : (all_items left rest : List V) (test : K → Bool) (keys : List K) (n : V) (new : Bool)
-      → ((y : K) → (test y ≡ true) ↔ (n ≡ v y)) → IsSeen all_items left keys → left ≡ n ∷ rest → new ≡ not (list_any test keys) → new ≡ false → AllPairs (λ x y. x ≢ y) all_items → ⊥
+      → ((y : K) → (test y ≡ true) ↔ (n ≡ v y)) → IsSeen all_items left keys → left ≡ n ∷ rest → new ≡ not (list_any test keys) → new ≡ false
+      → AllPairs (λ x y. x ≢ y) all_items → ⊥
   seen_again all_items left rest test keys n new law s next e f distinct =
-      let found : Contains (map v keys) n = any_contains test n law keys (unfresh (list_any test keys) (sym e ∙ f)) in
+      let found : Contains (map v keys) n = any_contains test n law keys (not-false (list_any test keys) (sym e ∙ f)) in
       let at : all_items ≡ map v keys ++ n ∷ rest = s.split ∙ ap (λ z. map v keys ++ z) next in
       twice (map v keys) rest n found (subst (AllPairs (λ x y. x ≢ y)) at distinct)
 

@@ -32,7 +32,7 @@ pub record LibraryItemView : Type 0 where
 abbrev pub library_item_view : Item → LibraryItemView
 library_item_view i = record { alias = string_bytes i.alias; kind = i.kind; which = which_view i.which; name = string_bytes i.name }
 
--- what is handed to a library: all exports of a module, or items
+-- what is passed to a library: all exports of a module, or items
 pub data InstanceView : Type 0 where
   module_instance : WhichView → InstanceView
   item_instance : List LibraryItemView → InstanceView
@@ -41,7 +41,7 @@ abbrev pub instance_view : Instance → InstanceView
 instance_view (ModuleInstance which) = module_instance (which_view which)
 instance_view (Items items) = item_instance (map library_item_view items.items)
 
--- the name of a module that a library imports from, with what it is handed under that name
+-- the name of a module that a library imports from, with what it is passed under that name
 abbrev pub argument_view : String Global × Instance → List ℕ × InstanceView
 argument_view a = (string_bytes a.0, instance_view a.1)
 

@@ -16,11 +16,11 @@ DependsOn r item key = ⊥
 abbrev pub IsIndependent : ResolveView → ItemView → Entries → Type 0
 IsIndependent r item exports = All (λ x. ¬ DependsOn r item x.0) exports
 
--- none of the interfaces on which one depends directly is exported here under its own id
+-- none of the interfaces on which the interface at an index depends directly is among some exports under its own id
 abbrev pub AreNotExported : ResolveView → ℕ → Entries → Type 0
 AreNotExported r i exports = All (λ d. ¬ IsExported exports (interface_key d)) (direct_dependencies r i)
 
--- none depends directly on an interface that is exported after it under its own id
+-- no interface of some exports depends directly on one that is exported after it under its own id
 abbrev pub AreDependenciesBefore : ResolveView → Entries → Type 0
 AreDependenciesBefore r exports = AllPairs (λ x later. ¬ DependsOn r x.1 later.0) exports
 

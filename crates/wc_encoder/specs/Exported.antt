@@ -13,7 +13,7 @@ IsExported exports key = Contains (entry_keys exports) key
 unfoldable pub AreRequiredExported : Entries → AdapterView → Type 0
 AreRequiredExported exports a = All (IsExported exports) a.required_exports
 
--- the same for all adapters
+-- each key of the required exports of all adapters is one of these exports
 abbrev pub AreAllRequiredExported : Entries → List (List ℕ × AdapterView) → Type 0
 AreAllRequiredExported exports adapters = All (λ a. AreRequiredExported exports a.1) adapters
 
@@ -26,6 +26,6 @@ IsNoType (interface_item i external) = Unit {0}
 IsNoType (function_item f) = Unit {0}
 IsNoType (type_item t) = ⊥
 
--- all are interfaces and functions
+-- exports of a world are interfaces and functions alone
 abbrev pub AreNoTypes : Entries → Type 0
 AreNoTypes exports = All (λ x. IsNoType x.1) exports

@@ -34,7 +34,7 @@ impl MainOrAdapter {
     }
 }
 
-/// An export of a module, as it is handed to a library: `alias` is the name by which the library
+/// An export of a module, as it is passed to a library: `alias` is the name by which the library
 /// imports it, `name` the one under which `which` exports it.
 #[derive(Debug, Drop)]
 pub struct Item {
@@ -64,7 +64,7 @@ impl Item {
     }
 }
 
-/// What a library is handed under a module's name: all exports of another module, or items.
+/// What a library is passed under a module's name: all exports of another module, or items.
 #[derive(Drop)]
 pub enum Instance {
     MainOrAdapter(MainOrAdapter),

@@ -12,7 +12,7 @@ use Rattle.wc_write.specs.BodyText.{locals_text, body_text}
 use Rattle.wc_write.specs.Laws.{BodyTextIsRead}
 use Rattle.wc_gc.specs.AddedCode.{end, trap_unless, growth, shifted, growing_body, stack_code, stack_body}
 use Rattle.wc_gc.specs.AddedCodeRuns.{IsSpellable, SpellsOnly}
-use Rattle.wc_gc.specs.MachineOperators.{code_text}
+use Rattle.wc_gc.specs.Private.MachineOperators.{code_text}
 
 -- a part more
 part_more : (old new before : List ℕ) (is js : List InstrValue) → new ≡ old ++ (before ++ code_text is) → new ++ code_text js ≡ old ++ (before ++ code_text (is ++ js))

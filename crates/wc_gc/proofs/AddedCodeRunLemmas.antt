@@ -1,12 +1,14 @@
 -- The code that is added, run on the small machine.
-use Rattle.std.proofs.Common.{◌≡◌, ◌≢◌, ℕ, ◌+◌, ◌-◌, ◌*◌, ◌/◌, ◌%◌, ◌^◌, ◌<◌, ◌≤◌, List, [], ◌∷◌, ◌++◌, Bool, true, false, nat_eq, ◌&&◌, sym, ◌∙◌, ap, refl, subst, arith, inl, inr, pos, Some, None, get_or}
+use Rattle.std.proofs.Common.{◌≡◌, ◌≢◌, ℕ, ◌+◌, ◌-◌, ◌*◌, ◌/◌, ◌%◌, ◌^◌, ◌<◌, ◌≤◌, List, [], ◌∷◌, ◌++◌, true, false, nat_eq, sym, ◌∙◌, ap, refl, subst, arith}
+use Rattle.std.proofs.Common.{inl, inr, pos, Some, None, get_or}
 use Rattle.std.proofs.Math.Nat.{mod-eq_of_lt, mul-div_cancel, mul-one, le-mul_of_pos_right}
 use Rattle.std.proofs.lemmas.Nat.{pow_pos, pow-add}
-use Rattle.std.proofs.lemmas.Bool.{leb-true, ne_eqb}
+use Rattle.std.proofs.lemmas.Bool.{leb-true, ne_eqb, and_parts}
 use Rattle.std.proofs.lemmas.Bool.Decides.{eqb_tells}
 use Rattle.wc_read.specs.Operators.{InstrValue}
 use Rattle.wc_gc.specs.AddedCode.{const, plain, set_global, end, shifted, growing_body, stack_body}
-use Rattle.wc_gc.specs.Machine.{Store, with_global, is_granted, can_grow, grown_store, OpenCall, finished, trapped, called, step, code_outcome, call_outcome, answer_outcome}
+use Rattle.wc_gc.specs.Machine.{Store, with_global, is_granted, can_grow, grown_store, OpenCall, finished, trapped, called, step, code_outcome, call_outcome}
+use Rattle.wc_gc.specs.Machine.{answer_outcome}
 use Rattle.wc_gc.proofs.MachineLemmas.{global_at, global_set, global_kept, there_stays}
 use Rattle.wc_gc.specs.AddedCodeRuns.{IsGrowingRealloc, stack_request, block_end, IsGlobal, IsThere, IsAllocated, allocated_store, AllocatesStack}
 
@@ -19,15 +21,11 @@ pages_bytes e h =
     let quotient : 65536 / 2 ^ e ≡ 2 ^ (16 - e) = ap (λ n. n / 2 ^ e) split ∙ mul-div_cancel (2 ^ (16 - e)) (pow_pos e) in
     ap (λ n. n * 2 ^ e) quotient ∙ sym split
 
-and_right : (a b : Bool) → (a && b) ≡ true → b ≡ true
-and_right true b h = h
-and_right false b h = cc
-
 module _ (e : ℕ) (small : e ≤ 16) (s : Store) (h : can_grow e s (65536 / 2 ^ e) ≡ true) where
   -- the old size in bytes
   old_bytes : s.pages * 2 ^ e + 65536 ≤ 2 ^ 32
   old_bytes =
-      let fits = leb-true ((s.pages + 65536 / 2 ^ e) * 2 ^ e) (2 ^ 32) (and_right (is_granted s.growths) _ h) in
+      let fits = leb-true ((s.pages + 65536 / 2 ^ e) * 2 ^ e) (2 ^ 32) (and_parts (is_granted s.growths) _ h).1 in
       omega (arith, pages_bytes e small)
 
   old_pages : s.pages + 65536 ≤ 2 ^ 32
@@ -36,7 +34,8 @@ module _ (e : ℕ) (small : e ≤ 16) (s : Store) (h : can_grow e s (65536 / 2 ^
 -- runs
 
 -- a page index becomes that of its byte
-shift_runs : (e : ℕ) → e ≤ 16 → (locals : List ℕ) (x : ℕ) (s : Store) → x * 2 ^ e < 2 ^ 32 → code_outcome e (shifted e ++ (end ∷ [])) 0 (record { locals = locals; operands = x ∷ [] }) s ≡ finished s (x * 2 ^ e ∷ [])
+shift_runs : (e : ℕ) → e ≤ 16 → (locals : List ℕ) (x : ℕ) (s : Store) → x * 2 ^ e < 2 ^ 32
+    → code_outcome e (shifted e ++ (end ∷ [])) 0 (record { locals = locals; operands = x ∷ [] }) s ≡ finished s (x * 2 ^ e ∷ [])
 unfolding code_outcome step
 shift_runs e small locals x s fits =
     let word : e % 2 ^ 32 ≡ e = mod-eq_of_lt (let h : e < 2 ^ 32 = omega arith in h) in
@@ -64,16 +63,20 @@ module _ (e : ℕ) (s : Store) (align : ℕ) where
     unfolding growing_body call_outcome code_outcome step
     refused_runs h = rw (pages, h) refl
 
-    granted_runs : can_grow e s (65536 / 2 ^ e) ≡ true → s.pages % 2 ^ 32 ≡ s.pages → nat_eq s.pages 4294967295 ≡ false → call_outcome e (growing_body e 0) (0 ∷ 0 ∷ align ∷ 65536 ∷ []) s ≡ code_outcome e (shifted e ++ (end ∷ [])) 0 (record { locals = 0 ∷ 0 ∷ align ∷ 65536 ∷ s.pages ∷ []; operands = s.pages ∷ [] }) (grown_store s (65536 / 2 ^ e))
+    granted_runs : can_grow e s (65536 / 2 ^ e) ≡ true → s.pages % 2 ^ 32 ≡ s.pages → nat_eq s.pages 4294967295 ≡ false
+        → call_outcome e (growing_body e 0) (0 ∷ 0 ∷ align ∷ 65536 ∷ []) s ≡ code_outcome e (shifted e ++ (end ∷ [])) 0
+        (record { locals = 0 ∷ 0 ∷ align ∷ 65536 ∷ s.pages ∷ []; operands = s.pages ∷ [] }) (grown_store s (65536 / 2 ^ e))
     unfolding growing_body call_outcome code_outcome step
     granted_runs h old other = rw (pages, h, old, other) refl
 
-others_trap : (e : ℕ) → e ≤ 16 → (s : Store) (p l align n : ℕ) → ¬ ((p ≡ 0) × (l ≡ 0) × (n ≡ 65536)) → call_outcome e (growing_body e 0) (p ∷ l ∷ align ∷ n ∷ []) s ≡ trapped
+others_trap : (e : ℕ) → e ≤ 16 → (s : Store) (p l align n : ℕ) → ¬ ((p ≡ 0) × (l ≡ 0) × (n ≡ 65536))
+    → call_outcome e (growing_body e 0) (p ∷ l ∷ align ∷ n ∷ []) s ≡ trapped
 others_trap e small s p l align n other = elim (eqb_tells 0 p) [
   | inr t ↦ other_pointer e s align p l n t.0
   | inl t ↦ elim (eqb_tells 0 l) [
     | inr u ↦ subst (λ x. call_outcome e (growing_body e 0) (x ∷ l ∷ align ∷ n ∷ []) s ≡ trapped) t.1 (other_old_length e s align l n u.0)
-    | inl u ↦ subst (λ x. call_outcome e (growing_body e 0) (x ∷ l ∷ align ∷ n ∷ []) s ≡ trapped) t.1 (subst (λ x. call_outcome e (growing_body e 0) (0 ∷ x ∷ align ∷ n ∷ []) s ≡ trapped) u.1
+    | inl u ↦ subst (λ x. call_outcome e (growing_body e 0) (x ∷ l ∷ align ∷ n ∷ []) s ≡ trapped) t.1
+        (subst (λ x. call_outcome e (growing_body e 0) (0 ∷ x ∷ align ∷ n ∷ []) s ≡ trapped) u.1
         (other_new_length e s align n (ne_eqb 65536 n (λ same. other (sym t.1, sym u.1, sym same)))))
   ]
 ]
@@ -81,11 +84,12 @@ others_trap e small s p l align n other = elim (eqb_tells 0 p) [
 small_pages : (e : ℕ) → e ≤ 16 → (65536 / 2 ^ e) % 2 ^ 32 ≡ 65536 / 2 ^ e
 small_pages e small = mod-eq_of_lt (let h : 65536 / 2 ^ e < 2 ^ 32 = omega (arith, le-mul_of_pos_right (65536 / 2 ^ e) (pow_pos e), pages_bytes e small) in h)
 
-grants_a_stack : (e : ℕ) → e ≤ 16 → (s : Store) (align : ℕ) → can_grow e s (65536 / 2 ^ e) ≡ true → call_outcome e (growing_body e 0) (0 ∷ 0 ∷ align ∷ 65536 ∷ []) s ≡ finished (grown_store s (65536 / 2 ^ e)) (s.pages * 2 ^ e ∷ [])
+grants_a_stack : (e : ℕ) → e ≤ 16 → (s : Store) (align : ℕ) → can_grow e s (65536 / 2 ^ e) ≡ true
+    → call_outcome e (growing_body e 0) (0 ∷ 0 ∷ align ∷ 65536 ∷ []) s ≡ finished (grown_store s (65536 / 2 ^ e)) (s.pages * 2 ^ e ∷ [])
 grants_a_stack e small s align h =
     let pages = old_pages e small s h in
     let bytes = old_bytes e small s h in
-    let kept : s.pages % 2 ^ 32 ≡ s.pages = mod-eq_of_lt (let few : s.pages < 2 ^ 32 = omega arith in few) in
+    let kept : s.pages % 2 ^ 32 ≡ s.pages = mod-eq_of_lt (let bounded : s.pages < 2 ^ 32 = omega arith in bounded) in
     let other : nat_eq s.pages 4294967295 ≡ false = ne_eqb s.pages 4294967295 (λ same. omega arith) in
     granted_runs e s align (small_pages e small) h kept other
     ∙ shift_runs e small (0 ∷ 0 ∷ align ∷ 65536 ∷ s.pages ∷ []) s.pages (grown_store s (65536 / 2 ^ e)) (omega arith)
@@ -109,23 +113,28 @@ rest_of code stack = record {
 abbrev pub once_rest : ℕ → ℕ → OpenCall
 once_rest stack state = rest_of (const (pos 2) ∷ set_global state ∷ end ∷ end ∷ []) stack
 
-enter_stack : (e realloc stack : ℕ) (s : Store) → call_outcome e (stack_body realloc stack None) [] s ≡ called s realloc (stack_request 8) (rest_of (end ∷ []) stack)
+enter_stack : (e realloc stack : ℕ) (s : Store) → call_outcome e (stack_body realloc stack None) [] s ≡ called s realloc (stack_request 8)
+    (rest_of (end ∷ []) stack)
 unfolding stack_body call_outcome code_outcome step
 enter_stack e realloc stack s = refl
 
-resume_stack : (e stack answer old : ℕ) (t : Store) → IsGlobal t stack old → answer_outcome e (rest_of (end ∷ []) stack) answer t ≡ finished (with_global t stack (block_end answer)) []
+resume_stack : (e stack answer old : ℕ) (t : Store) → IsGlobal t stack old → answer_outcome e (rest_of (end ∷ []) stack) answer t
+    ≡ finished (with_global t stack (block_end answer)) []
 unfolding answer_outcome code_outcome step
 resume_stack e stack answer old t h = rw h refl
 
-pub enter_once : (e realloc stack state : ℕ) (s : Store) → IsGlobal s state 0 → call_outcome e (stack_body realloc stack (Some state)) [] s ≡ called (with_global s state 1) realloc (stack_request 8) (once_rest stack state)
+pub enter_once : (e realloc stack state : ℕ) (s : Store) → IsGlobal s state 0 → call_outcome e (stack_body realloc stack (Some state)) [] s
+    ≡ called (with_global s state 1) realloc (stack_request 8) (once_rest stack state)
 unfolding stack_body call_outcome code_outcome step
 enter_once e realloc stack state s h = rw (h, h) refl
 
-pub enter_again : (e realloc stack state n : ℕ) (s : Store) → IsGlobal s state n → nat_eq n 0 ≡ false → call_outcome e (stack_body realloc stack (Some state)) [] s ≡ finished s []
+pub enter_again : (e realloc stack state n : ℕ) (s : Store) → IsGlobal s state n → nat_eq n 0 ≡ false
+    → call_outcome e (stack_body realloc stack (Some state)) [] s ≡ finished s []
 unfolding stack_body call_outcome code_outcome step
 enter_again e realloc stack state n s h other = rw (h, other) refl
 
-pub resume_once : (e stack state answer old then : ℕ) (t : Store) → IsGlobal t stack old → IsGlobal (with_global t stack (block_end answer)) state then → answer_outcome e (once_rest stack state) answer t ≡ finished (with_global (with_global t stack (block_end answer)) state 2) []
+pub resume_once : (e stack state answer old then : ℕ) (t : Store) → IsGlobal t stack old → IsGlobal (with_global t stack (block_end answer)) state then
+    → answer_outcome e (once_rest stack state) answer t ≡ finished (with_global (with_global t stack (block_end answer)) state 2) []
 unfolding answer_outcome code_outcome step
 resume_once e stack state answer old then t h g = rw (h, g) refl
 

@@ -56,7 +56,7 @@ pub called_is_body : (new : Renumbering) → KeepsBits new → (func : ℕ) → 
 called_is_body new keeps func fits b h =
     let stays = body_stays new keeps b h in
     record {
-      few_locals = stays.few_locals;
+      locals_fit_u32 = stays.locals_fit_u32;
       has_locals = stays.has_locals;
       has_operators = All-cons IsInstr (call (new Funcs func)) (renumber_code new b.operators) (call_is (new Funcs func) fits) stays.has_operators;
       nests = (Plain ∷ stays.nests.0, ap (λ ts. Plain ∷ ts) stays.nests.1, plain_run stays.nests.2);

@@ -13,7 +13,7 @@ use Rattle.wc_read.specs.Decoding.{body_in, init_in}
 use Rattle.wc_read.specs.Exports.{ExportValue}
 use Rattle.wc_read.specs.InitTypes.{AreTyped}
 use Rattle.wc_read.specs.Items.{ItemValue, FuncValue, GlobalValue, TableValue, MemoryValue}
-use Rattle.wc_read.specs.Modules.{ModuleValue, IsModule, IsStart, AreFew, NameTypes, count_of}
+use Rattle.wc_read.specs.Modules.{ModuleValue, IsModule, IsStart, CountsFitU32, NameTypes, count_of}
 use Rattle.wc_read.specs.Operators.{InstrValue}
 use Rattle.wc_read.specs.Renumbering.{Renumbering, renumber_func_type}
 use Rattle.wc_read.specs.declared.exports.ExportKind.{ExportKind}
@@ -32,12 +32,12 @@ use Rattle.wc_gc.specs.Decoded.{ItemIndex, decode, exported_item, is_in, space_o
 use Rattle.wc_gc.specs.Entries.{Entry, def_refs, entry_at, entry_refs, func_entry, global_entry, init_refs, no_entry, refs_in, table_entry, type_entry, val_type_refs}
 use Rattle.wc_gc.specs.Image.{rank, kept_items, new_export, new_table}
 use Rattle.wc_gc.specs.Laws.{KeepsBits}
-use Rattle.wc_gc.specs.Soundness.{is_sound_at, is_sound_def, is_sound_entry}
+use Rattle.wc_gc.specs.InRange.{is_item_in_range, is_def_in_range, is_entry_in_range}
 use Rattle.wc_gc.proofs.BuiltPartLemmas.{global_written, all_at, kept_imports, kept_imports_same, table_has_import, global_has_import, global_imported, contents_can, types_can, global_can, HasShortInit, kept_item_at}
 use Rattle.wc_gc.proofs.ImageLemmas.{all_kept, kept_mapped}
 use Rattle.wc_gc.proofs.InitTypeLemmas.{Follows, all-left, all-right}
 use Rattle.wc_gc.proofs.KeptExportLemmas.{names_of_pairs}
-use Rattle.wc_gc.proofs.KeptItemLemmas.{few_kept, kept_first, rank_below}
+use Rattle.wc_gc.proofs.KeptItemLemmas.{bounded_kept, kept_first, rank_below}
 use Rattle.wc_gc.proofs.LiveItemLemmas.{named_kept}
 use Rattle.wc_gc.proofs.NamedTypeLemmas.{func_type_names, table_at, type_at, val_type_names}
 use Rattle.wc_gc.proofs.SpellableLemmas.{func_type_fits, table_type_fits, val_type_fits}
@@ -84,8 +84,8 @@ pub record AreKept (m : ModuleValue) (exports : List ExportValue) (kept : ItemIn
   pub exported : (e : ExportValue) → Contains exports e → IsTrue (kept (exported_item e))
 
 -- kept functions have code
-abbrev pub AreSound : ModuleValue → (ItemIndex → Bool) → Type 0
-AreSound m kept = (n : ℕ) → IsTrue (kept (Funcs, n)) → is_sound_at (decode m) (Funcs, n) ≡ true
+abbrev pub AreInRange : ModuleValue → (ItemIndex → Bool) → Type 0
+AreInRange m kept = (n : ℕ) → IsTrue (kept (Funcs, n)) → is_item_in_range (decode m) (Funcs, n) ≡ true
 
 -- new indices: those of types and functions are below a number of them, those of tables, memories and globals are ranks
 pub record AreNew (m : ModuleValue) (kept : ItemIndex → Bool) (new : Renumbering) (type_count functions : ℕ) : Type 0 where
@@ -103,7 +103,7 @@ pub record AreFuncs (types : List FuncTypeValue) (funcs : List (ItemValue ℕ Bo
   pub typed : All (λ f. f.ty < length types) funcs
   pub bodies : All (λ f. IfLocal IsBody f.def) funcs
   pub ordered : HasImportsFirst funcs
-  pub few : length funcs < 2 ^ 32
+  pub bounded : length funcs < 2 ^ 32
 
 -- one that starts it: it has no parameters and no results
 pub record IsStartOf (types : List FuncTypeValue) (funcs : List (ItemValue ℕ BodyValue)) (index : ℕ) : Type 0 where
@@ -275,18 +275,18 @@ module _ (m : ModuleValue) (exports : List ExportValue) (kept : ItemIndex → Bo
   names_distinct : AllPairs (λ a b. a ≢ b) (map (λ (e : ExportValue). e.name) image.exports)
   names_distinct = subst (AllPairs (λ a b. a ≢ b)) (sym (map_again (λ (e : ExportValue). e.name) (new_export new) exports)) (names_of_pairs (λ (e : ExportValue). e.name) exports x.distinct)
 
-  few : AreFew (written_module image)
-  few = record {
-    funcs = (let all = length-map funcs (item_seen body_text) in omega (arith, all, f.few));
+  bounded : CountsFitU32 (written_module image)
+  bounded = record {
+    funcs = (let all = length-map funcs (item_seen body_text) in omega (arith, all, f.bounded));
     tables = (
         let all = length-map (kept_in kept Tables m.tables) (new_table new) in
-        omega (arith, all, few_kept (live Tables) m.tables, v.few.tables)
+        omega (arith, all, bounded_kept (live Tables) m.tables, v.bounded.tables)
         );
-    memories = omega (arith, few_kept (live Memories) m.memories, v.few.memories);
+    memories = omega (arith, bounded_kept (live Memories) m.memories, v.bounded.memories);
     globals = (
         let one = length-map (kept_in kept Globals m.globals) (global_written new) in
         let two = length-map image.globals (item_seen init_text) in
-        omega (arith, one, two, few_kept (live Globals) m.globals, v.few.globals)
+        omega (arith, one, two, bounded_kept (live Globals) m.globals, v.bounded.globals)
         );
   }
 
@@ -301,7 +301,7 @@ module _ (m : ModuleValue) (exports : List ExportValue) (kept : ItemIndex → Bo
   }
 
   start_fits : (n : ℕ) → IsStartOf types funcs n → IsU32 n
-  start_fits n s = let below = slice_get_within funcs n s.func s.is_func in omega (arith, below, f.few)
+  start_fits n s = let below = slice_get_within funcs n s.func s.is_func in omega (arith, below, f.bounded)
 
   global_types_can : AllByRecursion (λ (g : ItemValue GlobalType (List InstrValue)). IsValType g.ty.content_type) image.globals
   global_types_can =
@@ -335,7 +335,7 @@ module _ (m : ModuleValue) (exports : List ExportValue) (kept : ItemIndex → Bo
     distinct = names_distinct;
     started = IfSome_then start starts is_start;
     initialised = rw (length-map funcs (item_seen body_text)) (globals_typed m kept w v k.named new (length types) (length funcs) are_new short);
-    few = few;
+    bounded = bounded;
   }
 
   pub image_built : IfSome start (IsStartOf types funcs) → AllByRecursion HasShortInit image.globals → IsBuilt image
@@ -360,7 +360,7 @@ module _ (m : ModuleValue) (exports : List ExportValue) (kept : ItemIndex → Bo
 
 -- functions that are kept: their types are, and they have code
 
-module _ (m : ModuleValue) (exports : List ExportValue) (kept : ItemIndex → Bool) (w : IsWritable m) (items : HaveItems m) (v : IsModule m) (k : AreKept m exports kept) (sound : AreSound m kept) where
+module _ (m : ModuleValue) (exports : List ExportValue) (kept : ItemIndex → Bool) (w : IsWritable m) (items : HaveItems m) (v : IsModule m) (k : AreKept m exports kept) (in_range : AreInRange m kept) where
   pub func_typed : (n : ℕ) (f : FuncValue) → slice_get m.funcs n ≡ Some f → f.ty < length m.types
   func_typed n f e = all_at (λ (f : FuncValue). f.ty < length m.types) m.funcs n f (recursion_from_All (λ (f : FuncValue). f.ty < length m.types) m.funcs v.typed) e
 
@@ -369,5 +369,6 @@ module _ (m : ModuleValue) (exports : List ExportValue) (kept : ItemIndex → Bo
       let refs = subst (λ z. AllByRecursion (May m kept) (entry_refs z)) (func_at m n f e) (named_kept (decode m) kept k.named (Funcs, n) h) in
       rank_below (λ n. kept (Types, n)) m.types f.ty (func_typed n f e) (refs.0 (lt-ltb f.ty (length m.types) (func_typed n f e)))
 
-  pub func_sound : (n : ℕ) (f : FuncValue) → kept (Funcs, n) ≡ true → slice_get m.funcs n ≡ Some f → is_sound_def (decode m) (item_seen body_in f).def ≡ true
-  func_sound n f h e = sym (ap (is_sound_entry (decode m)) (func_at m n f e)) ∙ sound n h
+  pub func_in_range : (n : ℕ) (f : FuncValue) → kept (Funcs, n) ≡ true → slice_get m.funcs n ≡ Some f
+      → is_def_in_range (decode m) (item_seen body_in f).def ≡ true
+  func_in_range n f h e = sym (ap (is_entry_in_range (decode m)) (func_at m n f e)) ∙ in_range n h

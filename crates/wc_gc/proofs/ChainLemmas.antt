@@ -1,10 +1,11 @@
 -- The exports that are kept are the required ones, so what is kept has a chain from one.
-use Rattle.std.proofs.Common.{◌≡◌, ◌≢◌, ℕ, ◌-◌, ◌<◌, ◌≤◌, List, [], ◌∷◌, length, map, get_or, refl, sym, ◌∙◌, ap, subst, Bool, true, false, ◌||◌, not, cond, Some, None, ltb-true, arith, inl, inr}
+use Rattle.std.proofs.Common.{◌≡◌, ◌≢◌, ℕ, ◌-◌, ◌<◌, ◌≤◌, List, [], ◌∷◌, length, map, get_or, refl, sym, ◌∙◌, ap, subst, Bool, true, false, ◌||◌, not, cond}
+use Rattle.std.proofs.Common.{Some, None, ltb-true, arith, inl, inr}
 use Rattle.std.specs.Prelude.{AllPairs, fold, filter, nat_lt, IsTrue, Contains, ◌↔◌}
 use Rattle.std.specs.List.{AllByRecursion, list_any, position_or_len, swap_remove}
 use Rattle.std.specs.Option.{option_map_or}
 use Rattle.std.specs.Str.{bytes_eq}
-use Rattle.std.proofs.lemmas.Bool.{cases_lt, ltb-false, true≢false}
+use Rattle.std.proofs.lemmas.Bool.{cases_lt, ltb-false, true≢false, false_from_ne_true, or_parts}
 use Rattle.std.proofs.lemmas.Bool.Decides.{eqb_tells}
 use Rattle.std.proofs.lemmas.List.{get_or-map, length-map}
 use Rattle.std.proofs.lemmas.List.Elements.{All-contains, All-from_recursion, filter_passes, recursion_from_All}
@@ -20,16 +21,15 @@ use Rattle.wc_gc.specs.KeptExports.{dropped_names, export_names, is_required, ke
 use Rattle.wc_gc.specs.Liveness.{IsLive}
 use Rattle.wc_gc.specs.Reached.{IsPath}
 use Rattle.wc_gc.proofs.BuiltPartLemmas.{each_weaker}
-use Rattle.wc_gc.proofs.KeptExportLemmas.{at_hole, at_other, few_after, pairs_named, pairs_without}
+use Rattle.wc_gc.proofs.KeptExportLemmas.{at_hole, at_other, bounded_after, pairs_named, pairs_without}
 use Rattle.wc_gc.proofs.KeptItemLemmas.{get_some}
 use Rattle.wc_gc.proofs.LiveItemLemmas.{contains_mapped, each_named}
-use Rattle.wc_gc.proofs.UntouchedLemmas.{first_false, second_false}
 
 -- lists
 
 pub any_fails : {A : Type 0} (p : A → Bool) (xs : List A) → list_any p xs ≡ false → AllByRecursion (λ x. p x ≡ false) xs
 any_fails p [] h = tt
-any_fails p (x ∷ xs) h = (first_false (p x) (list_any p xs) h, any_fails p xs (second_false (p x) (list_any p xs) h))
+any_fails p (x ∷ xs) h = let none = or_parts (p x) (list_any p xs) h in (none.0, any_fails p xs none.1)
 
 pub fails_any : {A : Type 0} (p : A → Bool) (xs : List A) → AllByRecursion (λ x. p x ≡ false) xs → list_any p xs ≡ false
 fails_any p [] h = refl
@@ -52,10 +52,6 @@ contains_unmapped f xs y c =
 
 pub same_names : (xs ys : List ℕ) → bytes_eq xs ys ≡ true → xs ≡ ys
 same_names xs ys h = (bytes_eq-Decides xs ys).0 h
-
-pub unless : (b : Bool) → (b ≡ true → ⊥) → b ≡ false
-unless true h = absurd (h refl)
-unless false h = refl
 
 abbrev Differ : ExportValue → ExportValue → Type 0
 Differ x y = x.name ≢ y.name
@@ -86,21 +82,29 @@ module _ (es : List ExportValue) (pairs : AllPairs Differ es) where
       elim (eqb_tells c.0 i) [
         | inl a ↦
             let same : c.0 ≡ i = a.1 in
-            (Last, omega (arith, h), (λ q. omega (arith, q, same, few)), sym (at_hole Differ differ_back es i d pairs c.0 e few same) ∙ c.2)
-        | inr b ↦ (c.0, omega (arith, few), b.1, sym (at_other Differ differ_back es i d pairs c.0 e few b.1) ∙ c.2)
+            (Last, omega (arith, h), (λ q. omega (arith, q, same, bounded)), sym (at_hole Differ differ_back es i d pairs c.0 e bounded same) ∙ c.2)
+        | inr b ↦ (c.0, omega (arith, bounded), b.1, sym (at_other Differ differ_back es i d pairs c.0 e bounded b.1) ∙ c.2)
       ]
     where
-      few : c.0 < Last
-      few = let l = few_after Differ differ_back es i d pairs in let b = c.1 in omega (arith, l, b)
+      bounded : c.0 < Last
+      bounded = let l = bounded_after Differ differ_back es i d pairs in let b = c.1 in omega (arith, l, b)
 
   in_removed_back : (i j : ℕ) (d e : ExportValue) → i < length es → j < length es → j ≢ i → get_or es j e ≡ e → Contains (swap_remove es i d) e
   in_removed_back i j d e h k other is =
       elim (cases_lt j Last) [
-        | inl less ↦ (j, (let l = few_after Differ differ_back es i d pairs in omega (arith, l, less)), at_other Differ differ_back es i d pairs j e less other ∙ is)
+        | inl less ↦ (
+          j,
+          (let l = bounded_after Differ differ_back es i d pairs in omega (arith, l, less)),
+          at_other Differ differ_back es i d pairs j e less other ∙ is,
+        )
         | inr more ↦
             let last : j ≡ Last = omega (arith, more, k) in
-            let less : i < Last = lower last in
-            (i, (let l = few_after Differ differ_back es i d pairs in omega (arith, l, less)), at_hole Differ differ_back es i d pairs i e less refl ∙ (ap (λ n. get_or es n e) (sym last) ∙ is))
+            let less : i < Last = lower last in (
+              i,
+              (let l = bounded_after Differ differ_back es i d pairs in omega (arith, l, less)),
+              at_hole Differ differ_back es i d pairs i e less refl
+                  ∙ (ap (λ n. get_or es n e) (sym last) ∙ is),
+            )
       ]
     where
       lower : j ≡ Last → i < Last
@@ -124,8 +128,11 @@ module _ (es : List ExportValue) (pairs : AllPairs Differ es) where
 
         to : Contains (swap_remove es first x) e → Contains es e × (test e ≡ false)
         to c =
-            let r = in_removed first x e h c in
-            ((r.0, r.1, r.3), unless (test e) (λ t. differ_at first r.0 e h r.1 r.2 (sym at_first ∙ (same_names name e.name t ∙ ap (λ (z : ExportValue). z.name) (sym r.3)))))
+            let r = in_removed first x e h c in (
+              (r.0, r.1, r.3),
+              false_from_ne_true (test e)
+                  (λ t. differ_at first r.0 e h r.1 r.2 (sym at_first ∙ (same_names name e.name t ∙ ap (λ (z : ExportValue). z.name) (sym r.3)))),
+            )
 
         back : Contains es e × (test e ≡ false) → Contains (swap_remove es first x) e
         back c =
@@ -139,18 +146,21 @@ module _ (es : List ExportValue) (pairs : AllPairs Differ es) where
     removed_by x true h = taken x (ltb-true first (length es) h)
     removed_by x false h = none_taken (ltb-false first (length es) h)
 
-in_without : (es : List ExportValue) (pairs : AllPairs Differ es) (name : List ℕ) (e : ExportValue) → Contains (without es name) e ↔ (Contains es e × (bytes_eq name e.name ≡ false))
+in_without : (es : List ExportValue) (pairs : AllPairs Differ es) (name : List ℕ) (e : ExportValue)
+    → Contains (without es name) e ↔ (Contains es e × (bytes_eq name e.name ≡ false))
 in_without [] pairs name e = ((λ c. absurd (let b = c.1 in omega (arith, b))), λ c. c.0)
-in_without (x ∷ xs) pairs name e = removed_by (x ∷ xs) pairs name e x (nat_lt (position_or_len (λ (y : ExportValue). bytes_eq name y.name) (x ∷ xs)) (length (x ∷ xs))) refl
+in_without (x ∷ xs) pairs name e = removed_by (x ∷ xs) pairs name e x (nat_lt (position_or_len (λ (y : ExportValue). bytes_eq name y.name) (x ∷ xs))
+    (length (x ∷ xs))) refl
 
-in_fold : (names : List (List ℕ)) (es : List ExportValue) (pairs : AllPairs Differ es) (e : ExportValue) → Contains (fold without es names) e ↔ (Contains es e × (list_any (λ n. bytes_eq n e.name) names ≡ false))
+in_fold : (names : List (List ℕ)) (es : List ExportValue) (pairs : AllPairs Differ es) (e : ExportValue)
+    → Contains (fold without es names) e ↔ (Contains es e × (list_any (λ n. bytes_eq n e.name) names ≡ false))
 in_fold [] es pairs e = ((λ c. (c, refl)), λ c. c.0)
 in_fold (n ∷ names) es pairs e =
     let rest = in_fold names (without es n) (pairs_without Differ differ_back es n pairs) e in
     let one = in_without es pairs n e in
     let any = list_any (λ k. bytes_eq k e.name) names in (
       (λ c. let r = rest.0 c in let o = one.0 r.0 in (o.0, ap (λ b. b || any) o.1 ∙ r.1)),
-      λ c. rest.1 (one.1 (c.0, first_false (bytes_eq n e.name) any c.1), second_false (bytes_eq n e.name) any c.1),
+      λ c. let none = or_parts (bytes_eq n e.name) any c.1 in rest.1 (one.1 (c.0, none.0), none.1),
     )
 
 -- a name is dropped where it is not required
@@ -165,15 +175,18 @@ module _ (required : List (List ℕ)) (es : List ExportValue) (e : ExportValue) 
       by : (b : Bool) → is_required required e.name ≡ b → b ≡ true
       by true q = refl
       by false q =
-          let there = in_filter (λ name. not (is_required required name)) (export_names es) e.name (contains_mapped (λ (x : ExportValue). x.name) es e c) (ap not q) in
-          absurd (true≢false (sym ((bytes_eq-Decides e.name e.name).1 refl) ∙ in_all (λ n. bytes_eq n e.name ≡ false) (dropped_names required es) e.name (any_fails (λ n. bytes_eq n e.name) (dropped_names required es) h) there))
+          let there = in_filter (λ name. not (is_required required name)) (export_names es) e.name
+          (contains_mapped (λ (x : ExportValue). x.name) es e c) (ap not q) in
+          absurd (true≢false (sym ((bytes_eq-Decides e.name e.name).1 refl) ∙ in_all (λ n. bytes_eq n e.name ≡ false)
+          (dropped_names required es) e.name (any_fails (λ n. bytes_eq n e.name) (dropped_names required es) h) there))
 
   required_left : is_required required e.name ≡ true → is_left ≡ false
   required_left h =
       fails_any (λ n. bytes_eq n e.name) (dropped_names required es)
       (each_weaker (λ n. not (is_required required n) ≡ true) (λ n. bytes_eq n e.name ≡ false) (dropped_names required es)
-      (λ n k. unless (bytes_eq n e.name) (λ t. true≢false (sym k ∙ ap not (ap (is_required required) (same_names n e.name t) ∙ h))))
-      (recursion_from_All (λ n. not (is_required required n) ≡ true) (dropped_names required es) (filter_passes (λ name. not (is_required required name)) (export_names es))))
+      (λ n k. false_from_ne_true (bytes_eq n e.name) (λ t. true≢false (sym k ∙ ap not (ap (is_required required) (same_names n e.name t) ∙ h))))
+      (recursion_from_All (λ n. not (is_required required n) ≡ true) (dropped_names required es)
+      (filter_passes (λ name. not (is_required required name)) (export_names es))))
 
 pub exports_required : KeptExportsAreRequired
 exports_required required m e v =
@@ -198,7 +211,12 @@ module _ (required : List (List ℕ)) (m : ModuleValue) (x : ItemIndex) (v : IsM
       }
 
   chain_live : HasChain required m x → IsLive required m x
-  chain_live h = (exported_item h.export, contains_mapped exported_item kept h.export ((exports_required required m h.export v).1 h.is_required), h.chain, h.leads)
+  chain_live h = (
+    exported_item h.export,
+    contains_mapped exported_item kept h.export ((exports_required required m h.export v).1 h.is_required),
+    h.chain,
+    h.leads,
+  )
 
 pub items_have_chains : KeptItemsHaveChains
 items_have_chains required m x v = (live_chain required m x v, chain_live required m x v)

@@ -5,6 +5,7 @@ use Rattle.std.specs.Prelude.{◌==◌, ◌↔◌, IfSome, IsTrue, is_some}
 use Rattle.std.specs.List.{AllByRecursion, list_all, list_any, slice_get}
 use Rattle.std.specs.Option.{option_map, option_map_or, option_to_list}
 use Rattle.std.proofs.lemmas.Option.{slice_get-map}
+use Rattle.std.proofs.lemmas.List.{nil_from_length}
 use Rattle.wc_read.specs.Exports.{ExportValue}
 use Rattle.wc_read.specs.Items.{MemoryValue}
 use Rattle.wc_read.specs.Renumbering.{renumber_func_type}
@@ -33,10 +34,6 @@ use Rattle.wc_gc.proofs.KeptItemLemmas.{get_some, rank_at}
 use Rattle.wc_gc.proofs.TypeTestLemmas.{realloc_type_under}
 
 -- lists
-
-no_items : (xs : List ℕ) → length xs ≡ 0 → xs ≡ []
-no_items [] e = refl
-no_items (x ∷ xs) e = absurd (omega (arith, e))
 
 two_of : (a b c d : ℕ) → a ≡ c → b ≡ d → (2 ≤ a) ⊎ (2 ≤ b) → (2 ≤ c) ⊎ (2 ≤ d)
 two_of a b c d x y (inl h) = inl (omega (arith, x, h))
@@ -157,7 +154,7 @@ module _ (s : SettingsValue) (m : DecodedModule) (exports : List ExportValue) (l
 
   pub found_to : (x : GcFault) → IsFoundCause s m f x → IsFoundCause s C g x
   found_to SeveralNamed h = two_of (length f.stacks) (length f.states) (length g.stacks) (length g.states) (sym stacks_long) (sym states_long) h
-  found_to LiveTable h = λ e. h (no_items f.tables (sym tables_long ∙ ap length e))
+  found_to LiveTable h = λ e. h (nil_from_length f.tables (sym tables_long ∙ ap length e))
   found_to SeveralMemories h = subst (λ n. 2 ≤ n) (sym memories_long) h
   found_to LocalMemory h = memories_same (λ (t : MemoryValue). is_defined t) ∙ h
   found_to ReallocType h = ap not all_called ∙ h
@@ -168,7 +165,7 @@ module _ (s : SettingsValue) (m : DecodedModule) (exports : List ExportValue) (l
 
   pub found_back : (x : GcFault) → IsFoundCause s C g x → IsFoundCause s m f x
   found_back SeveralNamed h = two_of (length g.stacks) (length g.states) (length f.stacks) (length f.states) stacks_long states_long h
-  found_back LiveTable h = λ e. h (no_items g.tables (tables_long ∙ ap length e))
+  found_back LiveTable h = λ e. h (nil_from_length g.tables (tables_long ∙ ap length e))
   found_back SeveralMemories h = subst (λ n. 2 ≤ n) memories_long h
   found_back LocalMemory h = sym (memories_same (λ (t : MemoryValue). is_defined t)) ∙ h
   found_back ReallocType h = sym (ap not all_called) ∙ h

@@ -6,11 +6,12 @@ use Rattle.std.specs.List.{AllByRecursion, list_any, range_with_len, slice_get}
 use Rattle.std.specs.Map.{lookup}
 use Rattle.std.specs.Option.{option_map, option_map_or}
 use Rattle.std.specs.Str.{bytes_eq}
-use Rattle.std.proofs.lemmas.Bool.{false≢true}
+use Rattle.std.proofs.lemmas.Bool.{false≢true, false_from_ne_true, and_left, and_parts}
 use Rattle.std.proofs.lemmas.Bool.Decides.{eqb_tells}
 use Rattle.std.proofs.lemmas.List.{length-map}
 use Rattle.std.proofs.lemmas.Option.{slice_get-map}
 use Rattle.std.proofs.lemmas.Slice.Eq.{bytes_eq-Decides}
+use Rattle.std.proofs.Math.Bool.{or-true}
 use Rattle.wc_read.specs.Exports.{ExportValue}
 use Rattle.wc_read.specs.Names.{GlobalNameValue}
 use Rattle.wc_read.specs.Renumbering.{renumber_func_type}
@@ -27,19 +28,13 @@ use Rattle.wc_gc.specs.Unfolding.{renumber_func, renumber_global}
 use Rattle.wc_gc.specs.declared.parts.Parts.{Parts}
 use Rattle.wc_gc.proofs.AddedUnderLemmas.{IsMember, members}
 use Rattle.wc_gc.proofs.BuiltPartLemmas.{each_weaker}
-use Rattle.wc_gc.proofs.ChainLemmas.{unless}
-use Rattle.wc_gc.proofs.CutListLemmas.{AreSameTests, and_of_false, and_of_true, filter_moved}
-use Rattle.wc_gc.proofs.EditedIndexLemmas.{both_true}
+use Rattle.wc_gc.proofs.CutListLemmas.{AreSameTests, and_of_true, filter_moved}
 use Rattle.wc_gc.proofs.FoundLemmas.{realloc_seen}
 use Rattle.wc_gc.proofs.KeptItemLemmas.{get_some, kept_count, rank_at}
 use Rattle.wc_gc.proofs.RankLawLemmas.{counts_differ}
 use Rattle.wc_gc.proofs.TypeTestLemmas.{empty_type_under, mutable_under}
 
 -- a range
-
-or_true : (b : Bool) → (b || true) ≡ true
-or_true true = refl
-or_true false = refl
 
 later : (a n : ℕ) → a ≤ n → (a ≡ n) ⊎ (a + 1 ≤ n)
 later a n h = grind arith
@@ -48,7 +43,7 @@ later a n h = grind arith
 any_by : (old p : ℕ → Bool) (a n : ℕ) (ns : List ℕ) → old n ≡ true → p n ≡ true → (a + 1 ≤ n → list_any p ns ≡ true) → (b : Bool) → old a ≡ b
     → (a ≡ n) ⊎ (a + 1 ≤ n) → list_any p (cond b (a ∷ ns) ns) ≡ true
 any_by old p a n ns t s rest true e (inl same) = ap (λ z. z || list_any p ns) (ap p same ∙ s)
-any_by old p a n ns t s rest true e (inr more) = ap (λ z. p a || z) (rest more) ∙ or_true (p a)
+any_by old p a n ns t s rest true e (inr more) = ap (λ z. p a || z) (rest more) ∙ or-true (p a)
 any_by old p a n ns t s rest false e (inl same) = absurd (false≢true (sym e ∙ (ap old same ∙ t)))
 any_by old p a n ns t s rest false e (inr more) = rest more
 
@@ -67,7 +62,7 @@ any_none p (n ∷ ns) h = ap (λ z. z || list_any p ns) h.0 ∙ any_none p ns h.
 module _ (has old : ℕ → Bool) (only : (k : ℕ) → old k ≡ true → has k ≡ true) (size n : ℕ) (l : n < size) (h : has n ≡ true) where
   rank_other : (k : ℕ) → old k ≡ true → old n ≡ false → (count_below has n == count_below has k) ≡ false
   rank_other k t e =
-      unless (count_below has n == count_below has k)
+      false_from_ne_true (count_below has n == count_below has k)
       (λ q. elim (eqb_tells (count_below has n) (count_below has k)) [
         | inl s ↦ false≢true (sym e ∙ (ap old (counts_differ has n k h (only k t) s.1) ∙ t))
         | inr d ↦ false≢true (sym d.0 ∙ q)
@@ -204,7 +199,7 @@ module _ (m : DecodedModule) (exports : List ExportValue) (live : ItemIndex → 
   is_live_named name n = live (Globals, n) && is_named_at m name n
 
   only_live : (name : List ℕ) (n : ℕ) → is_live_named name n ≡ true → live (Globals, n) ≡ true
-  only_live name n h = (both_true (live (Globals, n)) (is_named_at m name n) h).0
+  only_live name n h = (and_parts (live (Globals, n)) (is_named_at m name n) h).0
 
   mutable_at : (n : ℕ) → n < length m.globals → live (Globals, n) ≡ true → is_mutable_i32_at cut (rank live Globals n) ≡ is_mutable_i32_at m n
   mutable_at n l h =
@@ -261,7 +256,7 @@ module _ (m : DecodedModule) (exports : List ExportValue) (live : ItemIndex → 
   live_members : (has test : ℕ → Bool) (size : ℕ) → AllByRecursion (λ n. has n ≡ true) (filter (λ n. has n && test n) (range_with_len 0 size))
   live_members has test size =
       each_weaker (IsMember (λ n. has n && test n) size) (λ n. has n ≡ true) (filter (λ n. has n && test n) (range_with_len 0 size))
-      (λ n i. (both_true (has n) (test n) i.0).0)
+      (λ n i. (and_parts (has n) (test n) i.0).0)
       (members (λ n. has n && test n) size)
 
   pub found_moved : AreRanks live (found_in m live) (found_in cut all_items)
@@ -273,7 +268,7 @@ module _ (m : DecodedModule) (exports : List ExportValue) (live : ItemIndex → 
         (record {
           same = λ n l h. and_of_true (live (Globals, n)) (is_named_at m stack_pointer n)
               (is_named_at cut stack_pointer (rank live Globals n)) h (stack_at n l h);
-          none = λ n h. and_of_false (live (Globals, n))
+          none = λ n h. and_left (live (Globals, n))
               (is_named_at m stack_pointer n) h;
         });
     states =
@@ -282,7 +277,7 @@ module _ (m : DecodedModule) (exports : List ExportValue) (live : ItemIndex → 
         (record {
           same = λ n l h. and_of_true (live (Globals, n)) (is_named_at m allocation_state n)
               (is_named_at cut allocation_state (rank live Globals n)) h (state_at n l h);
-          none = λ n h. and_of_false (live (Globals, n))
+          none = λ n h. and_left (live (Globals, n))
               (is_named_at m allocation_state n) h;
         });
     reallocs =
@@ -291,7 +286,7 @@ module _ (m : DecodedModule) (exports : List ExportValue) (live : ItemIndex → 
         (record {
           same = λ n l h. and_of_true (live (Funcs, n)) (is_realloc_at m n) (is_realloc_at cut (rank live Funcs n)) h
               (realloc_at n l h);
-          none = λ n h. and_of_false (live (Funcs, n)) (is_realloc_at m n) h;
+          none = λ n h. and_left (live (Funcs, n)) (is_realloc_at m n) h;
         });
     tables =
         moved (λ n. live (Tables, n)) (λ n. live (Tables, n)) (λ n. true) (length m.tables) (length cut.tables) tables_kept
@@ -305,7 +300,7 @@ module _ (m : DecodedModule) (exports : List ExportValue) (live : ItemIndex → 
         (record {
           same = λ n l h. and_of_true (live (Types, n)) (is_empty_type_at m n) (is_empty_type_at cut (rank live Types n)) h
               (empty_at n l h);
-          none = λ n h. and_of_false (live (Types, n)) (is_empty_type_at m n) h;
+          none = λ n h. and_left (live (Types, n)) (is_empty_type_at m n) h;
         });
     live_reallocs = live_members (λ n. live (Funcs, n)) (λ n. is_realloc_at m n) (length m.funcs);
     live_memories =

@@ -1,4 +1,4 @@
--- An edited adapter and its cut, edited alike, have one image.
+-- An edited adapter and its cut, edited in the same way, have one image.
 use Rattle.std.proofs.Common.{◌≡◌, ℕ, ◌+◌, ◌-◌, List, [], ◌∷◌, ◌++◌, length, map, refl, sym, ◌∙◌, ap, subst, Bool, true, false, ◌&&◌, ◌||◌, cond}
 use Rattle.std.proofs.Common.{nat_eq, Option, Some, None, arith, unwrap_or, inl, inr}
 use Rattle.std.specs.Prelude.{◌==◌, IfSome}
@@ -20,7 +20,7 @@ use Rattle.wc_read.specs.declared.operators.Space.TheVariants.{Types, Funcs, Tab
 use Rattle.wc_write.specs.BuiltValues.{def_seen}
 use Rattle.wc_gc.specs.AddedCode.{call, growing_body, stack_body}
 use Rattle.wc_gc.specs.Decoded.{DecodedModule, FuncCode, GlobalCode, ItemIndex, exported_item}
-use Rattle.wc_gc.specs.Edited.{EditedModule, added_imports, added_funcs, added_types, allocation_code, called_realloc, edit, edited_by, edited_def}
+use Rattle.wc_gc.specs.Edited.{EditedModule, added_imports, added_funcs, added_types, allocation_code, called_realloc, edit, edited_by, edited_def, edited_func}
 use Rattle.wc_gc.specs.Edited.{growing_code, growing_func, growing_position, import_func, is_exported_func, is_func, lazy_func, lazy_position}
 use Rattle.wc_gc.specs.Edited.{memory_of, only_if, replaced, stack_of, start_func, start_of, start_position, start_type, state_of, types_added}
 use Rattle.wc_gc.specs.Edited.{with_call}
@@ -329,7 +329,8 @@ module _ (s : SettingsValue) (m : DecodedModule) (exports : List ExportValue) (l
   cond_two false x x' z z' h h' i j = j
 
   def_is : (x : DefValue (Option BodyValue)) → AllByRecursion Same (def_refs body_refs x) → (b : Bool)
-      → def_seen (new_body D) (edited_def K s p g b (def_seen (option_map (renumber_body R)) x)) ≡ def_seen (new_body E) (edited_def L s p f b x)
+      → def_seen (new_body D) (edited_def K s p g true b (def_seen (option_map (renumber_body R)) x))
+      ≡ def_seen (new_body E) (edited_def L s p f true b x)
   def_is (imported y z) h b =
       cond_two (is_realloc {C = ℕ} (imported y z)) (replaced s g) (replaced s f) (imported y z) (imported y z) (def_seen (new_body D))
       (def_seen (new_body E)) (replaced_by s.realloc) refl
@@ -339,11 +340,12 @@ module _ (s : SettingsValue) (m : DecodedModule) (exports : List ExportValue) (l
       → func_under E (old_func s m exports live k p f g (n, x)) ≡ func_under D (new_func s m exports live k p f g (R Funcs n, renumber_func R x))
   old_is n x at h =
       let names = func_names n x at h in
-      sym (func_is (D Types (R Types x.ty)) (E Types x.ty)
+      ap (λ b. func_under E (edited_func L s p f b (is_exported_func exports n) x)) h
+      ∙ sym (func_is (D Types (R Types x.ty)) (E Types x.ty)
       (def_seen (new_body D)
-      (edited_def K s p g (is_exported_func (cut m exports live).exports (R Funcs n)) (def_seen (option_map (renumber_body R)) x.def)))
-      (def_seen (new_body E) (edited_def L s p f (is_exported_func exports n) x.def)) names.0
-      (ap (λ b. def_seen (new_body D) (edited_def K s p g b (def_seen (option_map (renumber_body R)) x.def))) (exported_same n h)
+      (edited_def K s p g true (is_exported_func (cut m exports live).exports (R Funcs n)) (def_seen (option_map (renumber_body R)) x.def)))
+      (def_seen (new_body E) (edited_def L s p f true (is_exported_func exports n) x.def)) names.0
+      (ap (λ b. def_seen (new_body D) (edited_def K s p g true b (def_seen (option_map (renumber_body R)) x.def))) (exported_same n h)
       ∙ def_is x.def names.1 (is_exported_func exports n)))
 
   abbrev O : EditedModule

@@ -20,10 +20,6 @@ pub and_of_true : (b t u : Bool) → b ≡ true → u ≡ t → u ≡ (b && t)
 and_of_true true t u h e = e
 and_of_true false t u h e = absurd (false≢true h)
 
-pub and_of_false : (b t : Bool) → b ≡ false → (b && t) ≡ false
-and_of_false true t h = absurd (false≢true (sym h))
-and_of_false false t h = refl
-
 pub split_all : {A : Type 0} (P : A → Type 0) (xs ys : List A) → AllByRecursion P (xs ++ ys) → AllByRecursion P xs × AllByRecursion P ys
 split_all P [] ys h = (tt, h)
 split_all P (x ∷ xs) ys h = let r = split_all P xs ys h.1 in ((h.0, r.0), r.1)

@@ -3,7 +3,7 @@ use Rattle.std.proofs.Common.{◌≡◌, ℕ, ◌+◌, ◌-◌, ◌<◌, List, l
 use Rattle.std.specs.Prelude.{nat_lt}
 use Rattle.std.specs.List.{enumerate_from, slice_get}
 use Rattle.std.specs.Option.{option_map, option_map_or}
-use Rattle.std.proofs.lemmas.Bool.{le-ltb, lt-ltb}
+use Rattle.std.proofs.lemmas.Bool.{le-ltb, lt-ltb, and_left}
 use Rattle.std.proofs.lemmas.List.{length-map}
 use Rattle.std.proofs.lemmas.List.FromFn.{length-enumerate_from}
 use Rattle.std.proofs.lemmas.Option.{slice_get-map}
@@ -23,7 +23,7 @@ use Rattle.wc_gc.specs.Traces.{AreClosed, all_items}
 use Rattle.wc_gc.specs.Unfolding.{renumber_func}
 use Rattle.wc_gc.specs.declared.parts.Parts.{Parts}
 use Rattle.wc_gc.proofs.CutFoundLemmas.{cut, funcs_kept, types_kept}
-use Rattle.wc_gc.proofs.CutListLemmas.{AreSameTests, and_of_false, and_of_true, count_all, count_moved}
+use Rattle.wc_gc.proofs.CutListLemmas.{AreSameTests, and_of_true, count_all, count_moved}
 use Rattle.wc_gc.proofs.ImageLemmas.{enumerated_read}
 use Rattle.wc_gc.proofs.KeptItemLemmas.{get_some, rank_at}
 use Rattle.wc_gc.proofs.RankLawLemmas.{fewer_below}
@@ -55,10 +55,10 @@ module _ (s : SettingsValue) (m : DecodedModule) (exports : List ExportValue) (l
   -- edited functions
 
   abbrev pub old_func : ℕ × FuncCode → FuncCode
-  old_func x = edited_func L s p f (is_exported_func exports x.0) x.1
+  old_func x = edited_func L s p f (live (Funcs, x.0)) (is_exported_func exports x.0) x.1
 
   abbrev pub new_func : ℕ × FuncCode → FuncCode
-  new_func x = edited_func K s p g (is_exported_func (cut m exports live).exports x.0) x.1
+  new_func x = edited_func K s p g true (is_exported_func (cut m exports live).exports x.0) x.1
 
   pub old_at : (n : ℕ) (x : FuncCode) → slice_get m.funcs n ≡ Some x → slice_get old_edit.value.funcs n ≡ Some (old_func (n, x))
   old_at n x at = enumerated_read old_func m.funcs n x at
@@ -78,7 +78,8 @@ module _ (s : SettingsValue) (m : DecodedModule) (exports : List ExportValue) (l
   import_replaced (Some name) = refl
 
   import_same : (x : DefValue (Option BodyValue)) (a b : Bool)
-      → is_import (edited_def K s p g a (def_seen (option_map (renumber_body (rank live))) x)) ≡ is_import (edited_def L s p f b x)
+      → is_import (edited_def K s p g true a (def_seen (option_map (renumber_body (rank live))) x))
+      ≡ is_import (edited_def L s p f true b x)
   import_same (imported y z) a b =
       cond_same is_import (is_realloc {C = ℕ} (imported y z)) (replaced s g) (replaced s f) (imported y z) (import_replaced s.realloc)
   import_same (local c) a b = refl
@@ -96,8 +97,9 @@ module _ (s : SettingsValue) (m : DecodedModule) (exports : List ExportValue) (l
           (option_map_or passes (slice_get new_edit.value.funcs (rank live Funcs n)) false) h
           (ap (λ o. option_map_or passes o false) (new_at n x.0 x.1 h)
           ∙ (ap test (import_same x.0.def (is_exported_func (cut m exports live).exports (rank live Funcs n)) (is_exported_func exports n))
-          ∙ sym (ap (λ o. option_map_or passes o false) (old_at n x.0 x.1))));
-      none = λ n h. and_of_false (has_func n) (option_map_or passes (slice_get old_edit.value.funcs n) false) h;
+          ∙ sym (ap (λ o. option_map_or passes o false) (old_at n x.0 x.1)
+          ∙ ap (λ b. test (is_import (edited_def L s p f b (is_exported_func exports n) x.0.def))) h)));
+      none = λ n h. and_left (has_func n) (option_map_or passes (slice_get old_edit.value.funcs n) false) h;
     }
 
   abbrev yes : Bool → Bool
@@ -149,7 +151,7 @@ module _ (s : SettingsValue) (m : DecodedModule) (exports : List ExportValue) (l
       ∙ (ap (λ t. rank_from c y t a z) h3 ∙ (ap (λ t. rank_from c y i' t z) h4 ∙ ap (λ t. rank_from c y i' a' t) h5)))
 
   below_kept : (n : ℕ) → has_func n ≡ true → n < L → rank live Funcs n < K
-  below_kept n h l = let few = fewer_below has_func n L h l in let long = funcs_kept m exports live in omega (arith, few, long)
+  below_kept n h l = let bounded = fewer_below has_func n L h l in let long = funcs_kept m exports live in omega (arith, bounded, long)
 
   func_same : (n : ℕ) → has_func n ≡ true → n < L → edited_rank new_edit Funcs (rank live Funcs n) ≡ edited_rank old_edit Funcs n
   func_same n h l =
@@ -196,10 +198,10 @@ module _ (s : SettingsValue) (m : DecodedModule) (exports : List ExportValue) (l
 
   type_same : (n : ℕ) → has_type n ≡ true → n < T → edited_rank new_edit Types (rank live Types n) ≡ edited_rank old_edit Types n
   type_same n h l =
-      let few = fewer_below has_type n T h l in
+      let bounded = fewer_below has_type n T h l in
       let long = types_kept m exports live in
       let j = rank live Types n in
-      ap (λ (b : Bool). cond b (rank all_items Types j) (rank all_items Types U + (j - U))) (lt-ltb j U (omega (arith, few, long)))
+      ap (λ (b : Bool). cond b (rank all_items Types j) (rank all_items Types U + (j - U))) (lt-ltb j U (omega (arith, bounded, long)))
       ∙ (count_all j ∙ sym (ap (λ (b : Bool). cond b (rank live Types n) (rank live Types T + (n - T))) (lt-ltb n T l)))
 
   pub added_type_same : (j : ℕ) → edited_rank new_edit Types (U + j) ≡ edited_rank old_edit Types (T + j)

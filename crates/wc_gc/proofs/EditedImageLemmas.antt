@@ -1,5 +1,6 @@
 -- The image of an edited adapter that was read.
-use Rattle.std.proofs.Common.{◌≡◌, ℕ, ◌+◌, ◌-◌, List, ◌++◌, length, map, refl, sym, ◌∙◌, ap, Bool, true, false, not, ◌&&◌, ◌||◌, cond, Option, Some, None, IsTrue}
+use Rattle.std.proofs.Common.{◌≡◌, ℕ, ◌+◌, ◌-◌, List, [], ◌∷◌, ◌++◌, length, map, refl, sym, ◌∙◌, ap, Bool, true, false, not, ◌&&◌, ◌||◌, cond, Option, Some}
+use Rattle.std.proofs.Common.{None, IsTrue, arith}
 use Rattle.std.specs.Prelude.{⊤, nat_lt, is_some}
 use Rattle.std.specs.List.{enumerate_from, slice_get}
 use Rattle.std.specs.Option.{option_map, option_map_or}
@@ -8,6 +9,7 @@ use Rattle.std.proofs.Math.Path.{fun_ext}
 use Rattle.std.proofs.lemmas.List.{length-map}
 use Rattle.std.proofs.lemmas.List.FromFn.{length-enumerate_from}
 use Rattle.std.proofs.lemmas.Option.{slice_get-map}
+use Rattle.std.proofs.lemmas.Bool.{and_parts}
 use Rattle.wc_read.specs.Types.{FuncTypeValue, func_type_value}
 use Rattle.wc_read.specs.Exports.{ExportValue}
 use Rattle.wc_read.specs.Operators.{InstrValue}
@@ -25,32 +27,37 @@ use Rattle.wc_read.specs.declared.operators.Space.TheVariants.{Types, Funcs, Tab
 use Rattle.wc_write.specs.BuiltValues.{is_defined, is_imported, item_seen}
 use Rattle.wc_gc.specs.Counts.{count_below}
 use Rattle.wc_gc.specs.Decoded.{FuncCode, ItemIndex, decoded_module, func_code, global_code, size_of}
-use Rattle.wc_gc.specs.Edited.{EditedModule, added_funcs, added_imports, added_types, growing_code, edited_by, edited_func, edited_funcs, is_exported_func, start_of}
+use Rattle.wc_gc.specs.Edited.{EditedModule, added_funcs, added_imports, added_types, growing_code, edited_by, edited_func, edited_funcs, is_exported_func}
+use Rattle.wc_gc.specs.Edited.{start_of}
 use Rattle.wc_gc.specs.EditedImage.{edited_image, edited_rank, is_kept_defined, is_kept_import}
-use Rattle.wc_gc.specs.Edits.{AreCoded, edited_of, edited_at, found_of, funcs_added, funcs_of, imports_added, live_funcs, new_funcs, new_indices, settings_of, types_of}
+use Rattle.wc_gc.specs.Private.Edits.{AreCoded, edited_of, edited_at, found_of, funcs_added, funcs_of, imports_added, live_funcs, new_funcs, new_indices, settings_of}
+use Rattle.wc_gc.specs.Private.Edits.{types_of}
 use Rattle.wc_gc.specs.Found.{FoundValue, is_realloc, main_module}
-use Rattle.wc_gc.specs.FuncGroups.{AreGroups, has_func, is_import_after, is_in_group}
+use Rattle.wc_gc.specs.Private.FuncGroups.{AreGroups, has_func, is_import_after, is_in_group}
 use Rattle.wc_gc.specs.Image.{kept_items, new_export, new_func, new_global, new_table}
 use Rattle.wc_gc.specs.NewIndices.{AreRanksOf, new_of}
 use Rattle.wc_gc.specs.Parts.{SettingsValue}
 use Rattle.wc_gc.specs.Ranks.{has_number}
-use Rattle.wc_gc.specs.Soundness.{is_sound_at}
+use Rattle.wc_gc.specs.InRange.{is_item_in_range}
 use Rattle.wc_gc.specs.declared.edit.Edit.{Edit}
 use Rattle.wc_gc.specs.declared.func_groups.FuncGroups.{FuncGroups}
 use Rattle.wc_gc.specs.declared.new_indices.NewIndices.{NewIndices}
 use Rattle.wc_gc.specs.declared.parts.Parts.{Parts}
 use Rattle.wc_gc.proofs.FoundLemmas.{size_is}
 use Rattle.wc_gc.proofs.ImageLemmas.{enumerated, enumerated_map, kept_mapped, live_coded, map_twice}
+use Rattle.wc_gc.proofs.KeptItemLemmas.{kept_from, kept_is}
 use Rattle.wc_gc.proofs.TypeTestLemmas.{added_types_stay}
 
 -- a function that was edited is imported where it was, but for a realloc that becomes a growing realloc
 
 import_after : (funcs : ℕ) (s : SettingsValue) (p : Parts) (f : FoundValue) (exported : Bool) (d : DefValue (Option BodyValue)) (ty : ℕ)
-    → is_imported (edited_func funcs s p f exported (record { ty = ty; def = d })) ≡ is_import_after s (record { ty = ty; def = d })
+    → is_imported (edited_func funcs s p f true exported (record { ty = ty; def = d })) ≡ is_import_after s (record { ty = ty; def = d })
 import_after funcs s p f exported (local b) ty = refl
 import_after funcs s p f exported (imported m n) ty = by (is_realloc {C = ℕ} (imported m n)) s.realloc
   where
-    by : (b : Bool) (r : Option (List ℕ)) → is_imported (record { ty = ty; def = cond b (option_map_or (λ name. imported main_module name) r (growing_code s f)) (imported m n) }) ≡ (is_some r || not b)
+    by : (b : Bool) (r : Option (List ℕ))
+        → is_imported (record { ty = ty; def = cond b (option_map_or (λ name. imported main_module name) r (growing_code s f)) (imported m n) })
+        ≡ (is_some r || not b)
     by true None = refl
     by true (Some name) = refl
     by false None = refl
@@ -64,45 +71,62 @@ types_read : (a : Module) → (decoded_module a).types ≡ map func_type_value a
 unfolding decoded_module
 types_read a = refl
 
-module _ (exports : List ExportValue) (s : SettingsValue) (p : Parts) (f : FoundValue) where
-  pub edited_length : (funcs : List FuncCode) → length (edited_funcs exports s p f funcs) ≡ length funcs
-  edited_length funcs = length-map (enumerate_from 0 funcs) _ ∙ length-enumerate_from 0 funcs
+and_same : (b x y : Bool) → (b ≡ true → x ≡ y) → (b && x) ≡ (b && y)
+and_same true x y h = h refl
+and_same false x y h = refl
 
-  -- what a test that an edit leaves alone says of the function at an index
-  test_edited : (test : FuncCode → Bool) (after : FuncCode → Bool) → ((funcs : ℕ) (exported : Bool) (x : FuncCode) → test (edited_func funcs s p f exported x) ≡ after x)
-      → (funcs : List (Item ℕ (Bor (List ℕ)))) (n : ℕ) → option_map_or test (slice_get (edited_funcs exports s p f (map func_code funcs)) n) false ≡ has_func after funcs n
-  test_edited test after same funcs n =
-      let one = λ (x : ℕ × FuncCode). edited_func (length (map func_code funcs)) s p f (is_exported_func exports x.0) x.1 in
-      ap (λ o. option_map_or test o false) (slice_get-map one (enumerate_from 0 (map func_code funcs)) n
-      ∙ ap (option_map one) (enumerated 0 (map func_code funcs) n ∙ ap (option_map (λ x. (0 + n, x))) (slice_get-map func_code funcs n)))
-      ∙ by (slice_get funcs n)
-    where
-      by : (o : Option (Item ℕ (Bor (List ℕ))))
-          → option_map_or test (option_map (λ (x : ℕ × FuncCode). edited_func (length (map func_code funcs)) s p f (is_exported_func exports x.0) x.1) (option_map (λ (x : FuncCode). (0 + n, x)) (option_map func_code o))) false
-          ≡ option_map_or (λ f. after (func_code f)) o false
-      by None = refl
-      by (Some x) = same (length (map func_code funcs)) (is_exported_func exports (0 + n)) (func_code x)
+module _ (exports : List ExportValue) (s : SettingsValue) (p : Parts) (f : FoundValue) where
+  pub edited_length : (live : ItemIndex → Bool) (funcs : List FuncCode) → length (edited_funcs exports live s p f funcs) ≡ length funcs
+  edited_length live funcs = length-map (enumerate_from 0 funcs) _ ∙ length-enumerate_from 0 funcs
 
   module _ (a : Module) (live : ItemIndex → Bool) where
-    pub imports_same : (n : ℕ) → is_kept_import (edited_by s (decoded_module a) exports live p f) n ≡ (live (Funcs, n) && has_func (is_in_group s true) a.funcs.items n)
-    imports_same n =
-        ap (λ (fs : List FuncCode). live (Funcs, n) && option_map_or (λ (f : FuncCode). is_imported f) (slice_get (edited_funcs exports s p f fs) n) false) (funcs_read a)
-        ∙ ap (λ b. live (Funcs, n) && b) (test_edited is_imported (is_in_group s true) (λ k b x. import_after k s p f b x.def x.ty) a.funcs.items n)
+    -- what a test says of the reached function at an index, where an edit leaves what it says alone
+    test_edited : (test : FuncCode → Bool) (after : FuncCode → Bool)
+        → ((funcs : ℕ) (exported : Bool) (x : FuncCode) → test (edited_func funcs s p f true exported x) ≡ after x)
+        → (funcs : List (Item ℕ (Bor (List ℕ)))) (n : ℕ) → live (Funcs, n) ≡ true
+        → option_map_or test (slice_get (edited_funcs exports live s p f (map func_code funcs)) n) false ≡ has_func after funcs n
+    test_edited test after same funcs n l =
+        ap (λ o. option_map_or test o false) (slice_get-map one (enumerate_from 0 (map func_code funcs)) n
+        ∙ ap (option_map one) (enumerated 0 (map func_code funcs) n ∙ ap (option_map (λ x. (0 + n, x))) (slice_get-map func_code funcs n)))
+        ∙ by (slice_get funcs n)
+      where
+        one : ℕ × FuncCode → FuncCode
+        one x = edited_func (length (map func_code funcs)) s p f (live (Funcs, x.0)) (is_exported_func exports x.0) x.1
 
-    pub defined_same : (n : ℕ) → is_kept_defined (edited_by s (decoded_module a) exports live p f) n ≡ (live (Funcs, n) && has_func (is_in_group s false) a.funcs.items n)
-    defined_same n =
-        ap (λ (fs : List FuncCode). live (Funcs, n) && option_map_or (λ (f : FuncCode). is_defined f) (slice_get (edited_funcs exports s p f fs) n) false) (funcs_read a)
-        ∙ ap (λ b. live (Funcs, n) && b) (test_edited is_defined (is_in_group s false) (λ k b x. ap not (import_after k s p f b x.def x.ty)) a.funcs.items n)
+        reached : live (Funcs, 0 + n) ≡ true
+        reached = ap (λ (k : ℕ). live (Funcs, k)) (let e : 0 + n ≡ n = omega arith in e) ∙ l
+
+        by : (o : Option (Item ℕ (Bor (List ℕ))))
+            → option_map_or test (option_map one (option_map (λ (x : FuncCode). (0 + n, x)) (option_map func_code o))) false
+            ≡ option_map_or (λ f. after (func_code f)) o false
+        by None = refl
+        by (Some x) =
+            let exported = is_exported_func exports (0 + n) in
+            ap (λ (b : Bool). test (edited_func (length (map func_code funcs)) s p f b exported (func_code x))) reached
+            ∙ same (length (map func_code funcs)) exported (func_code x)
+
+    group_same : (test after : FuncCode → Bool)
+        → ((funcs : ℕ) (exported : Bool) (x : FuncCode) → test (edited_func funcs s p f true exported x) ≡ after x) → (n : ℕ)
+        → (live (Funcs, n) && option_map_or test (slice_get (edited_funcs exports live s p f (decoded_module a).funcs) n) false)
+        ≡ (live (Funcs, n) && has_func after a.funcs.items n)
+    group_same test after same n =
+        ap (λ (fs : List FuncCode). live (Funcs, n) && option_map_or test (slice_get (edited_funcs exports live s p f fs) n) false) (funcs_read a)
+        ∙ and_same (live (Funcs, n)) _ _ (test_edited test after same a.funcs.items n)
+
+    pub imports_same : (n : ℕ) → is_kept_import (edited_by s (decoded_module a) exports live p f) n
+        ≡ (live (Funcs, n) && has_func (is_in_group s true) a.funcs.items n)
+    imports_same n = group_same is_imported (is_in_group s true) (λ k b x. import_after k s p f b x.def x.ty) n
+
+    pub defined_same : (n : ℕ) → is_kept_defined (edited_by s (decoded_module a) exports live p f) n
+        ≡ (live (Funcs, n) && has_func (is_in_group s false) a.funcs.items n)
+    defined_same n = group_same is_defined (is_in_group s false) (λ k b x. ap not (import_after k s p f b x.def x.ty)) n
 
 -- live functions are imported, or have code
 
-and_left : (a b : Bool) → (a && b) ≡ true → a ≡ true
-and_left true b h = refl
-and_left false b h = h
-
-pub group_coded : (a : Module) (live : ℕ → Bool) (test : FuncCode → Bool) (has : ℕ → Bool) → ((n : ℕ) → IsTrue (live n) → is_sound_at (decoded_module a) (Funcs, n) ≡ true)
+pub group_coded : (a : Module) (live : ℕ → Bool) (test : FuncCode → Bool) (has : ℕ → Bool)
+    → ((n : ℕ) → IsTrue (live n) → is_item_in_range (decoded_module a) (Funcs, n) ≡ true)
     → ((n : ℕ) → has n ≡ (live n && has_func test a.funcs.items n)) → AreCoded has a.funcs.items
-group_coded a live test has sound same n f h at = live_coded a n f (sound n (and_left (live n) (has_func test a.funcs.items n) (sym (same n) ∙ h))) at
+group_coded a live test has in_range same n f h at = live_coded a n f (in_range n (and_parts (live n) (has_func test a.funcs.items n) (sym (same n) ∙ h)).0) at
 
 -- new indices are ranks
 
@@ -126,11 +150,16 @@ module _ (e : EditedModule) (n : NewIndices) (i d : ℕ → Bool) (ranks : AreRa
   unfolding new_of
   new_func_is x =
       ap (λ k. func_index k n.live_defined (has_number n.ranks.imports) (has_number n.ranks.defined) n.counts.funcs n.counts.added_imports x) n.imports_counted
-      ∙ (ap (λ k. func_index (count_below (has_number n.ranks.imports) n.counts.funcs) k (has_number n.ranks.imports) (has_number n.ranks.defined) n.counts.funcs n.counts.added_imports x) n.defined_counted
-      ∙ (ap (λ (h : ℕ → Bool). func_index (count_below h n.counts.funcs) (count_below (has_number n.ranks.defined) n.counts.funcs) h (has_number n.ranks.defined) n.counts.funcs n.counts.added_imports x) (ranks.imports ∙ is)
-      ∙ (ap (λ (h : ℕ → Bool). func_index (count_below (is_kept_import e) n.counts.funcs) (count_below h n.counts.funcs) (is_kept_import e) h n.counts.funcs n.counts.added_imports x) (ranks.defined ∙ ds)
-      ∙ (ap (λ (k : ℕ). func_index (count_below (is_kept_import e) k) (count_below (is_kept_defined e) k) (is_kept_import e) (is_kept_defined e) k n.counts.added_imports x) funcs
-      ∙ ap (λ (k : ℕ). func_index (count_below (is_kept_import e) (length e.value.funcs)) (count_below (is_kept_defined e) (length e.value.funcs)) (is_kept_import e) (is_kept_defined e) (length e.value.funcs) k x) added))))
+      ∙ (ap (λ k. func_index (count_below (has_number n.ranks.imports) n.counts.funcs) k (has_number n.ranks.imports)
+      (has_number n.ranks.defined) n.counts.funcs n.counts.added_imports x) n.defined_counted
+      ∙ (ap (λ (h : ℕ → Bool). func_index (count_below h n.counts.funcs) (count_below (has_number n.ranks.defined) n.counts.funcs) h
+      (has_number n.ranks.defined) n.counts.funcs n.counts.added_imports x) (ranks.imports ∙ is)
+      ∙ (ap (λ (h : ℕ → Bool). func_index (count_below (is_kept_import e) n.counts.funcs) (count_below h n.counts.funcs)
+      (is_kept_import e) h n.counts.funcs n.counts.added_imports x) (ranks.defined ∙ ds)
+      ∙ (ap (λ (k : ℕ). func_index (count_below (is_kept_import e) k) (count_below (is_kept_defined e) k) (is_kept_import e)
+      (is_kept_defined e) k n.counts.added_imports x) funcs
+      ∙ ap (λ (k : ℕ). func_index (count_below (is_kept_import e) (length e.value.funcs)) (count_below (is_kept_defined e) (length e.value.funcs))
+      (is_kept_import e) (is_kept_defined e) (length e.value.funcs) k x) added))))
 
   new_is : (space : Space) (x : ℕ) → new_of n space x ≡ edited_rank e space x
   unfolding new_of
@@ -143,12 +172,33 @@ module _ (e : EditedModule) (n : NewIndices) (i d : ℕ → Bool) (ranks : AreRa
   pub new_ranks : new_of n ≡ edited_rank e
   new_ranks = fun_ext (λ space. fun_ext (λ x. new_is space x))
 
+-- items that are the same where they are kept
+
+kept_equal : {A B : Type 0} (has : ℕ → Bool) (f g : ℕ × A → B) (xs : List A) → ((n : ℕ) (x : A) → has n ≡ true → f (n, x) ≡ g (n, x))
+    → kept_items has (length xs) (map f (enumerate_from 0 xs)) ≡ kept_items has (length xs) (map g (enumerate_from 0 xs))
+kept_equal {A} {B} has f g xs same =
+    ap (λ (k : ℕ). kept_items has k (map f (enumerate_from 0 xs))) (long f)
+    ∙ (kept_is has (map f (enumerate_from 0 xs)) ∙ (but_indices xs 0 ∙ (sym (kept_is has (map g (enumerate_from 0 xs)))
+    ∙ sym (ap (λ (k : ℕ). kept_items has k (map g (enumerate_from 0 xs))) (long g)))))
+  where
+    long : (h : ℕ × A → B) → length xs ≡ length (map h (enumerate_from 0 xs))
+    long h = sym (length-map (enumerate_from 0 xs) h ∙ length-enumerate_from 0 xs)
+
+    step : (b : Bool) (x y : B) (us vs : List B) → (b ≡ true → x ≡ y) → us ≡ vs → cond b (x ∷ us) us ≡ cond b (y ∷ vs) vs
+    step true x y us vs h e = ap (λ z. z ∷ us) (h refl) ∙ ap (λ zs. y ∷ zs) e
+    step false x y us vs h e = e
+
+    but_indices : (ys : List A) (k : ℕ) → kept_from has k (map f (enumerate_from k ys)) ≡ kept_from has k (map g (enumerate_from k ys))
+    but_indices [] k = refl
+    but_indices (y ∷ ys) k = step (has k) (f (k, y)) (g (k, y)) _ _ (same k y) (but_indices ys (k + 1))
+
 -- the image, part by part
 
 kept_once : {A B : Type 0} (f : A → B) (has : ℕ → Bool) (n k : ℕ) (xs : List A) → n ≡ k → map f (kept_items has n xs) ≡ kept_items has k (map f xs)
 kept_once f has n k xs e = ap (λ (z : ℕ). map f (kept_items has z xs)) e ∙ sym (kept_mapped f has k xs)
 
-kept_twice : {A B C D : Type 0} (new : C → D) (g : B → C) (f : A → B) (has : ℕ → Bool) (n k : ℕ) (xs : List A) → n ≡ k → map (λ x. new (g (f x))) (kept_items has n xs) ≡ map new (kept_items has k (map g (map f xs)))
+kept_twice : {A B C D : Type 0} (new : C → D) (g : B → C) (f : A → B) (has : ℕ → Bool) (n k : ℕ) (xs : List A) → n ≡ k
+    → map (λ x. new (g (f x))) (kept_items has n xs) ≡ map new (kept_items has k (map g (map f xs)))
 kept_twice new g f has n k xs e =
     ap (λ (z : ℕ). map (λ x. new (g (f x))) (kept_items has z xs)) e
     ∙ (sym (map_twice f (λ y. new (g y)) (kept_items has k xs)) ∙ (sym (map_twice g new (map f (kept_items has k xs)))
@@ -157,56 +207,80 @@ kept_twice new g f has n k xs e =
 module _ (edit : Edit) (a : Module) (exports : List ExportValue) (live : ItemIndex → Bool)
     (indices : new_indices edit ≡ edited_rank (edited_of edit (decoded_module a) exports live))
     (types : types_of edit ≡ length a.types.items) (funcs : funcs_of edit ≡ length a.funcs.items) where
+  -- a function of the adapter, edited where it is reached, under new indices
+  abbrev edited_if : (ℕ → Bool) → ℕ × Item ℕ (Bor (List ℕ)) → ItemValue ℕ BodyValue
+  edited_if exported x =
+      new_func (new_indices edit)
+      (edited_func (funcs_of edit) (settings_of edit) edit.parts (found_of edit) (live (Funcs, x.0)) (exported x.0) (func_code x.1))
+
   -- functions of the adapter, with their indices
   edited_read : (exported : ℕ → Bool) → ((n : ℕ) → exported n ≡ is_exported_func exports n)
-      → map (edited_at edit exported) (enumerate_from 0 a.funcs.items)
+      → map (edited_if exported) (enumerate_from 0 a.funcs.items)
       ≡ map (new_func (edited_rank (edited_of edit (decoded_module a) exports live))) (edited_of edit (decoded_module a) exports live).value.funcs
   edited_read exported same =
       let rank' = edited_rank (edited_of edit (decoded_module a) exports live) in
       let count : funcs_of edit ≡ length (map func_code a.funcs.items) = funcs ∙ sym (length-map a.funcs.items func_code) in
-      let one = λ (k : ℕ) (h : ℕ → Bool) (r : Renumbering) (x : ℕ × Item ℕ (Bor (List ℕ))). new_func r (edited_func k (settings_of edit) edit.parts (found_of edit) (h x.0) (func_code x.1)) in
+      let read : ℕ → ℕ × FuncCode → FuncCode =
+      λ k x. edited_func k (settings_of edit) edit.parts (found_of edit) (live (Funcs, x.0)) (is_exported_func exports x.0) x.1 in
+      let all = length (map func_code a.funcs.items) in
+      let one = λ (k : ℕ) (h : ℕ → Bool) (r : Renumbering) (x : ℕ × Item ℕ (Bor (List ℕ))).
+      new_func r (edited_func k (settings_of edit) edit.parts (found_of edit) (live (Funcs, x.0)) (h x.0) (func_code x.1)) in
       ap (λ (r : Renumbering). map (one (funcs_of edit) exported r) (enumerate_from 0 a.funcs.items)) indices
       ∙ (ap (λ (h : ℕ → Bool). map (one (funcs_of edit) h rank') (enumerate_from 0 a.funcs.items)) (fun_ext same)
       ∙ (ap (λ (k : ℕ). map (one k (is_exported_func exports) rank') (enumerate_from 0 a.funcs.items)) count
-      ∙ (sym (map_twice (λ x. (x.0, func_code x.1)) (λ (x : ℕ × FuncCode). new_func rank' (edited_func (length (map func_code a.funcs.items)) (settings_of edit) edit.parts (found_of edit) (is_exported_func exports x.0) x.1)) (enumerate_from 0 a.funcs.items))
-      ∙ (ap (map (λ (x : ℕ × FuncCode). new_func rank' (edited_func (length (map func_code a.funcs.items)) (settings_of edit) edit.parts (found_of edit) (is_exported_func exports x.0) x.1))) (sym (enumerated_map func_code 0 a.funcs.items))
-      ∙ (sym (map_twice (λ (x : ℕ × FuncCode). edited_func (length (map func_code a.funcs.items)) (settings_of edit) edit.parts (found_of edit) (is_exported_func exports x.0) x.1) (new_func rank') (enumerate_from 0 (map func_code a.funcs.items)))
-      ∙ ap (λ (fs : List FuncCode). map (new_func rank') (edited_funcs exports (settings_of edit) edit.parts (found_of edit) fs)) (sym (funcs_read a)))))))
+      ∙ (sym (map_twice (λ x. (x.0, func_code x.1)) (λ (x : ℕ × FuncCode). new_func rank' (read all x)) (enumerate_from 0 a.funcs.items))
+      ∙ (ap (map (λ (x : ℕ × FuncCode). new_func rank' (read all x))) (sym (enumerated_map func_code 0 a.funcs.items))
+      ∙ (sym (map_twice (read all) (new_func rank') (enumerate_from 0 (map func_code a.funcs.items)))
+      ∙ ap (λ (fs : List FuncCode). map (new_func rank') (edited_funcs exports live (settings_of edit) edit.parts (found_of edit) fs))
+      (sym (funcs_read a)))))))
 
   -- those in a set
   live_read : (exported has kept : ℕ → Bool) → ((n : ℕ) → exported n ≡ is_exported_func exports n) → ((n : ℕ) → has n ≡ kept n)
+      → ((n : ℕ) → kept n ≡ true → live (Funcs, n) ≡ true)
       → live_funcs edit has exported a.funcs.items
-      ≡ map (new_func (edited_rank (edited_of edit (decoded_module a) exports live))) (kept_items kept (length (edited_of edit (decoded_module a) exports live).value.funcs) (edited_of edit (decoded_module a) exports live).value.funcs)
-  live_read exported has kept same is =
+      ≡ map (new_func (edited_rank (edited_of edit (decoded_module a) exports live)))
+      (kept_items kept (length (edited_of edit (decoded_module a) exports live).value.funcs) (edited_of edit (decoded_module a) exports live).value.funcs)
+  live_read exported has kept same is lives =
       let e = edited_of edit (decoded_module a) exports live in
       let count : length a.funcs.items ≡ length e.value.funcs =
-      sym (length-map a.funcs.items func_code) ∙ (ap length (sym (funcs_read a)) ∙ sym (edited_length exports (settings_of edit) edit.parts (found_of edit) (decoded_module a).funcs)) in
-      ap (kept_items has (length a.funcs.items)) (edited_read exported same)
+      sym (length-map a.funcs.items func_code)
+      ∙ (ap length (sym (funcs_read a)) ∙ sym (edited_length exports (settings_of edit) edit.parts (found_of edit) live (decoded_module a).funcs)) in
+      kept_equal has (edited_at edit exported) (edited_if exported) a.funcs.items
+      (λ n x h. sym (ap (λ (b : Bool). new_func (new_indices edit)
+      (edited_func (funcs_of edit) (settings_of edit) edit.parts (found_of edit) b (exported n) (func_code x))) (lives n (sym (is n) ∙ h))))
+      ∙ (ap (kept_items has (length a.funcs.items)) (edited_read exported same)
       ∙ (ap (λ (h : ℕ → Bool). kept_items h (length a.funcs.items) (map (new_func (edited_rank e)) e.value.funcs)) (fun_ext is)
       ∙ (ap (λ (k : ℕ). kept_items kept k (map (new_func (edited_rank e)) e.value.funcs)) count
-      ∙ kept_mapped (new_func (edited_rank e)) kept (length e.value.funcs) e.value.funcs))
+      ∙ kept_mapped (new_func (edited_rank e)) kept (length e.value.funcs) e.value.funcs)))
 
   -- those that are added
-  imports_read : new_funcs edit (imports_added edit) ≡ map (new_func (edited_rank (edited_of edit (decoded_module a) exports live))) (edited_of edit (decoded_module a) exports live).imports
+  imports_read : new_funcs edit (imports_added edit) ≡ map (new_func (edited_rank (edited_of edit (decoded_module a) exports live)))
+      (edited_of edit (decoded_module a) exports live).imports
   imports_read =
       ap (λ (r : Renumbering). map (new_func r) (imports_added edit)) indices
-      ∙ ap (λ (k : ℕ). map (new_func (edited_rank (edited_of edit (decoded_module a) exports live))) (added_imports k (settings_of edit) edit.parts)) (types ∙ sym (size_is a Types))
+      ∙ ap (λ (k : ℕ). map (new_func (edited_rank (edited_of edit (decoded_module a) exports live))) (added_imports k (settings_of edit) edit.parts))
+      (types ∙ sym (size_is a Types))
 
-  added_read : new_funcs edit (funcs_added edit) ≡ map (new_func (edited_rank (edited_of edit (decoded_module a) exports live))) (edited_of edit (decoded_module a) exports live).funcs
+  added_read : new_funcs edit (funcs_added edit) ≡ map (new_func (edited_rank (edited_of edit (decoded_module a) exports live)))
+      (edited_of edit (decoded_module a) exports live).funcs
   added_read =
       ap (λ (r : Renumbering). map (new_func r) (funcs_added edit)) indices
-      ∙ (ap (λ (k : ℕ). map (new_func (edited_rank (edited_of edit (decoded_module a) exports live))) (added_funcs k (funcs_of edit) (settings_of edit) edit.parts (found_of edit))) (types ∙ sym (size_is a Types))
-      ∙ ap (λ (k : ℕ). map (new_func (edited_rank (edited_of edit (decoded_module a) exports live))) (added_funcs (length (decoded_module a).types) k (settings_of edit) edit.parts (found_of edit))) (funcs ∙ sym (size_is a Funcs)))
+      ∙ (ap (λ (k : ℕ). map (new_func (edited_rank (edited_of edit (decoded_module a) exports live)))
+      (added_funcs k (funcs_of edit) (settings_of edit) edit.parts (found_of edit))) (types ∙ sym (size_is a Types))
+      ∙ ap (λ (k : ℕ). map (new_func (edited_rank (edited_of edit (decoded_module a) exports live)))
+      (added_funcs (length (decoded_module a).types) k (settings_of edit) edit.parts (found_of edit))) (funcs ∙ sym (size_is a Funcs)))
 
   pub edited_image_is : {L : Type 0} (has : L → ℕ → Bool) (g : FuncGroups L) → AreGroups has (settings_of edit) a.funcs.items (λ n. live (Funcs, n)) exports g
       → (ts : List FuncTypeValue)
       → ts ≡ map (renumber_func_type (new_indices edit)) (kept_items (λ n. live (Types, n)) (length a.types.items) (map func_type_value a.types.items))
       ++ added_types edit.parts (found_of edit)
-      → (fs : List (ItemValue ℕ BodyValue)) → fs ≡ live_funcs edit (has g.imports) (has g.exported) a.funcs.items ++ (new_funcs edit (imports_added edit) ++ (live_funcs edit (has g.defined) (has g.exported) a.funcs.items ++ new_funcs edit (funcs_added edit)))
+      → (fs : List (ItemValue ℕ BodyValue)) → fs ≡ live_funcs edit (has g.imports) (has g.exported) a.funcs.items
+      ++ (new_funcs edit (imports_added edit) ++ (live_funcs edit (has g.defined) (has g.exported) a.funcs.items ++ new_funcs edit (funcs_added edit)))
       → (tables bs : List (Item TableType ⊤)) → bs ≡ kept_items (λ n. live (Tables, n)) (length a.tables.items) a.tables.items
       → map table_value tables ≡ map (new_table (new_indices edit)) (map table_value bs)
       → (ms : List (Item MemoryType ⊤)) → ms ≡ kept_items (λ n. live (Memories, n)) (length a.memories.items) a.memories.items
-      → (globals : List (ItemValue GlobalType (List InstrValue))) (gs : List (Item GlobalType (Bor (List ℕ)))) → gs ≡ kept_items (λ n. live (Globals, n)) (length a.globals.items) a.globals.items
+      → (globals : List (ItemValue GlobalType (List InstrValue))) (gs : List (Item GlobalType (Bor (List ℕ))))
+      → gs ≡ kept_items (λ n. live (Globals, n)) (length a.globals.items) a.globals.items
       → globals ≡ map (λ g. new_global (new_indices edit) (global_code g)) gs
       → (exps : List ExportValue) → exps ≡ map (new_export (new_indices edit)) exports
       → (start : Option ℕ) → start ≡ option_map (new_indices edit Funcs) (start_of (funcs_of edit) edit.parts)
@@ -230,17 +304,25 @@ module _ (edit : Edit) (a : Module) (exports : List ExportValue) (live : ItemInd
       let t2 = t ∙ (ap (λ (r : Renumbering). map (renumber_func_type r) (old_types (length a.types.items)) ++ added_types edit.parts (found_of edit)) indices
       ∙ (ap (λ (k : ℕ). map (renumber_func_type r) (old_types k) ++ added_types edit.parts (found_of edit)) (sym (size_is a Types))
       ∙ ap (λ ts. map (renumber_func_type r) (old_types (size_of (decoded_module a) Types)) ++ ts) (sym (added_types_stay r edit.parts (found_of edit))))) in
-      let i2 = live_read (has g.exported) (has g.imports) (is_kept_import e) groups.exported (λ n. groups.imports n ∙ sym (imports_same exports s' edit.parts (found_of edit) a live n)) in
-      let d2 = live_read (has g.exported) (has g.defined) (is_kept_defined e) groups.exported (λ n. groups.defined n ∙ sym (defined_same exports s' edit.parts (found_of edit) a live n)) in
-      let f2 = f ∙ (ap (λ z. z ++ (new_funcs edit (imports_added edit) ++ (live_funcs edit (has g.defined) (has g.exported) a.funcs.items ++ new_funcs edit (funcs_added edit)))) i2
-      ∙ ap (λ z. map (new_func r) (kept_items (is_kept_import e) (length e.value.funcs) e.value.funcs) ++ z) (ap (λ z. z ++ (live_funcs edit (has g.defined) (has g.exported) a.funcs.items ++ new_funcs edit (funcs_added edit))) imports_read
+      let i2 = live_read (has g.exported) (has g.imports) (is_kept_import e) groups.exported (λ n. groups.imports n
+      ∙ sym (imports_same exports s' edit.parts (found_of edit) a live n))
+      (λ n h. (and_parts (live (Funcs, n)) _ h).0) in
+      let d2 = live_read (has g.exported) (has g.defined) (is_kept_defined e) groups.exported (λ n. groups.defined n
+      ∙ sym (defined_same exports s' edit.parts (found_of edit) a live n))
+      (λ n h. (and_parts (live (Funcs, n)) _ h).0) in
+      let f2 = f ∙ (ap (λ z. z ++ (new_funcs edit (imports_added edit) ++ (live_funcs edit (has g.defined) (has g.exported) a.funcs.items
+      ++ new_funcs edit (funcs_added edit)))) i2
+      ∙ ap (λ z. map (new_func r) (kept_items (is_kept_import e) (length e.value.funcs) e.value.funcs) ++ z)
+      (ap (λ z. z ++ (live_funcs edit (has g.defined) (has g.exported) a.funcs.items ++ new_funcs edit (funcs_added edit))) imports_read
       ∙ ap (λ z. map (new_func r) e.imports ++ z) (ap (λ z. z ++ new_funcs edit (funcs_added edit)) d2
       ∙ ap (λ z. map (new_func r) (kept_items (is_kept_defined e) (length e.value.funcs) e.value.funcs) ++ z) added_read))) in
       let b2 = bn ∙ (ap (λ (r : Renumbering). map (new_table r) (map table_value bs)) indices ∙ ap (map (new_table r)) (ap (map table_value) bk
       ∙ kept_once table_value (λ n. live (Tables, n)) (length a.tables.items) (size_of (decoded_module a) Tables) a.tables.items (sym (size_is a Tables)))) in
-      let m2 = ap (map memory_value) m ∙ kept_once memory_value (λ n. live (Memories, n)) (length a.memories.items) (size_of (decoded_module a) Memories) a.memories.items (sym (size_is a Memories)) in
+      let m2 = ap (map memory_value) m ∙ kept_once memory_value (λ n. live (Memories, n)) (length a.memories.items)
+      (size_of (decoded_module a) Memories) a.memories.items (sym (size_is a Memories)) in
       let g2 = gn ∙ (ap (λ (r : Renumbering). map (λ g. new_global r (global_code g)) gs) indices ∙ (ap (map (λ g. new_global r (global_code g))) gk
-      ∙ kept_twice (new_global r) (item_seen init_in) global_value (λ n. live (Globals, n)) (length a.globals.items) (size_of (decoded_module a) Globals) a.globals.items (sym (size_is a Globals)))) in
+      ∙ kept_twice (new_global r) (item_seen init_in) global_value (λ n. live (Globals, n)) (length a.globals.items)
+      (size_of (decoded_module a) Globals) a.globals.items (sym (size_is a Globals)))) in
       let e2 = x ∙ ap (λ (r : Renumbering). map (new_export r) exports) indices in
       let s2 = s ∙ (ap (λ (r : Renumbering). option_map (r Funcs) (start_of (funcs_of edit) edit.parts)) indices
       ∙ ap (λ (k : ℕ). option_map (r Funcs) (start_of k edit.parts)) (funcs ∙ sym (size_is a Funcs))) in

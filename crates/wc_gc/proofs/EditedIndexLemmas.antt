@@ -1,5 +1,6 @@
 -- The new indices of an edited adapter have 32 bits, and are those of what its image has.
-use Rattle.std.proofs.Common.{◌≡◌, ℕ, ◌+◌, ◌-◌, ◌<◌, ◌≤◌, ◌^◌, List, ◌++◌, length, map, refl, sym, ◌∙◌, ap, Bool, true, false, cond, Option, Some, None, arith, ltb-true, zero, suc, [], ◌∷◌, ◌⊎◌, inl, inr}
+use Rattle.std.proofs.Common.{◌≡◌, ℕ, ◌+◌, ◌-◌, ◌<◌, ◌≤◌, ◌^◌, List, ◌++◌, length, map, refl, sym, ◌∙◌, ap, Bool, true, false, cond, Option, Some, None, arith}
+use Rattle.std.proofs.Common.{ltb-true, ◌⊎◌, inl, inr}
 use Rattle.std.specs.Prelude.{IsTrue, nat_lt, not, ◌&&◌}
 use Rattle.std.specs.List.{slice_get, enumerate_from}
 use Rattle.std.specs.Option.{option_map, option_map_or}
@@ -25,25 +26,15 @@ use Rattle.wc_gc.specs.Laws.{KeepsBits}
 use Rattle.wc_gc.specs.Parts.{SettingsValue}
 use Rattle.wc_gc.specs.declared.parts.Parts.{Parts}
 use Rattle.wc_gc.proofs.BuiltImageLemmas.{AreNew}
+use Rattle.wc_gc.proofs.ImageLemmas.{enumerated}
 use Rattle.wc_gc.proofs.KeptItemLemmas.{get_some, kept_count, rank_below}
 use Rattle.wc_gc.proofs.SpellableLemmas.{ranks_keep}
-use Rattle.wc_gc.proofs.RankLemmas.{both_below, few_below, more_below}
-
--- each item with its index
-enumerated : {A : Type 0} (xs : List A) (a n : ℕ) → slice_get (enumerate_from a xs) n ≡ option_map (λ (x : A). (a + n, x)) (slice_get xs n)
-enumerated [] a n = refl
-enumerated (x ∷ xs) a zero = ap (λ k. Some (k, x)) (let e : a ≡ a + 0 = omega arith in e)
-enumerated (x ∷ xs) a (suc n) = enumerated xs (a + 1) n ∙ ap (λ k. option_map (λ x. (k, x)) (slice_get xs n)) (let e : a + 1 + n ≡ a + suc n = omega arith in e)
+use Rattle.wc_gc.proofs.RankLemmas.{both_below, bounded_below, more_below}
 
 -- either value of a choice
 pub cond_has : {A : Type 0} (P : A → Type 0) (b : Bool) (x y : A) → (b ≡ true → P x) → (b ≡ false → P y) → P (cond b x y)
 cond_has P true x y h k = h refl
 cond_has P false x y h k = k refl
-
-pub both_true : (a b : Bool) → (a && b) ≡ true → (a ≡ true) × (b ≡ true)
-both_true true true h = (refl, refl)
-both_true true false h = absurd cc
-both_true false b h = absurd cc
 
 module _ (s : SettingsValue) (m : ModuleValue) (exports : List ExportValue) (live : ItemIndex → Bool) (p : Parts) (f : FoundValue) where
   abbrev pub edited : EditedModule
@@ -68,24 +59,32 @@ module _ (s : SettingsValue) (m : ModuleValue) (exports : List ExportValue) (liv
   pub funcs_long : length olds ≡ length m.funcs
   funcs_long = length-map _ _ ∙ (length-enumerate_from 0 (decode m).funcs ∙ length-map m.funcs (item_seen body_in))
 
-  -- a function that was read, edited
+  -- a function that was read, edited as one that is reached, or not
+  abbrev edited_by_reach : Bool → ℕ → FuncValue → FuncCode
+  edited_by_reach reached n g =
+      edited_func (length (decode m).funcs) s p f reached (is_exported_func exports n) (item_seen body_in g)
+
   abbrev pub edited_at : ℕ → FuncValue → FuncCode
-  edited_at n g = edited_func (length (decode m).funcs) s p f (is_exported_func exports n) (item_seen body_in g)
+  edited_at n g = edited_by_reach true n g
 
   abbrev edit_one : ℕ × FuncCode → FuncCode
-  edit_one x = edited_func (length (decode m).funcs) s p f (is_exported_func exports x.0) x.1
+  edit_one x = edited_func (length (decode m).funcs) s p f (live (Funcs, x.0)) (is_exported_func exports x.0) x.1
 
-  seen_at : (n : ℕ) (o : Option FuncValue) → option_map edit_one (option_map (λ (x : FuncCode). (0 + n, x)) (option_map (item_seen body_in) o)) ≡ option_map (edited_at n) o
+  seen_at : (n : ℕ) (o : Option FuncValue)
+      → option_map edit_one (option_map (λ (x : FuncCode). (0 + n, x)) (option_map (item_seen body_in) o))
+      ≡ option_map (edited_by_reach (live (Funcs, n)) n) o
   seen_at n None = refl
-  seen_at n (Some g) = ap (λ (k : ℕ). Some (edited_at k g)) (let e : 0 + n ≡ n = omega arith in e)
+  seen_at n (Some g) = ap (λ (k : ℕ). Some (edited_by_reach (live (Funcs, k)) k g)) (let e : 0 + n ≡ n = omega arith in e)
 
-  pub olds_at : (n : ℕ) → slice_get olds n ≡ option_map (edited_at n) (slice_get m.funcs n)
-  olds_at n =
+  olds_at : (n : ℕ) → live (Funcs, n) ≡ true → slice_get olds n ≡ option_map (edited_at n) (slice_get m.funcs n)
+  olds_at n l =
       slice_get-map edit_one (enumerate_from 0 (decode m).funcs) n
-      ∙ (ap (option_map edit_one) (enumerated (decode m).funcs 0 n ∙ ap (option_map (λ (x : FuncCode). (0 + n, x))) (slice_get-map (item_seen body_in) m.funcs n)) ∙ seen_at n (slice_get m.funcs n))
+      ∙ (ap (option_map edit_one)
+      (enumerated 0 (decode m).funcs n ∙ ap (option_map (λ (x : FuncCode). (0 + n, x))) (slice_get-map (item_seen body_in) m.funcs n))
+      ∙ (seen_at n (slice_get m.funcs n) ∙ ap (λ (b : Bool). option_map (edited_by_reach b n) (slice_get m.funcs n)) l))
 
-  pub old_at : (n : ℕ) (g : FuncValue) → slice_get m.funcs n ≡ Some g → slice_get olds n ≡ Some (edited_at n g)
-  old_at n g e = olds_at n ∙ ap (option_map (edited_at n)) e
+  pub old_at : (n : ℕ) (g : FuncValue) → live (Funcs, n) ≡ true → slice_get m.funcs n ≡ Some g → slice_get olds n ≡ Some (edited_at n g)
+  old_at n g l e = olds_at n l ∙ ap (option_map (edited_at n)) e
 
   -- the function that was edited
   pub record WasRead (n : ℕ) (h : FuncCode) : Type 0 where
@@ -97,15 +96,16 @@ module _ (s : SettingsValue) (m : ModuleValue) (exports : List ExportValue) (liv
   was_in n h None at e = absurd cc
   was_in n h (Some g) at e = let same : edited_at n g ≡ h = cc e in record { func = g; at = at; is = sym same }
 
-  pub was_read : (n : ℕ) (h : FuncCode) → slice_get olds n ≡ Some h → WasRead n h
-  was_read n h e = was_in n h (slice_get m.funcs n) refl (sym (olds_at n) ∙ e)
+  pub was_read : (n : ℕ) (h : FuncCode) → live (Funcs, n) ≡ true → slice_get olds n ≡ Some h → WasRead n h
+  was_read n h l e = was_in n h (slice_get m.funcs n) refl (sym (olds_at n l) ∙ e)
 
   not_both : (l b : Bool) → (l && b) ≡ true → (l && not b) ≡ false
   not_both true true h = refl
   not_both true false h = absurd cc
   not_both false b h = refl
 
-  never_both : (l : Bool) (o : Option FuncCode) → (l && option_map_or (λ (f : FuncCode). is_imported f) o false) ≡ true → (l && option_map_or (λ (f : FuncCode). is_defined f) o false) ≡ false
+  never_both : (l : Bool) (o : Option FuncCode) → (l && option_map_or (λ (f : FuncCode). is_imported f) o false) ≡ true
+      → (l && option_map_or (λ (f : FuncCode). is_defined f) o false) ≡ false
   never_both true None h = refl
   never_both false None h = refl
   never_both l (Some g) h = not_both l (is_imported g) h
@@ -117,7 +117,8 @@ module _ (s : SettingsValue) (m : ModuleValue) (exports : List ExportValue) (liv
   one_of true = inl refl
   one_of false = inr refl
 
-  pub import_or_defined : (n : ℕ) (h : FuncCode) → live (Funcs, n) ≡ true → slice_get olds n ≡ Some h → (is_kept_import edited n ≡ true) ⊎ (is_kept_defined edited n ≡ true)
+  pub import_or_defined : (n : ℕ) (h : FuncCode) → live (Funcs, n) ≡ true → slice_get olds n ≡ Some h
+      → (is_kept_import edited n ≡ true) ⊎ (is_kept_defined edited n ≡ true)
   import_or_defined n h l e = rw (l, e) (one_of (is_imported h))
 
   -- how many functions there are
@@ -130,7 +131,8 @@ module _ (s : SettingsValue) (m : ModuleValue) (exports : List ExportValue) (liv
       let four = length-map edited.funcs (new_func new) in
       let c = length-append (map (new_func new) kept_defined) (map (new_func new) edited.funcs) in
       let b = length-append (map (new_func new) edited.imports) (map (new_func new) kept_defined ++ map (new_func new) edited.funcs) in
-      let a = length-append (map (new_func new) kept_imports) (map (new_func new) edited.imports ++ (map (new_func new) kept_defined ++ map (new_func new) edited.funcs)) in
+      let a = length-append (map (new_func new) kept_imports)
+      (map (new_func new) edited.imports ++ (map (new_func new) kept_defined ++ map (new_func new) edited.funcs)) in
       let imports = kept_count (is_kept_import edited) olds in
       let defined = kept_count (is_kept_defined edited) olds in
       omega (arith, one, two, three, four, a, b, c, imports, defined)
@@ -140,14 +142,17 @@ module _ (s : SettingsValue) (m : ModuleValue) (exports : List ExportValue) (liv
   pub old_below : (n : ℕ) (h : FuncCode) → live (Funcs, n) ≡ true → slice_get olds n ≡ Some h → func_rank edited n < length funcs_written
   old_below n h l e = cond_has (λ (k : ℕ). k < length funcs_written) (is_kept_import edited n) (count_below (is_kept_import edited) n)
       (count_imports edited + length edited.imports + count_below (is_kept_defined edited) n)
-      (λ i. let r = rank_below (is_kept_import edited) olds n (slice_get_within olds n h e) i in let k = kept_count (is_kept_import edited) olds in omega (arith, r, k, count_funcs))
-      (λ i. let r = rank_below (is_kept_defined edited) olds n (slice_get_within olds n h e) (is_other n h l e i) in let k = kept_count (is_kept_defined edited) olds in omega (arith, r, k, count_funcs))
+      (λ i. let r = rank_below (is_kept_import edited) olds n (slice_get_within olds n h e) i in let k = kept_count (is_kept_import edited) olds in
+      omega (arith, r, k, count_funcs))
+      (λ i. let r = rank_below (is_kept_defined edited) olds n (slice_get_within olds n h e) (is_other n h l e i) in
+      let k = kept_count (is_kept_defined edited) olds in omega (arith, r, k, count_funcs))
     where
       is_other : (n : ℕ) (h : FuncCode) → live (Funcs, n) ≡ true → slice_get olds n ≡ Some h → is_kept_import edited n ≡ false → is_kept_defined edited n ≡ true
       is_other n h l e i = elim (import_or_defined n h l e) [ inl y ↦ absurd (false≢true (sym i ∙ y)) | inr d ↦ d ]
 
   pub old_new : (n : ℕ) → n < length m.funcs → new Funcs n ≡ func_rank edited n
-  old_new n h = ap (λ (b : Bool). cond b (func_rank edited n) (added_func_rank edited (n - length olds))) (lt-ltb n (length olds) (let l = funcs_long in omega (arith, l, h)))
+  old_new n h = ap (λ (b : Bool). cond b (func_rank edited n) (added_func_rank edited (n - length olds)))
+      (lt-ltb n (length olds) (let l = funcs_long in omega (arith, l, h)))
 
   -- what is added
 
@@ -157,10 +162,12 @@ module _ (s : SettingsValue) (m : ModuleValue) (exports : List ExportValue) (liv
       let l' = length-map m.funcs (item_seen body_in) in
       let past : nat_lt (length (decode m).funcs + k) (length olds) ≡ false = le-ltb (length (decode m).funcs + k) (length olds) (omega (arith, l, l')) in
       let rest : length (decode m).funcs + k - length olds ≡ k = omega (arith, l, l') in
-      ap (λ (b : Bool). cond b (func_rank edited (length (decode m).funcs + k)) (added_func_rank edited (length (decode m).funcs + k - length olds))) past ∙ ap (added_func_rank edited) rest
+      ap (λ (b : Bool). cond b (func_rank edited (length (decode m).funcs + k))
+      (added_func_rank edited (length (decode m).funcs + k - length olds))) past ∙ ap (added_func_rank edited) rest
 
-  pub added_few : (k : ℕ) → k ≤ length edited.imports + length edited.funcs → added_func_rank edited k ≤ length funcs_written
-  added_few k h = cond_has (λ (n : ℕ). n ≤ length funcs_written) (nat_lt k (length edited.imports)) (count_imports edited + k) (count_imports edited + count_defined edited + k)
+  pub added_bounded : (k : ℕ) → k ≤ length edited.imports + length edited.funcs → added_func_rank edited k ≤ length funcs_written
+  added_bounded k h = cond_has (λ (n : ℕ). n ≤ length funcs_written) (nat_lt k (length edited.imports)) (count_imports edited + k)
+      (count_imports edited + count_defined edited + k)
       (λ i. let r = ltb-true k (length edited.imports) i in omega (arith, r, count_funcs)) (λ i. omega (arith, h, count_funcs))
 
   -- types
@@ -180,24 +187,29 @@ module _ (s : SettingsValue) (m : ModuleValue) (exports : List ExportValue) (liv
   module _ (room : length funcs_written < 2 ^ 32) where
     type_bits : (n : ℕ) → n < 2 ^ 32 → new Types n < 2 ^ 32
     type_bits n h = cond_has (λ (k : ℕ). k < 2 ^ 32) (nat_lt n (length m.types)) (rank live Types n) (rank live Types (length m.types) + (n - length m.types))
-        (λ i. let few = few_below (λ k. live (Types, k)) n in omega (arith, few, h))
-        (λ i. let few = few_below (λ k. live (Types, k)) (length m.types) in let past = ltb-false n (length m.types) i in omega (arith, few, past, h))
+        (λ i. let bounded = bounded_below (λ k. live (Types, k)) n in omega (arith, bounded, h))
+        (λ i. let bounded = bounded_below (λ k. live (Types, k)) (length m.types) in let past = ltb-false n (length m.types) i in omega
+        (arith, bounded, past, h))
 
     old_bits : (n : ℕ) → n < length olds → n < 2 ^ 32 → func_rank edited n < 2 ^ 32
-    old_bits n below h = cond_has (λ (k : ℕ). k < 2 ^ 32) (is_kept_import edited n) (count_below (is_kept_import edited) n) (count_imports edited + length edited.imports + count_below (is_kept_defined edited) n)
-        (λ i. let few = few_below (is_kept_import edited) n in omega (arith, few, h))
-        (λ i. let more = more_below (is_kept_defined edited) n (length olds - n) in let all = ap (count_below (is_kept_defined edited)) (rejoin n below) in omega (arith, more, all, count_funcs, room))
+    old_bits n below h = cond_has (λ (k : ℕ). k < 2 ^ 32) (is_kept_import edited n) (count_below (is_kept_import edited) n)
+        (count_imports edited + length edited.imports + count_below (is_kept_defined edited) n)
+        (λ i. let bounded = bounded_below (is_kept_import edited) n in omega (arith, bounded, h))
+        (λ i. let more = more_below (is_kept_defined edited) n (length olds - n) in
+        let all = ap (count_below (is_kept_defined edited)) (rejoin n below) in omega (arith, more, all, count_funcs, room))
       where
         rejoin : (n : ℕ) → n < length olds → n + (length olds - n) ≡ length olds
         rejoin n below = omega arith
 
     added_bits : (n : ℕ) → length olds ≤ n → n < 2 ^ 32 → added_func_rank edited (n - length olds) < 2 ^ 32
-    added_bits n past h = cond_has (λ (k : ℕ). k < 2 ^ 32) (nat_lt (n - length olds) (length edited.imports)) (count_imports edited + (n - length olds)) (count_imports edited + count_defined edited + (n - length olds))
+    added_bits n past h = cond_has (λ (k : ℕ). k < 2 ^ 32) (nat_lt (n - length olds) (length edited.imports))
+        (count_imports edited + (n - length olds)) (count_imports edited + count_defined edited + (n - length olds))
         (λ i. let r = ltb-true (n - length olds) (length edited.imports) i in omega (arith, r, count_funcs, room))
         (λ i. let both = both_below (is_kept_import edited) (is_kept_defined edited) disjoint (length olds) in omega (arith, both, past, h))
 
     func_bits : (n : ℕ) → n < 2 ^ 32 → new Funcs n < 2 ^ 32
-    func_bits n h = cond_has (λ (k : ℕ). k < 2 ^ 32) (nat_lt n (length olds)) (func_rank edited n) (added_func_rank edited (n - length olds)) (λ i. old_bits n (ltb-true n (length olds) i) h) (λ i. added_bits n (ltb-false n (length olds) i) h)
+    func_bits n h = cond_has (λ (k : ℕ). k < 2 ^ 32) (nat_lt n (length olds)) (func_rank edited n) (added_func_rank edited (n - length olds))
+        (λ i. old_bits n (ltb-true n (length olds) i) h) (λ i. added_bits n (ltb-false n (length olds) i) h)
 
     pub new_keeps : KeepsBits new
     new_keeps Types n h = type_bits n h
@@ -216,4 +228,4 @@ module _ (s : SettingsValue) (m : ModuleValue) (exports : List ExportValue) (liv
         below : (n : ℕ) → n < length m.funcs → IsTrue (live (Funcs, n)) → new Funcs n < length funcs_written
         below n h l =
             let item = get_some m.funcs n h in
-            rw (old_new n h) (old_below n (edited_at n item.0) l (old_at n item.0 item.1))
+            rw (old_new n h) (old_below n (edited_at n item.0) l (old_at n item.0 l item.1))

@@ -1,10 +1,12 @@
 -- How many items the image of an edited adapter has, and where its memory is.
-use Rattle.std.proofs.Common.{◌≡◌, ℕ, zero, suc, ◌+◌, ◌<◌, ◌≤◌, List, [], ◌∷◌, ◌++◌, length, map, refl, sym, ◌∙◌, ap, Bool, true, false, ◌&&◌, cond, Some, ◌⊎◌, inl, inr, arith, unwrap_or}
+use Rattle.std.proofs.Common.{◌≡◌, ℕ, zero, suc, ◌+◌, ◌≤◌, List, [], ◌∷◌, ◌++◌, length, map, refl, sym, ◌∙◌, ap, Bool, true, false, ◌&&◌, cond, Some, ◌⊎◌}
+use Rattle.std.proofs.Common.{inl, inr, arith, unwrap_or}
 use Rattle.std.specs.Prelude.{filter, Err, IsErrOf}
 use Rattle.std.specs.List.{range_with_len, slice_get}
 use Rattle.std.proofs.lemmas.List.{length-append, length-map}
 use Rattle.std.proofs.lemmas.List.Elements.{filter-append}
 use Rattle.std.proofs.lemmas.List.Sums.{length-filter}
+use Rattle.wc_gc.proofs.KeptItemLemmas.{get_some}
 use Rattle.wc_read.specs.Exports.{ExportValue}
 use Rattle.wc_read.specs.Renumbering.{renumber_func_type}
 use Rattle.wc_read.specs.declared.core_module.Module.{Module}
@@ -15,7 +17,8 @@ use Rattle.wc_write.specs.declared.fault.WriteFault.TheVariants.{Memory as write
 use Rattle.wc_gc.specs.AddedCode.{empty_type, realloc_type}
 use Rattle.wc_gc.specs.Counts.{AreDisjoint, count_below}
 use Rattle.wc_gc.specs.Decoded.{DecodedModule, ItemIndex, decoded_module, size_of}
-use Rattle.wc_gc.specs.Edited.{EditedModule, added_types, edit, edited_by, growing_func, import_func, lazy_func, memory_of, one_if, only_if, start_func, start_position}
+use Rattle.wc_gc.specs.Edited.{EditedModule, added_types, edit, edited_by, growing_func, import_func, lazy_func, memory_of, one_if, only_if, start_func}
+use Rattle.wc_gc.specs.Edited.{start_position}
 use Rattle.wc_gc.specs.EditedImage.{FitsBits, count_defined, count_imports, edited_image, edited_rank, is_kept_defined, is_kept_import}
 use Rattle.wc_gc.specs.Faults.{of_write}
 use Rattle.wc_gc.specs.Found.{FoundValue, found_in, is_empty}
@@ -51,24 +54,27 @@ three_added a b c x y z = omega (arith, length-append (only_if a x) (only_if b y
 
 pub count_added_types : (p : Parts) (f : FoundValue) → start_position p + one_if (p.start && is_empty f.empties) ≡ length (added_types p f)
 count_added_types p f =
-    let all = length-append (only_if p.import_realloc realloc_type) (only_if p.lazy empty_type ++ (only_if p.growing realloc_type ++ only_if (p.start && is_empty f.empties) empty_type)) in
-    omega (arith, all, only_length p.import_realloc realloc_type, three_added p.lazy p.growing (p.start && is_empty f.empties) empty_type realloc_type empty_type)
+    let all = length-append (only_if p.import_realloc realloc_type)
+    (only_if p.lazy empty_type ++ (only_if p.growing realloc_type ++ only_if (p.start && is_empty f.empties) empty_type)) in
+    omega (
+      arith,
+      all,
+      only_length p.import_realloc realloc_type,
+      three_added p.lazy p.growing
+          (p.start && is_empty f.empties) empty_type realloc_type empty_type,
+    )
 
 -- what is kept
 
-item_there : {A : Type 0} (xs : List A) (n : ℕ) → n < length xs → (x : A) × (slice_get xs n ≡ Some x)
-item_there [] n h = absurd (omega arith)
-item_there (x ∷ xs) zero h = (x, refl)
-item_there (x ∷ xs) (suc n) h = item_there xs n (omega arith)
-
-one_kept : {A : Type 0} (has : ℕ → Bool) (n : ℕ) (xs : List A) (x : A) → slice_get xs n ≡ Some x → (b : Bool) → b ≡ has n → length (kept_items has (n + 1) xs) ≡ length (kept_items has n xs) + cond b 1 0
+one_kept : {A : Type 0} (has : ℕ → Bool) (n : ℕ) (xs : List A) (x : A) → slice_get xs n ≡ Some x → (b : Bool) → b ≡ has n
+    → length (kept_items has (n + 1) xs) ≡ length (kept_items has n xs) + cond b 1 0
 one_kept has n xs x at true h = ap length (kept_yes has n xs x at h) ∙ length-append (kept_items has n xs) (x ∷ [])
 one_kept has n xs x at false h = omega (arith, ap length (kept_no has n xs h))
 
 pub kept_length : {A : Type 0} (has : ℕ → Bool) (n : ℕ) (xs : List A) → n ≤ length xs → length (kept_items has n xs) ≡ count_below has n
 kept_length has zero xs h = refl
 kept_length has (suc n) xs h =
-    let at = item_there xs n (omega arith) in
+    let at = get_some xs n (omega arith) in
     let next = ap (λ k. length (kept_items has k xs)) (let e : suc n ≡ n + 1 = omega arith in e) in
     omega (arith, next, one_kept has n xs at.0 at.1 (has n) refl, kept_length has n xs (omega arith), one_more has n)
 
@@ -90,11 +96,13 @@ none_before_first has (suc n) =
 
 -- the edit by what was found
 
-pub edit_is : (s : SettingsValue) (m : DecodedModule) (exports : List ExportValue) (live : ItemIndex → Bool) (p : Parts) (f : FoundValue) → f ≡ found_in m live → p ≡ parts_of s f → edited_by s m exports live p f ≡ edit s m exports live
+pub edit_is : (s : SettingsValue) (m : DecodedModule) (exports : List ExportValue) (live : ItemIndex → Bool) (p : Parts) (f : FoundValue)
+    → f ≡ found_in m live → p ≡ parts_of s f → edited_by s m exports live p f ≡ edit s m exports live
 unfolding edit
 edit_is s m exports live p f e q = ap (λ (z : Parts). edited_by s m exports live z f) q ∙ ap (λ (z : FoundValue). edited_by s m exports live (parts_of s z) z) e
 
-pub memory_first : (n : NewIndices) (m : DecodedModule) (kept : ItemIndex → Bool) (f : FoundValue) → f ≡ found_in m kept → has_number n.ranks.memories ≡ (λ k. kept (Memories, k)) → new_of n Memories (memory_of f) ≡ 0
+pub memory_first : (n : NewIndices) (m : DecodedModule) (kept : ItemIndex → Bool) (f : FoundValue) → f ≡ found_in m kept
+    → has_number n.ranks.memories ≡ (λ k. kept (Memories, k)) → new_of n Memories (memory_of f) ≡ 0
 unfolding new_of found_in
 memory_first n m kept f e r =
     ap (λ (h : ℕ → Bool). count_below h (memory_of f)) r
@@ -118,7 +126,8 @@ module _ (kept : ItemIndex → Bool) (i d : ℕ → Bool) (r : SpaceRanks) (rank
   pub room_of : HasRoomFor kept i d c → HasRoom r c
   room_of h = (omega (arith, types_same, h.0), omega (arith, imports_same, defined_same, h.1))
 
-pub disjoint_ranks : (kept : ItemIndex → Bool) (i d : ℕ → Bool) (r : SpaceRanks) → AreRanksOf kept i d r → AreDisjoint i d → AreDisjoint (has_number r.imports) (has_number r.defined)
+pub disjoint_ranks : (kept : ItemIndex → Bool) (i d : ℕ → Bool) (r : SpaceRanks) → AreRanksOf kept i d r → AreDisjoint i d
+    → AreDisjoint (has_number r.imports) (has_number r.defined)
 disjoint_ranks kept i d r ranks disjoint n h = ap (λ (g : ℕ → Bool). g n) ranks.defined ∙ disjoint n (sym (ap (λ (g : ℕ → Bool). g n) ranks.imports) ∙ h)
 
 -- how many types and functions the image has
@@ -162,20 +171,23 @@ module _ (s : SettingsValue) (a : Module) (exports : List ExportValue) (live : I
       let size = ap (count_below (λ n. live (Types, n))) (types ∙ sym (size_is a Types)) in
       omega (arith, image_types e, size, added_types)
 
-  counted_funcs : length (edited_image (edited_by s (decoded_module a) exports live p f)).funcs ≡ count_below i c.funcs + count_below d c.funcs + (c.added_imports + c.added_funcs)
+  counted_funcs : length (edited_image (edited_by s (decoded_module a) exports live p f)).funcs ≡ count_below i c.funcs + count_below d c.funcs
+      + (c.added_imports + c.added_funcs)
   counted_funcs =
       let e = edited_by s (decoded_module a) exports live p f in
-      let size : c.funcs ≡ length e.value.funcs = funcs ∙ (sym (size_is a Funcs) ∙ sym (edited_length exports s p f (decoded_module a).funcs)) in
+      let size : c.funcs ≡ length e.value.funcs = funcs ∙ (sym (size_is a Funcs) ∙ sym (edited_length exports s p f live (decoded_module a).funcs)) in
       let imports = ap (λ (h : ℕ → Bool). count_below h c.funcs) is ∙ ap (count_below (is_kept_import e)) size in
       let defined = ap (λ (h : ℕ → Bool). count_below h c.funcs) ds ∙ ap (count_below (is_kept_defined e)) size in
       let ones = only_length p.import_realloc (import_func (length (decoded_module a).types) s) in
-      let rest = three_added p.lazy p.growing p.start (lazy_func (length (decoded_module a).types) (length (decoded_module a).funcs) p f) (growing_func (length (decoded_module a).types) s p f) (start_func (length (decoded_module a).types) (length (decoded_module a).funcs) p f) in
+      let rest = three_added p.lazy p.growing p.start (lazy_func (length (decoded_module a).types) (length (decoded_module a).funcs) p f)
+      (growing_func (length (decoded_module a).types) s p f) (start_func (length (decoded_module a).types) (length (decoded_module a).funcs) p f) in
       omega (arith, image_funcs e, imports, defined, ones, rest, added_imports, added_funcs)
 
   pub fits_room : FitsBits (edited_image (edited_by s (decoded_module a) exports live p f)) → HasRoomFor live i d c
   fits_room b = (omega (arith, b.types, counted_types), omega (arith, b.funcs, counted_funcs))
 
-  pub room_fits : HasRoomFor live i d c → SizesFit (edited_image (edited_by s (decoded_module a) exports live p f)) → FitsBits (edited_image (edited_by s (decoded_module a) exports live p f))
+  pub room_fits : HasRoomFor live i d c → SizesFit (edited_image (edited_by s (decoded_module a) exports live p f))
+      → FitsBits (edited_image (edited_by s (decoded_module a) exports live p f))
   room_fits h sizes = record { types = omega (arith, h.0, counted_types); funcs = omega (arith, h.1, counted_funcs); sizes = sizes }
 
 -- faults
@@ -184,6 +196,7 @@ pub no_room : (P Q : Type 0) → (Q → P) → (f : GcFault) → (f ≡ Memory) 
 no_room P Q give f (inl e) = inl e
 no_room P Q give f (inr k) = inr (k.0, λ q. k.1 (give q))
 
-pub not_written : {T : Type 0} (Q : Type 0) (b : BuiltValue) → (Q → SizesFit b) → (w : WriteFault) → (IsErrOf {T = T} (Err w) write_too_large → ¬ (SizesFit b)) → (of_write w ≡ Memory) ⊎ ((of_write w ≡ TooLarge) × ¬ Q)
+pub not_written : {T : Type 0} (Q : Type 0) (b : BuiltValue) → (Q → SizesFit b) → (w : WriteFault)
+    → (IsErrOf {T = T} (Err w) write_too_large → ¬ (SizesFit b)) → (of_write w ≡ Memory) ⊎ ((of_write w ≡ TooLarge) × ¬ Q)
 not_written Q b give write_memory h = inl refl
 not_written Q b give write_too_large h = inr (refl, λ q. h refl (give q))

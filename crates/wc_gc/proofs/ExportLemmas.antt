@@ -1,11 +1,12 @@
 -- Exports under their names, and one taken out.
-use Rattle.std.proofs.Common.{◌≡◌, ◌≢◌, ℕ, zero, suc, ◌+◌, ◌-◌, ◌<◌, List, [], ◌∷◌, ◌++◌, map, length, take, drop, get_or, set, refl, sym, ◌∙◌, ap, subst, Bool, true, false, cond, not, Option, Some, None, arith}
+use Rattle.std.proofs.Common.{◌≡◌, ◌≢◌, ℕ, zero, suc, ◌+◌, ◌-◌, ◌<◌, List, [], ◌∷◌, ◌++◌, map, length, take, drop, get_or, set, refl, sym, ◌∙◌, ap, subst, Bool}
+use Rattle.std.proofs.Common.{true, false, cond, not, Option, Some, None, arith}
 use Rattle.std.specs.Prelude.{All, AllPairs, fold, position}
 use Rattle.std.specs.List.{AllByRecursion, swap_remove, position_or_len}
 use Rattle.std.proofs.lemmas.List.Recursion.{is_position_or_len}
 use Rattle.std.specs.Prelude.{nat_lt}
 use Rattle.std.proofs.lemmas.List.Elements.{recursion_from_All, All-take, All-set, All-head}
-use Rattle.std.proofs.lemmas.List.{nil_from_length}
+use Rattle.std.proofs.lemmas.List.{nil_from_length, length-map, map-set}
 use Rattle.std.specs.Option.{option_map_or}
 use Rattle.std.specs.Str.{bytes_eq}
 use Rattle.std.specs.Bool.{Decides}
@@ -33,25 +34,16 @@ map-take f zero xs = refl
 map-take f (suc n) [] = refl
 map-take f (suc n) (x ∷ xs) = ap (λ ys. f x ∷ ys) (map-take f n xs)
 
-map-set : {A B : Type 0} (f : A → B) (xs : List A) (i : ℕ) (x : A) → map f (set xs i x) ≡ set (map f xs) i (f x)
-map-set f [] i x = refl
-map-set f (y ∷ xs) zero x = refl
-map-set f (y ∷ xs) (suc i) x = ap (λ ys. f y ∷ ys) (map-set f xs i x)
-
 get-map : {A B : Type 0} (f : A → B) (xs : List A) (i : ℕ) (d : A) → f (get_or xs i d) ≡ get_or (map f xs) i (f d)
 get-map f [] i d = refl
 get-map f (x ∷ xs) zero d = refl
 get-map f (x ∷ xs) (suc i) d = get-map f xs i d
 
-length_map : {A B : Type 0} (f : A → B) (xs : List A) → length (map f xs) ≡ length xs
-length_map f [] = refl
-length_map f (x ∷ xs) = ap suc (length_map f xs)
-
 map-swap_remove : {A B : Type 0} (f : A → B) (xs : List A) (i : ℕ) (d : A) → map f (swap_remove xs i d) ≡ swap_remove (map f xs) i (f d)
 map-swap_remove f xs i d =
     map-take f (length xs - 1) (set xs i (get_or xs (length xs - 1) d))
     ∙ (ap (take (length xs - 1)) (map-set f xs i (get_or xs (length xs - 1) d) ∙ ap (set (map f xs) i) (get-map f xs (length xs - 1) d))
-    ∙ ap (λ n. take (n - 1) (set (map f xs) i (get_or (map f xs) (n - 1) (f d)))) (sym (length_map f xs)))
+    ∙ ap (λ n. take (n - 1) (set (map f xs) i (get_or (map f xs) (n - 1) (f d)))) (sym (length-map xs f)))
 
 abbrev Pair : Type 0
 Pair = Bor (List ℕ) × Export
@@ -68,38 +60,45 @@ index_is : {A : Type 0} (p : A → Bool) (xs : List A) → index_by p xs ≡ pos
 unfolding index_by
 index_is p xs = is_position_or_len (index_by p) p refl (λ x ys. refl) xs
 
-indices_same : (p : Bor (List ℕ) → Bool) (q : ExportValue → Bool) (es : List Pair) → AllByRecursion (λ (e : Pair). p e.0 ≡ q (export_value e.1)) es → index_by p (keys_of es) ≡ index_by q (export_entries es)
+indices_same : (p : Bor (List ℕ) → Bool) (q : ExportValue → Bool) (es : List Pair) → AllByRecursion (λ (e : Pair). p e.0 ≡ q (export_value e.1)) es
+    → index_by p (keys_of es) ≡ index_by q (export_entries es)
 unfolding index_by
 indices_same p q [] h = refl
 indices_same p q (e ∷ es) h =
     ap (λ (b : Bool). cond b 0 (1 + index_by p (keys_of es))) h.0
     ∙ ap (λ (n : ℕ). cond (q (export_value e.1)) 0 (1 + n)) (indices_same p q es h.1)
 
-same_index_of : (p : Bor (List ℕ) → Bool) (q : ExportValue → Bool) (es : List Pair) → AllByRecursion (λ (e : Pair). p e.0 ≡ q (export_value e.1)) es → position_or_len p (keys_of es) ≡ position_or_len q (export_entries es)
+same_index_of : (p : Bor (List ℕ) → Bool) (q : ExportValue → Bool) (es : List Pair) → AllByRecursion (λ (e : Pair). p e.0 ≡ q (export_value e.1)) es
+    → position_or_len p (keys_of es) ≡ position_or_len q (export_entries es)
 same_index_of p q es h = sym (index_is p (keys_of es)) ∙ (indices_same p q es h ∙ index_is q (export_entries es))
 
-same_position : (p : Bor (List ℕ) → Bool) (q : ExportValue → Bool) (es : List Pair) → AllByRecursion (λ (e : Pair). p e.0 ≡ q (export_value e.1)) es → position p (keys_of es) ≡ position q (export_entries es)
+same_position : (p : Bor (List ℕ) → Bool) (q : ExportValue → Bool) (es : List Pair) → AllByRecursion (λ (e : Pair). p e.0 ≡ q (export_value e.1)) es
+    → position p (keys_of es) ≡ position q (export_entries es)
 same_position p q es h =
     ap (λ (n : ℕ). cond (nat_lt n (length (keys_of es))) (Some n) None) (same_index_of p q es h)
     ∙ ap (λ (l : ℕ). cond (nat_lt (position_or_len q (export_entries es)) l) (Some (position_or_len q (export_entries es))) None)
-    (length_map (λ (e : Pair). e.0) es ∙ sym (length_map exported_value es))
+    (length-map es (λ (e : Pair). e.0) ∙ sym (length-map es exported_value))
 
-mapped_or : (xs : List Pair) (d : Pair) (o : Option ℕ) → export_entries (option_map_or (λ i. swap_remove xs i d) o xs) ≡ option_map_or (λ i. swap_remove (export_entries xs) i (exported_value d)) o (export_entries xs)
+mapped_or : (xs : List Pair) (d : Pair) (o : Option ℕ) → export_entries (option_map_or (λ i. swap_remove xs i d) o xs) ≡ option_map_or
+    (λ i. swap_remove (export_entries xs) i (exported_value d)) o (export_entries xs)
 mapped_or xs d None = refl
 mapped_or xs d (Some i) = map-swap_remove exported_value xs i d
 
-tests_agree : (name : List ℕ) (p : Bor (List ℕ) → Bool) → ((k : Bor (List ℕ)) → p k ≡ bytes_eq name k.now) → (es : List Pair) → AllByRecursion (λ (e : Pair). e.0.now ≡ e.1.name.now) es
+tests_agree : (name : List ℕ) (p : Bor (List ℕ) → Bool) → ((k : Bor (List ℕ)) → p k ≡ bytes_eq name k.now) → (es : List Pair)
+    → AllByRecursion (λ (e : Pair). e.0.now ≡ e.1.name.now) es
     → AllByRecursion (λ (e : Pair). p e.0 ≡ bytes_eq name (export_value e.1).name) es
 tests_agree name p h [] n = tt
 tests_agree name p h (e ∷ es) n = (h e.0 ∙ ap (bytes_eq name) n.0, tests_agree name p h es n.1)
 
 -- an entry of a map is taken out as an export of a list is
-pub entry_without : (name : List ℕ) (p : Bor (List ℕ) → Bool) (es : List Pair) → ((k : Bor (List ℕ)) → p k ≡ bytes_eq name k.now) → AreNamed es → export_entries (swap_remove_entry p es) ≡ without (export_entries es) name
+pub entry_without : (name : List ℕ) (p : Bor (List ℕ) → Bool) (es : List Pair) → ((k : Bor (List ℕ)) → p k ≡ bytes_eq name k.now) → AreNamed es
+    → export_entries (swap_remove_entry p es) ≡ without (export_entries es) name
 entry_without name p [] h named = refl
 entry_without name p (e ∷ es) h named =
     mapped_or (e ∷ es) e (position p (keys_of (e ∷ es)))
     ∙ ap (λ (o : Option ℕ). option_map_or (λ i. swap_remove (export_entries (e ∷ es)) i (exported_value e)) o (export_entries (e ∷ es)))
-    (same_position p (λ (x : ExportValue). bytes_eq name x.name) (e ∷ es) (tests_agree name p h (e ∷ es) (recursion_from_All (λ (e : Pair). e.0.now ≡ e.1.name.now) (e ∷ es) named)))
+    (same_position p (λ (x : ExportValue). bytes_eq name x.name) (e ∷ es)
+    (tests_agree name p h (e ∷ es) (recursion_from_All (λ (e : Pair). e.0.now ≡ e.1.name.now) (e ∷ es) named)))
 
 still_named_or : (xs : List Pair) (d : Pair) → AreNamed xs → d.0.now ≡ d.1.name.now → (o : Option ℕ) → AreNamed (option_map_or (λ i. swap_remove xs i d) o xs)
 still_named_or xs d all one None = all
@@ -121,10 +120,12 @@ kept_from required others exports = fold without exports (dropped_names required
 
 -- one more export
 
-pub step_kept : (required : List (List ℕ)) (x : ExportValue) (rest exports : List ExportValue) → is_required required x.name ≡ true → kept_from required (x ∷ rest) exports ≡ kept_from required rest exports
+pub step_kept : (required : List (List ℕ)) (x : ExportValue) (rest exports : List ExportValue) → is_required required x.name ≡ true
+    → kept_from required (x ∷ rest) exports ≡ kept_from required rest exports
 step_kept required x rest exports h = rw h refl
 
-pub step_dropped : (required : List (List ℕ)) (x : ExportValue) (rest exports : List ExportValue) → is_required required x.name ≡ false → kept_from required (x ∷ rest) exports ≡ kept_from required rest (without exports x.name)
+pub step_dropped : (required : List (List ℕ)) (x : ExportValue) (rest exports : List ExportValue) → is_required required x.name ≡ false
+    → kept_from required (x ∷ rest) exports ≡ kept_from required rest (without exports x.name)
 step_dropped required x rest exports h = rw h refl
 
 pub named_by_name : (es : List Export) → AreNamed (map by_name es)
@@ -143,7 +144,8 @@ pub required_is : (name : List ℕ) (keys : List (String Global)) → list_any (
 required_is name [] = refl
 required_is name (k ∷ keys) = ap (λ (b : Bool). bytes_eq name (string_bytes k) || b) (required_is name keys)
 
-pub drop_more : (es : List Export) (i : ℕ) (d : Export) → i < length es → map export_value (drop i es) ≡ export_value (get_or es i d) ∷ map export_value (drop (i + 1) es)
+pub drop_more : (es : List Export) (i : ℕ) (d : Export) → i < length es
+    → map export_value (drop i es) ≡ export_value (get_or es i d) ∷ map export_value (drop (i + 1) es)
 drop_more es i d h = ap (map export_value) (drop-cons es i d h ∙ ap (λ (n : ℕ). get_or es i d ∷ drop n es) (let e : suc i ≡ i + 1 = omega arith in e))
 
 -- a read past the end
@@ -152,19 +154,27 @@ no_export = record { name = record { ref_ptr = (0, 0); now = [] }; kind = Func; 
 
 -- a turn of the loop
 
-pub turn_kept : (keys : List (String Global)) (es : List Export) (i : ℕ) (kept all : List ExportValue) → i < length es → list_any (λ k. bytes_eq (get_or es i no_export).name.now (string_bytes k)) keys ≡ true
-    → kept_from (map string_bytes keys) (map export_value (drop i es)) kept ≡ all → kept_from (map string_bytes keys) (map export_value (drop (i + 1) es)) kept ≡ all
-turn_kept keys es i kept all h there e =
+pub item_kept : (keys : List (String Global)) (es : List Export) (i : ℕ) (kept all : List ExportValue) → i < length es
+    → list_any (λ k. bytes_eq (get_or es i no_export).name.now (string_bytes k)) keys ≡ true
+    → kept_from (map string_bytes keys) (map export_value (drop i es)) kept ≡ all
+    → kept_from (map string_bytes keys) (map export_value (drop (i + 1) es)) kept ≡ all
+item_kept keys es i kept all h there e =
     sym (ap (λ (z : List ExportValue). kept_from (map string_bytes keys) z kept) (drop_more es i no_export h)
-    ∙ step_kept (map string_bytes keys) (export_value (get_or es i no_export)) (map export_value (drop (i + 1) es)) kept (sym (required_is (get_or es i no_export).name.now keys) ∙ there)) ∙ e
+    ∙ step_kept (map string_bytes keys) (export_value (get_or es i no_export)) (map export_value (drop (i + 1) es)) kept
+    (sym (required_is (get_or es i no_export).name.now keys) ∙ there)) ∙ e
 
-pub turn_dropped : (keys : List (String Global)) (es : List Export) (i : ℕ) (p : Bor (List ℕ) → Bool) (entries after : List Pair) (all : List ExportValue) → i < length es
-    → list_any (λ k. bytes_eq (get_or es i no_export).name.now (string_bytes k)) keys ≡ false → ((k : Bor (List ℕ)) → p k ≡ bytes_eq (get_or es i no_export).name.now k.now) → AreNamed entries → after ≡ swap_remove_entry p entries
-    → kept_from (map string_bytes keys) (map export_value (drop i es)) (export_entries entries) ≡ all → kept_from (map string_bytes keys) (map export_value (drop (i + 1) es)) (export_entries after) ≡ all
-turn_dropped keys es i p entries after all h missing same named is e =
-    ap (kept_from (map string_bytes keys) (map export_value (drop (i + 1) es))) (ap export_entries is ∙ entry_without (get_or es i no_export).name.now p entries same named)
+pub item_dropped : (keys : List (String Global)) (es : List Export) (i : ℕ) (p : Bor (List ℕ) → Bool) (entries after : List Pair)
+    (all : List ExportValue) → i < length es
+    → list_any (λ k. bytes_eq (get_or es i no_export).name.now (string_bytes k)) keys ≡ false
+    → ((k : Bor (List ℕ)) → p k ≡ bytes_eq (get_or es i no_export).name.now k.now) → AreNamed entries → after ≡ swap_remove_entry p entries
+    → kept_from (map string_bytes keys) (map export_value (drop i es)) (export_entries entries) ≡ all
+    → kept_from (map string_bytes keys) (map export_value (drop (i + 1) es)) (export_entries after) ≡ all
+item_dropped keys es i p entries after all h missing same named is e =
+    ap (kept_from (map string_bytes keys) (map export_value (drop (i + 1) es)))
+    (ap export_entries is ∙ entry_without (get_or es i no_export).name.now p entries same named)
     ∙ (sym (ap (λ (z : List ExportValue). kept_from (map string_bytes keys) z (export_entries entries)) (drop_more es i no_export h)
-    ∙ step_dropped (map string_bytes keys) (export_value (get_or es i no_export)) (map export_value (drop (i + 1) es)) (export_entries entries) (sym (required_is (get_or es i no_export).name.now keys) ∙ missing)) ∙ e)
+    ∙ step_dropped (map string_bytes keys) (export_value (get_or es i no_export)) (map export_value (drop (i + 1) es)) (export_entries entries)
+    (sym (required_is (get_or es i no_export).name.now keys) ∙ missing)) ∙ e)
 
 -- an export of a new name is put after the others
 
@@ -175,7 +185,8 @@ differ xs ys n = go (bytes_eq xs ys) (bytes_eq-Decides xs ys)
     go true d = absurd (n (d.0 refl))
     go false d = refl
 
-insert_more : (eq : Bor (List ℕ) → Bor (List ℕ) → Bool) → ((a b : Bor (List ℕ)) → eq a b ≡ bytes_eq a.now b.now) → (es : List Export) (x : Export) → AllByRecursion (λ (e : Export). e.name.now ≢ x.name.now) es
+insert_more : (eq : Bor (List ℕ) → Bor (List ℕ) → Bool) → ((a b : Bor (List ℕ)) → eq a b ≡ bytes_eq a.now b.now) → (es : List Export) (x : Export)
+    → AllByRecursion (λ (e : Export). e.name.now ≢ x.name.now) es
     → insert_entry eq (map by_name es) x.name x ≡ map by_name (es ++ x ∷ [])
 insert_more eq h [] x differing = refl
 insert_more eq h (e ∷ es) x differing =
@@ -188,7 +199,8 @@ name_at es i =
     ap (λ (v : ExportValue). v.name) (get-map export_value es i no_export)
     ∙ get-map (λ (e : ExportValue). e.name) (map export_value es) i (export_value no_export)
 
-differ_from : (es rest : List Export) (x : Export) → ((k : ℕ) → k < length es → (get_or (es ++ rest) k no_export).name.now ≢ x.name.now) → AllByRecursion (λ (e : Export). e.name.now ≢ x.name.now) es
+differ_from : (es rest : List Export) (x : Export) → ((k : ℕ) → k < length es → (get_or (es ++ rest) k no_export).name.now ≢ x.name.now)
+    → AllByRecursion (λ (e : Export). e.name.now ≢ x.name.now) es
 differ_from [] rest x h = tt
 differ_from (e ∷ es) rest x h = (h 0 (omega arith), differ_from es rest x (λ k lt. h (suc k) (omega arith)))
 
@@ -200,13 +212,14 @@ inserted eq h es i lt pairs entries after was is =
     ∙ (insert_more eq h (take i es) (get_or es i no_export)
     (differ_from (take i es) (drop i es) (get_or es i no_export) (λ k below same.
     let here : k < i = (let l = length-take-le i es (omega arith) in omega (arith, below)) in
-    pairs k i [] here (rw (length_map (λ (e : ExportValue). e.name) (map export_value es), length_map export_value es) lt)
+    pairs k i [] here (rw (length-map (map export_value es) (λ (e : ExportValue). e.name), length-map es export_value) lt)
     (sym (name_at es k) ∙ (ap (λ (z : List Export). (get_or z k no_export).name.now) (sym (take-append-drop i es)) ∙ (same ∙ name_at es i)))))
     ∙ ap (map by_name) (sym (take_more es i no_export lt))))
 
 -- names that are missing
 
-found_in : (test : Bor (List ℕ) → Bool) (name : List ℕ) (es : List Pair) → ((k : Bor (List ℕ)) → test k ≡ bytes_eq name k.now) → AllByRecursion (λ (e : Pair). e.0.now ≡ e.1.name.now) es → is_some (lookup test es) ≡ is_exported (export_entries es) name
+found_in : (test : Bor (List ℕ) → Bool) (name : List ℕ) (es : List Pair) → ((k : Bor (List ℕ)) → test k ≡ bytes_eq name k.now)
+    → AllByRecursion (λ (e : Pair). e.0.now ≡ e.1.name.now) es → is_some (lookup test es) ≡ is_exported (export_entries es) name
 found_in test name [] h n = refl
 found_in test name (e ∷ es) h n =
     step (test e.0) (lookup test es)
@@ -218,15 +231,18 @@ found_in test name (e ∷ es) h n =
     step false o = refl
 
 -- a look-up says whether a name is exported
-pub found_is : (test : Bor (List ℕ) → Bool) (name : List ℕ) (es : List Pair) → ((k : Bor (List ℕ)) → test k ≡ bytes_eq name k.now) → AreNamed es → (b : Bool) → b ≡ is_some (lookup test es) → is_exported (export_entries es) name ≡ b
+pub found_is : (test : Bor (List ℕ) → Bool) (name : List ℕ) (es : List Pair) → ((k : Bor (List ℕ)) → test k ≡ bytes_eq name k.now) → AreNamed es
+    → (b : Bool) → b ≡ is_some (lookup test es) → is_exported (export_entries es) name ≡ b
 found_is test name es h named b e = sym (e ∙ found_in test name es h (recursion_from_All (λ (e : Pair). e.0.now ≡ e.1.name.now) es named))
 
-pub next_missing : (exports : List ExportValue) (left rest : List (String Global)) (x : String Global) → left ≡ x ∷ rest → is_exported exports (string_bytes x) ≡ false → missing_name exports (map string_bytes left) ≡ Some (string_bytes x)
+pub next_missing : (exports : List ExportValue) (left rest : List (String Global)) (x : String Global) → left ≡ x ∷ rest
+    → is_exported exports (string_bytes x) ≡ false → missing_name exports (map string_bytes left) ≡ Some (string_bytes x)
 next_missing exports left rest x e out =
     ap (λ (z : List (String Global)). missing_name exports (map string_bytes z)) e
     ∙ ap (λ (b : Bool). cond (not b) (Some (string_bytes x)) (missing_name exports (map string_bytes rest))) out
 
-pub next_present : (exports : List ExportValue) (left rest : List (String Global)) (x : String Global) → left ≡ x ∷ rest → is_exported exports (string_bytes x) ≡ true → missing_name exports (map string_bytes left) ≡ missing_name exports (map string_bytes rest)
+pub next_present : (exports : List ExportValue) (left rest : List (String Global)) (x : String Global) → left ≡ x ∷ rest
+    → is_exported exports (string_bytes x) ≡ true → missing_name exports (map string_bytes left) ≡ missing_name exports (map string_bytes rest)
 next_present exports left rest x e out =
     ap (λ (z : List (String Global)). missing_name exports (map string_bytes z)) e
     ∙ ap (λ (b : Bool). cond (not b) (Some (string_bytes x)) (missing_name exports (map string_bytes rest))) out

@@ -1,5 +1,5 @@
 -- Items of a module that was read, by their indices.
-use Rattle.std.proofs.Common.{◌≡◌, ℕ, suc, List, [], ◌∷◌, length, map, refl, sym, ◌∙◌, ap, Bool, true, false, cond, ◌&&◌, Option, Some, None}
+use Rattle.std.proofs.Common.{◌≡◌, ℕ, List, [], ◌∷◌, length, map, refl, sym, ◌∙◌, ap, Bool, true, false, cond, ◌&&◌, Option, Some, None}
 use Rattle.std.specs.Prelude.{◌==◌, filter}
 use Rattle.std.specs.List.{slice_get, range_with_len}
 use Rattle.std.specs.Str.{bytes_eq}
@@ -7,6 +7,7 @@ use Rattle.std.specs.Option.{option_map, option_map_or}
 use Rattle.std.specs.Map.{lookup}
 use Rattle.std.specs.Borrow.{Bor}
 use Rattle.std.proofs.lemmas.Option.{slice_get-map}
+use Rattle.std.proofs.lemmas.List.{length-map}
 use Rattle.wc_read.specs.Items.{DefValue, imported, local, func_value, global_value}
 use Rattle.wc_read.specs.Decoding.{body_in, init_in}
 use Rattle.wc_read.specs.declared.items.Item.{Item}
@@ -27,30 +28,32 @@ at_mapped p f xs n o e = ap (λ z. option_map_or p z false) (slice_get-map f xs 
 pub test_func : (a : Module) (p : FuncCode → Bool) (n : ℕ) (o : Option (Item ℕ (Bor (List ℕ)))) → slice_get a.funcs.items n ≡ o
     → option_map_or p (slice_get (decoded_module a).funcs n) false ≡ option_map_or (λ f. p (func_code f)) o false
 unfolding decoded_module
-test_func a p n None e = at_mapped p (item_seen body_in) (map func_value a.funcs.items) n None (slice_get-map func_value a.funcs.items n ∙ ap (option_map func_value) e)
-test_func a p n (Some f) e = at_mapped p (item_seen body_in) (map func_value a.funcs.items) n (Some (func_value f)) (slice_get-map func_value a.funcs.items n ∙ ap (option_map func_value) e)
+test_func a p n None e = at_mapped p (item_seen body_in) (map func_value a.funcs.items) n None (slice_get-map func_value a.funcs.items n
+    ∙ ap (option_map func_value) e)
+test_func a p n (Some f) e = at_mapped p (item_seen body_in) (map func_value a.funcs.items) n (Some (func_value f))
+    (slice_get-map func_value a.funcs.items n ∙ ap (option_map func_value) e)
 
 pub test_global : (a : Module) (p : GlobalCode → Bool) (n : ℕ) (o : Option (Item GlobalType (Bor (List ℕ)))) → slice_get a.globals.items n ≡ o
     → option_map_or p (slice_get (decoded_module a).globals n) false ≡ option_map_or (λ g. p (item_seen init_in (global_value g))) o false
 unfolding decoded_module
-test_global a p n None e = at_mapped p (item_seen init_in) (map global_value a.globals.items) n None (slice_get-map global_value a.globals.items n ∙ ap (option_map global_value) e)
-test_global a p n (Some g) e = at_mapped p (item_seen init_in) (map global_value a.globals.items) n (Some (global_value g)) (slice_get-map global_value a.globals.items n ∙ ap (option_map global_value) e)
+test_global a p n None e = at_mapped p (item_seen init_in) (map global_value a.globals.items) n None (slice_get-map global_value a.globals.items n
+    ∙ ap (option_map global_value) e)
+test_global a p n (Some g) e = at_mapped p (item_seen init_in) (map global_value a.globals.items) n (Some (global_value g))
+    (slice_get-map global_value a.globals.items n ∙ ap (option_map global_value) e)
 
 -- names are those of the map
 
 lookup_seen : (test : ℕ → Bool) (es : List (ℕ × Bor (List ℕ))) → lookup test (map (λ e. (e.0, e.1.now)) es) ≡ option_map (λ b. b.now) (lookup test es)
 lookup_seen test [] = refl
-lookup_seen test (e ∷ es) = elim (test e.0) as (λ b. cond b (Some e.1.now) (lookup test (map (λ e. (e.0, e.1.now)) es)) ≡ option_map (λ b. b.now) (cond b (Some e.1) (lookup test es))) [ true ↦ refl | false ↦ lookup_seen test es ]
+lookup_seen test (e ∷ es) = elim (test e.0) as (λ b. cond b (Some e.1.now) (lookup test (map (λ e. (e.0, e.1.now)) es)) ≡ option_map (λ b. b.now)
+    (cond b (Some e.1) (lookup test es))) [ true ↦ refl | false ↦ lookup_seen test es ]
 
-pub name_at : (a : Module) (n : ℕ) → lookup (λ k. n == k) (decoded_module a).global_names ≡ option_map (λ b. b.now) (lookup (λ k. n == k) a.global_names.entries)
+pub name_at : (a : Module) (n : ℕ) → lookup (λ k. n == k) (decoded_module a).global_names ≡ option_map (λ b. b.now)
+    (lookup (λ k. n == k) a.global_names.entries)
 unfolding decoded_module
 name_at a n = lookup_seen (λ k. n == k) a.global_names.entries
 
 -- how many items a space has
-
-length_map : {A B : Type 0} (f : A → B) (xs : List A) → length (map f xs) ≡ length xs
-length_map f [] = refl
-length_map f (x ∷ xs) = ap suc (length_map f xs)
 
 abbrev pub count_of : Module → Space → ℕ
 count_of a Types = length a.types.items
@@ -61,16 +64,18 @@ count_of a Globals = length a.globals.items
 
 pub size_is : (a : Module) (space : Space) → size_of (decoded_module a) space ≡ count_of a space
 unfolding decoded_module
-size_is a Types = length_map _ a.types.items
-size_is a Funcs = length_map _ (map func_value a.funcs.items) ∙ length_map _ a.funcs.items
-size_is a Tables = length_map _ a.tables.items
-size_is a Memories = length_map _ a.memories.items
-size_is a Globals = length_map _ (map global_value a.globals.items) ∙ length_map _ a.globals.items
+size_is a Types = length-map a.types.items _
+size_is a Funcs = length-map (map func_value a.funcs.items) _ ∙ length-map a.funcs.items _
+size_is a Tables = length-map a.tables.items _
+size_is a Memories = length-map a.memories.items _
+size_is a Globals = length-map (map global_value a.globals.items) _ ∙ length-map a.globals.items _
 
 pub named : (a : Module) (name : List ℕ) (n : ℕ) (o : Option (Bor (List ℕ))) → o ≡ lookup (λ k. n == k) a.global_names.entries
     → option_map_or (λ b. bytes_eq b.now name) o false ≡ has_name (decoded_module a) name n
-named a name n None e = ap (λ o. option_map_or (λ k. bytes_eq k name) (option_map (λ b. b.now) o) false) e ∙ ap (λ o. option_map_or (λ k. bytes_eq k name) o false) (sym (name_at a n))
-named a name n (Some b) e = ap (λ o. option_map_or (λ k. bytes_eq k name) (option_map (λ b. b.now) o) false) e ∙ ap (λ o. option_map_or (λ k. bytes_eq k name) o false) (sym (name_at a n))
+named a name n None e = ap (λ o. option_map_or (λ k. bytes_eq k name) (option_map (λ b. b.now) o) false) e
+    ∙ ap (λ o. option_map_or (λ k. bytes_eq k name) o false) (sym (name_at a n))
+named a name n (Some b) e = ap (λ o. option_map_or (λ k. bytes_eq k name) (option_map (λ b. b.now) o) false) e
+    ∙ ap (λ o. option_map_or (λ k. bytes_eq k name) o false) (sym (name_at a n))
 
 pub realloc_seen : {C D : Type 0} (view : C → D) (d : DefValue C) → is_realloc (def_seen view d) ≡ is_realloc d
 realloc_seen view (imported m n) = refl
@@ -85,7 +90,8 @@ pub found_is : (a : Module) (live : ItemIndex → Bool) (stacks states reallocs 
     → tables ≡ filter (λ n. live (Tables, n)) (range_with_len 0 (length a.tables.items))
     → memories ≡ filter (λ n. live (Memories, n)) (range_with_len 0 (length a.memories.items))
     → empties ≡ filter (λ n. live (Types, n) && is_empty_type_at (decoded_module a) n) (range_with_len 0 (length a.types.items))
-    → record { stacks = stacks; states = states; reallocs = reallocs; tables = tables; memories = memories; empties = empties } ≡ found_in (decoded_module a) live
+    → record { stacks = stacks; states = states; reallocs = reallocs; tables = tables; memories = memories; empties = empties }
+    ≡ found_in (decoded_module a) live
 unfolding found_in
 found_is a live stacks states reallocs tables memories empties s t r b m y =
     let all = λ (space : Space) (p : ℕ → Bool). ap (λ (k : ℕ). filter p (range_with_len 0 k)) (sym (size_is a space)) in

@@ -5,21 +5,10 @@ use Rattle.std.proofs.lemmas.Bool.Decides.{eqb_tells, nat_tests}
 use Rattle.std.specs.Option.{option_map_or}
 use Rattle.std.specs.Borrow.{Bor}
 use Rattle.std.proofs.lemmas.Option.{slice_get_past}
+use Rattle.std.proofs.Math.Bool.{and-true, and-false, or-false}
 use Rattle.wc_read.specs.declared.items.Item.{Item}
 use Rattle.wc_gc.specs.Decoded.{FuncCode, func_code}
-use Rattle.wc_gc.specs.FuncGroups.{has_func}
-
-and_true : (b : Bool) → (b && true) ≡ b
-and_true true = refl
-and_true false = refl
-
-and_false : (b : Bool) → (b && false) ≡ false
-and_false true = refl
-and_false false = refl
-
-or_false : (b : Bool) → (b || false) ≡ b
-or_false true = refl
-or_false false = refl
+use Rattle.wc_gc.specs.Private.FuncGroups.{has_func}
 
 -- filled in up to an index
 
@@ -30,12 +19,13 @@ filled_more p i n h h' b e k s =
           let same : nat_eq n i ≡ true = grind (arith, nat_tests) in
           let now : nat_lt n (i + 1) ≡ true = grind (arith, nat_tests) in
           let past : nat_lt n i ≡ false = grind (arith, nat_tests) in
-          e ∙ (ap (λ z. z || (b && nat_eq n i)) (k ∙ ap (λ z. z && p n) past) ∙ (ap (λ z. b && z) same ∙ (and_true b ∙ (s ∙ (ap p (sym q.1) ∙ ap (λ z. z && p n) (sym now))))))
+          e ∙ (ap (λ z. z || (b && nat_eq n i)) (k ∙ ap (λ z. z && p n) past)
+          ∙ (ap (λ z. b && z) same ∙ (and-true b ∙ (s ∙ (ap p (sym q.1) ∙ ap (λ z. z && p n) (sym now))))))
       | inr q ↦
           let other : nat_eq n i ≡ false = grind (arith, nat_tests) in
           let same : nat_lt n (i + 1) ≡ nat_lt n i = grind (arith, nat_tests) in
-          let none = ap (λ z. b && z) other ∙ and_false b in
-          e ∙ (ap (λ z. h || z) none ∙ (or_false h ∙ (k ∙ ap (λ z. z && p n) (sym same))))
+          let none = ap (λ z. b && z) other ∙ and-false b in
+          e ∙ (ap (λ z. h || z) none ∙ (or-false h ∙ (k ∙ ap (λ z. z && p n) (sym same))))
     ]
 
 pub filled_end : (p : ℕ → Bool) (size n : ℕ) (h : Bool) → h ≡ (nat_lt n size && p n) → (size ≤ n → p n ≡ false) → h ≡ p n
@@ -47,7 +37,8 @@ filled_end p size n h e past = by (nat_lt n size) refl
 
 -- no function has an index past the last
 
-pub none_past : (live : Bool) (test : FuncCode → Bool) (funcs : List (Item ℕ (Bor (List ℕ)))) (n : ℕ) → length funcs ≤ n → (live && has_func test funcs n) ≡ false
+pub none_past : (live : Bool) (test : FuncCode → Bool) (funcs : List (Item ℕ (Bor (List ℕ)))) (n : ℕ) → length funcs ≤ n
+    → (live && has_func test funcs n) ≡ false
 none_past live test funcs n past =
     let none = ap (λ o. option_map_or (λ f. test (func_code f)) o false) (slice_get_past funcs n past) in
-    ap (λ b. live && b) none ∙ and_false live
+    ap (λ b. live && b) none ∙ and-false live

@@ -155,7 +155,7 @@ module _ (may : ItemIndex → Type 0) where
     global_named n c None at h = absurd cc
     global_named n c (Some g) at h = s.globals n g at
 
-    -- where a value of a type is wanted
+    -- where a value of a type is required
     module _ (wanted : ValType) where
       given_named : (b : ℕ) (v : ImmediatesValue) → IsInstr (record { opcode = Byte b; immediates = v }) → (o : Constant) → constant_byte b ≡ Some o
           → (c : ValueClass) → given_by scope wanted v o ≡ Some c → Named v

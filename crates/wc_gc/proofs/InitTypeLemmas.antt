@@ -111,7 +111,7 @@ given_below a c n bound n' bound' below h = go (nat_lt n bound) refl h
     go true under e = rw (lt-ltb n' bound' (below (ltb-true n bound under))) e
     go false under e = absurd cc
 
--- where a value of a type is wanted, and then one of that type under new indices
+-- where a value of a type is required, and then one of that type under new indices
 
 module _ (may : ItemIndex → Type 0) (old after : InitScope) (new : Renumbering) (f : Follows may old after new) (wanted : ValType) where
   abbrev wanted' : ValType

@@ -7,10 +7,10 @@ use Rattle.std.proofs.lemmas.Map.Made.{IsDistinct-from_AllPairs}
 use Rattle.std.proofs.lemmas.Map.Steps.{length-le_from_distinct_below}
 use Rattle.std.proofs.lemmas.Map.Views.{Contains-from_any}
 use Rattle.std.proofs.lemmas.List.Elements.{All-map, All-weaker, All-contains}
+use Rattle.std.proofs.lemmas.List.{length-map, get_or_default}
 use Rattle.wc_read.specs.declared.operators.Space.{Space}
 use Rattle.wc_read.specs.declared.operators.Space.TheVariants.{Types, Funcs, Tables, Memories, Globals}
 use Rattle.wc_gc.specs.Decoded.{DecodedModule, ItemIndex, size_of}
-use Rattle.wc_gc.proofs.ReachLemmas.{get_or_any}
 
 -- the items of all spaces, one space after another
 abbrev pub total : DecodedModule → ℕ
@@ -71,29 +71,29 @@ get-map f [] i d = refl
 get-map f (x ∷ xs) zero d = refl
 get-map f (x ∷ xs) (suc i) d = get-map f xs i d
 
-length_map : {A B : Type 0} (f : A → B) (xs : List A) → length (map f xs) ≡ length xs
-length_map f [] = refl
-length_map f (x ∷ xs) = ap suc (length_map f xs)
-
 abbrev origin : ItemIndex
 origin = (Types, 0)
 
-numbers_differ : (m : DecodedModule) (found : List ItemIndex) → AllPairs (λ x y. x ≢ y) found → All (λ (x : ItemIndex). x.1 < size_of m x.0) found → AllPairs (λ x y. x ≢ y) (map (number_of m) found)
+numbers_differ : (m : DecodedModule) (found : List ItemIndex) → AllPairs (λ x y. x ≢ y) found → All (λ (x : ItemIndex). x.1 < size_of m x.0) found
+    → AllPairs (λ x y. x ≢ y) (map (number_of m) found)
 numbers_differ m found pairs there = λ i j d h k e.
-    let l : length (map (number_of m) found) ≡ length found = length_map (number_of m) found in
+    let l : length (map (number_of m) found) ≡ length found = length-map found (number_of m) in
     let kj : j < length found = omega arith in
     let ki : i < length found = omega arith in
     let read : (n : ℕ) → n < length (map (number_of m) found) → get_or (map (number_of m) found) n d ≡ number_of m (get_or found n origin) =
-    (λ n b. get_or_any (map (number_of m) found) n d (number_of m origin) b ∙ sym (get-map (number_of m) found n origin)) in
+    (λ n b. get_or_default (map (number_of m) found) n d (number_of m origin) b ∙ sym (get-map (number_of m) found n origin)) in
     let lower : i < length (map (number_of m) found) = omega arith in
-    pairs i j origin h kj (same_item m (get_or found i origin) (get_or found j origin) (there i origin ki) (there j origin kj) (sym (read i lower) ∙ (e ∙ read j k)))
+    pairs i j origin h kj (same_item m (get_or found i origin) (get_or found j origin) (there i origin ki) (there j origin kj)
+    (sym (read i lower) ∙ (e ∙ read j k)))
 
 -- items without repeats are at most as many as there are
-pub few_found : (m : DecodedModule) (found : List ItemIndex) → AllPairs (λ x y. x ≢ y) found → All (λ (x : ItemIndex). x.1 < size_of m x.0) found → length found ≤ total m
-few_found m found pairs there =
+pub bounded_found : (m : DecodedModule) (found : List ItemIndex) → AllPairs (λ x y. x ≢ y) found → All (λ (x : ItemIndex). x.1 < size_of m x.0) found
+    → length found ≤ total m
+bounded_found m found pairs there =
     let ks = map (number_of m) found in
-    let small : All (λ (k : ℕ). k < total m) ks = All-map (λ (k : ℕ). k < total m) (number_of m) found (All-weaker (λ (x : ItemIndex). x.1 < size_of m x.0) (λ (x : ItemIndex). number_of m x < total m) (λ x h. within m x.0 x.1 h) found there) in
+    let small : All (λ (k : ℕ). k < total m) ks = All-map (λ (k : ℕ). k < total m) (number_of m) found
+    (All-weaker (λ (x : ItemIndex). x.1 < size_of m x.0) (λ (x : ItemIndex). number_of m x < total m) (λ x h. within m x.0 x.1 h) found there) in
     let most : length ks ≤ total m = length-le_from_distinct_below ks (total m) (IsDistinct-from_AllPairs Decides-eqb ks (numbers_differ m found pairs there))
     (λ q h. All-contains (λ (k : ℕ). k < total m) ks q small (Contains-from_any (λ x y e. eqb-true x y e) q ks h)) in
-    let l : length ks ≡ length found = length_map (number_of m) found in
+    let l : length ks ≡ length found = length-map found (number_of m) in
     omega arith

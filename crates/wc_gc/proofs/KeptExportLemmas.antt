@@ -5,10 +5,9 @@ use Rattle.std.specs.List.{swap_remove}
 use Rattle.std.specs.Option.{option_map_or}
 use Rattle.std.specs.Str.{bytes_eq}
 use Rattle.std.proofs.lemmas.Bool.Decides.{eqb_tells}
-use Rattle.std.proofs.lemmas.List.{get_or-map, get_or-take, get_or-set_same, get_or-set_other, length-take-le, length-set, length-map}
+use Rattle.std.proofs.lemmas.List.{get_or-map, get_or-take, get_or-set_same, get_or-set_other, length-take-le, length-set, length-map, get_or_default}
 use Rattle.wc_read.specs.Exports.{ExportValue}
 use Rattle.wc_gc.specs.KeptExports.{kept_exports, dropped_names, without}
-use Rattle.wc_gc.proofs.ReachLemmas.{get_or_any}
 
 module _ {A : Type 0} (R : A → A → Type 0) (flip : (x y : A) → R x y → R y x) where
   module _ (xs : List A) (i : ℕ) (d : A) (pairs : AllPairs R xs) where
@@ -24,12 +23,14 @@ module _ {A : Type 0} (R : A → A → Type 0) (flip : (x y : A) → R x y → R
     pub at_hole : (k : ℕ) (e : A) → k < Last → k ≡ i → get_or (swap_remove xs i d) k e ≡ get_or xs Last e
     at_hole k e h same =
         get_or-take Last after k e h
-        ∙ (ap (λ j. get_or after j e) same ∙ (get_or-set_same xs i (get_or xs Last d) e (let s : i ≡ k = sym same in omega arith) ∙ get_or_any xs Last d e (omega arith)))
+        ∙ (ap (λ j. get_or after j e) same ∙ (get_or-set_same xs i (get_or xs Last d) e (let s : i ≡ k = sym same in omega arith)
+        ∙ get_or_default xs Last d e (omega arith)))
 
-    pub few_after : length (swap_remove xs i d) ≡ Last
-    few_after = length-take-le Last after (let l = length-set xs i (get_or xs Last d) in omega (arith, l))
+    pub bounded_after : length (swap_remove xs i d) ≡ Last
+    bounded_after = length-take-le Last after (let l = length-set xs i (get_or xs Last d) in omega (arith, l))
 
-    two_of : (k l : ℕ) (e : A) → k < l → l < Last → (k ≡ i) ⊎ (k ≢ i) → (l ≡ i) ⊎ (l ≢ i) → R (get_or (swap_remove xs i d) k e) (get_or (swap_remove xs i d) l e)
+    two_of : (k l : ℕ) (e : A) → k < l → l < Last → (k ≡ i) ⊎ (k ≢ i) → (l ≡ i) ⊎ (l ≢ i)
+        → R (get_or (swap_remove xs i d) k e) (get_or (swap_remove xs i d) l e)
     two_of k l e h below (inl a) (inl b) = absurd (omega arith)
     two_of k l e h below (inl a) (inr b) =
         subst (λ z. R z (get_or (swap_remove xs i d) l e)) (sym (at_hole k e (omega arith) a))
@@ -43,7 +44,7 @@ module _ {A : Type 0} (R : A → A → Type 0) (flip : (x y : A) → R x y → R
 
     pairs_removed : AllPairs R (swap_remove xs i d)
     pairs_removed k l e h below =
-        let few = few_after in
+        let bounded = bounded_after in
         two_of k l e h (omega arith) (elim (eqb_tells k i) [ inl a ↦ inl a.1 | inr b ↦ inr b.1 ]) (elim (eqb_tells l i) [ inl a ↦ inl a.1 | inr b ↦ inr b.1 ])
 
   pairs_or : (xs : List A) (d : A) → AllPairs R xs → (o : Option ℕ) → AllPairs R (option_map_or (λ i. swap_remove xs i d) o xs)
@@ -68,11 +69,13 @@ module _ (R : ExportValue → ExportValue → Type 0) (flip : (x y : ExportValue
 pub pairs_named : {A : Type 0} (name : A → List ℕ) (xs : List A) → AllPairs (λ x y. x ≢ y) (map name xs) → AllPairs (λ x y. name x ≢ name y) xs
 pairs_named name xs pairs i j d h below e =
     let l = length-map xs name in
-    pairs i j (name d) h (omega (arith, l, below)) (get_or-map name xs i d (name d) (omega (arith, h, below)) ∙ (e ∙ sym (get_or-map name xs j d (name d) below)))
+    pairs i j (name d) h (omega (arith, l, below)) (get_or-map name xs i d (name d) (omega (arith, h, below))
+    ∙ (e ∙ sym (get_or-map name xs j d (name d) below)))
 
 pub names_of_pairs : {A : Type 0} (name : A → List ℕ) (xs : List A) → AllPairs (λ x y. name x ≢ name y) xs → AllPairs (λ x y. x ≢ y) (map name xs)
 names_of_pairs name [] pairs i j d h below e = absurd (omega arith)
 names_of_pairs name (x ∷ xs) pairs i j d h below e =
     let l = length-map (x ∷ xs) name in
-    let read : (n : ℕ) → n < length (map name (x ∷ xs)) → get_or (map name (x ∷ xs)) n d ≡ name (get_or (x ∷ xs) n x) = λ n b. get_or-map name (x ∷ xs) n x d (omega (arith, l, b)) in
+    let read : (n : ℕ) → n < length (map name (x ∷ xs)) → get_or (map name (x ∷ xs)) n d ≡ name (get_or (x ∷ xs) n x) =
+    λ n b. get_or-map name (x ∷ xs) n x d (omega (arith, l, b)) in
     pairs i j x h (omega (arith, l, below)) (sym (read i (omega (arith, h, below))) ∙ (e ∙ read j below))

@@ -149,8 +149,8 @@ module _ (e realloc stack state : ℕ) (distinct : stack ≢ state) where
   unasked_asks : {x : Situation} → IsUnasked x → IsGlobal x.store state 0 → IsAsked (event_of e realloc stack state begins x)
   unasked_asks (unasked s stack_there state_there) h = subst IsAsked (sym (at_zero s h)) (is_asking (with_global s state 1) (taken s 1 stack_there state_there (λ one. cc)))
 
-  unasked_few : {x : Situation} → IsUnasked x → length x.requests ≤ 1
-  unasked_few (unasked s stack_there state_there) = omega arith
+  unasked_bounded : {x : Situation} → IsUnasked x → length x.requests ≤ 1
+  unasked_bounded (unasked s stack_there state_there) = omega arith
 
   unasked_waits : {x : Situation} → IsUnasked x → x.open_calls ≡ []
   unasked_waits (unasked s stack_there state_there) = refl
@@ -212,9 +212,9 @@ module _ (e realloc stack state : ℕ) (distinct : stack ≢ state) where
     run_then : (events later : List Event) (event : Event) → run_of e realloc stack state (events ++ (event ∷ later)) (start_of s) ≡ run_of e realloc stack state later (event_of e realloc stack state event (run_of e realloc stack state events (start_of s)))
     run_then events later event = after-append e (stack_body realloc stack (Some state)) state events (event ∷ later) (start_of s)
 
-    few_requests : (events : List Event) → All WritesNoZero events → length (run_of e realloc stack state events (start_of s)).requests ≤ 1
-    few_requests events all = elim (unasked_run events all start) [
-      | inl k ↦ unasked_few k
+    bounded_requests : (events : List Event) → All WritesNoZero events → length (run_of e realloc stack state events (start_of s)).requests ≤ 1
+    bounded_requests events all = elim (unasked_run events all start) [
+      | inl k ↦ unasked_bounded k
       | inr k ↦ rw (asked_once k) (omega arith)
     ]
 
@@ -233,7 +233,7 @@ module _ (e realloc stack state : ℕ) (distinct : stack ≢ state) where
 module _ (realloc stack state : ℕ) (distinct : stack ≢ state) where
   allocates_once : (e : ℕ) (s : Store) → IsThere s stack → IsThere s state → AllocatesOnce realloc stack state (stack_body realloc stack (Some state)) e s
   allocates_once e s stack_there state_there = record {
-    at_most_once = few_requests e realloc stack state distinct s stack_there state_there;
+    at_most_once = bounded_requests e realloc stack state distinct s stack_there state_there;
     once_at_zero = asked_at_zero e realloc stack state distinct s stack_there state_there;
     then_allocated = allocated_then e realloc stack state distinct s stack_there state_there;
     goes_on = λ events all none. unasked_runs_on e realloc stack state distinct events all none (start e realloc stack state distinct s stack_there state_there) refl;

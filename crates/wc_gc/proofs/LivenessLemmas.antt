@@ -1,10 +1,12 @@
 -- The causes of faults of liveness, and their order.
-use Rattle.std.proofs.Common.{◌≡◌, ◌≢◌, ℕ, suc, ◌<◌, List, [], ◌∷◌, length, map, refl, sym, ◌∙◌, ap, subst, Bool, true, false, Option, Some, None, ◌⊎◌, inl, inr, arith, String, Global}
+use Rattle.std.proofs.Common.{◌≡◌, ◌≢◌, ℕ, ◌<◌, List, [], ◌∷◌, map, refl, sym, ◌∙◌, ap, subst, Bool, true, false, Option, Some, None, ◌⊎◌, inl, inr, arith}
+use Rattle.std.proofs.Common.{String, Global}
 use Rattle.std.specs.Prelude.{IsTrue, All, ◌↔◌, Result, Ok, Err, IfOk, IfErr, IsOk, IsErrOf, string_bytes, nat_lt}
 use Rattle.std.specs.Map.{values_of}
 use Rattle.std.specs.Borrow.{Bor}
-use Rattle.std.proofs.lemmas.Bool.{lt-ltb}
+use Rattle.std.proofs.lemmas.Bool.{lt-ltb, both_ways}
 use Rattle.std.proofs.lemmas.List.Elements.{All-map, All-weaker}
+use Rattle.std.proofs.lemmas.List.{length-map}
 use Rattle.wc_read.specs.Faults.{SpellsNothing}
 use Rattle.wc_read.specs.Sections.{IsComponent}
 use Rattle.wc_read.specs.Exports.{ExportValue, export_value}
@@ -21,8 +23,9 @@ use Rattle.wc_gc.specs.Entries.{refs_in}
 use Rattle.wc_gc.specs.Faults.{of_read}
 use Rattle.wc_gc.specs.KeptExports.{kept_exports, missing_name, export_entries}
 use Rattle.wc_gc.specs.Reached.{IsReachedFrom}
-use Rattle.wc_gc.specs.Soundness.{is_sound_at}
-use Rattle.wc_gc.specs.Liveness.{IsCount, HasLiveBody, HasUnsupported, IsSupported, IsLive, IsLivenessOf, IsLiveness, IsFaultOf, Wanted, IsCause, IsFault, order_of}
+use Rattle.wc_gc.specs.InRange.{is_item_in_range}
+use Rattle.wc_gc.specs.Liveness.{IsCount, HasLiveBody, HasUnsupported, IsSupported, IsLive, IsLivenessOf, IsLiveness, IsFaultOf, TrimInput, IsCause, IsFault}
+use Rattle.wc_gc.specs.Liveness.{order_of}
 use Rattle.wc_gc.specs.declared.fault.GcFault.{GcFault}
 use Rattle.wc_gc.specs.declared.fault.GcFault.TheVariants.{Memory, Read, MissingExport, UnsupportedSection, LiveBody}
 use Rattle.wc_gc.proofs.ExportLemmas.{all_kept}
@@ -33,20 +36,17 @@ pub values_are : (es : List (Bor (List ℕ) × Export)) → map (λ e. exported_
 values_are [] = refl
 values_are (e ∷ es) = ap (λ xs. exported_item (export_value e.1) ∷ xs) (values_are es)
 
-length_map : {A B : Type 0} (f : A → B) (xs : List A) → length (map f xs) ≡ length xs
-length_map f [] = refl
-length_map f (x ∷ xs) = ap suc (length_map f xs)
-
 size_is : (m : ModuleValue) (k : ExportKind) → count_of m k ≡ size_of (decode m) (space_of k)
-size_is m Func = sym (length_map _ m.funcs)
+size_is m Func = sym (length-map m.funcs _)
 size_is m Table = refl
 size_is m MemoryKind = refl
-size_is m GlobalKind = sym (length_map _ m.globals)
+size_is m GlobalKind = sym (length-map m.globals _)
 
 pub export_there : (m : ModuleValue) (e : ExportValue) → e.index < count_of m e.kind → IsTrue (is_in (decode m) (exported_item e))
 export_there m e h = ap (nat_lt e.index) (sym (size_is m e.kind)) ∙ lt-ltb e.index (count_of m e.kind) h
 
-pub roots_there : (a : Module) (required : List (List ℕ)) (roots : List ItemIndex) → IsModule (module_value a) → roots ≡ map exported_item (kept_exports required (module_value a).exports)
+pub roots_there : (a : Module) (required : List (List ℕ)) (roots : List ItemIndex) → IsModule (module_value a)
+    → roots ≡ map exported_item (kept_exports required (module_value a).exports)
     → All (λ (x : ItemIndex). IsTrue (is_in (decoded_module a) x)) roots
 unfolding decoded_module
 roots_there a required roots valid e =
@@ -54,30 +54,31 @@ roots_there a required roots valid e =
     subst (All (λ (x : ItemIndex). IsTrue (is_in (decode m) x))) (sym e)
     (All-map (λ (x : ItemIndex). IsTrue (is_in (decode m) x)) exported_item (kept_exports required m.exports)
     (all_kept (λ (v : ExportValue). IsTrue (is_in (decode m) (exported_item v))) required m.exports
-    (All-weaker (λ (v : ExportValue). v.index < count_of m v.kind) (λ (v : ExportValue). IsTrue (is_in (decode m) (exported_item v))) (export_there m) m.exports valid.exported)))
+    (All-weaker (λ (v : ExportValue). v.index < count_of m v.kind) (λ (v : ExportValue). IsTrue (is_in (decode m) (exported_item v)))
+    (export_there m) m.exports valid.exported)))
 
 -- what a search of these roots says of a module
 
 module _ (a : Module) (required : List (List ℕ)) (roots : List ItemIndex) where
   pub liveness_is : (live : ItemIndex → Bool) (turns : ℕ) → roots ≡ map exported_item (kept_exports required (module_value a).exports)
-      → ((x : ItemIndex) → IsTrue (live x) ↔ IsReachedFrom (refs_in (decoded_module a)) roots x) → IsCount (IsReachedFrom (refs_in (decoded_module a)) roots) turns
-      → ((x : ItemIndex) → IsReachedFrom (refs_in (decoded_module a)) roots x → is_sound_at (decoded_module a) x ≡ true)
+      → ((x : ItemIndex) → IsTrue (live x) ↔ IsReachedFrom (refs_in (decoded_module a)) roots x)
+      → IsCount (IsReachedFrom (refs_in (decoded_module a)) roots) turns
+      → ((x : ItemIndex) → IsReachedFrom (refs_in (decoded_module a)) roots x → is_item_in_range (decoded_module a) x ≡ true)
       → IsSupported required (module_value a) → IsLivenessOf required (module_value a) live turns
   unfolding decoded_module
-  liveness_is live turns e reached counted sound supported =
+  liveness_is live turns e reached counted in_range supported =
       let m = module_value a in
       record {
         is_live = λ x. subst (λ (z : List ItemIndex). IsTrue (live x) ↔ IsReachedFrom (refs_in (decode m)) z x) e (reached x);
         counted = subst (λ (z : List ItemIndex). IsCount (IsReachedFrom (refs_in (decode m)) z) turns) e counted;
         supported = supported;
-        sound = λ bad. absurd (differ (subst (λ (z : List ItemIndex). (x : ItemIndex) → IsReachedFrom (refs_in (decode m)) z x → is_sound_at (decode m) x ≡ true) e sound bad.0 bad.1) bad.2);
+        in_range = λ bad. absurd (both_ways _ bad.2 (subst (λ (z : List ItemIndex). (x : ItemIndex) → IsReachedFrom (refs_in (decode m)) z x
+            → is_item_in_range (decode m) x ≡ true) e in_range bad.0 bad.1));
       }
-    where
-      differ : {b : Bool} → b ≡ true → b ≡ false → ⊥
-      differ p q = cc (p, q)
 
   pub live_fault : (f : GcFault) → roots ≡ map exported_item (kept_exports required (module_value a).exports) → IsSupported required (module_value a)
-      → (f ≡ Memory) ⊎ ((f ≡ LiveBody) × (x : ItemIndex) × IsReachedFrom (refs_in (decoded_module a)) roots x × (is_sound_at (decoded_module a) x ≡ false)) → IsFaultOf required (module_value a) f
+      → (f ≡ Memory) ⊎ ((f ≡ LiveBody) × (x : ItemIndex) × IsReachedFrom (refs_in (decoded_module a)) roots x
+      × (is_item_in_range (decoded_module a) x ≡ false)) → IsFaultOf required (module_value a) f
   unfolding decoded_module
   live_fault f e supported (inl is) = subst (IsFaultOf required (module_value a)) (sym is) refl
   live_fault f e supported (inr is) =
@@ -88,16 +89,18 @@ module _ (a : Module) (required : List (List ℕ)) (roots : List ItemIndex) wher
 pub missing_fault : (required : List (List ℕ)) (m : ModuleValue) (exports : List ExportValue) (f : GcFault) → exports ≡ m.exports
     → (f ≡ Memory) ⊎ ((name : String Global) × (f ≡ MissingExport name) × (missing_name exports required ≡ Some (string_bytes name))) → IsFaultOf required m f
 missing_fault required m exports f e (inl is) = subst (IsFaultOf required m) (sym is) refl
-missing_fault required m exports f e (inr is) = subst (IsFaultOf required m) (sym is.1) (subst (λ (z : List ExportValue). missing_name z required ≡ Some (string_bytes is.0)) e is.2)
+missing_fault required m exports f e (inr is) =
+    subst (IsFaultOf required m) (sym is.1) (subst (λ (z : List ExportValue). missing_name z required ≡ Some (string_bytes is.0)) e is.2)
 
 -- the order of faults
 
 some_or_none : {A : Type 0} {o : Option A} {x : A} → o ≡ None → o ≡ Some x → ⊥
 some_or_none p q = absurd (cc (p, q))
 
-module _ (w : Wanted) (m : ModuleValue) (s : SpellsModule w.bytes m) where
+module _ (w : TrimInput) (m : ModuleValue) (s : SpellsModule w.bytes m) where
   not_missing : missing_name m.exports w.required ≡ None → (name : String Global) → ¬ (IsCause w (MissingExport name))
-  not_missing none name c = some_or_none none (subst (λ (v : ModuleValue). missing_name v.exports w.required ≡ Some (string_bytes name)) (modules_one w.bytes c.0 m c.1 s) c.2)
+  not_missing none name c = some_or_none none (subst (λ (v : ModuleValue). missing_name v.exports w.required ≡ Some (string_bytes name))
+      (modules_one w.bytes c.0 m c.1 s) c.2)
 
   not_unsupported : ¬ (HasUnsupported m) → ¬ (IsCause w UnsupportedSection)
   not_unsupported none c = none (subst HasUnsupported (modules_one w.bytes c.0 m c.1 s) c.2)
@@ -138,12 +141,12 @@ module _ (w : Wanted) (m : ModuleValue) (s : SpellsModule w.bytes m) where
   fault_of f h = inl h
 
   pub no_cause_of : IsSupported w.required m → ¬ (HasLiveBody w.required m) → (f : GcFault) → ¬ (IsCause w f)
-  no_cause_of none sound Memory c = c.2
-  no_cause_of none sound (Read r) c = c.0 m s
-  no_cause_of none sound (MissingExport name) c = not_missing none.0 name c
-  no_cause_of none sound UnsupportedSection c = not_unsupported none.1 c
-  no_cause_of none sound LiveBody c = not_live sound c
-  no_cause_of none sound f c = c.2
+  no_cause_of none in_range Memory c = c.2
+  no_cause_of none in_range (Read r) c = c.0 m s
+  no_cause_of none in_range (MissingExport name) c = not_missing none.0 name c
+  no_cause_of none in_range UnsupportedSection c = not_unsupported none.1 c
+  no_cause_of none in_range LiveBody c = not_live in_range c
+  no_cause_of none in_range f c = c.2
 
   -- what was answered of a module that was read, of the bytes
 
@@ -151,17 +154,19 @@ module _ (w : Wanted) (m : ModuleValue) (s : SpellsModule w.bytes m) where
   fault_answer (Ok x) h = h
   fault_answer (Err f) h = fault_of f h
 
-  pub live_answer : {T : Type 0} (live : T → ItemIndex → Bool) (turns : T → ℕ) (r : Result T GcFault) → IfOk r (λ l. IsLivenessOf w.required m (live l) (turns l)) → IfOk r (λ l. IsLiveness w (live l) (turns l))
+  pub live_answer : {T : Type 0} (live : T → ItemIndex → Bool) (turns : T → ℕ) (r : Result T GcFault)
+      → IfOk r (λ l. IsLivenessOf w.required m (live l) (turns l)) → IfOk r (λ l. IsLiveness w (live l) (turns l))
   live_answer live turns (Ok x) h = (m, s, h)
   live_answer live turns (Err f) h = h
 
-  pub no_cause_answer : {T : Type 0} (live : T → ItemIndex → Bool) (turns : T → ℕ) (r : Result T GcFault) → IfOk r (λ l. IsLivenessOf w.required m (live l) (turns l)) → IsOk r → (f : GcFault) → ¬ (IsCause w f)
-  no_cause_answer live turns (Ok x) h ok = no_cause_of h.supported h.sound
+  pub no_cause_answer : {T : Type 0} (live : T → ItemIndex → Bool) (turns : T → ℕ) (r : Result T GcFault)
+      → IfOk r (λ l. IsLivenessOf w.required m (live l) (turns l)) → IsOk r → (f : GcFault) → ¬ (IsCause w f)
+  no_cause_answer live turns (Ok x) h ok = no_cause_of h.supported h.in_range
   no_cause_answer live turns (Err f) h ok = absurd cc
 
 -- bytes that are no module
 
-not_read : (w : Wanted) (g : GcFault) → order_of g < 1 → ¬ (IsCause w g)
+not_read : (w : TrimInput) (g : GcFault) → order_of g < 1 → ¬ (IsCause w g)
 not_read w Memory h c = c.2
 not_read w (Read r) h c = absurd (omega arith)
 not_read w (MissingExport name) h c = absurd (omega arith)
@@ -169,15 +174,24 @@ not_read w UnsupportedSection h c = absurd (omega arith)
 not_read w LiveBody h c = absurd (omega arith)
 not_read w g h c = c.2
 
-pub read_fault : {T : Type 0} (w : Wanted) (f : ReadFault) → (f ≢ read_memory → SpellsNothing SpellsModule w.bytes) → (IsErrOf {T = T} (Err f) Component ↔ IsComponent w.bytes) → IsFault w (of_read f)
+pub read_fault : {T : Type 0} (w : TrimInput) (f : ReadFault) → (f ≢ read_memory → SpellsNothing SpellsModule w.bytes)
+    → (IsErrOf {T = T} (Err f) Component ↔ IsComponent w.bytes) → IsFault w (of_read f)
 read_fault w read_memory nothing component = inl refl
-read_fault w f nothing component = inr ((nothing (λ e. absurd cc), (λ e. absurd cc), ((λ e. component.0 (ap Err e)), (λ h. let is = component.1 h in cc))), not_read w)
+read_fault w f nothing component = inr (
+  (
+    nothing (λ e. absurd cc),
+    (λ e. absurd cc),
+    ((λ e. component.0 (ap Err e)), (λ h. let is = component.1 h in cc)),
+  ),
+  not_read w,
+)
 
 -- what is live is live by any test of the same answers
-pub same_live : (required : List (List ℕ)) (m : ModuleValue) (live other : ItemIndex → Bool) (turns : ℕ) → ((x : ItemIndex) → live x ≡ other x) → IsLivenessOf required m other turns → IsLivenessOf required m live turns
+pub same_live : (required : List (List ℕ)) (m : ModuleValue) (live other : ItemIndex → Bool) (turns : ℕ) → ((x : ItemIndex) → live x ≡ other x)
+    → IsLivenessOf required m other turns → IsLivenessOf required m live turns
 same_live required m live other turns same h = record {
   is_live = λ x. subst (λ (b : Bool). IsTrue b ↔ IsLive required m x) (sym (same x)) (h.is_live x);
   counted = h.counted;
   supported = h.supported;
-  sound = h.sound;
+  in_range = h.in_range;
 }

@@ -7,12 +7,12 @@ use Rattle.std.proofs.Common.{true, false, cond, ◌≡◌, ℕ, ◌+◌, ◌-�
 use Rattle.wc_gc.specs.Counts.{count_below}
 use Rattle.wc_gc.specs.Ranks.{has_number, rank_of}
 use Rattle.wc_gc.specs.declared.new_indices.NewIndices.{NewIndices}
-use Rattle.wc_gc.proofs.RankLemmas.{few_below, more_below, both_below}
+use Rattle.wc_gc.proofs.RankLemmas.{bounded_below, more_below, both_below}
 
 -- they are numbers of 32 bits, also past the last item
 
 pub type_room : (n : NewIndices) (x : ℕ) → n.counts.types ≤ x → x < 2 ^ 32 → n.live_types + (x - n.counts.types) < 2 ^ 32
-type_room n x h small = omega (arith, few_below (has_number n.ranks.types) n.counts.types, n.types_counted)
+type_room n x h small = omega (arith, bounded_below (has_number n.ranks.types) n.counts.types, n.types_counted)
 
 pub func_room : (n : NewIndices) (x : ℕ) → n.counts.funcs ≤ x → x < 2 ^ 32 → n.live_imports + n.live_defined + (x - n.counts.funcs) < 2 ^ 32
 func_room n x h small =

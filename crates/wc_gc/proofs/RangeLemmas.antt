@@ -1,8 +1,10 @@
 -- Sorted ranges, and the numbers in them.
-use Rattle.std.proofs.Common.{◌≡◌, ◌≢◌, ℕ, zero, suc, ◌+◌, ◌-◌, ◌<◌, ◌≤◌, List, [], ◌∷◌, length, get_or, set, insert, remove, refl, sym, ◌∙◌, ap, subst, Bool, true, false, ◌&&◌, ◌||◌, nat_le, nat_eq, inl, inr, arith}
+use Rattle.std.proofs.Common.{◌≡◌, ◌≢◌, ℕ, zero, suc, ◌+◌, ◌-◌, ◌<◌, ◌≤◌, List, [], ◌∷◌, length, get_or, set, insert, remove, refl, sym, ◌∙◌, ap, subst, Bool}
+use Rattle.std.proofs.Common.{true, false, ◌&&◌, ◌||◌, nat_le, nat_eq, inl, inr, arith}
 use Rattle.std.proofs.lemmas.Bool.Decides.{eqb_tells, nat_tests}
+use Rattle.std.proofs.lemmas.List.{get_or_default}
 use Rattle.wc_gc.specs.Ranges.{is_within, in_ranges, AreRanges}
-use Rattle.wc_gc.specs.Positions.{IsCut, joined_at}
+use Rattle.wc_gc.specs.Private.Positions.{IsCut, joined_at}
 use Rattle.wc_gc.specs.LiveSets.{Inserts}
 
 -- sorted ranges that neither overlap nor touch, from a number on
@@ -48,7 +50,7 @@ separate low (r ∷ rs) a (suc i) (suc j) d lt within = separate (r.1 + 2) rs a.
 pub ranges_from : (low : ℕ) (rs : List (ℕ × ℕ)) → AreFrom low rs → AreRanges rs
 ranges_from low rs a = (filled low rs a, separate low rs a)
 
--- no number in front of them is in one
+-- no number before them is in one
 pub none_below : (low x : ℕ) (rs : List (ℕ × ℕ)) → AreFrom low rs → x < low → in_ranges rs x ≡ false
 none_below low x [] a lt = refl
 none_below low x (r ∷ rs) a lt =
@@ -83,10 +85,15 @@ in_none x (r ∷ rs) zero cut h = absurd (omega arith)
 in_none x (r ∷ rs) (suc i) cut h = past x r (in_ranges rs x) cut.0 ∙ in_none x rs i cut.1 (omega arith)
 
 -- a cut by indices
-pub cut_at : (x : ℕ) (rs : List (ℕ × ℕ)) (i : ℕ) → i ≤ length rs → ((k : ℕ) (d : ℕ × ℕ) → k < i → (get_or rs k d).1 < x) → ((k : ℕ) (d : ℕ × ℕ) → i ≤ k → k < length rs → x ≤ (get_or rs k d).1) → IsCut x rs i
+pub cut_at : (x : ℕ) (rs : List (ℕ × ℕ)) (i : ℕ) → i ≤ length rs → ((k : ℕ) (d : ℕ × ℕ) → k < i → (get_or rs k d).1 < x)
+    → ((k : ℕ) (d : ℕ × ℕ) → i ≤ k → k < length rs → x ≤ (get_or rs k d).1) → IsCut x rs i
 cut_at x [] i h before after = omega arith
 cut_at x (r ∷ rs) zero h before after = after 0 r (omega arith) (omega arith)
-cut_at x (r ∷ rs) (suc i) h before after = (before 0 r (omega arith), cut_at x rs i (omega arith) (λ k d lt. before (suc k) d (omega arith)) (λ k d le lt. after (suc k) d (omega arith) (omega arith)))
+cut_at x (r ∷ rs) (suc i) h before after = (
+  before 0 r (omega arith),
+  cut_at x rs i (omega arith) (λ k d lt. before (suc k) d (omega arith))
+      (λ k d le lt. after (suc k) d (omega arith) (omega arith)),
+)
 
 -- ends grow
 pub ends_grow : (rs : List (ℕ × ℕ)) → AreRanges rs → (k m : ℕ) (d : ℕ × ℕ) → k ≤ m → m < length rs → (get_or rs k d).1 ≤ (get_or rs m d).1
@@ -96,19 +103,14 @@ ends_grow rs a k m d le lt =
       | inr n ↦ let ne : k ≢ m = n.1 in let less : k < m = omega arith in omega (arith, a.1 k m d less lt, a.0 m d lt)
     ]
 
-pub any_default : (rs : List (ℕ × ℕ)) (k : ℕ) (d e : ℕ × ℕ) → k < length rs → get_or rs k d ≡ get_or rs k e
-any_default [] k d e lt = absurd (omega arith)
-any_default (r ∷ rs) zero d e lt = refl
-any_default (r ∷ rs) (suc k) d e lt = any_default rs k d e (omega arith)
-
 pub ends_before : (rs : List (ℕ × ℕ)) → AreRanges rs → (k m x : ℕ) (d e : ℕ × ℕ) → k ≤ m → m < length rs → (get_or rs m e).1 < x → (get_or rs k d).1 < x
 ends_before rs a k m x d e le lt h =
-    let same = ap (λ (r : ℕ × ℕ). r.1) (any_default rs m d e lt) in
+    let same = ap (λ (r : ℕ × ℕ). r.1) (get_or_default rs m d e lt) in
     omega (arith, ends_grow rs a k m d le lt, same)
 
 pub ends_after : (rs : List (ℕ × ℕ)) → AreRanges rs → (k m x : ℕ) (d e : ℕ × ℕ) → m ≤ k → k < length rs → x ≤ (get_or rs m e).1 → x ≤ (get_or rs k d).1
 ends_after rs a k m x d e le lt h =
-    let same = ap (λ (r : ℕ × ℕ). r.1) (any_default rs m d e (omega arith)) in
+    let same = ap (λ (r : ℕ × ℕ). r.1) (get_or_default rs m d e (omega arith)) in
     omega (arith, ends_grow rs a m k d le lt, same)
 
 -- one number more
@@ -143,7 +145,8 @@ or_or_or a false true c f h = rw h refl
 or_or_or a false false c f h = rw h refl
 
 -- a range of its own
-pub put_from : (low x : ℕ) (rs : List (ℕ × ℕ)) (i : ℕ) → AreFrom low rs → low ≤ x → i ≤ length rs → ((k : ℕ) (d : ℕ × ℕ) → k < i → (get_or rs k d).1 + 1 < x) → ((d : ℕ × ℕ) → i < length rs → x + 1 < (get_or rs i d).0)
+pub put_from : (low x : ℕ) (rs : List (ℕ × ℕ)) (i : ℕ) → AreFrom low rs → low ≤ x → i ≤ length rs
+    → ((k : ℕ) (d : ℕ × ℕ) → k < i → (get_or rs k d).1 + 1 < x) → ((d : ℕ × ℕ) → i < length rs → x + 1 < (get_or rs i d).0)
     → AreFrom low (insert rs i (x, x)) × Adds rs (insert rs i (x, x)) x
 put_from low x [] zero a h le before after = ((h, (omega arith, tt)), λ y. ap (λ b. b || false) (one_is x y))
 put_from low x [] (suc i) a h le before after = absurd (omega arith)
@@ -156,20 +159,25 @@ put_from low x (r ∷ rs) (suc i) a h le before after =
     ((a.0, (a.1.0, more.0)), λ y. swap_or (is_within y r) (nat_eq y x) (in_ranges (insert rs i (x, x)) y) (in_ranges rs y) (more.1 y))
 
 -- a range that ends there
-pub longer_from : (low x : ℕ) (rs : List (ℕ × ℕ)) (j : ℕ) (d : ℕ × ℕ) → AreFrom low rs → j < length rs → (get_or rs j d).1 + 1 ≡ x → ((d : ℕ × ℕ) → suc j < length rs → x + 1 < (get_or rs (suc j) d).0)
+pub longer_from : (low x : ℕ) (rs : List (ℕ × ℕ)) (j : ℕ) (d : ℕ × ℕ) → AreFrom low rs → j < length rs → (get_or rs j d).1 + 1 ≡ x
+    → ((d : ℕ × ℕ) → suc j < length rs → x + 1 < (get_or rs (suc j) d).0)
     → AreFrom low (set rs j ((get_or rs j d).0, x)) × Adds rs (set rs j ((get_or rs j d).0, x)) x
 longer_from low x [] j d a lt e after = absurd (omega arith)
 longer_from low x (r ∷ []) zero d a lt e after =
     ((a.0, (omega (arith, a.1.0), tt)), λ y. or_or (is_within y (r.0, x)) (nat_eq y x) (is_within y r) false (longer_is r.0 r.1 x y a.1.0 e))
 longer_from low x (r ∷ s ∷ rs) zero d a lt e after =
-    let next : x + 1 < s.0 = after s (omega arith) in
-    ((a.0, (omega (arith, a.1.0), (omega arith, a.1.1.1))), λ y. or_or (is_within y (r.0, x)) (nat_eq y x) (is_within y r) (in_ranges (s ∷ rs) y) (longer_is r.0 r.1 x y a.1.0 e))
+    let next : x + 1 < s.0 = after s (omega arith) in (
+      (a.0, (omega (arith, a.1.0), (omega arith, a.1.1.1))),
+      λ y. or_or (is_within y (r.0, x)) (nat_eq y x) (is_within y r) (in_ranges (s ∷ rs) y)
+          (longer_is r.0 r.1 x y a.1.0 e),
+    )
 longer_from low x (r ∷ rs) (suc j) d a lt e after =
     let more = longer_from (r.1 + 2) x rs j d a.1.1 (omega arith) e (λ d lt. after d (omega arith)) in
     ((a.0, (a.1.0, more.0)), λ y. swap_or (is_within y r) (nat_eq y x) (in_ranges (set rs j ((get_or rs j d).0, x)) y) (in_ranges rs y) (more.1 y))
 
 -- a range that begins there
-pub earlier_from : (low x : ℕ) (rs : List (ℕ × ℕ)) (i : ℕ) (d : ℕ × ℕ) → AreFrom low rs → low ≤ x → i < length rs → x + 1 ≡ (get_or rs i d).0 → ((k : ℕ) (d : ℕ × ℕ) → k < i → (get_or rs k d).1 + 1 < x)
+pub earlier_from : (low x : ℕ) (rs : List (ℕ × ℕ)) (i : ℕ) (d : ℕ × ℕ) → AreFrom low rs → low ≤ x → i < length rs → x + 1 ≡ (get_or rs i d).0
+    → ((k : ℕ) (d : ℕ × ℕ) → k < i → (get_or rs k d).1 + 1 < x)
     → AreFrom low (set rs i (x, (get_or rs i d).1)) × Adds rs (set rs i (x, (get_or rs i d).1)) x
 earlier_from low x [] i d a h lt e before = absurd (omega arith)
 earlier_from low x (r ∷ rs) zero d a h lt e before =
@@ -180,15 +188,23 @@ earlier_from low x (r ∷ rs) (suc i) d a h lt e before =
     ((a.0, (a.1.0, more.0)), λ y. swap_or (is_within y r) (nat_eq y x) (in_ranges (set rs i (x, (get_or rs i d).1)) y) (in_ranges rs y) (more.1 y))
 
 -- two ranges that become one
-pub joined_from : (low x : ℕ) (rs : List (ℕ × ℕ)) (j : ℕ) (d : ℕ × ℕ) → AreFrom low rs → suc j < length rs → (get_or rs j d).1 + 1 ≡ x → x + 1 ≡ (get_or rs (suc j) d).0
-    → AreFrom low (remove (set rs j ((get_or rs j d).0, (get_or rs (suc j) d).1)) (suc j)) × Adds rs (remove (set rs j ((get_or rs j d).0, (get_or rs (suc j) d).1)) (suc j)) x
+pub joined_from : (low x : ℕ) (rs : List (ℕ × ℕ)) (j : ℕ) (d : ℕ × ℕ) → AreFrom low rs → suc j < length rs → (get_or rs j d).1 + 1 ≡ x
+    → x + 1 ≡ (get_or rs (suc j) d).0
+    → AreFrom low (remove (set rs j ((get_or rs j d).0, (get_or rs (suc j) d).1)) (suc j))
+    × Adds rs (remove (set rs j ((get_or rs j d).0, (get_or rs (suc j) d).1)) (suc j)) x
 joined_from low x [] j d a lt e f = absurd (omega arith)
 joined_from low x (r ∷ []) j d a lt e f = absurd (omega arith)
-joined_from low x (r ∷ s ∷ rs) zero d a lt e f =
-    ((a.0, (omega (arith, a.1.0, a.1.1.1.0), a.1.1.1.1)), λ y. or_or_or (is_within y (r.0, s.1)) (nat_eq y x) (is_within y r) (is_within y s) (in_ranges rs y) (joined_is r.0 r.1 s.0 s.1 x y a.1.0 a.1.1.1.0 e f))
+joined_from low x (r ∷ s ∷ rs) zero d a lt e f = (
+  (a.0, (omega (arith, a.1.0, a.1.1.1.0), a.1.1.1.1)),
+  λ y. or_or_or (is_within y (r.0, s.1)) (nat_eq y x) (is_within y r) (is_within y s)
+      (in_ranges rs y) (joined_is r.0 r.1 s.0 s.1 x y a.1.0 a.1.1.1.0 e f),
+)
 joined_from low x (r ∷ s ∷ rs) (suc j) d a lt e f =
-    let more = joined_from (r.1 + 2) x (s ∷ rs) j d a.1.1 (omega arith) e f in
-    ((a.0, (a.1.0, more.0)), λ y. swap_or (is_within y r) (nat_eq y x) (in_ranges (remove (set (s ∷ rs) j ((get_or (s ∷ rs) j d).0, (get_or (s ∷ rs) (suc j) d).1)) (suc j)) y) (in_ranges (s ∷ rs) y) (more.1 y))
+    let more = joined_from (r.1 + 2) x (s ∷ rs) j d a.1.1 (omega arith) e f in (
+      (a.0, (a.1.0, more.0)),
+      λ y. swap_or (is_within y r) (nat_eq y x)
+          (in_ranges (remove (set (s ∷ rs) j ((get_or (s ∷ rs) j d).0, (get_or (s ∷ rs) (suc j) d).1)) (suc j)) y) (in_ranges (s ∷ rs) y) (more.1 y),
+    )
 
 -- one number more, and no other
 pub adds_one : (rs rs' : List (ℕ × ℕ)) (x : ℕ) → Adds rs rs' x → Inserts (in_ranges rs) (in_ranges rs') x
@@ -204,7 +220,8 @@ cut_before x (r ∷ rs) (suc i) zero d cut lt h = cut.0
 cut_before x (r ∷ rs) (suc i) (suc k) d cut lt h = cut_before x rs i k d cut.1 (omega arith) (omega arith)
 
 -- of a number that is in none, the range at its cut begins after it
-pub begins_later : (x : ℕ) (rs : List (ℕ × ℕ)) (i : ℕ) (d : ℕ × ℕ) → AreRanges rs → IsCut x rs i → i < length rs → in_ranges rs x ≡ false → x < (get_or rs i d).0
+pub begins_later : (x : ℕ) (rs : List (ℕ × ℕ)) (i : ℕ) (d : ℕ × ℕ) → AreRanges rs → IsCut x rs i → i < length rs → in_ranges rs x ≡ false
+    → x < (get_or rs i d).0
 begins_later x rs i d a cut lt absent =
     let test : nat_le (get_or rs i d).0 x ≡ false = sym (in_at 0 x rs i d (are_from rs a) cut lt) ∙ absent in
     grind (arith, nat_tests)
@@ -217,21 +234,25 @@ IsPut rs rs' x = AreRanges rs' × Inserts (in_ranges rs) (in_ranges rs') x
 is_put : (rs rs' : List (ℕ × ℕ)) (x : ℕ) → AreFrom 0 rs' × Adds rs rs' x → IsPut rs rs' x
 is_put rs rs' x h = (ranges_from 0 rs' h.0, adds_one rs rs' x h.1)
 
-pub all_before : (rs : List (ℕ × ℕ)) → AreRanges rs → (x i : ℕ) → ((d : ℕ × ℕ) → 0 < i → (get_or rs (i - 1) d).1 + 1 < x) → i ≤ length rs → (k : ℕ) (d : ℕ × ℕ) → k < i → (get_or rs k d).1 + 1 < x
+pub all_before : (rs : List (ℕ × ℕ)) → AreRanges rs → (x i : ℕ) → ((d : ℕ × ℕ) → 0 < i → (get_or rs (i - 1) d).1 + 1 < x) → i ≤ length rs
+    → (k : ℕ) (d : ℕ × ℕ) → k < i → (get_or rs k d).1 + 1 < x
 all_before rs a x i before le k d lt =
     let last = before d (omega arith) in
     let grow = ends_grow rs a k (i - 1) d (omega arith) (omega arith) in
     omega (arith, last, grow)
 
-pub put_is : (rs : List (ℕ × ℕ)) (x i : ℕ) → AreRanges rs → i ≤ length rs → ((d : ℕ × ℕ) → 0 < i → (get_or rs (i - 1) d).1 + 1 < x) → ((d : ℕ × ℕ) → i < length rs → x + 1 < (get_or rs i d).0) → IsPut rs (insert rs i (x, x)) x
+pub put_is : (rs : List (ℕ × ℕ)) (x i : ℕ) → AreRanges rs → i ≤ length rs → ((d : ℕ × ℕ) → 0 < i → (get_or rs (i - 1) d).1 + 1 < x)
+    → ((d : ℕ × ℕ) → i < length rs → x + 1 < (get_or rs i d).0) → IsPut rs (insert rs i (x, x)) x
 put_is rs x i a le before after = is_put rs (insert rs i (x, x)) x (put_from 0 x rs i (are_from rs a) (omega arith) le (all_before rs a x i before le) after)
 
-pub earlier_is_put : (rs : List (ℕ × ℕ)) (x i : ℕ) (r : ℕ × ℕ) → AreRanges rs → i < length rs → x + 1 ≡ (get_or rs i r).0 → ((d : ℕ × ℕ) → 0 < i → (get_or rs (i - 1) d).1 + 1 < x) → r ≡ get_or rs i r → IsPut rs (set rs i (x, r.1)) x
+pub earlier_is_put : (rs : List (ℕ × ℕ)) (x i : ℕ) (r : ℕ × ℕ) → AreRanges rs → i < length rs → x + 1 ≡ (get_or rs i r).0
+    → ((d : ℕ × ℕ) → 0 < i → (get_or rs (i - 1) d).1 + 1 < x) → r ≡ get_or rs i r → IsPut rs (set rs i (x, r.1)) x
 earlier_is_put rs x i r a lt e before is =
     subst (λ (z : ℕ × ℕ). IsPut rs (set rs i (x, z.1)) x) (sym is)
     (is_put rs (set rs i (x, (get_or rs i r).1)) x (earlier_from 0 x rs i r (are_from rs a) (omega arith) lt e (all_before rs a x i before (omega arith))))
 
-pub longer_is_put : (rs : List (ℕ × ℕ)) (x i : ℕ) (r : ℕ × ℕ) → AreRanges rs → 0 < i → i ≤ length rs → (get_or rs (i - 1) r).1 + 1 ≡ x → ((d : ℕ × ℕ) → i < length rs → x + 1 < (get_or rs i d).0) → r ≡ get_or rs (i - 1) r → IsPut rs (set rs (i - 1) (r.0, x)) x
+pub longer_is_put : (rs : List (ℕ × ℕ)) (x i : ℕ) (r : ℕ × ℕ) → AreRanges rs → 0 < i → i ≤ length rs → (get_or rs (i - 1) r).1 + 1 ≡ x
+    → ((d : ℕ × ℕ) → i < length rs → x + 1 < (get_or rs i d).0) → r ≡ get_or rs (i - 1) r → IsPut rs (set rs (i - 1) (r.0, x)) x
 longer_is_put rs x zero r a pos le e after is = absurd (omega arith)
 longer_is_put rs x (suc i) r a pos le e after is =
     let back : suc i - 1 ≡ i = omega arith in
@@ -241,7 +262,8 @@ longer_is_put rs x (suc i) r a pos le e after is =
     (subst (λ (z : ℕ × ℕ). IsPut rs (set rs i (z.0, x)) x) (sym here)
     (is_put rs (set rs i ((get_or rs i r).0, x)) x (longer_from 0 x rs i r (are_from rs a) (omega arith) at after)))
 
-pub joined_is_put : (rs : List (ℕ × ℕ)) (x i : ℕ) → AreRanges rs → 0 < i → i < length rs → (get_or rs (i - 1) (0, 0)).1 + 1 ≡ x → x + 1 ≡ (get_or rs i (0, 0)).0 → IsPut rs (joined_at rs i) x
+pub joined_is_put : (rs : List (ℕ × ℕ)) (x i : ℕ) → AreRanges rs → 0 < i → i < length rs → (get_or rs (i - 1) (0, 0)).1 + 1 ≡ x
+    → x + 1 ≡ (get_or rs i (0, 0)).0 → IsPut rs (joined_at rs i) x
 joined_is_put rs x zero a pos lt e f = absurd (omega arith)
 joined_is_put rs x (suc i) a pos lt e f =
     let back : suc i - 1 ≡ i = omega arith in

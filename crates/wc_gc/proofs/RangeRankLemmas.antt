@@ -1,11 +1,13 @@
 -- How many numbers in sorted ranges are below one.
-use Rattle.std.proofs.Common.{◌≡◌, ◌≢◌, ℕ, zero, suc, ◌+◌, ◌-◌, ◌/◌, ◌^◌, ◌<◌, ◌≤◌, List, [], ◌∷◌, ◌++◌, length, get_or, refl, sym, ◌∙◌, ap, subst, Bool, true, false, cond, ◌&&◌, ◌||◌, ◌⊎◌, nat_le, inl, inr, arith, All}
+use Rattle.std.proofs.Common.{◌≡◌, ◌≢◌, ℕ, zero, suc, ◌+◌, ◌-◌, ◌/◌, ◌^◌, ◌<◌, ◌≤◌, List, [], ◌∷◌, ◌++◌, length, get_or, refl, sym, ◌∙◌, ap, subst, Bool, true}
+use Rattle.std.proofs.Common.{false, cond, ◌&&◌, ◌||◌, ◌⊎◌, nat_le, inl, inr, arith, All}
 use Rattle.std.proofs.Math.Nat.{pow-suc}
 use Rattle.std.proofs.lemmas.Bool.Decides.{eqb_tells, nat_tests}
-use Rattle.std.proofs.lemmas.List.{get_or_append_left}
+use Rattle.std.proofs.lemmas.List.{get_or_append_left, get_or_default}
+use Rattle.std.proofs.Math.Bool.{or-true}
 use Rattle.wc_gc.specs.Counts.{count_below}
 use Rattle.wc_gc.specs.Ranges.{is_within, in_ranges, AreRanges}
-use Rattle.wc_gc.proofs.RangeLemmas.{any_default, ends_before}
+use Rattle.wc_gc.proofs.RangeLemmas.{ends_before}
 use Rattle.wc_gc.proofs.RankLemmas.{one_more}
 
 -- a run of numbers that are in the set, or are not
@@ -44,11 +46,7 @@ inside (r ∷ rs) zero y d lt le ge =
     let one : nat_le r.0 y ≡ true = grind (arith, nat_tests) in
     let two : nat_le y r.1 ≡ true = grind (arith, nat_tests) in
     rw (one, two) refl
-inside (r ∷ rs) (suc i) y d lt le ge = ap (λ b. is_within y r || b) (inside rs i y d (omega arith) le ge) ∙ both (is_within y r)
-  where
-    both : (b : Bool) → (b || true) ≡ true
-    both true = refl
-    both false = refl
+inside (r ∷ rs) (suc i) y d lt le ge = ap (λ b. is_within y r || b) (inside rs i y d (omega arith) le ge) ∙ or-true (is_within y r)
 
 outside : (y : ℕ) (r : ℕ × ℕ) (b : Bool) → (r.1 < y) ⊎ (y < r.0) → (is_within y r || b) ≡ b
 outside y r b (inl after) =
@@ -84,7 +82,8 @@ gap_rank rs i a b le before after =
     none_to (in_ranges rs) a b le (λ y l r. between rs i y (λ k d lt. omega (arith, before k d lt)) (λ k d ge lt. omega (arith, after k d ge lt)))
 
 -- inside a range ranks grow by one
-pub range_rank : (rs : List (ℕ × ℕ)) (i b : ℕ) (d : ℕ × ℕ) → i < length rs → (get_or rs i d).0 ≤ b → b ≤ (get_or rs i d).1 + 1 → count_below (in_ranges rs) b ≡ count_below (in_ranges rs) (get_or rs i d).0 + (b - (get_or rs i d).0)
+pub range_rank : (rs : List (ℕ × ℕ)) (i b : ℕ) (d : ℕ × ℕ) → i < length rs → (get_or rs i d).0 ≤ b → b ≤ (get_or rs i d).1 + 1
+    → count_below (in_ranges rs) b ≡ count_below (in_ranges rs) (get_or rs i d).0 + (b - (get_or rs i d).0)
 range_rank rs i b d lt le ge = all_to (in_ranges rs) (get_or rs i d).0 b le (λ y l r. inside rs i y d lt l (omega arith))
 
 -- below all ranges there is none
@@ -97,7 +96,7 @@ IsTotal rs i total = (y : ℕ) → EndBefore rs i y → BeginAt rs i y → total
 
 starts : (rs : List (ℕ × ℕ)) → AreRanges rs → (i k : ℕ) (d e : ℕ × ℕ) → i ≤ k → k < length rs → (get_or rs i e).0 ≤ (get_or rs k d).0
 starts rs a i k d e le lt =
-    let same = ap (λ (r : ℕ × ℕ). r.0) (any_default rs i e d (omega arith)) in
+    let same = ap (λ (r : ℕ × ℕ). r.0) (get_or_default rs i e d (omega arith)) in
     elim (eqb_tells i k) [
       | inl q ↦ let is : i ≡ k = q.1 in subst (λ z. (get_or rs i e).0 ≤ (get_or rs z d).0) is (omega (arith, same))
       | inr n ↦ let ne : i ≢ k = n.1 in let less : i < k = omega arith in omega (arith, same, a.0 i d (omega arith), a.1 i k d less lt)
@@ -105,22 +104,24 @@ starts rs a i k d e le lt =
 
 first_before : (rs : List (ℕ × ℕ)) → AreRanges rs → (i : ℕ) (e : ℕ × ℕ) → i < length rs → EndBefore rs i (get_or rs i e).0
 first_before rs a i e lt k d less =
-    let same = ap (λ (r : ℕ × ℕ). r.0) (any_default rs i e d lt) in
+    let same = ap (λ (r : ℕ × ℕ). r.0) (get_or_default rs i e d lt) in
     omega (arith, same, a.1 k i d less lt)
 
 -- the rank of a range's first number
-pub first_rank : (rs : List (ℕ × ℕ)) → AreRanges rs → (i total : ℕ) (e : ℕ × ℕ) → i < length rs → IsTotal rs i total → total ≡ count_below (in_ranges rs) (get_or rs i e).0
+pub first_rank : (rs : List (ℕ × ℕ)) → AreRanges rs → (i total : ℕ) (e : ℕ × ℕ) → i < length rs → IsTotal rs i total
+    → total ≡ count_below (in_ranges rs) (get_or rs i e).0
 first_rank rs a i total e lt is = is (get_or rs i e).0 (first_before rs a i e lt) (λ k d le less. starts rs a i k d e le less)
 
 -- one range more
-pub total_more : (rs : List (ℕ × ℕ)) → AreRanges rs → (i total : ℕ) (e : ℕ × ℕ) → i < length rs → IsTotal rs i total → IsTotal rs (i + 1) (total + ((get_or rs i e).1 - (get_or rs i e).0 + 1))
+pub total_more : (rs : List (ℕ × ℕ)) → AreRanges rs → (i total : ℕ) (e : ℕ × ℕ) → i < length rs → IsTotal rs i total
+    → IsTotal rs (i + 1) (total + ((get_or rs i e).1 - (get_or rs i e).0 + 1))
 total_more rs a i total e lt is y before after =
     let first = first_rank rs a i total e lt is in
     let ends = before i e (omega arith) in
     let filled = a.0 i e lt in
     let here = range_rank rs i ((get_or rs i e).1 + 1) e lt (omega (arith, filled)) (omega arith) in
     let past : EndBefore rs (i + 1) ((get_or rs i e).1 + 1) = λ k d less. elim (eqb_tells k i) [
-      | inl q ↦ let is : k ≡ i = q.1 in let same = ap (λ (r : ℕ × ℕ). r.1) (any_default rs i e d lt) in rw is (omega (arith, same))
+      | inl q ↦ let is : k ≡ i = q.1 in let same = ap (λ (r : ℕ × ℕ). r.1) (get_or_default rs i e d lt) in rw is (omega (arith, same))
       | inr n ↦ let ne : k ≢ i = n.1 in let fb = first_before rs a i e lt k d (omega arith) in omega (arith, fb, filled)
     ] in
     let rest = gap_rank rs (i + 1) ((get_or rs i e).1 + 1) y (omega (arith, ends)) past after in
@@ -137,8 +138,9 @@ last_is [] x i h = let e : i ≡ 0 = omega arith in rw e refl
 last_is (y ∷ xs) x zero h = absurd (omega arith)
 last_is (y ∷ xs) x (suc i) h = last_is xs x i (omega arith)
 
-pub each_more : (wanted : ℕ → ℕ) (before : List ℕ) (x i : ℕ) → length before ≡ i → ((k : ℕ) → k < i → get_or before k 0 ≡ wanted k) → x ≡ wanted i → (k : ℕ) → k < i + 1 → get_or (before ++ x ∷ []) k 0 ≡ wanted k
-each_more wanted before x i long each is k lt =
+pub each_more : (expected : ℕ → ℕ) (before : List ℕ) (x i : ℕ) → length before ≡ i → ((k : ℕ) → k < i → get_or before k 0 ≡ expected k) → x ≡ expected i
+    → (k : ℕ) → k < i + 1 → get_or (before ++ x ∷ []) k 0 ≡ expected k
+each_more expected before x i long each is k lt =
     elim (eqb_tells k i) [
       | inl e ↦ let same : k ≡ i = e.1 in rw same (last_is before x i long ∙ is)
       | inr n ↦ let ne : k ≢ i = n.1 in let less : k < i = omega arith in get_or_append_left before (x ∷ []) 0 k (omega arith) ∙ each k less
@@ -146,7 +148,8 @@ each_more wanted before x i long each is k lt =
 
 -- the rank of a number between the ranges, by what was counted
 
-pub read_rank : (rs : List (ℕ × ℕ)) (before : List ℕ) → AreRanges rs → length before ≡ length rs → ((i : ℕ) → i < length rs → get_or before i 0 ≡ count_below (in_ranges rs) (get_or rs i (0, 0)).0)
+pub read_rank : (rs : List (ℕ × ℕ)) (before : List ℕ) → AreRanges rs → length before ≡ length rs
+    → ((i : ℕ) → i < length rs → get_or before i 0 ≡ count_below (in_ranges rs) (get_or rs i (0, 0)).0)
     → (i x : ℕ) → i < length before → EndBefore rs i x → BeginAt rs i (x + 1) → get_or before i 0 ≡ count_below (in_ranges rs) x
 read_rank rs before a long each i x lt ends begins =
     let within : i < length rs = omega (arith, long) in
@@ -154,7 +157,8 @@ read_rank rs before a long each i x lt ends begins =
     let gap = gap_rank rs i x (get_or rs i (0, 0)).0 (omega (arith, first)) ends (λ k d le less. starts rs a i k d (0, 0) le less) in
     each i within ∙ gap
 
-pub total_rank : (rs : List (ℕ × ℕ)) (total i x : ℕ) → ((y : ℕ) → All (λ (r : ℕ × ℕ). r.1 < y) rs → total ≡ count_below (in_ranges rs) y) → length rs ≤ i → EndBefore rs i x → total ≡ count_below (in_ranges rs) x
+pub total_rank : (rs : List (ℕ × ℕ)) (total i x : ℕ) → ((y : ℕ) → All (λ (r : ℕ × ℕ). r.1 < y) rs → total ≡ count_below (in_ranges rs) y)
+    → length rs ≤ i → EndBefore rs i x → total ≡ count_below (in_ranges rs) x
 total_rank rs total i x whole past ends = whole x (λ k d lt. ends k d (omega arith))
 
 -- a step of the search
@@ -169,18 +173,21 @@ probe_more rs a m x r is lt more k d below =
     let same = ap (λ (z : ℕ × ℕ). z.1) is in
     ends_before rs a k m x d r (omega arith) lt (omega (arith, same))
 
-pub probe_counted : (length probes s t : ℕ) → 0 < s → t ≤ s / 2 → ((digits : ℕ) → length < 2 ^ digits → (left : ℕ) × (probes + left ≡ digits) × (s < 2 ^ left)) → (digits : ℕ) → length < 2 ^ digits → (left : ℕ) × (probes + 1 + left ≡ digits) × (t < 2 ^ left)
-probe_counted length probes s t pos le h digits few =
-    let old = h digits few in
+pub probe_counted : (length probes s t : ℕ) → 0 < s → t ≤ s / 2
+    → ((digits : ℕ) → length < 2 ^ digits → (left : ℕ) × (probes + left ≡ digits) × (s < 2 ^ left)) → (digits : ℕ) → length < 2 ^ digits
+    → (left : ℕ) × (probes + 1 + left ≡ digits) × (t < 2 ^ left)
+probe_counted length probes s t pos le h digits bounded =
+    let old = h digits bounded in
     let half = halves s t old.0 old.2 pos le in
     let one = old.1 in
     let two = half.1 in
     (half.0, omega (arith, one, two), half.2)
 
-pub probe_found : (rs : List (ℕ × ℕ)) (before : List ℕ) → length before ≡ length rs → ((i : ℕ) → i < length rs → get_or before i 0 ≡ count_below (in_ranges rs) (get_or rs i (0, 0)).0)
+pub probe_found : (rs : List (ℕ × ℕ)) (before : List ℕ) → length before ≡ length rs
+    → ((i : ℕ) → i < length rs → get_or before i 0 ≡ count_below (in_ranges rs) (get_or rs i (0, 0)).0)
     → (m x : ℕ) (r : ℕ × ℕ) → r ≡ get_or rs m r → m < length rs → r.0 ≤ x → x ≤ r.1 → get_or before m 0 + (x - r.0) ≡ count_below (in_ranges rs) x
 probe_found rs before long each m x r is lt le ge =
-    let same = any_default rs m (0, 0) r lt in
+    let same = get_or_default rs m (0, 0) r lt in
     let first = ap (λ (z : ℕ × ℕ). z.0) same in
     let own = ap (λ (z : ℕ × ℕ). z.0) is in
     let last = ap (λ (z : ℕ × ℕ). z.1) is in
@@ -188,12 +195,7 @@ probe_found rs before long each m x r is lt le ge =
     let begun = each m lt ∙ ap (count_below (in_ranges rs)) first in
     omega (arith, here, begun, own)
 
-number_default : (xs : List ℕ) (k d e : ℕ) → k < length xs → get_or xs k d ≡ get_or xs k e
-number_default [] k d e lt = absurd (omega arith)
-number_default (x ∷ xs) zero d e lt = refl
-number_default (x ∷ xs) (suc k) d e lt = number_default xs k d e (omega arith)
-
 pub found_rank : (before : List ℕ) (m b y c : ℕ) → m < length before → b ≡ get_or before m b → get_or before m 0 + y ≡ c → b + y ≡ c
 found_rank before m b y c lt is found =
-    let same = number_default before m b 0 lt in
+    let same = get_or_default before m b 0 lt in
     omega (arith, is, same, found)

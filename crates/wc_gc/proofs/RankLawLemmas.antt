@@ -104,7 +104,7 @@ module _ (e : EditedModule) where
 
   pub record IsAddedImport (n : ℕ) : Type 0 where
     pub past : olds ≤ n
-    pub few : n - olds < length e.imports
+    pub bounded : n - olds < length e.imports
     pub new : new_func_at n ≡ count_imports e + (n - olds)
 
   pub record IsOldDefined (n : ℕ) : Type 0 where
@@ -179,7 +179,7 @@ module _ (e : EditedModule) where
   added_by : (n : ℕ) (b : Bool) → nat_lt n olds ≡ false → nat_lt (n - olds) (length e.imports) ≡ b → IsFunc n
   added_by n true p l = inl (inr (record {
     past = ltb-false n olds p;
-    few = ltb-true (n - olds) (length e.imports) l;
+    bounded = ltb-true (n - olds) (length e.imports) l;
     new =
         ap (λ (b : Bool). cond b (func_rank e n) (added_func_rank e (n - olds))) p
         ∙ ap (λ (b : Bool). cond b (count_imports e + (n - olds)) (count_imports e + count_defined e + (n - olds))) l;
@@ -209,17 +209,17 @@ module _ (e : EditedModule) where
   funcs_by a b (inl (inl x)) (inr (inr y)) s = let f = x.small in let p = x.new in let q = y.new in absurd (omega (arith, f, p, q, s))
   funcs_by a b (inl (inr x)) (inl (inl y)) s = let f = y.small in let p = x.new in let q = y.new in absurd (omega (arith, f, p, q, s))
   funcs_by a b (inl (inr x)) (inl (inr y)) s = let f = x.past in let g = y.past in let p = x.new in let q = y.new in omega (arith, f, g, p, q, s)
-  funcs_by a b (inl (inr x)) (inr (inl y)) s = let f = x.few in let p = x.new in let q = y.new in absurd (omega (arith, f, p, q, s))
-  funcs_by a b (inl (inr x)) (inr (inr y)) s = let f = x.few in let g = y.many in let p = x.new in let q = y.new in absurd (omega (arith, f, g, p, q, s))
+  funcs_by a b (inl (inr x)) (inr (inl y)) s = let f = x.bounded in let p = x.new in let q = y.new in absurd (omega (arith, f, p, q, s))
+  funcs_by a b (inl (inr x)) (inr (inr y)) s = let f = x.bounded in let g = y.many in let p = x.new in let q = y.new in absurd (omega (arith, f, g, p, q, s))
   funcs_by a b (inr (inl x)) (inl (inl y)) s = let f = y.small in let p = x.new in let q = y.new in absurd (omega (arith, f, p, q, s))
-  funcs_by a b (inr (inl x)) (inl (inr y)) s = let f = y.few in let p = x.new in let q = y.new in absurd (omega (arith, f, p, q, s))
+  funcs_by a b (inr (inl x)) (inl (inr y)) s = let f = y.bounded in let p = x.new in let q = y.new in absurd (omega (arith, f, p, q, s))
   funcs_by a b (inr (inl x)) (inr (inl y)) s =
       let p = x.new in let q = y.new in
       let same : count_below (is_kept_defined e) a ≡ count_below (is_kept_defined e) b = omega (arith, p, q, s) in
       counts_differ (is_kept_defined e) a b x.kept y.kept same
   funcs_by a b (inr (inl x)) (inr (inr y)) s = let f = x.small in let g = y.many in let p = x.new in let q = y.new in absurd (omega (arith, f, g, p, q, s))
   funcs_by a b (inr (inr x)) (inl (inl y)) s = let f = y.small in let p = x.new in let q = y.new in absurd (omega (arith, f, p, q, s))
-  funcs_by a b (inr (inr x)) (inl (inr y)) s = let f = y.few in let g = x.many in let p = x.new in let q = y.new in absurd (omega (arith, f, g, p, q, s))
+  funcs_by a b (inr (inr x)) (inl (inr y)) s = let f = y.bounded in let g = x.many in let p = x.new in let q = y.new in absurd (omega (arith, f, g, p, q, s))
   funcs_by a b (inr (inr x)) (inr (inl y)) s = let f = y.small in let g = x.many in let p = x.new in let q = y.new in absurd (omega (arith, f, g, p, q, s))
   funcs_by a b (inr (inr x)) (inr (inr y)) s = let f = x.past in let g = y.past in let p = x.new in let q = y.new in omega (arith, f, g, p, q, s)
 

@@ -17,8 +17,8 @@ one_more has n =
     let last : one (0 + n) ≡ one n = ap one (let e : 0 + n ≡ n = omega arith in e) in
     omega (arith, cut, last)
 
-pub few_below : (has : ℕ → Bool) (n : ℕ) → count_below has n ≤ n
-few_below has n = omega (arith, count_by-le-length has (range_with_len 0 n), length-range_with_len 0 n)
+pub bounded_below : (has : ℕ → Bool) (n : ℕ) → count_below has n ≤ n
+bounded_below has n = omega (arith, count_by-le-length has (range_with_len 0 n), length-range_with_len 0 n)
 
 pub more_below : (has : ℕ → Bool) (n k : ℕ) → count_below has n ≤ count_below has (n + k)
 more_below has n zero = omega (arith, ap (count_below has) (let e : n + 0 ≡ n = omega arith in e))

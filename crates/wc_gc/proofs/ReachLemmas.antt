@@ -1,7 +1,8 @@
 -- A search in an adapter.
-use Rattle.std.proofs.Common.{◌≡◌, ℕ, zero, suc, ◌+◌, ◌-◌, ◌<◌, ◌≤◌, List, [], ◌∷◌, ◌++◌, map, take, length, get_or, subst, sym, ◌∙◌, ap, refl, Bool, true, false, ◌⊎◌, inl, inr, arith, ◌&&◌, Option, Some, None, append_assoc, append-nil}
+use Rattle.std.proofs.Common.{◌≡◌, ℕ, ◌+◌, ◌-◌, ◌<◌, ◌≤◌, List, [], ◌∷◌, ◌++◌, map, take, length, get_or, subst, sym, ◌∙◌, ap, refl, Bool, true, false, ◌⊎◌}
+use Rattle.std.proofs.Common.{inl, inr, arith, ◌&&◌, Option, Some, None, append_assoc, append-nil}
 use Rattle.std.proofs.Common.{ltb-true}
-use Rattle.std.proofs.lemmas.Bool.{ltb-false}
+use Rattle.std.proofs.lemmas.Bool.{ltb-false, both_ways}
 use Rattle.std.specs.Prelude.{IsTrue, nat_lt, Contains, All, ◌↔◌, Result, Ok, Err, OnOk, ⊤}
 use Rattle.std.proofs.lemmas.List.{take_more, take_all, get_or_append_left, map-append}
 use Rattle.std.proofs.lemmas.List.Elements.{filter-append, filter_passes, All-contains, Contains-get_or}
@@ -22,6 +23,7 @@ use Rattle.wc_write.specs.BuiltValues.{item_seen}
 use Rattle.std.specs.Option.{option_map, option_map_or, option_to_list}
 use Rattle.std.proofs.lemmas.List.Folds.{list_all-append}
 use Rattle.std.proofs.lemmas.Grind.{flat_map-append}
+use Rattle.std.proofs.Math.Bool.{and-false}
 use Rattle.wc_read.specs.Operators.{InstrValue, instr_value, instr_values}
 use Rattle.wc_read.specs.Bodies.{BodyValue, local_types}
 use Rattle.wc_read.specs.declared.bodies.Locals.{Locals}
@@ -33,51 +35,53 @@ use Rattle.wc_read.specs.declared.operators.Instr.{Instr}
 use Rattle.wc_gc.specs.Decoded.{DecodedModule, FuncCode, GlobalCode, ItemIndex, decoded_module, func_code, is_in, size_of}
 use Rattle.wc_gc.specs.Entries.{no_entry, type_entry, func_entry, table_entry, global_entry, entry_in, refs_in, entry_refs, entry_at}
 use Rattle.wc_gc.specs.Reached.{IsPath, IsReachedFrom}
-use Rattle.wc_gc.specs.Searches.{IsTied, HasGrown, IsGrown}
-use Rattle.wc_gc.specs.Soundness.{is_sound, is_sound_code, is_sound_body, is_sound_at}
+use Rattle.wc_gc.specs.Private.Searches.{IsTied, HasGrown, IsGrown}
+use Rattle.wc_gc.specs.InRange.{is_operator_in_range, is_code_in_range, is_body_in_range, is_item_in_range}
 use Rattle.wc_gc.specs.Liveness.{IsCount}
-use Rattle.wc_gc.specs.Searches.{Finds, IsKnownCode, finds}
+use Rattle.wc_gc.specs.Private.Searches.{FindsItems, IsKnownCode, finds}
 use Rattle.wc_gc.specs.declared.search.Search.{Search}
-use Rattle.wc_gc.specs.Entries.{present, refs_list, type_items, val_type_refs, instr_refs, code_refs, init_refs, body_refs}
-use Rattle.wc_gc.proofs.SearchLemmas.{IsSearched, grown_none, grown_old, items_decided, only_if_tied, search_start, search_turn, search_end, false_true}
+use Rattle.wc_gc.specs.Entries.{present, refs_list, type_items, val_type_refs, instr_refs, code_refs, body_refs}
+use Rattle.wc_gc.proofs.SearchLemmas.{IsSearched, grown_none, grown_old, items_decided, only_if_tied, search_start, search_step, search_end}
 
--- what was found, of which so many were passed and are sound
+-- what was found, of which so many were passed and are in range
 pub record IsAt (m : DecodedModule) (roots : List ItemIndex) (has : ItemIndex → Bool) (found : List ItemIndex) (next : ℕ) : Type 0 where
   pub searched : IsSearched (refs_in m) roots has found next
-  pub sound : (k : ℕ) (d : ItemIndex) → k < next → is_sound_at m (get_or found k d) ≡ true
+  pub in_range : (k : ℕ) (d : ItemIndex) → k < next → is_item_in_range m (get_or found k d) ≡ true
 
 pub tied_none : (has : ItemIndex → Bool) (found : List ItemIndex) → found ≡ [] → ((x : ItemIndex) → has x ≡ false) → IsTied has found
 tied_none has found e none = subst (IsTied has) (sym e) (record {
-  is_listed = λ x h. absurd (false_true (none x) h);
+  is_listed = λ x h. absurd (both_ways _ (none x) h);
   is_in_set = λ x c. absurd (omega (arith, c.1));
   distinct = λ i j d h k. absurd (omega arith);
 })
 
-pub get_or_any : {A : Type 0} (xs : List A) (i : ℕ) (d e : A) → i < length xs → get_or xs i d ≡ get_or xs i e
-get_or_any [] i d e h = absurd (omega arith)
-get_or_any (x ∷ xs) zero d e h = refl
-get_or_any (x ∷ xs) (suc i) d e h = get_or_any xs i d e (omega arith)
-
-pub roots_more : (has : ItemIndex → Bool) (found : List ItemIndex) (has' : ItemIndex → Bool) (found' : List ItemIndex) (has'' : ItemIndex → Bool) (found'' : List ItemIndex) (roots : List ItemIndex) (i : ℕ) (d : ItemIndex) → i < length roots
-    → IsGrown has found has' found' (take i roots) → IsGrown has' found' has'' found'' (get_or roots i d ∷ []) → IsGrown has found has'' found'' (take (i + 1) roots)
+pub roots_more : (has : ItemIndex → Bool) (found : List ItemIndex) (has' : ItemIndex → Bool) (found' : List ItemIndex) (has'' : ItemIndex → Bool)
+    (found'' : List ItemIndex) (roots : List ItemIndex) (i : ℕ) (d : ItemIndex) → i < length roots
+    → IsGrown has found has' found' (take i roots) → IsGrown has' found' has'' found'' (get_or roots i d ∷ [])
+    → IsGrown has found has'' found'' (take (i + 1) roots)
 roots_more has found has' found' has'' found'' roots i d h a b =
-    subst (λ (z : List ItemIndex). IsGrown has found has'' found'' z) (sym (take_more roots i d h)) (only_if_tied has found has' found' has'' found'' (take i roots) (get_or roots i d ∷ []) a b)
+    subst (λ (z : List ItemIndex). IsGrown has found has'' found'' z) (sym (take_more roots i d h))
+    (only_if_tied has found has' found' has'' found'' (take i roots) (get_or roots i d ∷ []) a b)
 
-pub start_at : (m : DecodedModule) (roots : List ItemIndex) (has0 : ItemIndex → Bool) (found0 : List ItemIndex) (has : ItemIndex → Bool) (found : List ItemIndex) (i : ℕ) → length roots ≤ i
+pub start_at : (m : DecodedModule) (roots : List ItemIndex) (has0 : ItemIndex → Bool) (found0 : List ItemIndex) (has : ItemIndex → Bool)
+    (found : List ItemIndex) (i : ℕ) → length roots ≤ i
     → IsGrown has0 found0 has found (take i roots) → found0 ≡ [] → IsTied has0 found0 → IsAt m roots has found 0
 start_at m roots has0 found0 has found i over g e tied = record {
   searched = search_start (refs_in m) roots has found
-      (subst (λ (z : List ItemIndex). HasGrown z has found roots) e (subst (λ (z : List ItemIndex). HasGrown found0 has found z) (take_all i roots over) (g tied)));
-  sound = λ k d h. absurd (omega arith);
+      (subst (λ (z : List ItemIndex). HasGrown z has found roots) e
+      (subst (λ (z : List ItemIndex). HasGrown found0 has found z) (take_all i roots over) (g tied)));
+  in_range = λ k d h. absurd (omega arith);
 }
 
-pub turn_at : (m : DecodedModule) (roots : List ItemIndex) (has : ItemIndex → Bool) (found : List ItemIndex) (next : ℕ) (has' : ItemIndex → Bool) (found' : List ItemIndex) (x : ItemIndex) → next < length found
-    → ((d : ItemIndex) → get_or found next d ≡ x) → IsAt m roots has found next → IsGrown has found has' found' (refs_in m x) → is_sound_at m x ≡ true → IsAt m roots has' found' (next + 1)
-turn_at m roots has found next has' found' x lt at s g good = record {
-  searched = search_turn (refs_in m) roots has found next has' found' x lt at s.searched grown;
-  sound = λ k d h. elim (below k h) [
-    | inl old ↦ subst (λ (z : ItemIndex). is_sound_at m z ≡ true) (sym (same k d (omega arith))) (s.sound k d old)
-    | inr e ↦ subst (λ (z : ItemIndex). is_sound_at m z ≡ true) (sym (ap (λ (j : ℕ). get_or found' j d) e ∙ (same next d lt ∙ at d))) good
+pub step_at : (m : DecodedModule) (roots : List ItemIndex) (has : ItemIndex → Bool) (found : List ItemIndex) (next : ℕ) (has' : ItemIndex → Bool)
+    (found' : List ItemIndex) (x : ItemIndex) → next < length found
+    → ((d : ItemIndex) → get_or found next d ≡ x) → IsAt m roots has found next → IsGrown has found has' found' (refs_in m x) → is_item_in_range m x ≡ true
+    → IsAt m roots has' found' (next + 1)
+step_at m roots has found next has' found' x lt at s g good = record {
+  searched = search_step (refs_in m) roots has found next has' found' x lt at s.searched grown;
+  in_range = λ k d h. elim (below k h) [
+    | inl old ↦ subst (λ (z : ItemIndex). is_item_in_range m z ≡ true) (sym (same k d (omega arith))) (s.in_range k d old)
+    | inr e ↦ subst (λ (z : ItemIndex). is_item_in_range m z ≡ true) (sym (ap (λ (j : ℕ). get_or found' j d) e ∙ (same next d lt ∙ at d))) good
   ];
 }
   where
@@ -90,46 +94,53 @@ turn_at m roots has found next has' found' x lt at s g good = record {
     below : (k : ℕ) → k < next + 1 → (k < next) ⊎ (k ≡ next)
     below k h = grind arith
 
-pub reached_at : (m : DecodedModule) (roots : List ItemIndex) (has : ItemIndex → Bool) (found : List ItemIndex) (next : ℕ) → length found ≤ next → IsAt m roots has found next → (x : ItemIndex) → IsTrue (has x) ↔ IsReachedFrom (refs_in m) roots x
+pub reached_at : (m : DecodedModule) (roots : List ItemIndex) (has : ItemIndex → Bool) (found : List ItemIndex) (next : ℕ) → length found ≤ next
+    → IsAt m roots has found next → (x : ItemIndex) → IsTrue (has x) ↔ IsReachedFrom (refs_in m) roots x
 reached_at m roots has found next over s = search_end (refs_in m) roots has found next over s.searched
 
 -- all that is found is reached, and once: so there are as many turns as reached items
-pub count_at : (m : DecodedModule) (roots : List ItemIndex) (has : ItemIndex → Bool) (found : List ItemIndex) (next : ℕ) → length found ≤ next → IsAt m roots has found next → IsCount (IsReachedFrom (refs_in m) roots) next
+pub count_at : (m : DecodedModule) (roots : List ItemIndex) (has : ItemIndex → Bool) (found : List ItemIndex) (next : ℕ) → length found ≤ next
+    → IsAt m roots has found next → IsCount (IsReachedFrom (refs_in m) roots) next
 count_at m roots has found next over s = (
   found,
   s.searched.tied.distinct,
-  (λ x. ((λ r. s.searched.tied.is_listed x ((reached_at m roots has found next over s x).1 r)), s.searched.sound x)),
+  (λ x. ((λ r. s.searched.tied.is_listed x ((reached_at m roots has found next over s x).1 r)), s.searched.are_reached x)),
   (let w = s.searched.within in omega arith),
 )
 
-pub sound_at : (m : DecodedModule) (roots : List ItemIndex) (has : ItemIndex → Bool) (found : List ItemIndex) (next : ℕ) → length found ≤ next → IsAt m roots has found next
-    → (x : ItemIndex) → IsReachedFrom (refs_in m) roots x → is_sound_at m x ≡ true
-sound_at m roots has found next over s x r =
+pub reached_in_range : (m : DecodedModule) (roots : List ItemIndex) (has : ItemIndex → Bool) (found : List ItemIndex) (next : ℕ) → length found ≤ next
+    → IsAt m roots has found next
+    → (x : ItemIndex) → IsReachedFrom (refs_in m) roots x → is_item_in_range m x ≡ true
+reached_in_range m roots has found next over s x r =
     let c = s.searched.tied.is_listed x ((reached_at m roots has found next over s x).1 r) in
-    subst (λ (z : ItemIndex). is_sound_at m z ≡ true) c.2 (s.sound c.0 x (let h = c.1 in omega arith))
+    subst (λ (z : ItemIndex). is_item_in_range m z ≡ true) c.2 (s.in_range c.0 x (let h = c.1 in omega arith))
 
 -- what is reached is there
 
-pub there_from : (m : DecodedModule) (x : ItemIndex) (path : List ItemIndex) (y : ItemIndex) → IsTrue (is_in m x) → IsPath (refs_in m) x path y → IsTrue (is_in m y)
+pub there_from : (m : DecodedModule) (x : ItemIndex) (path : List ItemIndex) (y : ItemIndex) → IsTrue (is_in m x) → IsPath (refs_in m) x path y
+    → IsTrue (is_in m y)
 there_from m x [] y h w = subst (λ (z : ItemIndex). IsTrue (is_in m z)) w h
-there_from m x (z ∷ path) y h w = there_from m z path y (All-contains (λ (v : ItemIndex). is_in m v ≡ true) (refs_in m x) z (filter_passes (is_in m) (entry_refs (entry_at m x))) w.0) w.1
+there_from m x (z ∷ path) y h w = there_from m z path y (All-contains (λ (v : ItemIndex). is_in m v ≡ true) (refs_in m x) z
+    (filter_passes (is_in m) (entry_refs (entry_at m x))) w.0) w.1
 
-pub there_at : (m : DecodedModule) (roots : List ItemIndex) (has : ItemIndex → Bool) (found : List ItemIndex) (next : ℕ) → All (λ (x : ItemIndex). IsTrue (is_in m x)) roots → IsAt m roots has found next
+pub there_at : (m : DecodedModule) (roots : List ItemIndex) (has : ItemIndex → Bool) (found : List ItemIndex) (next : ℕ)
+    → All (λ (x : ItemIndex). IsTrue (is_in m x)) roots → IsAt m roots has found next
     → next < length found → (x : ItemIndex) → get_or found next x ≡ x → IsTrue (is_in m x)
 there_at m roots has found next small s lt x at =
-    let r = s.searched.sound x (subst (Contains found) at (Contains-get_or found next x lt)) in
+    let r = s.searched.are_reached x (subst (Contains found) at (Contains-get_or found next x lt)) in
     there_from m r.0 r.2 x (All-contains (λ (v : ItemIndex). IsTrue (is_in m v)) roots r.0 small r.1) r.3
 
 pub bad_at : (m : DecodedModule) (roots : List ItemIndex) (has : ItemIndex → Bool) (found : List ItemIndex) (next : ℕ) → IsAt m roots has found next
     → next < length found → (x : ItemIndex) → get_or found next x ≡ x → IsReachedFrom (refs_in m) roots x
-bad_at m roots has found next s lt x at = s.searched.sound x (subst (Contains found) at (Contains-get_or found next x lt))
+bad_at m roots has found next s lt x at = s.searched.are_reached x (subst (Contains found) at (Contains-get_or found next x lt))
 
 -- so all that is found is there
-pub all_there : (m : DecodedModule) (roots : List ItemIndex) (has : ItemIndex → Bool) (found : List ItemIndex) (next : ℕ) → All (λ (x : ItemIndex). IsTrue (is_in m x)) roots → IsAt m roots has found next
+pub all_there : (m : DecodedModule) (roots : List ItemIndex) (has : ItemIndex → Bool) (found : List ItemIndex) (next : ℕ)
+    → All (λ (x : ItemIndex). IsTrue (is_in m x)) roots → IsAt m roots has found next
     → All (λ (x : ItemIndex). x.1 < size_of m x.0) found
 all_there m roots has found next small s = λ k d h.
     let x = get_or found k d in
-    let r = s.searched.sound x (Contains-get_or found k d h) in
+    let r = s.searched.are_reached x (Contains-get_or found k d h) in
     ltb-true x.1 (size_of m x.0) (there_from m r.0 r.2 x (All-contains (λ (v : ItemIndex). IsTrue (is_in m v)) roots r.0 small r.1) r.3)
 
 pub falls_by : (total next found : ℕ) → next < found → found ≤ total → total - (next + 1) < total - next
@@ -137,21 +148,24 @@ falls_by total next found h k = omega arith
 
 -- searches
 
-pub finds_none : {L : Type 0} (has : L → ℕ → Bool) (a : Search L) → Finds has a a []
+pub finds_none : {L : Type 0} (has : L → ℕ → Bool) (a : Search L) → FindsItems has a a []
 finds_none has a = λ tied. grown_none _ _ tied
 
-pub finds_more : {L : Type 0} (has : L → ℕ → Bool) (a b c : Search L) (xs ys : List ItemIndex) → Finds has a b xs → Finds has b c ys → Finds has a c (xs ++ ys)
+pub finds_more : {L : Type 0} (has : L → ℕ → Bool) (a b c : Search L) (xs ys : List ItemIndex) → FindsItems has a b xs → FindsItems has b c ys
+    → FindsItems has a c (xs ++ ys)
 finds_more has a b c xs ys p q = only_if_tied _ _ _ _ _ _ xs ys p q
 
 -- of those items that are there
-pub finds_present : {L : Type 0} (has : L → ℕ → Bool) (m : DecodedModule) (a b c : Search L) (xs ys : List ItemIndex) → Finds has a b (present m xs) → Finds has b c (present m ys) → Finds has a c (present m (xs ++ ys))
-finds_present has m a b c xs ys p q = subst (Finds has a c) (sym (filter-append (is_in m) xs ys)) (finds_more has a b c (present m xs) (present m ys) p q)
+pub finds_present : {L : Type 0} (has : L → ℕ → Bool) (m : DecodedModule) (a b c : Search L) (xs ys : List ItemIndex) → FindsItems has a b (present m xs)
+    → FindsItems has b c (present m ys) → FindsItems has a c (present m (xs ++ ys))
+finds_present has m a b c xs ys p q = subst (FindsItems has a c) (sym (filter-append (is_in m) xs ys)) (finds_more has a b c (present m xs) (present m ys) p q)
 
 -- those of an operator: the types of a `select`, and its references
 pub finds_named : {L : Type 0} (has : L → ℕ → Bool) (m : DecodedModule) (a b c : Search L) (r : Refs) (i : InstrValue) → r ≡ refs_of i.immediates
-    → Finds has a b (present m (type_items (type_refs_of i.immediates))) → Finds has b c (present m (refs_list r)) → Finds has a c (present m (instr_refs i))
+    → FindsItems has a b (present m (type_items (type_refs_of i.immediates))) → FindsItems has b c (present m (refs_list r))
+    → FindsItems has a c (present m (instr_refs i))
 finds_named has m a b c r i e p q =
-    subst (λ (z : Refs). Finds has a c (present m (type_items (type_refs_of i.immediates) ++ refs_list z))) e
+    subst (λ (z : Refs). FindsItems has a c (present m (type_items (type_refs_of i.immediates) ++ refs_list z))) e
     (finds_present has m a b c (type_items (type_refs_of i.immediates)) (refs_list r) p q)
 
 -- the types that value types name, one value type more
@@ -170,14 +184,14 @@ types_push (u ∷ ts) t =
 
 -- those of the first of some value types were found, and whether the adapter has them all
 pub record AreTypesFound {L : Type 0} (has : L → ℕ → Bool) (m : DecodedModule) (ts : List ValType) (a b : Search L) (there : Bool) : Type 0 where
-  pub found : Finds has a b (present m (val_type_refs ts))
+  pub found : FindsItems has a b (present m (val_type_refs ts))
   pub all : there ≡ list_all (is_in m) (val_type_refs ts)
 
 types_push_more : {L : Type 0} (has : L → ℕ → Bool) (m : DecodedModule) (ts : List ValType) (t : ValType) (a b c : Search L) (there now : Bool)
-    → AreTypesFound has m ts a b there → Finds has b c (present m (option_to_list (type_reference t)))
+    → AreTypesFound has m ts a b there → FindsItems has b c (present m (option_to_list (type_reference t)))
     → now ≡ list_all (is_in m) (option_to_list (type_reference t)) → AreTypesFound has m (ts ++ t ∷ []) a c (there && now)
 types_push_more has m ts t a b c there now s f k = record {
-  found = subst (λ (z : List ItemIndex). Finds has a c (present m z)) (sym (types_push ts t))
+  found = subst (λ (z : List ItemIndex). FindsItems has a c (present m z)) (sym (types_push ts t))
       (finds_present has m a b c (val_type_refs ts) (option_to_list (type_reference t)) s.found f);
   all = ap (λ (x : Bool). x && now) s.all ∙ (ap (λ (x : Bool). list_all (is_in m) (val_type_refs ts) && x) k
       ∙ sym (ap (list_all (is_in m)) (types_push ts t) ∙ list_all-append (is_in m) (val_type_refs ts) (option_to_list (type_reference t))));
@@ -185,7 +199,7 @@ types_push_more has m ts t a b c there now s f k = record {
 
 pub types_more : {L : Type 0} (has : L → ℕ → Bool) (m : DecodedModule) (ts : List ValType) (i : ℕ) (d : ValType) (a b c : Search L) (there now : Bool)
     → i < length ts → AreTypesFound has m (take i ts) a b there
-    → Finds has b c (present m (option_to_list (type_reference (get_or ts i d))))
+    → FindsItems has b c (present m (option_to_list (type_reference (get_or ts i d))))
     → now ≡ list_all (is_in m) (option_to_list (type_reference (get_or ts i d))) → AreTypesFound has m (take (i + 1) ts) a c (there && now)
 types_more has m ts i d a b c there now h s f k =
     subst (λ (z : List ValType). AreTypesFound has m z a c (there && now)) (sym (take_more ts i d h))
@@ -198,10 +212,11 @@ type_alone t = types_push [] t
 -- a run of locals more
 pub run_more : {L : Type 0} (has : L → ℕ → Bool) (m : DecodedModule) (runs : List Locals) (i : ℕ) (d : Locals) (a b c : Search L) (there now : Bool)
     → i < length runs → AreTypesFound has m (local_types (take i runs)) a b there
-    → Finds has b c (present m (option_to_list (type_reference (get_or runs i d).ty)))
+    → FindsItems has b c (present m (option_to_list (type_reference (get_or runs i d).ty)))
     → now ≡ list_all (is_in m) (option_to_list (type_reference (get_or runs i d).ty)) → AreTypesFound has m (local_types (take (i + 1) runs)) a c (there && now)
 run_more has m runs i d a b c there now h s f k =
-    subst (λ (z : List ValType). AreTypesFound has m z a c (there && now)) (sym (ap local_types (take_more runs i d h) ∙ map-append (λ (l : Locals). l.ty) (take i runs) (get_or runs i d ∷ [])))
+    subst (λ (z : List ValType). AreTypesFound has m z a c (there && now))
+    (sym (ap local_types (take_more runs i d h) ∙ map-append (λ (l : Locals). l.ty) (take i runs) (get_or runs i d ∷ [])))
     (types_push_more has m (local_types (take i runs)) (get_or runs i d).ty a b c there now s f k)
 
 -- operators that were gone through
@@ -209,76 +224,88 @@ run_more has m runs i d a b c there now h s f k =
 code_push : (is : List InstrValue) (i : InstrValue) → code_refs (is ++ i ∷ []) ≡ code_refs is ++ instr_refs i
 code_push is i = flat_map-append instr_refs is (i ∷ []) ∙ ap (λ z. code_refs is ++ z) (append-nil (instr_refs i))
 
-sound_push : (m : DecodedModule) (is : List InstrValue) (i : InstrValue) → is_sound_code m (is ++ i ∷ []) ≡ (is_sound_code m is && (is_sound m i && true))
-sound_push m is i = list_all-append (is_sound m) is (i ∷ [])
+in_range_push : (m : DecodedModule) (is : List InstrValue) (i : InstrValue)
+    → is_code_in_range m (is ++ i ∷ []) ≡ (is_code_in_range m is && (is_operator_in_range m i && true))
+in_range_push m is i = list_all-append (is_operator_in_range m) is (i ∷ [])
 
 pub finds_code : {L : Type 0} (has : L → ℕ → Bool) (m : DecodedModule) (a b c : Search L) (is : List InstrValue) (i : InstrValue)
-    → Finds has a b (present m (code_refs is)) → Finds has b c (present m (instr_refs i)) → Finds has a c (present m (code_refs (is ++ i ∷ [])))
-finds_code has m a b c is i p q = subst (λ (z : List ItemIndex). Finds has a c (present m z)) (sym (code_push is i)) (finds_present has m a b c (code_refs is) (instr_refs i) p q)
+    → FindsItems has a b (present m (code_refs is)) → FindsItems has b c (present m (instr_refs i)) → FindsItems has a c (present m (code_refs (is ++ i ∷ [])))
+finds_code has m a b c is i p q = subst (λ (z : List ItemIndex). FindsItems has a c (present m z)) (sym (code_push is i))
+    (finds_present has m a b c (code_refs is) (instr_refs i) p q)
 
 -- those of a body, of which some are left: the types of its locals, and what the operators before name
-pub record IsBodyFound {L : Type 0} (has : L → ℕ → Bool) (m : DecodedModule) (body : Option BodyValue) (locals : List Locals) (a b : Search L) (left : Option (List InstrValue)) : Type 0 where
+pub record IsBodyFound {L : Type 0} (has : L → ℕ → Bool) (m : DecodedModule) (body : Option BodyValue) (locals : List Locals) (a b : Search L)
+    (left : Option (List InstrValue)) : Type 0 where
   pub before : List InstrValue
   pub split : body ≡ option_map (λ is. body_of locals (before ++ is)) left
-  pub found : Finds has a b (present m (val_type_refs (local_types locals) ++ code_refs before))
+  pub found : FindsItems has a b (present m (val_type_refs (local_types locals) ++ code_refs before))
   pub there : list_all (is_in m) (val_type_refs (local_types locals)) ≡ true
-  pub sound : is_sound_code m before ≡ true
+  pub in_range : is_code_in_range m before ≡ true
 
 map_push : (locals : List Locals) (before : List InstrValue) (i : InstrValue) (o : Option (List InstrValue))
     → option_map (λ is. body_of locals (before ++ is)) (option_map (λ is. i ∷ is) o) ≡ option_map (λ is. body_of locals ((before ++ i ∷ []) ++ is)) o
 map_push locals before i None = refl
 map_push locals before i (Some is) = ap (λ (z : List InstrValue). Some (body_of locals z)) (sym (append_assoc before (i ∷ []) is))
 
-pub body_start : {L : Type 0} (has : L → ℕ → Bool) (m : DecodedModule) (body : Option BodyValue) (locals : List Locals) (a b : Search L) (left : Option (List InstrValue))
-    → body ≡ option_map (body_of locals) left → Finds has a b (present m (val_type_refs (local_types locals)))
+pub body_start : {L : Type 0} (has : L → ℕ → Bool) (m : DecodedModule) (body : Option BodyValue) (locals : List Locals) (a b : Search L)
+    (left : Option (List InstrValue))
+    → body ≡ option_map (body_of locals) left → FindsItems has a b (present m (val_type_refs (local_types locals)))
     → list_all (is_in m) (val_type_refs (local_types locals)) ≡ true → IsBodyFound has m body locals a b left
 body_start has m body locals a b left e f there = record {
   before = [];
   split = e;
-  found = subst (λ (z : List ItemIndex). Finds has a b (present m z)) (sym (append-nil (val_type_refs (local_types locals)))) f;
+  found = subst (λ (z : List ItemIndex). FindsItems has a b (present m z)) (sym (append-nil (val_type_refs (local_types locals)))) f;
   there = there;
-  sound = refl;
+  in_range = refl;
 }
 
 -- one more of what a body names
 refs_more : {L : Type 0} (has : L → ℕ → Bool) (m : DecodedModule) (a b c : Search L) (types : List ItemIndex) (before is : List InstrValue)
-    → Finds has a b (present m (types ++ code_refs before)) → Finds has b c (present m (code_refs is)) → Finds has a c (present m (types ++ code_refs (before ++ is)))
+    → FindsItems has a b (present m (types ++ code_refs before)) → FindsItems has b c (present m (code_refs is))
+    → FindsItems has a c (present m (types ++ code_refs (before ++ is)))
 refs_more has m a b c types before is p q =
-    subst (λ (z : List ItemIndex). Finds has a c (present m z))
+    subst (λ (z : List ItemIndex). FindsItems has a c (present m z))
     (append_assoc types (code_refs before) (code_refs is) ∙ ap (λ (z : List ItemIndex). types ++ z) (sym (flat_map-append instr_refs before is)))
     (finds_present has m a b c (types ++ code_refs before) (code_refs is) p q)
 
-pub body_more : {L : Type 0} (has : L → ℕ → Bool) (m : DecodedModule) (body : Option BodyValue) (locals : List Locals) (a b c : Search L) (left after : Option (List InstrValue)) (i : InstrValue)
-    → IsBodyFound has m body locals a b left → left ≡ option_map (λ is. i ∷ is) after → Finds has b c (present m (instr_refs i)) → is_sound m i ≡ true → IsBodyFound has m body locals a c after
+pub body_more : {L : Type 0} (has : L → ℕ → Bool) (m : DecodedModule) (body : Option BodyValue) (locals : List Locals) (a b c : Search L)
+    (left after : Option (List InstrValue)) (i : InstrValue)
+    → IsBodyFound has m body locals a b left → left ≡ option_map (λ is. i ∷ is) after → FindsItems has b c (present m (instr_refs i))
+    → is_operator_in_range m i ≡ true
+    → IsBodyFound has m body locals a c after
 body_more has m body locals a b c left after i s e f good = record {
   before = s.before ++ i ∷ [];
   split = s.split ∙ ap (option_map (λ is. body_of locals (s.before ++ is))) e ∙ map_push locals s.before i after;
-  found = refs_more has m a b c (val_type_refs (local_types locals)) s.before (i ∷ []) s.found (subst (λ (z : List ItemIndex). Finds has b c (present m z)) (sym (append-nil (instr_refs i))) f);
+  found = refs_more has m a b c (val_type_refs (local_types locals)) s.before (i ∷ []) s.found
+      (subst (λ (z : List ItemIndex). FindsItems has b c (present m z)) (sym (append-nil (instr_refs i))) f);
   there = s.there;
-  sound = sound_push m s.before i ∙ (ap (λ (z : Bool). z && (is_sound m i && true)) s.sound ∙ ap (λ (z : Bool). true && (z && true)) good);
+  in_range = in_range_push m s.before i ∙ (ap (λ (z : Bool). z && (is_operator_in_range m i && true)) s.in_range ∙ ap (λ (z : Bool). true && (z && true)) good);
 }
 
 -- operators were passed over that name nothing, or memory 0, which was found
 
-finds_old : {L : Type 0} (has : L → ℕ → Bool) (a : Search L) (x : ItemIndex) → finds has a x ≡ true → Finds has a a (x ∷ [])
+finds_old : {L : Type 0} (has : L → ℕ → Bool) (a : Search L) (x : ItemIndex) → finds has a x ≡ true → FindsItems has a a (x ∷ [])
 finds_old has a x old = grown_old items_decided (finds has a) (finds has a) a.order.items x old (record { present = old; others = λ y new. refl })
 
-finds_passable : {L : Type 0} (has : L → ℕ → Bool) (m : DecodedModule) (a : Search L) (memory : Bool) (i : InstrValue) → (memory ≡ true → (finds has a (Memories, 0) ≡ true) × (is_in m (Memories, 0) ≡ true))
-    → ArePassable memory (refs_of i.immediates) → type_refs_of i.immediates ≡ [] → Finds has a a (present m (instr_refs i))
+finds_passable : {L : Type 0} (has : L → ℕ → Bool) (m : DecodedModule) (a : Search L) (memory : Bool) (i : InstrValue)
+    → (memory ≡ true → (finds has a (Memories, 0) ≡ true) × (is_in m (Memories, 0) ≡ true))
+    → ArePassable memory (refs_of i.immediates) → type_refs_of i.immediates ≡ [] → FindsItems has a a (present m (instr_refs i))
 finds_passable has m a memory i known (inl e) types = rw (types, e) (finds_none has a)
 finds_passable has m a memory i known (inr (may, e)) types = let k = known may in rw (types, e, k.1) (finds_old has a (Memories, 0) k.0)
 
-sound_passable : (m : DecodedModule) (memory : Bool) (i : InstrValue) → (memory ≡ true → is_in m (Memories, 0) ≡ true) → IsPassable memory i → is_sound m i ≡ true
-sound_passable m memory i known (inl e, segment, types) = rw (types, e, segment) refl
-sound_passable m memory i known (inr (may, e), segment, types) = rw (types, e, known may, segment) refl
+in_range_passable : (m : DecodedModule) (memory : Bool) (i : InstrValue) → (memory ≡ true → is_in m (Memories, 0) ≡ true) → IsPassable memory i
+    → is_operator_in_range m i ≡ true
+in_range_passable m memory i known (inl e, segment, types) = rw (types, e, segment) refl
+in_range_passable m memory i known (inr (may, e), segment, types) = rw (types, e, known may, segment) refl
 
-pub known_code : {L : Type 0} (has : L → ℕ → Bool) (m : DecodedModule) (a : Search L) (memory : Bool) (is : List InstrValue) → (memory ≡ true → (finds has a (Memories, 0) ≡ true) × (is_in m (Memories, 0) ≡ true))
+pub known_code : {L : Type 0} (has : L → ℕ → Bool) (m : DecodedModule) (a : Search L) (memory : Bool) (is : List InstrValue)
+    → (memory ≡ true → (finds has a (Memories, 0) ≡ true) × (is_in m (Memories, 0) ≡ true))
     → IsPassableCode memory is → IsKnownCode has m a is
 known_code has m a memory [] known n = (finds_none has a, refl)
 known_code has m a memory (i ∷ is) known n =
     let rest = known_code has m a memory is known n.1 in (
       finds_present has m a a a (instr_refs i) (code_refs is) (finds_passable has m a memory i known n.0.0 n.0.2) rest.0,
-      rw (sound_passable m memory i (λ may. (known may).1) n.0, rest.1) refl,
+      rw (in_range_passable m memory i (λ may. (known may).1) n.0, rest.1) refl,
     )
 
 map_those : (locals : List Locals) (before is : List InstrValue) (o : Option (List InstrValue))
@@ -286,62 +313,69 @@ map_those : (locals : List Locals) (before is : List InstrValue) (o : Option (Li
 map_those locals before is None = refl
 map_those locals before is (Some xs) = ap (λ (z : List InstrValue). Some (body_of locals z)) (sym (append_assoc before is xs))
 
-pub body_passed : {L : Type 0} (has : L → ℕ → Bool) (m : DecodedModule) (body : Option BodyValue) (locals : List Locals) (a b : Search L) (left after : Option (List InstrValue)) (is : List InstrValue)
+pub body_passed : {L : Type 0} (has : L → ℕ → Bool) (m : DecodedModule) (body : Option BodyValue) (locals : List Locals) (a b : Search L)
+    (left after : Option (List InstrValue)) (is : List InstrValue)
     → IsBodyFound has m body locals a b left → left ≡ run_and_left is after → IsKnownCode has m b is → IsBodyFound has m body locals a b after
 body_passed has m body locals a b left after is s e n = record {
   before = s.before ++ is;
   split = s.split ∙ (ap (option_map (λ xs. body_of locals (s.before ++ xs))) e ∙ map_those locals s.before is after);
   found = refs_more has m a b b (val_type_refs (local_types locals)) s.before is s.found n.0;
   there = s.there;
-  sound = list_all-append (is_sound m) s.before is ∙ (ap (λ (z : Bool). z && is_sound_code m is) s.sound ∙ n.1);
+  in_range = list_all-append (is_operator_in_range m) s.before is ∙ (ap (λ (z : Bool). z && is_code_in_range m is) s.in_range ∙ n.1);
 }
 
-whole_body : {L : Type 0} (has : L → ℕ → Bool) (m : DecodedModule) (body : Option BodyValue) (locals : List Locals) (a b : Search L) (left : Option (List InstrValue))
+whole_body : {L : Type 0} (has : L → ℕ → Bool) (m : DecodedModule) (body : Option BodyValue) (locals : List Locals) (a b : Search L)
+    (left : Option (List InstrValue))
     → (s : IsBodyFound has m body locals a b left) → left ≡ Some [] → body ≡ Some (body_of locals s.before)
 whole_body has m body locals a b left s e =
     s.split ∙ ap (option_map (λ is. body_of locals (s.before ++ is))) e ∙ ap (λ (z : List InstrValue). Some (body_of locals z)) (append-nil s.before)
 
-pub body_end : {L : Type 0} (has : L → ℕ → Bool) (m : DecodedModule) (body : Option BodyValue) (locals : List Locals) (a b : Search L) (left : Option (List InstrValue))
-    → IsBodyFound has m body locals a b left → left ≡ Some [] → Finds has a b (present m (body_refs body))
-body_end has m body locals a b left s e = subst (λ (z : Option BodyValue). Finds has a b (present m (body_refs z))) (sym (whole_body has m body locals a b left s e)) s.found
+pub body_end : {L : Type 0} (has : L → ℕ → Bool) (m : DecodedModule) (body : Option BodyValue) (locals : List Locals) (a b : Search L)
+    (left : Option (List InstrValue))
+    → IsBodyFound has m body locals a b left → left ≡ Some [] → FindsItems has a b (present m (body_refs body))
+body_end has m body locals a b left s e = subst (λ (z : Option BodyValue). FindsItems has a b (present m (body_refs z)))
+    (sym (whole_body has m body locals a b left s e)) s.found
 
-pub body_sound : {L : Type 0} (has : L → ℕ → Bool) (m : DecodedModule) (body : Option BodyValue) (locals : List Locals) (a b : Search L) (left : Option (List InstrValue))
-    → IsBodyFound has m body locals a b left → left ≡ Some [] → is_sound_body m body ≡ true
-body_sound has m body locals a b left s e =
-    ap (is_sound_body m) (whole_body has m body locals a b left s e)
-    ∙ (ap (λ (z : Bool). z && is_sound_code m s.before) s.there ∙ s.sound)
+pub body_in_range : {L : Type 0} (has : L → ℕ → Bool) (m : DecodedModule) (body : Option BodyValue) (locals : List Locals) (a b : Search L)
+    (left : Option (List InstrValue))
+    → IsBodyFound has m body locals a b left → left ≡ Some [] → is_body_in_range m body ≡ true
+body_in_range has m body locals a b left s e =
+    ap (is_body_in_range m) (whole_body has m body locals a b left s e)
+    ∙ (ap (λ (z : Bool). z && is_code_in_range m s.before) s.there ∙ s.in_range)
 
--- no body is sound whose locals name a type that is not there
-pub locals_unsound : (m : DecodedModule) (body : Option BodyValue) (locals : List Locals) (left : Option (List InstrValue))
-    → body ≡ option_map (body_of locals) left → list_all (is_in m) (val_type_refs (local_types locals)) ≡ false → is_sound_body m body ≡ false
-locals_unsound m body locals left e bad = ap (is_sound_body m) e ∙ go left
+-- no body is in range whose locals name a type that is not there
+pub locals_out_of_range : (m : DecodedModule) (body : Option BodyValue) (locals : List Locals) (left : Option (List InstrValue))
+    → body ≡ option_map (body_of locals) left → list_all (is_in m) (val_type_refs (local_types locals)) ≡ false → is_body_in_range m body ≡ false
+locals_out_of_range m body locals left e bad = ap (is_body_in_range m) e ∙ go left
   where
-    go : (o : Option (List InstrValue)) → is_sound_body m (option_map (body_of locals) o) ≡ false
+    go : (o : Option (List InstrValue)) → is_body_in_range m (option_map (body_of locals) o) ≡ false
     go None = refl
-    go (Some is) = ap (λ (z : Bool). z && is_sound_code m is) bad
+    go (Some is) = ap (λ (z : Bool). z && is_code_in_range m is) bad
 
-unsound_in : (m : DecodedModule) (before is : List InstrValue) (i : InstrValue) → is_sound m i ≡ false → is_sound_code m (before ++ i ∷ is) ≡ false
-unsound_in m [] is i bad = ap (λ (z : Bool). z && is_sound_code m is) bad
-unsound_in m (x ∷ before) is i bad = ap (λ (z : Bool). is_sound m x && z) (unsound_in m before is i bad) ∙ and_false (is_sound m x)
-  where
-    and_false : (z : Bool) → (z && false) ≡ false
-    and_false true = refl
-    and_false false = refl
+out_of_range_in : (m : DecodedModule) (before is : List InstrValue) (i : InstrValue) → is_operator_in_range m i ≡ false
+    → is_code_in_range m (before ++ i ∷ is) ≡ false
+out_of_range_in m [] is i bad = ap (λ (z : Bool). z && is_code_in_range m is) bad
+out_of_range_in m (x ∷ before) is i bad =
+    ap (λ (z : Bool). is_operator_in_range m x && z) (out_of_range_in m before is i bad) ∙ and-false (is_operator_in_range m x)
 
-pub body_unsound : {L : Type 0} (has : L → ℕ → Bool) (m : DecodedModule) (body : Option BodyValue) (locals : List Locals) (a b : Search L) (left after : Option (List InstrValue)) (i : InstrValue)
-    → IsBodyFound has m body locals a b left → left ≡ option_map (λ is. i ∷ is) after → is_sound m i ≡ false → is_sound_body m body ≡ false
-body_unsound has m body locals a b left after i s e bad = ap (is_sound_body m) (s.split ∙ ap (option_map (λ is. body_of locals (s.before ++ is))) e) ∙ go after
+pub body_out_of_range : {L : Type 0} (has : L → ℕ → Bool) (m : DecodedModule) (body : Option BodyValue) (locals : List Locals) (a b : Search L)
+    (left after : Option (List InstrValue)) (i : InstrValue)
+    → IsBodyFound has m body locals a b left → left ≡ option_map (λ is. i ∷ is) after → is_operator_in_range m i ≡ false → is_body_in_range m body ≡ false
+body_out_of_range has m body locals a b left after i s e bad =
+    ap (is_body_in_range m) (s.split ∙ ap (option_map (λ is. body_of locals (s.before ++ is))) e) ∙ go after
   where
-    go : (o : Option (List InstrValue)) → is_sound_body m (option_map (λ is. body_of locals (s.before ++ is)) (option_map (λ is. i ∷ is) o)) ≡ false
+    go : (o : Option (List InstrValue)) → is_body_in_range m (option_map (λ is. body_of locals (s.before ++ is)) (option_map (λ is. i ∷ is) o)) ≡ false
     go None = refl
-    go (Some is) = ap (λ (z : Bool). z && is_sound_code m (s.before ++ i ∷ is)) s.there ∙ unsound_in m s.before is i bad
+    go (Some is) = ap (λ (z : Bool). z && is_code_in_range m (s.before ++ i ∷ is)) s.there ∙ out_of_range_in m s.before is i bad
 
-pub body_none : {L : Type 0} (has : L → ℕ → Bool) (m : DecodedModule) (body : Option BodyValue) (locals : List Locals) (a b : Search L) (left : Option (List InstrValue))
-    → IsBodyFound has m body locals a b left → left ≡ None → is_sound_body m body ≡ false
-body_none has m body locals a b left s e = ap (is_sound_body m) (s.split ∙ ap (option_map (λ is. body_of locals (s.before ++ is))) e)
+pub body_none : {L : Type 0} (has : L → ℕ → Bool) (m : DecodedModule) (body : Option BodyValue) (locals : List Locals) (a b : Search L)
+    (left : Option (List InstrValue))
+    → IsBodyFound has m body locals a b left → left ≡ None → is_body_in_range m body ≡ false
+body_none has m body locals a b left s e = ap (is_body_in_range m) (s.split ∙ ap (option_map (λ is. body_of locals (s.before ++ is))) e)
 
 -- one more of the operators of an initialiser
-pub code_more : (is : List Instr) (i : ℕ) (x : Instr) → i < length is → x ≡ get_or is i x → instr_values (take (i + 1) is) ≡ instr_values (take i is) ++ instr_value x ∷ []
+pub code_more : (is : List Instr) (i : ℕ) (x : Instr) → i < length is → x ≡ get_or is i x → instr_values (take (i + 1) is) ≡ instr_values (take i is)
+    ++ instr_value x ∷ []
 code_more is i x h e =
     ap instr_values (take_more is i x h) ∙ (map-push (take i is) (get_or is i x)
     ∙ ap (λ z. instr_values (take i is) ++ instr_value z ∷ []) (sym e))
@@ -352,58 +386,71 @@ code_more is i x h e =
 
 -- items of a module that was read
 
-pub type_at : (a : Module) (x : ItemIndex) (o : Option FuncType) → x.0 ≡ Types → slice_get a.types.items x.1 ≡ o → entry_at (decoded_module a) x ≡ option_map_or type_entry (option_map func_type_value o) no_entry
+pub type_at : (a : Module) (x : ItemIndex) (o : Option FuncType) → x.0 ≡ Types → slice_get a.types.items x.1 ≡ o
+    → entry_at (decoded_module a) x ≡ option_map_or type_entry (option_map func_type_value o) no_entry
 unfolding decoded_module
 type_at a x o s e =
     ap (λ (z : Space). entry_in (decoded_module a) z x.1) s
     ∙ ap (λ (t : Option FuncTypeValue). option_map_or type_entry t no_entry)
     (slice_get-map func_type_value a.types.items x.1 ∙ ap (option_map func_type_value) e)
 
-pub table_at : (a : Module) (x : ItemIndex) (o : Option (Item TableType ⊤)) → x.0 ≡ Tables → slice_get a.tables.items x.1 ≡ o → entry_at (decoded_module a) x ≡ option_map_or table_entry (option_map table_value o) no_entry
+pub table_at : (a : Module) (x : ItemIndex) (o : Option (Item TableType ⊤)) → x.0 ≡ Tables → slice_get a.tables.items x.1 ≡ o
+    → entry_at (decoded_module a) x ≡ option_map_or table_entry (option_map table_value o) no_entry
 unfolding decoded_module
 table_at a x o s e =
     ap (λ (z : Space). entry_in (decoded_module a) z x.1) s
     ∙ ap (λ (t : Option TableValue). option_map_or table_entry t no_entry)
     (slice_get-map table_value a.tables.items x.1 ∙ ap (option_map table_value) e)
 
-pub func_at : (a : Module) (x : ItemIndex) (f : Item ℕ (Bor (List ℕ))) → x.0 ≡ Funcs → slice_get a.funcs.items x.1 ≡ Some f → entry_at (decoded_module a) x ≡ func_entry (func_code f)
+pub func_at : (a : Module) (x : ItemIndex) (f : Item ℕ (Bor (List ℕ))) → x.0 ≡ Funcs → slice_get a.funcs.items x.1 ≡ Some f
+    → entry_at (decoded_module a) x ≡ func_entry (func_code f)
 unfolding decoded_module
 func_at a x f s e =
     ap (λ (z : Space). entry_in (decoded_module a) z x.1) s
     ∙ ap (λ (o : Option FuncCode). option_map_or func_entry o no_entry)
-    (slice_get-map (item_seen body_in) (map func_value a.funcs.items) x.1 ∙ (ap (option_map (item_seen body_in)) (slice_get-map func_value a.funcs.items x.1) ∙ ap (λ o. option_map (item_seen body_in) (option_map func_value o)) e))
+    (slice_get-map (item_seen body_in) (map func_value a.funcs.items) x.1
+    ∙ (ap (option_map (item_seen body_in)) (slice_get-map func_value a.funcs.items x.1) ∙ ap (λ o. option_map (item_seen body_in) (option_map func_value o)) e))
 
 pub no_func_at : (a : Module) (x : ItemIndex) → x.0 ≡ Funcs → slice_get a.funcs.items x.1 ≡ None → entry_at (decoded_module a) x ≡ no_entry
 unfolding decoded_module
 no_func_at a x s e =
     ap (λ (z : Space). entry_in (decoded_module a) z x.1) s
     ∙ ap (λ (o : Option FuncCode). option_map_or func_entry o no_entry)
-    (slice_get-map (item_seen body_in) (map func_value a.funcs.items) x.1 ∙ (ap (option_map (item_seen body_in)) (slice_get-map func_value a.funcs.items x.1) ∙ ap (λ o. option_map (item_seen body_in) (option_map func_value o)) e))
+    (slice_get-map (item_seen body_in) (map func_value a.funcs.items) x.1
+    ∙ (ap (option_map (item_seen body_in)) (slice_get-map func_value a.funcs.items x.1) ∙ ap (λ o. option_map (item_seen body_in) (option_map func_value o)) e))
 
-pub global_at : (a : Module) (x : ItemIndex) (g : Item GlobalType (Bor (List ℕ))) → x.0 ≡ Globals → slice_get a.globals.items x.1 ≡ Some g → entry_at (decoded_module a) x ≡ global_entry (item_seen init_in (global_value g))
+pub global_at : (a : Module) (x : ItemIndex) (g : Item GlobalType (Bor (List ℕ))) → x.0 ≡ Globals → slice_get a.globals.items x.1 ≡ Some g
+    → entry_at (decoded_module a) x ≡ global_entry (item_seen init_in (global_value g))
 unfolding decoded_module
 global_at a x g s e =
     ap (λ (z : Space). entry_in (decoded_module a) z x.1) s
     ∙ ap (λ (o : Option GlobalCode). option_map_or global_entry o no_entry)
-    (slice_get-map (item_seen init_in) (map global_value a.globals.items) x.1 ∙ (ap (option_map (item_seen init_in)) (slice_get-map global_value a.globals.items x.1) ∙ ap (λ o. option_map (item_seen init_in) (option_map global_value o)) e))
+    (slice_get-map (item_seen init_in) (map global_value a.globals.items) x.1
+    ∙ (ap (option_map (item_seen init_in)) (slice_get-map global_value a.globals.items x.1)
+    ∙ ap (λ o. option_map (item_seen init_in) (option_map global_value o)) e))
 
 pub no_global_at : (a : Module) (x : ItemIndex) → x.0 ≡ Globals → slice_get a.globals.items x.1 ≡ None → entry_at (decoded_module a) x ≡ no_entry
 unfolding decoded_module
 no_global_at a x s e =
     ap (λ (z : Space). entry_in (decoded_module a) z x.1) s
     ∙ ap (λ (o : Option GlobalCode). option_map_or global_entry o no_entry)
-    (slice_get-map (item_seen init_in) (map global_value a.globals.items) x.1 ∙ (ap (option_map (item_seen init_in)) (slice_get-map global_value a.globals.items x.1) ∙ ap (λ o. option_map (item_seen init_in) (option_map global_value o)) e))
+    (slice_get-map (item_seen init_in) (map global_value a.globals.items) x.1
+    ∙ (ap (option_map (item_seen init_in)) (slice_get-map global_value a.globals.items x.1)
+    ∙ ap (λ o. option_map (item_seen init_in) (option_map global_value o)) e))
 
 -- of a last step, where it is Ok
-pub finds_present_then : {L E : Type 0} (has : L → ℕ → Bool) (m : DecodedModule) (a b c : Search L) (xs ys : List ItemIndex) (r : Result Unit E) → Finds has a b (present m xs) → OnOk r (Finds has b c (present m ys)) → OnOk r (Finds has a c (present m (xs ++ ys)))
+pub finds_present_then : {L E : Type 0} (has : L → ℕ → Bool) (m : DecodedModule) (a b c : Search L) (xs ys : List ItemIndex) (r : Result Unit E)
+    → FindsItems has a b (present m xs) → OnOk r (FindsItems has b c (present m ys)) → OnOk r (FindsItems has a c (present m (xs ++ ys)))
 finds_present_then has m a b c xs ys (Ok u) p q = finds_present has m a b c xs ys p q
 finds_present_then has m a b c xs ys (Err e) p q = q
 
 -- the type of a global, and then what its initialiser names
 pub finds_global_then : {L E : Type 0} (has : L → ℕ → Bool) (m : DecodedModule) (a b c : Search L) (t : ValType) (ys : List ItemIndex) (r : Result Unit E)
-    → Finds has a b (present m (option_to_list (type_reference t))) → OnOk r (Finds has b c (present m ys)) → OnOk r (Finds has a c (present m (val_type_refs (t ∷ []) ++ ys)))
+    → FindsItems has a b (present m (option_to_list (type_reference t))) → OnOk r (FindsItems has b c (present m ys))
+    → OnOk r (FindsItems has a c (present m (val_type_refs (t ∷ []) ++ ys)))
 finds_global_then has m a b c t ys r p q =
-    subst (λ (z : List ItemIndex). OnOk r (Finds has a c (present m (z ++ ys)))) (sym (type_alone t)) (finds_present_then has m a b c (option_to_list (type_reference t)) ys r p q)
+    subst (λ (z : List ItemIndex). OnOk r (FindsItems has a c (present m (z ++ ys)))) (sym (type_alone t))
+    (finds_present_then has m a b c (option_to_list (type_reference t)) ys r p q)
 
 pub no_item : {X : Type 0} (xs : List X) (i : ℕ) → false ≡ nat_lt i (length xs) → slice_get xs i ≡ None
 no_item xs i e = slice_get_past xs i (ltb-false i (length xs) (sym e))

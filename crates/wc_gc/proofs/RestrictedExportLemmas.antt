@@ -1,12 +1,13 @@
 -- The exports of a trimmed adapter are those of the adapter that are required, with their types.
-use Rattle.std.proofs.Common.{◌≡◌, ◌≢◌, ℕ, ◌+◌, ◌-◌, ◌<◌, List, [], ◌∷◌, ◌++◌, length, map, set, get_or, refl, sym, ◌∙◌, ap, subst, Bool, true, false, not, Option, Some, None, ◌⊎◌, inl, inr, arith}
+use Rattle.std.proofs.Common.{◌≡◌, ◌≢◌, ℕ, ◌+◌, ◌-◌, ◌<◌, List, [], ◌∷◌, ◌++◌, length, map, set, get_or, refl, sym, ◌∙◌, ap, subst, Bool, true, false, not}
+use Rattle.std.proofs.Common.{Option, Some, None, ◌⊎◌, inl, inr, arith}
 use Rattle.std.specs.Prelude.{All, Contains, IsTrue, fold, position}
 use Rattle.std.specs.List.{AllByRecursion, slice_get, swap_remove}
 use Rattle.std.specs.Option.{option_and_then, option_map, option_map_or}
 use Rattle.std.specs.Str.{bytes_eq}
 use Rattle.std.proofs.lemmas.Bool.{false≢true, lt-ltb}
 use Rattle.std.proofs.lemmas.Bool.Decides.{eqb_tells}
-use Rattle.std.proofs.lemmas.List.{get_or-set_other, get_or-set_same, get_or-take, length-map, length-set, length-take-le}
+use Rattle.std.proofs.lemmas.List.{get_or-set_other, get_or-set_same, get_or-take, length-map, length-set, length-take-le, get_or_default}
 use Rattle.std.proofs.lemmas.List.Elements.{All-contains, All-contains_itself, All-head, All-map, All-tail, All-weaker, filter_passes, recursion_from_All}
 use Rattle.std.proofs.lemmas.List.Folds.{list_any_at}
 use Rattle.std.proofs.lemmas.List.Quantifiers.{position-Some}
@@ -33,9 +34,9 @@ use Rattle.wc_gc.specs.Found.{FoundValue, found_in}
 use Rattle.wc_gc.specs.Image.{new_export, new_func, new_table, rank}
 use Rattle.wc_gc.specs.KeptExports.{dropped_names, export_names, is_required, kept_exports, without}
 use Rattle.wc_gc.specs.Parts.{SettingsValue, parts_of}
-use Rattle.wc_gc.specs.Restriction.{AreTypesAlike, IsNewExport, IsOldExport, export_type, func_item, global_item, memory_item, table_item}
+use Rattle.wc_gc.specs.Restriction.{AreSameTypesButIndices, IsNewExport, IsOldExport, export_type, func_item, global_item, memory_item, table_item}
 use Rattle.wc_gc.specs.declared.parts.Parts.{Parts}
-use Rattle.wc_gc.proofs.AlikeTypeLemmas.{alike_under, func_item_under, item_under}
+use Rattle.wc_gc.proofs.SameButIndicesLemmas.{same_under, func_item_under, item_under}
 use Rattle.wc_gc.proofs.BuiltImageLemmas.{func_at, kept_in}
 use Rattle.wc_gc.proofs.BuiltPartLemmas.{all_at, global_written}
 use Rattle.wc_gc.proofs.EditedFuncLemmas.{get_back}
@@ -44,7 +45,6 @@ use Rattle.wc_gc.proofs.ExportLemmas.{all_kept}
 use Rattle.wc_gc.proofs.KeptItemLemmas.{get_some, kept_count, rank_at}
 use Rattle.wc_gc.proofs.KeptExportLemmas.{pairs_named}
 use Rattle.wc_gc.proofs.LiveItemLemmas.{contains_mapped, named_kept}
-use Rattle.wc_gc.proofs.ReachLemmas.{get_or_any}
 use Rattle.wc_gc.proofs.RequiredExportLemmas.{kept_required}
 use Rattle.wc_gc.proofs.TrimmedTextLemmas.{edited_value, live_are_kept}
 use Rattle.wc_gc.proofs.TypedGlobalLemmas.{get_front}
@@ -58,24 +58,29 @@ module _ {A : Type 0} (xs : List A) (i : ℕ) (d x : A) (below : i < length xs) 
   abbrev after : List A
   after = set xs i (get_or xs last d)
 
-  few_after : length (swap_remove xs i d) ≡ last
-  few_after = length-take-le last after (let l = length-set xs i (get_or xs last d) in omega (arith, l))
+  bounded_after : length (swap_remove xs i d) ≡ last
+  bounded_after = length-take-le last after (let l = length-set xs i (get_or xs last d) in omega (arith, l))
 
   there_at : (k : ℕ) → k ≢ i → k < length xs → get_or xs k x ≡ x → (k ≡ last) ⊎ (k ≢ last) → Contains (swap_remove xs i d) x
   there_at k differs h e (inl is) =
-      let few = few_after in
-      let front : i < last = (let back : i ≢ last = (λ j. differs (is ∙ sym j)) in omega arith) in
-      (i, omega (arith, few, front), get_or-take last after i x front ∙ (get_or-set_same xs i (get_or xs last d) x below ∙ (get_or_any xs last d x (omega (arith, below)) ∙ (ap (λ j. get_or xs j x) (sym is) ∙ e))))
+      let bounded = bounded_after in
+      let front : i < last = (let back : i ≢ last = (λ j. differs (is ∙ sym j)) in omega arith) in (
+        i,
+        omega (arith, bounded, front),
+        get_or-take last after i x front
+            ∙ (get_or-set_same xs i (get_or xs last d) x below ∙ (get_or_default xs last d x (omega (arith, below)) ∙ (ap (λ j. get_or xs j x) (sym is) ∙ e))),
+      )
   there_at k differs h e (inr before) =
-      let few = few_after in
+      let bounded = bounded_after in
       let front : k < last = omega arith in
-      (k, omega (arith, few, front), get_or-take last after k x front ∙ (get_or-set_other xs i k (get_or xs last d) x differs ∙ e))
+      (k, omega (arith, bounded, front), get_or-take last after k x front ∙ (get_or-set_other xs i k (get_or xs last d) x differs ∙ e))
 
   still_there : Contains xs x → Contains (swap_remove xs i d) x
   still_there c =
       there_at c.0 (λ same. other (ap (λ j. get_or xs j x) (sym same) ∙ c.2)) c.1 c.2 (elim (eqb_tells c.0 last) [ inl a ↦ inl a.1 | inr b ↦ inr b.1 ])
 
-there_or : (xs : List ExportValue) (x d : ExportValue) (test : ExportValue → Bool) → test x ≡ false → Contains xs x → (o : Option ℕ) → position test xs ≡ o → Contains (option_map_or (λ i. swap_remove xs i d) o xs) x
+there_or : (xs : List ExportValue) (x d : ExportValue) (test : ExportValue → Bool) → test x ≡ false → Contains xs x → (o : Option ℕ)
+    → position test xs ≡ o → Contains (option_map_or (λ i. swap_remove xs i d) o xs) x
 there_or xs x d test h c None e = c
 there_or xs x d test h c (Some i) e =
     let found = position-Some test xs i x e in
@@ -85,10 +90,12 @@ there_without : (es : List ExportValue) (name : List ℕ) (x : ExportValue) → 
 there_without [] name x h c = c
 there_without (e ∷ es) name x h c = there_or (e ∷ es) x e (λ y. bytes_eq name y.name) h c (position (λ y. bytes_eq name y.name) (e ∷ es)) refl
 
-there_fold : (names : List (List ℕ)) (es : List ExportValue) (x : ExportValue) → All (λ name. bytes_eq name x.name ≡ false) names → Contains es x → Contains (fold without es names) x
+there_fold : (names : List (List ℕ)) (es : List ExportValue) (x : ExportValue) → All (λ name. bytes_eq name x.name ≡ false) names → Contains es x
+    → Contains (fold without es names) x
 there_fold [] es x all c = c
 there_fold (n ∷ names) es x all c =
-    there_fold names (without es n) x (All-tail (λ name. bytes_eq name x.name ≡ false) n names all) (there_without es n x (All-head (λ name. bytes_eq name x.name ≡ false) n names all) c)
+    there_fold names (without es n) x (All-tail (λ name. bytes_eq name x.name ≡ false) n names all)
+    (there_without es n x (All-head (λ name. bytes_eq name x.name ≡ false) n names all) c)
 
 -- a name that is not required is another than one that is
 other_name : (required : List (List ℕ)) (name : List ℕ) → Contains required name → (n : List ℕ) → not (is_required required n) ≡ true → bytes_eq n name ≡ false
@@ -100,13 +107,15 @@ other_name required name c n h = by (bytes_eq n name) refl
         absurd (false≢true (sym (ap not yes) ∙ h))
     by false e = refl
 
-required_there : (required : List (List ℕ)) (es : List ExportValue) (x : ExportValue) → Contains es x → Contains required x.name → Contains (kept_exports required es) x
+required_there : (required : List (List ℕ)) (es : List ExportValue) (x : ExportValue) → Contains es x → Contains required x.name
+    → Contains (kept_exports required es) x
 required_there required es x c h =
     there_fold (dropped_names required es) es x
     (All-weaker (λ n. not (is_required required n) ≡ true) (λ n. bytes_eq n x.name ≡ false) (other_name required x.name h) (dropped_names required es)
     (filter_passes (λ n. not (is_required required n)) (export_names es))) c
 
-module _ (bytes : List ℕ) (required : List (List ℕ)) (v : ModuleValue) (live : ItemIndex → Bool) (all : AreBytes bytes) (s : SpellsModule bytes v) (decides : DecidesLive required v live) (set : SettingsValue) where
+module _ (bytes : List ℕ) (required : List (List ℕ)) (v : ModuleValue) (live : ItemIndex → Bool) (all : AreBytes bytes) (s : SpellsModule bytes v)
+    (decides : DecidesLive required v live) (set : SettingsValue) where
   abbrev pub exports : List ExportValue
   exports = kept_exports required v.exports
 
@@ -131,12 +140,14 @@ module _ (bytes : List ℕ) (required : List (List ℕ)) (v : ModuleValue) (live
   -- items of the adapter that are live are there at their ranks
 
   pub func_typed : (n : ℕ) (g : FuncValue) → slice_get v.funcs n ≡ Some g → g.ty < length v.types
-  func_typed n g at = all_at (λ (f : FuncValue). f.ty < length v.types) v.funcs n g (recursion_from_All (λ (f : FuncValue). f.ty < length v.types) v.funcs s.has_sections.valid.typed) at
+  func_typed n g at = all_at (λ (f : FuncValue). f.ty < length v.types) v.funcs n g
+      (recursion_from_All (λ (f : FuncValue). f.ty < length v.types) v.funcs s.has_sections.valid.typed) at
 
   pub type_live : (n : ℕ) (g : FuncValue) → live (Funcs, n) ≡ true → slice_get v.funcs n ≡ Some g → live (Types, g.ty) ≡ true
   type_live n g l at =
       let kept = live_are_kept bytes required v live all s decides in
-      let refs = subst (λ z. AllByRecursion (λ y. IsTrue (is_in (decode v) y) → IsTrue (live y)) (entry_refs z)) (func_at v n g at) (named_kept (decode v) live kept.named (Funcs, n) l) in
+      let refs = subst (λ z. AllByRecursion (λ y. IsTrue (is_in (decode v) y) → IsTrue (live y)) (entry_refs z)) (func_at v n g at)
+      (named_kept (decode v) live kept.named (Funcs, n) l) in
       refs.0 (lt-ltb g.ty (length v.types) (func_typed n g at))
 
   pub type_same : (n : ℕ) → n < length v.types → live (Types, n) ≡ true
@@ -162,9 +173,14 @@ module _ (bytes : List ℕ) (required : List (List ℕ)) (v : ModuleValue) (live
   abbrev D : List FuncCode
   D = kept_defined set v exports live parts found
 
-  func_after : (n : ℕ) (h : FuncCode) → live (Funcs, n) ≡ true → slice_get old_funcs n ≡ Some h → is_kept_import edit_of n ≡ false → slice_get image.funcs (count_imports edit_of + length edit_of.imports + count_below (is_kept_defined edit_of) n) ≡ Some (renew h)
+  func_after : (n : ℕ) (h : FuncCode) → live (Funcs, n) ≡ true → slice_get old_funcs n ≡ Some h → is_kept_import edit_of n ≡ false
+      → slice_get image.funcs (count_imports edit_of + length edit_of.imports + count_below (is_kept_defined edit_of) n) ≡ Some (renew h)
   func_after n h l at none =
-      let defined : is_kept_defined edit_of n ≡ true = elim (import_or_defined set v exports live parts found n h l at) [ inl y ↦ absurd (false≢true (sym none ∙ y)) | inr d ↦ d ] in
+      let defined : is_kept_defined edit_of n ≡ true = elim (import_or_defined set v exports live parts found n h l at) [
+        | inl y ↦
+            absurd (false≢true (sym none ∙ y))
+        | inr d ↦ d
+      ] in
       let k = count_below (is_kept_defined edit_of) n in
       let front = map renew A in
       let middle = map renew edit_of.imports in
@@ -177,13 +193,15 @@ module _ (bytes : List ℕ) (required : List (List ℕ)) (v : ModuleValue) (live
       ap (slice_get image.funcs) rank_is ∙ (get_back front (middle ++ (back ++ end)) (length middle + k) ∙ (get_back middle (back ++ end) k
       ∙ get_front back end k (renew h) (slice_get-map renew D k ∙ ap (option_map renew) (rank_at (is_kept_defined edit_of) old_funcs n h at defined))))
 
-  pub func_at_rank : (n : ℕ) (g : FuncValue) → live (Funcs, n) ≡ true → slice_get v.funcs n ≡ Some g → slice_get image.funcs (ranks Funcs n) ≡ Some (renew (edited_at set v exports live parts found n g))
+  pub func_at_rank : (n : ℕ) (g : FuncValue) → live (Funcs, n) ≡ true → slice_get v.funcs n ≡ Some g
+      → slice_get image.funcs (ranks Funcs n) ≡ Some (renew (edited_at set v exports live parts found n g))
   func_at_rank n g l at =
       let h = edited_at set v exports live parts found n g in
-      let old = old_at set v exports live parts found n g at in
+      let old = old_at set v exports live parts found n g l at in
       let k = count_below (is_kept_import edit_of) n in
       ap (slice_get image.funcs) (old_new set v exports live parts found n (slice_get_within v.funcs n g at))
-      ∙ cond_has (λ (k : ℕ). slice_get image.funcs k ≡ Some (renew h)) (is_kept_import edit_of n) k (count_imports edit_of + length edit_of.imports + count_below (is_kept_defined edit_of) n)
+      ∙ cond_has (λ (k : ℕ). slice_get image.funcs k ≡ Some (renew h)) (is_kept_import edit_of n) k
+      (count_imports edit_of + length edit_of.imports + count_below (is_kept_defined edit_of) n)
       (λ i. get_front (map renew A) (map renew edit_of.imports ++ (map renew D ++ map renew edit_of.funcs)) k (renew h)
       (slice_get-map renew A k ∙ ap (option_map renew) (rank_at (is_kept_import edit_of) old_funcs n h old i)))
       (λ i. func_after n h l old i)
@@ -223,11 +241,11 @@ module _ (bytes : List ℕ) (required : List (List ℕ)) (v : ModuleValue) (live
       ∙ sym (ap (λ o. option_map (item_under ranks) (option_map ty o)) g.1)
 
   kept_same : (e : ExportValue) → Contains exports e
-      → AreTypesAlike (export_type v e.kind e.index) (export_type trimmed e.kind (ranks (space_of e.kind) e.index))
+      → AreSameTypesButIndices (export_type v e.kind e.index) (export_type trimmed e.kind (ranks (space_of e.kind) e.index))
   kept_same e c =
       let kept = live_are_kept bytes required v live all s decides in
       let there = all_kept (λ x. x.index < count_of v x.kind) required v.exports s.has_sections.valid.exported in
-      alike_under ranks (export_type v e.kind e.index) (export_type trimmed e.kind (ranks (space_of e.kind) e.index))
+      same_under ranks (export_type v e.kind e.index) (export_type trimmed e.kind (ranks (space_of e.kind) e.index))
       (export_under e.kind e.index (All-contains (λ x. x.index < count_of v x.kind) exports e there c) (kept.exported e c))
 
   pub old_exports : All (IsOldExport v trimmed) trimmed.exports

@@ -1,11 +1,13 @@
 -- The imported functions of a trimmed adapter are imports of the adapter that are live, and the main module's realloc.
-use Rattle.std.proofs.Common.{◌≡◌, ℕ, ◌+◌, List, [], ◌++◌, length, map, refl, sym, ◌∙◌, ap, subst, Bool, true, false, ◌&&◌, cond, not, Option, Some, None, unwrap_or, append-nil, arith}
+use Rattle.std.proofs.Common.{◌≡◌, ℕ, ◌+◌, List, [], ◌++◌, length, map, refl, sym, ◌∙◌, ap, subst, Bool, true, false, ◌&&◌, cond, Option, Some, None, unwrap_or}
+use Rattle.std.proofs.Common.{append-nil, arith}
 use Rattle.std.specs.Prelude.{Contains, is_some}
 use Rattle.std.specs.List.{AllZip, filter_map, slice_get}
 use Rattle.std.specs.Option.{option_map, option_map_or}
 use Rattle.std.proofs.lemmas.List.{length-map}
 use Rattle.std.proofs.lemmas.List.Elements.{All-map, filter_map-append, recursion_from_All}
 use Rattle.std.proofs.lemmas.Option.{slice_get-map}
+use Rattle.std.proofs.lemmas.Bool.{not-true, and_parts}
 use Rattle.wc_read.specs.Bodies.{BodyValue}
 use Rattle.wc_read.specs.Decoding.{body_in}
 use Rattle.wc_read.specs.Exports.{ExportValue}
@@ -24,23 +26,25 @@ use Rattle.wc_write.specs.Values.{AreBytes}
 use Rattle.wc_gc.specs.AddedCode.{empty_type, realloc_type}
 use Rattle.wc_gc.specs.Causes.{DecidesLive}
 use Rattle.wc_gc.specs.Decoded.{FuncCode, ItemIndex, decode}
-use Rattle.wc_gc.specs.Edited.{EditedModule, added_types, edited_def, growing_code, growing_func, import_func, is_exported_func, lazy_func, only_if, replaced, start_func}
+use Rattle.wc_gc.specs.Edited.{EditedModule, added_types, edited_def, growing_code, growing_func, import_func, is_exported_func, lazy_func, only_if, replaced}
+use Rattle.wc_gc.specs.Edited.{start_func}
 use Rattle.wc_gc.specs.EditedImage.{is_kept_defined, is_kept_import}
 use Rattle.wc_gc.specs.Found.{FoundValue, is_empty, is_realloc, is_realloc_at, main_module}
 use Rattle.wc_gc.specs.Image.{new_body, new_func}
 use Rattle.wc_gc.specs.Parts.{SettingsValue, is_any}
 use Rattle.wc_gc.specs.Restriction.{HasOrigin, IsMainImport, func_item, positions_from}
 use Rattle.wc_gc.specs.declared.parts.Parts.{Parts}
-use Rattle.wc_gc.proofs.AlikeTypeLemmas.{alike_under, func_item_under}
+use Rattle.wc_gc.proofs.SameButIndicesLemmas.{same_under, func_item_under}
 use Rattle.wc_gc.proofs.BuiltImageLemmas.{kept_in}
 use Rattle.wc_gc.proofs.BuiltPartLemmas.{seen_imported}
 use Rattle.wc_gc.proofs.EditedFuncLemmas.{get_back}
-use Rattle.wc_gc.proofs.EditedIndexLemmas.{added_type, both_true, edited_at, kept_defined, kept_imports, old_at, olds, was_read}
+use Rattle.wc_gc.proofs.EditedIndexLemmas.{added_type, edited_at, kept_defined, kept_imports, old_at, olds, was_read}
 use Rattle.wc_gc.proofs.ImageLemmas.{all_kept}
 use Rattle.wc_gc.proofs.ImportOriginLemmas.{HasSpace, from_at, imported_item_at, kept_pairs, kept_there, kept_zip, origins_of, rising}
 use Rattle.wc_gc.proofs.KeptItemLemmas.{get_some, kept_count, kept_is}
 use Rattle.wc_gc.proofs.RestrictedExportLemmas as restricted
-use Rattle.wc_gc.proofs.RestrictedImportLemmas.{AreDistinct, HasOriginIn, IsPart, func_kind, func_space, import_is, imports_mapped, none_imported, none_or, origins_differ, origin_from}
+use Rattle.wc_gc.proofs.RestrictedImportLemmas.{AreDistinct, HasOriginIn, IsPart, func_kind, func_space, import_is, imports_mapped, none_imported, none_or}
+use Rattle.wc_gc.proofs.RestrictedImportLemmas.{origins_differ, origin_from}
 
 -- a realloc that was imported
 
@@ -48,7 +52,8 @@ bodies_leave : (d : DefValue (List ℕ)) → is_realloc (def_seen body_in d) ≡
 bodies_leave (imported a b) = refl
 bodies_leave (local x) = refl
 
-module _ (bytes : List ℕ) (required : List (List ℕ)) (v : ModuleValue) (live : ItemIndex → Bool) (all : AreBytes bytes) (s : SpellsModule bytes v) (decides : DecidesLive required v live) (set : SettingsValue) where
+module _ (bytes : List ℕ) (required : List (List ℕ)) (v : ModuleValue) (live : ItemIndex → Bool) (all : AreBytes bytes) (s : SpellsModule bytes v)
+    (decides : DecidesLive required v live) (set : SettingsValue) where
   abbrev exports : List ExportValue
   exports = restricted.exports bytes required v live all s decides set
 
@@ -78,7 +83,7 @@ module _ (bytes : List ℕ) (required : List (List ℕ)) (v : ModuleValue) (live
 
   -- an old function, edited, under new indices
   abbrev edited_one : ℕ → DefValue (List ℕ) → DefValue BodyValue
-  edited_one n d = def_seen (new_body ranks) (edited_def (length (decode v).funcs) set parts found (is_exported_func exports n) (def_seen body_in d))
+  edited_one n d = def_seen (new_body ranks) (edited_def (length (decode v).funcs) set parts found true (is_exported_func exports n) (def_seen body_in d))
 
   abbrev position : ℕ → Option ℕ
   position n = slice_get (positions_from Funcs 0 v.imports) n
@@ -87,7 +92,8 @@ module _ (bytes : List ℕ) (required : List (List ℕ)) (v : ModuleValue) (live
   origin n = cond (is_realloc_at (decode v) n) None (position n)
 
   realloc_is : (n : ℕ) (g : FuncValue) → slice_get v.funcs n ≡ Some g → is_realloc_at (decode v) n ≡ is_realloc g.def
-  realloc_is n g at = ap (λ o. option_map_or (λ (f : FuncCode). is_realloc f.def) o false) (slice_get-map (item_seen body_in) v.funcs n ∙ ap (option_map (item_seen body_in)) at) ∙ bodies_leave g.def
+  realloc_is n g at = ap (λ o. option_map_or (λ (f : FuncCode). is_realloc f.def) o false) (slice_get-map (item_seen body_in) v.funcs n
+      ∙ ap (option_map (item_seen body_in)) at) ∙ bodies_leave g.def
 
   -- other functions stay imported
   stays : (n : ℕ) (d : DefValue (List ℕ)) → is_realloc d ≡ false → is_import d ≡ true → (ty : ℕ) → import_by (Func ty) (edited_one n d) ≡ import_by (Func ty) d
@@ -95,11 +101,15 @@ module _ (bytes : List ℕ) (required : List (List ℕ)) (v : ModuleValue) (live
   stays n (local x) h i ty = absurd cc
 
   -- a realloc is the main module's, or is defined
-  becomes_main : (n : ℕ) (d : DefValue (List ℕ)) → is_realloc d ≡ true → (ty : ℕ) (t : FuncTypeValue) (i : ImportValue) → slice_get image.types ty ≡ Some t → import_by (Func ty) (edited_one n d) ≡ Some i → IsMainImport set.realloc trimmed i
+  becomes_main : (n : ℕ) (d : DefValue (List ℕ)) → is_realloc d ≡ true → (ty : ℕ) (t : FuncTypeValue) (i : ImportValue)
+      → slice_get image.types ty ≡ Some t → import_by (Func ty) (edited_one n d) ≡ Some i → IsMainImport set.realloc trimmed i
   becomes_main n (local x) h ty t i at e = absurd cc
-  becomes_main n (imported a b) h ty t i at e = by set.realloc refl (sym (ap (λ c. import_by (Func ty) (def_seen (new_body ranks) (cond c (replaced set found) (imported a b)))) h) ∙ e)
+  becomes_main n (imported a b) h ty t i at e =
+      by set.realloc refl (sym (ap (λ c. import_by (Func ty) (def_seen (new_body ranks) (cond c (replaced set found) (imported a b)))) h) ∙ e)
     where
-      by : (o : Option (List ℕ)) → set.realloc ≡ o → import_by (Func ty) (def_seen (new_body ranks) (option_map_or (λ name. imported main_module name) o (growing_code set found))) ≡ Some i → IsMainImport set.realloc trimmed i
+      by : (o : Option (List ℕ)) → set.realloc ≡ o
+          → import_by (Func ty) (def_seen (new_body ranks) (option_map_or (λ name. imported main_module name) o (growing_code set found))) ≡ Some i
+          → IsMainImport set.realloc trimmed i
       by None is f = absurd cc
       by (Some name) is f =
           let made : ImportValue = record { module_name = main_module; name = name; ty = Func ty } in
@@ -123,7 +133,8 @@ module _ (bytes : List ℕ) (required : List (List ℕ)) (v : ModuleValue) (live
     was_import n (imported a b) ty i e = refl
     was_import n (local x) ty i e = absurd cc
 
-    origin_by : (n : ℕ) (g : FuncValue) (i : ImportValue) → slice_get v.funcs n ≡ Some g → live (Funcs, n) ≡ true → import_by (Func (ranks Types g.ty)) (edited_one n g.def) ≡ Some i
+    origin_by : (n : ℕ) (g : FuncValue) (i : ImportValue) → slice_get v.funcs n ≡ Some g → live (Funcs, n) ≡ true
+        → import_by (Func (ranks Types g.ty)) (edited_one n g.def) ≡ Some i
         → (c : Bool) → is_realloc_at (decode v) n ≡ c → HasFuncOrigin (cond c None (position n)) i
     origin_by n g i at l e true c =
         let t = get_some v.types g.ty (restricted.func_typed bytes required v live all s decides set n g at) in
@@ -136,25 +147,27 @@ module _ (bytes : List ℕ) (required : List (List ℕ)) (v : ModuleValue) (live
     origin_by n g i at l e false c =
         let is = was_import n g.def (ranks Types g.ty) i e in
         let r = from_at (List ℕ) func_of Funcs func_space v.imports v.funcs h n g at is in
-        let alike = alike_under ranks (option_map func_item (slice_get v.types g.ty)) (option_map func_item (slice_get image.types (ranks Types g.ty)))
+        let but_indices = same_under ranks (option_map func_item (slice_get v.types g.ty)) (option_map func_item (slice_get image.types (ranks Types g.ty)))
         (ap (option_map func_item) (old_type n g l at) ∙ func_item_under ranks (slice_get v.types g.ty)) in
         origin_from bytes required v live all s decides set (List ℕ) func_of Func Funcs func_space func_kind n g r (Func (ranks Types g.ty)) i
-        (sym (stays n g.def (sym (realloc_is n g at) ∙ c) is (ranks Types g.ty)) ∙ e) alike l c
+        (sym (stays n g.def (sym (realloc_is n g at) ∙ c) is (ranks Types g.ty)) ∙ e) but_indices l c
 
     origin_at : (n : ℕ) (f : FuncCode) → slice_get olds_of n ≡ Some f → has n ≡ true → (i : ImportValue) → read f ≡ Some i → HasFuncOrigin (origin n) i
     origin_at n f at k i e =
-        let r = was_read set v exports live parts found n f at in
-        origin_by n r.func i r.at (both_true (live (Funcs, n)) _ k).0 (sym (ap read r.is) ∙ e) (is_realloc_at (decode v) n) refl
+        let l = (and_parts (live (Funcs, n)) _ k).0 in
+        let r = was_read set v exports live parts found n f l at in
+        origin_by n r.func i r.at l (sym (ap read r.is) ∙ e) (is_realloc_at (decode v) n) refl
 
     kept_one : (n : ℕ) (f : FuncCode) → live (Funcs, n) ≡ true → slice_get olds_of n ≡ Some f → is_imported f ≡ true → has n ≡ true
     kept_one n f l at i = rw (l, at) i
 
-    all_there : (n p : ℕ) → live (Funcs, n) ≡ true → position n ≡ Some p → is_realloc_at (decode v) n ≡ false → Contains (origins_of read origin has 0 olds_of) (Some p)
+    all_there : (n p : ℕ) → live (Funcs, n) ≡ true → position n ≡ Some p → is_realloc_at (decode v) n ≡ false
+        → Contains (origins_of read origin has 0 olds_of) (Some p)
     all_there n p l e none =
         let x = imported_item_at (List ℕ) func_of Funcs func_space v.imports v.funcs h n p e in
         let r = from_at (List ℕ) func_of Funcs func_space v.imports v.funcs h n x.0 x.1 x.2 in
         let f = edited_at set v exports live parts found n x.0 in
-        let old = old_at set v exports live parts found n x.0 x.1 in
+        let old = old_at set v exports live parts found n x.0 l x.1 in
         let ty = ranks Types x.0.ty in
         let made : ImportValue = record { module_name = r.value.module_name; name = r.value.name; ty = Func ty } in
         let reads : read f ≡ Some made = stays n x.0.def (sym (realloc_is n x.0 x.1) ∙ none) x.2 ty ∙ ap (import_by (Func ty)) r.def in
@@ -163,13 +176,17 @@ module _ (bytes : List ℕ) (required : List (List ℕ)) (v : ModuleValue) (live
         subst (Contains (origins_of read origin has 0 olds_of)) (ap origin start ∙ (ap (λ c. cond c None (position n)) none ∙ e))
         (kept_there read origin has olds_of 0 n f made old (ap has start ∙ kept_one n f l old yes) reads)
 
-    pub func_part : IsPart bytes required v live all s decides set Funcs (origins_of read origin has 0 olds_of) (imports_of Func (map (new_func ranks) (kept_imports set v exports live parts found)))
+    pub func_part : IsPart bytes required v live all s decides set Funcs (origins_of read origin has 0 olds_of)
+        (imports_of Func (map (new_func ranks) (kept_imports set v exports live parts found)))
     func_part = record {
       each = subst (AllZip HasFuncOrigin (origins_of read origin has 0 olds_of))
-          (ap (filter_map read) (sym (kept_is has olds_of)) ∙ sym (imports_mapped Func (new_func ranks) read (λ f. refl) (kept_imports set v exports live parts found)))
-          (kept_zip read origin has HasFuncOrigin olds_of 0 (λ n f at. let start : n ≡ 0 + n = omega arith in subst (λ k. has k ≡ true → (i : ImportValue) → read f ≡ Some i → HasFuncOrigin (origin k) i) start (origin_at n f at)));
+          (ap (filter_map read) (sym (kept_is has olds_of))
+          ∙ sym (imports_mapped Func (new_func ranks) read (λ f. refl) (kept_imports set v exports live parts found)))
+          (kept_zip read origin has HasFuncOrigin olds_of 0 (λ n f at. let start : n ≡ 0 + n = omega arith in
+          subst (λ k. has k ≡ true → (i : ImportValue) → read f ≡ Some i → HasFuncOrigin (origin k) i) start (origin_at n f at)));
       distinct = kept_pairs read origin has AreDistinct
-          (λ n k l. none_or (is_realloc_at (decode v) n) (is_realloc_at (decode v) k) (position n) (position k) (origins_differ (positions_from Funcs 0 v.imports) (rising Funcs v.imports 0) n k l)) olds_of 0;
+          (λ n k l. none_or (is_realloc_at (decode v) n) (is_realloc_at (decode v) k) (position n) (position k)
+          (origins_differ (positions_from Funcs 0 v.imports) (rising Funcs v.imports 0) n k l)) olds_of 0;
       there = λ n p l e none. all_there n p l e none;
     }
 
@@ -181,7 +198,9 @@ module _ (bytes : List ℕ) (required : List (List ℕ)) (v : ModuleValue) (live
   abbrev pub AddedOrigins : Option ℕ → ImportValue → Type 0
   AddedOrigins o i = HasOrigin set.realloc v trimmed o i × (o ≡ None)
 
-  realloc_at : (b : Bool) (o : Bool) → b ≡ true → slice_get (only_if b realloc_type ++ (only_if parts.lazy empty_type ++ (only_if parts.growing realloc_type ++ only_if o empty_type))) 0 ≡ Some realloc_type
+  realloc_at : (b : Bool) (o : Bool) → b ≡ true
+      → slice_get (only_if b realloc_type ++ (only_if parts.lazy empty_type ++ (only_if parts.growing realloc_type ++ only_if o empty_type))) 0
+      ≡ Some realloc_type
   realloc_at true o h = refl
   realloc_at false o h = absurd cc
 
@@ -201,17 +220,25 @@ module _ (bytes : List ℕ) (required : List (List ℕ)) (v : ModuleValue) (live
   some_name None a b h = absurd cc
   some_name (Some name) a b h = refl
 
-  main_import : parts.import_realloc ≡ true → IsMainImport set.realloc trimmed (record { module_name = main_module; name = unwrap_or set.realloc []; ty = Func (ranks Types (length v.types)) })
-  main_import h = record { from = refl; name = some_name set.realloc (is_any found.stacks) (is_empty found.reallocs) h; func = realloc_type; ty = ap (option_map func_item) (added_type_at h) }
+  main_import : parts.import_realloc ≡ true
+      → IsMainImport set.realloc trimmed (record { module_name = main_module; name = unwrap_or set.realloc []; ty = Func (ranks Types (length v.types)) })
+  main_import h = record {
+    from = refl;
+    name = some_name set.realloc (is_any found.stacks) (is_empty found.reallocs) h;
+    func = realloc_type;
+    ty = ap (option_map func_item) (added_type_at h);
+  }
 
-  added_by : (b : Bool) → parts.import_realloc ≡ b → AllZip AddedOrigins (only_if b None) (imports_of Func (map renew (only_if b (import_func (length v.types) set))))
+  added_by : (b : Bool) → parts.import_realloc ≡ b
+      → AllZip AddedOrigins (only_if b None) (imports_of Func (map renew (only_if b (import_func (length v.types) set))))
   added_by true h = ((main_import h, refl), tt)
   added_by false h = tt
 
   pub added_imports : AllZip AddedOrigins (only_if parts.import_realloc None) (imports_of Func (map renew edit_of.imports))
   added_imports = added_by parts.import_realloc refl
 
-  no_added : (a b c : Bool) → imports_of Func (map renew (only_if a (lazy_func (length v.types) (length (decode v).funcs) parts found) ++ (only_if b (growing_func (length v.types) set parts found)
+  no_added : (a b c : Bool) → imports_of Func
+      (map renew (only_if a (lazy_func (length v.types) (length (decode v).funcs) parts found) ++ (only_if b (growing_func (length v.types) set parts found)
       ++ only_if c (start_func (length v.types) (length (decode v).funcs) parts found)))) ≡ []
   no_added true true true = refl
   no_added true true false = refl
@@ -222,22 +249,22 @@ module _ (bytes : List ℕ) (required : List (List ℕ)) (v : ModuleValue) (live
   no_added false false true = refl
   no_added false false false = refl
 
-  no_import : (b : Bool) → not b ≡ true → b ≡ false
-  no_import true h = absurd cc
-  no_import false h = refl
-
   defined_one : (n : ℕ) (f : FuncCode) → is_kept_defined edit_of n ≡ true → slice_get olds_of n ≡ Some f → is_imported (renew f) ≡ false
   defined_one n f k at =
-      seen_imported (new_body ranks) f.def ∙ no_import (is_imported f) (sym (ap (λ o. option_map_or (λ (f : FuncCode). is_defined f) o false) at) ∙ (both_true (live (Funcs, n)) _ k).1)
+      seen_imported (new_body ranks) f.def ∙ not-true (is_imported f) (sym (ap (λ o. option_map_or (λ (f : FuncCode). is_defined f) o false) at)
+      ∙ (and_parts (live (Funcs, n)) _ k).1)
 
   no_defined : imports_of Func (map renew (kept_defined set v exports live parts found)) ≡ []
   no_defined =
       let P : ItemValue ℕ BodyValue → Type 0 = λ f. is_imported f ≡ false in
       let kept = kept_defined set v exports live parts found in
-      none_imported Func (map renew kept) (recursion_from_All P (map renew kept) (All-map P renew kept (all_kept (λ f. P (renew f)) (is_kept_defined edit_of) olds_of defined_one (length olds_of))))
+      none_imported Func (map renew kept)
+      (recursion_from_All P (map renew kept)
+      (All-map P renew kept (all_kept (λ f. P (renew f)) (is_kept_defined edit_of) olds_of defined_one (length olds_of))))
 
   -- the imported functions of the image
-  pub func_imports : imports_of Func image.funcs ≡ imports_of Func (map renew (kept_imports set v exports live parts found)) ++ imports_of Func (map renew edit_of.imports)
+  pub func_imports : imports_of Func image.funcs ≡ imports_of Func (map renew (kept_imports set v exports live parts found)) ++ imports_of Func
+      (map renew edit_of.imports)
   func_imports =
       let read = λ (f : ItemValue ℕ BodyValue). import_by (Func f.ty) f.def in
       let one = map renew (kept_imports set v exports live parts found) in
@@ -246,4 +273,5 @@ module _ (bytes : List ℕ) (required : List (List ℕ)) (v : ModuleValue) (live
       let four = map renew edit_of.funcs in
       filter_map-append read one (two ++ (three ++ four))
       ∙ ap (λ z. filter_map read one ++ z) (filter_map-append read two (three ++ four)
-      ∙ (ap (λ z. filter_map read two ++ z) (filter_map-append read three four ∙ (ap (λ z. z ++ filter_map read four) no_defined ∙ no_added parts.lazy parts.growing parts.start)) ∙ append-nil (filter_map read two)))
+      ∙ (ap (λ z. filter_map read two ++ z) (filter_map-append read three four
+      ∙ (ap (λ z. z ++ filter_map read four) no_defined ∙ no_added parts.lazy parts.growing parts.start)) ∙ append-nil (filter_map read two)))

@@ -18,7 +18,7 @@ use Rattle.wc_write.specs.Values.{AreBytes}
 use Rattle.wc_gc.specs.Causes.{DecidesLive}
 use Rattle.wc_gc.specs.Decoded.{ItemIndex}
 use Rattle.wc_gc.specs.Parts.{SettingsValue}
-use Rattle.wc_gc.specs.Restriction.{AreTypesAlike, HasOrigin, IsKeptImport, SameImport, import_type, is_in_space, is_realloc_item, positions_from}
+use Rattle.wc_gc.specs.Restriction.{AreSameTypesButIndices, HasOrigin, IsKeptImport, SameImport, import_type, is_in_space, is_realloc_item, positions_from}
 use Rattle.wc_gc.proofs.BuiltImageLemmas.{kept_in}
 use Rattle.wc_gc.proofs.ImportOriginLemmas.{HasSpace, IsFrom, from_at, imported_item_at, kept_pairs, kept_there, kept_zip, origins_of, rising}
 use Rattle.wc_gc.proofs.KeptItemLemmas.{kept_is}
@@ -160,10 +160,10 @@ module _ (bytes : List ℕ) (required : List (List ℕ)) (v : ModuleValue) (live
   -- an item of the adapter that stays imported
 
   module _ {T : Type 0} (C : Type 0) (of : ImportType → Option T) (kind : T → ImportType) (space : Space) (same : IsSpaceOf space of) (back : IsKindOf kind of) (n : ℕ) (x : ItemValue T C) (r : IsFrom C of space same v.imports n x) where
-    abbrev AreAlike : ImportType → Type 0
-    AreAlike ty = AreTypesAlike (import_type v.types (kind x.ty)) (import_type new_module.types ty)
+    abbrev AreSameButIndices : ImportType → Type 0
+    AreSameButIndices ty = AreSameTypesButIndices (import_type v.types (kind x.ty)) (import_type new_module.types ty)
 
-    import_from : (ty : ImportType) (i : ImportValue) → import_by ty x.def ≡ Some i → AreAlike ty → SameImport v new_module r.value i
+    import_from : (ty : ImportType) (i : ImportValue) → import_by ty x.def ≡ Some i → AreSameButIndices ty → SameImport v new_module r.value i
     import_from ty i e types =
         let made : ImportValue = record { module_name = r.value.module_name; name = r.value.name; ty = ty } in
         let is : made ≡ i = (let one = sym (ap (import_by ty) r.def) ∙ e in cc one) in
@@ -171,10 +171,10 @@ module _ (bytes : List ℕ) (required : List (List ℕ)) (v : ModuleValue) (live
         subst (SameImport v new_module r.value) is (record {
           from = refl;
           name = refl;
-          ty = subst (λ t. AreTypesAlike (import_type v.types t) (import_type new_module.types ty)) same types;
+          ty = subst (λ t. AreSameTypesButIndices (import_type v.types t) (import_type new_module.types ty)) same types;
         })
 
-    pub origin_from : (ty : ImportType) (i : ImportValue) → import_by ty x.def ≡ Some i → AreAlike ty → live (space, n) ≡ true
+    pub origin_from : (ty : ImportType) (i : ImportValue) → import_by ty x.def ≡ Some i → AreSameButIndices ty → live (space, n) ≡ true
         → is_realloc_item v (space, n) ≡ false
         → HasOriginIn space (slice_get (positions_from space 0 v.imports) n) i
     origin_from ty i e types l none = subst (λ o. HasOriginIn space o i) (sym r.is_position) (record {
@@ -187,7 +187,7 @@ module _ (bytes : List ℕ) (required : List (List ℕ)) (v : ModuleValue) (live
 
   module _ {T : Type 0} (C : Type 0) (of : ImportType → Option T) (kind : T → ImportType) (space : Space) (same : IsSpaceOf space of)
       (back : IsKindOf kind of) (renew : T → T)
-      (alike : (t : T) → AreTypesAlike (import_type v.types (kind t)) (import_type new_module.types (kind (renew t))))
+      (but_indices : (t : T) → AreSameTypesButIndices (import_type v.types (kind t)) (import_type new_module.types (kind (renew t))))
       (none : (n : ℕ) → is_realloc_item v (space, n) ≡ false) (xs : List (ItemValue T C)) (h : HasSpace of v.imports xs) where
     abbrev read : ItemValue T C → Option ImportValue
     read x = import_by (kind (renew x.ty)) x.def
@@ -201,7 +201,7 @@ module _ (bytes : List ℕ) (required : List (List ℕ)) (v : ModuleValue) (live
     origin_at : (n : ℕ) (x : ItemValue T C) → slice_get xs n ≡ Some x → has n ≡ true → (i : ImportValue) → read x ≡ Some i → HasOriginIn space (origin n) i
     origin_at n x at l i e =
         let ty = kind (renew x.ty) in
-        origin_from C of kind space same back n x (from_at C of space same v.imports xs h n x at (import_is ty x.def i e)) ty i e (alike x.ty) l (none n)
+        origin_from C of kind space same back n x (from_at C of space same v.imports xs h n x at (import_is ty x.def i e)) ty i e (but_indices x.ty) l (none n)
 
     all_there : (n p : ℕ) → has n ≡ true → origin n ≡ Some p → Contains (origins_of read origin has 0 xs) (Some p)
     all_there n p l e =

@@ -26,7 +26,7 @@ use Rattle.wc_gc.specs.Image.{new_func, new_init, new_table}
 use Rattle.wc_gc.specs.Parts.{SettingsValue}
 use Rattle.wc_gc.specs.Restriction.{HasOrigin, IsKeptImport, IsRestriction, TrimmedIsRestriction, global_item, is_in_space, is_realloc_item}
 use Rattle.wc_gc.specs.Restriction.{positions_from, table_item}
-use Rattle.wc_gc.proofs.AlikeTypeLemmas.{alike_under}
+use Rattle.wc_gc.proofs.SameButIndicesLemmas.{same_under}
 use Rattle.wc_gc.proofs.BuiltImageLemmas.{kept_in}
 use Rattle.wc_gc.proofs.BuiltPartLemmas.{global_written}
 use Rattle.wc_gc.proofs.EditedIndexLemmas.{kept_imports}
@@ -93,7 +93,7 @@ module _ (bytes : List ℕ) (required : List (List ℕ)) (v : ModuleValue) (live
       let read = λ (t : TableValue). import_by (Table (renew t.ty)) t.def in
       let kept = kept_in live Tables v.tables in
       let part = plain_part bytes required v live all s decides set ⊤ table_of Table Tables table_space table_kind renew
-      (λ t. alike_under ranks (Some (table_item t)) (Some (table_item (renew t))) refl) (λ n. refl) v.tables (have_spaces bytes v s).tables in
+      (λ t. same_under ranks (Some (table_item t)) (Some (table_item (renew t))) refl) (λ n. refl) v.tables (have_spaces bytes v s).tables in
       subst (Group Tables) (sym (imports_mapped Table (new_table ranks) read (λ t. refl) kept)) (record { origins = _; part = part })
 
   globals : Group Globals (imports_of Global image.globals)
@@ -102,7 +102,7 @@ module _ (bytes : List ℕ) (required : List (List ℕ)) (v : ModuleValue) (live
       let read = λ (g : GlobalValue). import_by (Global (renew g.ty)) g.def in
       let kept = kept_in live Globals v.globals in
       let part = plain_part bytes required v live all s decides set (List ℕ) global_of Global Globals global_space global_kind renew
-      (λ t. alike_under ranks (Some (global_item t)) (Some (global_item (renew t))) refl) (λ n. refl) v.globals (have_spaces bytes v s).globals in
+      (λ t. same_under ranks (Some (global_item t)) (Some (global_item (renew t))) refl) (λ n. refl) v.globals (have_spaces bytes v s).globals in
       let same = imports_mapped Global (global_written ranks) read (λ g. global_read g.def (Global (renew g.ty)) ranks) kept in
       subst (Group Globals) (sym same) (record { origins = _; part = part })
 

@@ -1,23 +1,23 @@
 -- A search finds what roots reach.
-use Rattle.std.proofs.Common.{◌≡◌, ◌≢◌, ℕ, zero, suc, ◌+◌, ◌<◌, ◌≤◌, List, [], ◌∷◌, ◌++◌, length, refl, sym, ◌∙◌, ap, subst, Bool, true, false, not, ◌⊎◌, inl, inr, arith, get_or, append_assoc, append-nil, length-append}
+use Rattle.std.proofs.Common.{◌≡◌, ◌≢◌, ℕ, zero, suc, ◌+◌, ◌<◌, ◌≤◌, List, [], ◌∷◌, ◌++◌, length, refl, sym, ◌∙◌, ap, subst, Bool, true, false, ◌⊎◌, inl, inr}
+use Rattle.std.proofs.Common.{arith, get_or, append_assoc, append-nil, length-append}
 use Rattle.std.proofs.lemmas.List.{get_or_append_left}
 use Rattle.std.specs.Prelude.{IsTrue, Contains, ◌↔◌}
-use Rattle.std.proofs.lemmas.List.Elements.{Contains-append_left, Contains-append_right, Contains-append_cases, Contains-push, Contains-push_cases, Contains-get_or}
+use Rattle.std.proofs.lemmas.List.Elements.{Contains-append_left, Contains-append_right, Contains-append_cases, Contains-push, Contains-push_cases}
+use Rattle.std.proofs.lemmas.List.Elements.{Contains-get_or}
 use Rattle.std.proofs.lemmas.List.Quantifiers.{all_pairs_push}
 use Rattle.std.proofs.lemmas.Bool.Decides.{eqb_tells}
+use Rattle.std.proofs.lemmas.Bool.{both_ways}
 use Rattle.wc_read.specs.declared.operators.Space.{Space}
 use Rattle.wc_read.specs.declared.operators.Space.TheVariants.{Types, Funcs, Tables, Memories, Globals}
 use Rattle.wc_gc.specs.Decoded.{ItemIndex}
 use Rattle.wc_gc.specs.Reached.{IsPath, IsReachedFrom}
 use Rattle.wc_gc.specs.LiveSets.{Inserts}
-use Rattle.wc_gc.specs.Searches.{IsTied, HasGrown, IsGrown}
+use Rattle.wc_gc.specs.Private.Searches.{IsTied, HasGrown, IsGrown}
 
 -- any two things are the same or not
 abbrev pub IsDecided : Type 0 → Type 0
 IsDecided X = (x y : X) → (x ≡ y) ⊎ (x ≢ y)
-
-pub false_true : {b : Bool} → b ≡ false → b ≡ true → ⊥
-false_true p q = cc (p, q)
 
 space_code : Space → ℕ
 space_code Types = 0
@@ -61,7 +61,8 @@ module _ {X : Type 0} where
     only = λ x c. inl c;
   }
 
-  pub grown_push : IsDecided X → (has has' : X → Bool) (found : List X) (x : X) → has x ≡ false → Inserts has has' x → IsTied has found → HasGrown found has' (found ++ x ∷ []) (x ∷ [])
+  pub grown_push : IsDecided X → (has has' : X → Bool) (found : List X) (x : X) → has x ≡ false → Inserts has has' x → IsTied has found
+      → HasGrown found has' (found ++ x ∷ []) (x ∷ [])
   grown_push decide has has' found x new inserts tied = record {
     tied = record {
       is_listed = λ y h. elim (decide y x) [
@@ -69,11 +70,11 @@ module _ {X : Type 0} where
         | inr n ↦ Contains-append_left found (x ∷ []) y (tied.is_listed y (sym (inserts.others y n) ∙ h))
       ];
       is_in_set = λ y c. elim (Contains-push_cases found x y c) [
-        | inl old ↦ inserts.others y (λ e. false_true new (subst (λ z. IsTrue (has z)) e (tied.is_in_set y old))) ∙ tied.is_in_set y old
+        | inl old ↦ inserts.others y (λ e. both_ways _ new (subst (λ z. IsTrue (has z)) e (tied.is_in_set y old))) ∙ tied.is_in_set y old
         | inr e ↦ subst (λ z. IsTrue (has' z)) e inserts.present
       ];
       distinct = all_pairs_push (λ a b. a ≢ b) found x tied.distinct
-          (λ k d h e. false_true new (subst (λ z. IsTrue (has z)) e (tied.is_in_set (get_or found k d) (Contains-get_or found k d h))));
+          (λ k d h e. both_ways _ new (subst (λ z. IsTrue (has z)) e (tied.is_in_set (get_or found k d) (Contains-get_or found k d h))));
     };
     after = (x ∷ [], refl);
     all = λ y c. Contains-append_right found (x ∷ []) y c;
@@ -85,9 +86,13 @@ module _ {X : Type 0} where
   contains_one x y (suc k, lt, e) = absurd (omega (arith, lt))
 
   -- what is there is put in again
-  pub grown_old : IsDecided X → (has has' : X → Bool) (found : List X) (x : X) → has x ≡ true → Inserts has has' x → IsTied has found → HasGrown found has' found (x ∷ [])
+  pub grown_old : IsDecided X → (has has' : X → Bool) (found : List X) (x : X) → has x ≡ true → Inserts has has' x → IsTied has found
+      → HasGrown found has' found (x ∷ [])
   grown_old decide has has' found x old inserts tied =
-      let same : (y : X) → has' y ≡ has y = λ y. elim (decide y x) [ inl e ↦ subst (λ z. has' z ≡ has z) (sym e) (inserts.present ∙ sym old) | inr n ↦ inserts.others y n ] in
+      let same : (y : X) → has' y ≡ has y = λ y. elim (decide y x) [
+        | inl e ↦ subst (λ z. has' z ≡ has z) (sym e) (inserts.present ∙ sym old)
+        | inr n ↦ inserts.others y n
+      ] in
       record {
         tied = record {
           is_listed = λ y h. tied.is_listed y (sym (same y) ∙ h);
@@ -122,7 +127,7 @@ module _ {X : Type 0} where
   pub record IsSearched (names : X → List X) (roots : List X) (has : X → Bool) (found : List X) (next : ℕ) : Type 0 where
     pub tied : IsTied has found
     pub from : (x : X) → Contains roots x → Contains found x
-    pub sound : (x : X) → Contains found x → IsReachedFrom names roots x
+    pub are_reached : (x : X) → Contains found x → IsReachedFrom names roots x
     pub passed : (k : ℕ) (d : X) → k < next → (y : X) → Contains (names (get_or found k d)) y → Contains found y
     pub within : next ≤ length found
 
@@ -130,7 +135,7 @@ module _ {X : Type 0} where
   search_start names roots has found g = record {
     tied = g.tied;
     from = g.all;
-    sound = λ x c. elim (g.only x c) [ inl n ↦ absurd (omega (arith, n.1)) | inr r ↦ (x, r, [], refl) ];
+    are_reached = λ x c. elim (g.only x c) [ inl n ↦ absurd (omega (arith, n.1)) | inr r ↦ (x, r, [], refl) ];
     passed = λ k d h. absurd (omega arith);
     within = omega arith;
   }
@@ -140,17 +145,16 @@ module _ {X : Type 0} where
   longer names x [] y z w c = (subst (λ v. Contains (names v) z) (sym w) c, refl)
   longer names x (v ∷ path) y z w c = (w.0, longer names v path y z w.1 c)
 
-  front_at : (found more : List X) (k : ℕ) (d : X) → k < length found → get_or (found ++ more) k d ≡ get_or found k d
-  front_at found more k d h = get_or_append_left found more d k h
-
-  pub search_turn : (names : X → List X) (roots : List X) (has : X → Bool) (found : List X) (next : ℕ) (has' : X → Bool) (found' : List X) (x : X)
-      → next < length found → ((d : X) → get_or found next d ≡ x) → IsSearched names roots has found next → HasGrown found has' found' (names x) → IsSearched names roots has' found' (next + 1)
-  search_turn names roots has found next has' found' x lt at s g = record {
+  pub search_step : (names : X → List X) (roots : List X) (has : X → Bool) (found : List X) (next : ℕ) (has' : X → Bool) (found' : List X) (x : X)
+      → next < length found → ((d : X) → get_or found next d ≡ x) → IsSearched names roots has found next → HasGrown found has' found' (names x)
+      → IsSearched names roots has' found' (next + 1)
+  search_step names roots has found next has' found' x lt at s g = record {
     tied = g.tied;
     from = λ y c. keep y (s.from y c);
-    sound = λ y c. elim (g.only y c) [
-      | inl old ↦ s.sound y old
-      | inr new ↦ let r = s.sound x (subst (Contains found) (at x) (Contains-get_or found next x lt)) in (r.0, r.1, r.2 ++ y ∷ [], longer names r.0 r.2 x y r.3 new)
+    are_reached = λ y c. elim (g.only y c) [
+      | inl old ↦ s.are_reached y old
+      | inr new ↦ let r = s.are_reached x (subst (Contains found) (at x) (Contains-get_or found next x lt)) in
+          (r.0, r.1, r.2 ++ y ∷ [], longer names r.0 r.2 x y r.3 new)
     ];
     passed = λ k d h y c. elim (below k h) [
       | inl old ↦ keep y (s.passed k d old y (subst (λ v. Contains (names v) y) (old_at k d (omega arith)) c))
@@ -163,7 +167,7 @@ module _ {X : Type 0} where
       keep y c = subst (λ z. Contains z y) (sym g.after.1) (Contains-append_left found g.after.0 y c)
 
       old_at : (k : ℕ) (d : X) → k < length found → get_or found' k d ≡ get_or found k d
-      old_at k d h = ap (λ z. get_or z k d) g.after.1 ∙ front_at found g.after.0 k d h
+      old_at k d h = ap (λ z. get_or z k d) g.after.1 ∙ get_or_append_left found g.after.0 d k h
 
       below : (k : ℕ) → k < next + 1 → (k < next) ⊎ (k ≡ next)
       below k h = grind arith
@@ -174,19 +178,13 @@ module _ {X : Type 0} where
   closed names found c x [] y h w = subst (Contains found) w h
   closed names found c x (z ∷ path) y h w = closed names found c z path y (c x z h w.0) w.1
 
-  pub search_end : (names : X → List X) (roots : List X) (has : X → Bool) (found : List X) (next : ℕ) → length found ≤ next → IsSearched names roots has found next
+  pub search_end : (names : X → List X) (roots : List X) (has : X → Bool) (found : List X) (next : ℕ) → length found ≤ next
+      → IsSearched names roots has found next
       → (x : X) → IsTrue (has x) ↔ IsReachedFrom names roots x
   search_end names roots has found next over s x = (
-    (λ h. s.sound x (s.tied.is_listed x h)),
-    (λ r. s.tied.is_in_set x (closed names found (λ a b ca cb. s.passed ca.0 a (omega (arith, ca.1, over)) b (subst (λ v. Contains (names v) b) (sym ca.2) cb)) r.0 r.2 x (s.from r.0 r.1) r.3)),
+    (λ h. s.are_reached x (s.tied.is_listed x h)),
+    (λ r. s.tied.is_in_set x (closed names found
+        (λ a b ca cb. s.passed ca.0 a (omega (arith, ca.1, over)) b (subst (λ v. Contains (names v) b) (sym ca.2) cb)) r.0 r.2 x (s.from r.0 r.1) r.3)),
   )
 
 -- what `insert` answered
-
-pub new_one : (b : Bool) → true ≡ not b → b ≡ false
-new_one true h = h
-new_one false h = refl
-
-pub old_one : (b : Bool) → false ≡ not b → b ≡ true
-old_one true h = refl
-old_one false h = h

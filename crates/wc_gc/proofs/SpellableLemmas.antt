@@ -24,11 +24,11 @@ use Rattle.wc_write.specs.BuiltValues.{IsInitialiser}
 use Rattle.wc_gc.specs.Decoded.{ItemIndex}
 use Rattle.wc_gc.specs.Image.{rank, renumber_body, renumber_code, renumber_locals}
 use Rattle.wc_gc.specs.Laws.{KeepsBits}
-use Rattle.wc_gc.proofs.RankLemmas.{few_below}
+use Rattle.wc_gc.proofs.RankLemmas.{bounded_below}
 
 -- ranks are no larger than indices
 pub ranks_keep : (kept : ItemIndex → Bool) → KeepsBits (rank kept)
-ranks_keep kept space n h = let few = few_below (λ k. kept (space, k)) n in omega arith
+ranks_keep kept space n h = let bounded = bounded_below (λ k. kept (space, k)) n in omega arith
 
 -- what is a reference stays one
 reference_stays : (new : Renumbering) (t : ValType) → is_reference (renumber_val_type new t) ≡ is_reference t
@@ -132,7 +132,7 @@ module _ (new : Renumbering) (keeps : KeepsBits new) where
 
   pub body_stays : (b : BodyValue) → IsBody b → IsBody (renumber_body new b)
   body_stays b h = record {
-    few_locals = subst (λ (n : ℕ). n < 2 ^ 32) (sym (count_stays new b.locals)) h.few_locals;
+    locals_fit_u32 = subst (λ (n : ℕ). n < 2 ^ 32) (sym (count_stays new b.locals)) h.locals_fit_u32;
     has_locals = locals_fit b.locals h.has_locals;
     has_operators = code_stays b.operators h.has_operators;
     nests = subst IsExpression (sym (tokens_stay b.operators)) h.nests;

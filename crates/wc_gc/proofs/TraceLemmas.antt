@@ -1,4 +1,4 @@
--- Two adapters of one cut are trimmed alike: the text and the causes of each are those of the cut.
+-- Two adapters of one cut are trimmed to the same: the text and the causes of each are those of the cut.
 use Rattle.std.proofs.Common.{◌≡◌, ℕ, List, sym, ◌∙◌, ap, subst, Bool, ltb-true, inl, inr}
 use Rattle.std.specs.Prelude.{◌↔◌, Contains, IsTrue}
 use Rattle.std.specs.List.{AllByRecursion}
@@ -15,9 +15,9 @@ use Rattle.wc_gc.specs.Edited.{edit}
 use Rattle.wc_gc.specs.EditedImage.{edited_image}
 use Rattle.wc_gc.specs.Entries.{entry_at, entry_refs}
 use Rattle.wc_gc.specs.KeptExports.{kept_exports}
-use Rattle.wc_gc.specs.Liveness.{HasLiveBody, Wanted}
+use Rattle.wc_gc.specs.Liveness.{HasLiveBody, TrimInput}
 use Rattle.wc_gc.specs.Parts.{SettingsValue}
-use Rattle.wc_gc.specs.Traces.{AreClosed, AreTrimmedAlike, HasCut, HasLiveness, NoTrace, all_items}
+use Rattle.wc_gc.specs.Traces.{AreClosed, AreTrimmedToTheSame, HasCut, HasLiveness, NoTrace, all_items}
 use Rattle.wc_gc.specs.Trimming.{IsLaterCause, IsTrimCause, IsTrimFault, IsTrimmed}
 use Rattle.wc_gc.specs.declared.fault.GcFault.{GcFault}
 use Rattle.wc_gc.specs.declared.fault.GcFault.TheVariants.{LiveBody}
@@ -37,17 +37,17 @@ each_in P xs h = each_weaker (Contains xs) P xs h (recursion_from_All (Contains 
 pub live_closed : (required : List (List ℕ)) (bytes : List ℕ) (m : ModuleValue) (live : ItemIndex → Bool) → AreBytes bytes → SpellsModule bytes m
     → DecidesLive required m live → ¬ (HasLiveBody required m)
     → AreClosed (decode m) (kept_exports required m.exports) live
-live_closed required bytes m live all s decides sound =
+live_closed required bytes m live all s decides in_range =
     let writable = spelled_writable bytes m all s in
     let valid = s.has_sections.valid in
     record {
       there = λ x h. ltb-true x.1 (size_of (decode m) x.0) (live_there required m valid x ((decides x).0 h));
       named = λ x h. each_in (λ y. IsTrue (live y)) (entry_refs (entry_at (decode m) x))
-          (λ y c. live_named required m live decides x y h (named_present required m writable valid sound x y ((decides x).0 h) c));
+          (λ y c. live_named required m live decides x y h (named_present required m writable valid in_range x y ((decides x).0 h) c));
       exported = each_in (λ e. IsTrue (live (exported_item e))) (kept_exports required m.exports) (live_root required m live decides);
     }
 
-module _ (s : SettingsValue) (w : Wanted) (c : DecodedModule) (all : AreBytes w.bytes) (no_cause : HasLiveness w) (h : HasCut w c) where
+module _ (s : SettingsValue) (w : TrimInput) (c : DecodedModule) (all : AreBytes w.bytes) (no_cause : HasLiveness w) (h : HasCut w c) where
   abbrev exports : List ExportValue
   exports = kept_exports w.required h.value.exports
 
@@ -92,23 +92,23 @@ module _ (s : SettingsValue) (w : Wanted) (c : DecodedModule) (all : AreBytes w.
 -- from one adapter to the other
 
 module _ (s : SettingsValue) (c : DecodedModule) where
-  record Given (w : Wanted) : Type 0 where
+  record Given (w : TrimInput) : Type 0 where
     bytes : AreBytes w.bytes
     no_cause : HasLiveness w
     cut : HasCut w c
 
-  one_text : (v w : Wanted) → Given v → Given w → (x y : List ℕ) → IsTrimmed s v x → IsTrimmed s w y → x ≡ y
+  one_text : (v w : TrimInput) → Given v → Given w → (x y : List ℕ) → IsTrimmed s v x → IsTrimmed s w y → x ≡ y
   one_text v w a b x y t u = trimmed_to s v c a.bytes a.no_cause a.cut x t ∙ sym (trimmed_to s w c b.bytes b.no_cause b.cut y u)
 
-  cause_from : (v w : Wanted) → Given v → Given w → (f : GcFault) → IsTrimCause s v f → IsTrimCause s w f
+  cause_from : (v w : TrimInput) → Given v → Given w → (f : GcFault) → IsTrimCause s v f → IsTrimCause s w f
   cause_from v w a b f t = cause_back s w c b.bytes b.no_cause b.cut f (cause_to s v c a.bytes a.no_cause a.cut f t)
 
-  fault_from : (v w : Wanted) → Given v → Given w → (f : GcFault) → IsTrimFault s v f → IsTrimFault s w f
+  fault_from : (v w : TrimInput) → Given v → Given w → (f : GcFault) → IsTrimFault s v f → IsTrimFault s w f
   fault_from v w a b f (inl e) = inl e
   fault_from v w a b f (inr t) = inr (cause_from v w a b f t.0, λ g less x. t.1 g less (cause_from w v b a g x))
 
-  alike : (v w : Wanted) → Given v → Given w → AreTrimmedAlike s v w
-  alike v w a b = record {
+  but_indices : (v w : TrimInput) → Given v → Given w → AreTrimmedToTheSame s v w
+  but_indices v w a b = record {
     texts = one_text v w a b;
     causes = λ f. (cause_from v w a b f, cause_from w v b a f);
     faults = λ f. (fault_from v w a b f, fault_from w v b a f);
@@ -116,4 +116,4 @@ module _ (s : SettingsValue) (c : DecodedModule) where
 
 pub no_trace : NoTrace
 no_trace s v w c all bytes none free cut other =
-    alike s c v w (record { bytes = all; no_cause = none; cut = cut }) (record { bytes = bytes; no_cause = free; cut = other })
+    but_indices s c v w (record { bytes = all; no_cause = none; cut = cut }) (record { bytes = bytes; no_cause = free; cut = other })

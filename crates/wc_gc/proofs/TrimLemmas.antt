@@ -1,9 +1,11 @@
 -- The causes of faults of trimming, and their order.
-use Rattle.std.proofs.Common.{◌≡◌, ℕ, suc, ◌<◌, ◌≤◌, ◌^◌, List, [], ◌∷◌, length, map, refl, sym, ◌∙◌, ap, subst, Bool, true, false, Option, Some, None, ◌⊎◌, inl, inr, arith}
+use Rattle.std.proofs.Common.{◌≡◌, ℕ, ◌<◌, ◌≤◌, ◌^◌, List, [], ◌∷◌, length, map, refl, sym, ◌∙◌, ap, subst, Bool, true, false, Option, Some, None, ◌⊎◌, inl}
+use Rattle.std.proofs.Common.{inr, arith}
 use Rattle.std.specs.Prelude.{IsTrue, MatchOption, IfSome, Result, Ok, Err, IfOk, IfErr, IsOk}
 use Rattle.std.specs.Map.{values_of}
 use Rattle.std.specs.Borrow.{Bor}
 use Rattle.std.proofs.Math.Path.{fun_ext}
+use Rattle.std.proofs.lemmas.List.{length-map}
 use Rattle.wc_read.specs.Exports.{ExportValue, export_value}
 use Rattle.wc_read.specs.Contents.{SpellsFuncTypes}
 use Rattle.wc_read.specs.Types.{FuncTypeValue}
@@ -21,17 +23,18 @@ use Rattle.wc_write.proofs.ValueLemmas.{number_fits}
 use Rattle.wc_write.proofs.WritableModuleLemmas.{all_bytes, content_bytes}
 use Rattle.wc_gc.specs.Causes.{IsFoundCause, DecidesLive}
 use Rattle.wc_gc.specs.Decoded.{DecodedModule, ItemIndex, decode, decoded_module}
-use Rattle.wc_gc.specs.Fewness.{AreFewItems}
+use Rattle.wc_gc.specs.Private.ItemCounts.{ItemCountsFitU32}
 use Rattle.wc_gc.specs.Found.{FoundValue, found_in}
 use Rattle.wc_gc.specs.Edited.{edit}
 use Rattle.wc_gc.specs.EditedImage.{FitsBits, edited_image}
 use Rattle.wc_gc.specs.Parts.{SettingsValue}
 use Rattle.wc_gc.specs.KeptExports.{kept_exports, export_entries}
-use Rattle.wc_gc.specs.Liveness.{IsCause, IsFault, IsFaultOf, IsLivenessOf, Wanted, order_of}
-use Rattle.wc_gc.specs.Soundness.{is_sound_at}
+use Rattle.wc_gc.specs.Liveness.{IsCause, IsFault, IsFaultOf, IsLivenessOf, TrimInput, order_of}
+use Rattle.wc_gc.specs.InRange.{is_item_in_range}
 use Rattle.wc_gc.specs.Trimming.{IsLaterCause, IsLaterCauseIn, IsLaterFault, IsTrimCause, IsTrimFault, IsTrimFaultOf, IsTrimmed, IsTrimmedOf}
 use Rattle.wc_gc.specs.declared.fault.GcFault.{GcFault}
-use Rattle.wc_gc.specs.declared.fault.GcFault.TheVariants.{Memory, Read, MissingExport, UnsupportedSection, LiveBody, SeveralNamed, LiveTable, SeveralMemories, LocalMemory, ReallocType, ReallocMemory, TooLarge}
+use Rattle.wc_gc.specs.declared.fault.GcFault.TheVariants.{Memory, Read, MissingExport, UnsupportedSection, LiveBody, SeveralNamed, LiveTable, SeveralMemories}
+use Rattle.wc_gc.specs.declared.fault.GcFault.TheVariants.{LocalMemory, ReallocType, ReallocMemory, TooLarge}
 use Rattle.wc_gc.proofs.LivenessLemmas.{fault_of, no_cause_of}
 
 -- exports by their names
@@ -40,7 +43,8 @@ pub values_seen : (es : List (Bor (List ℕ) × Export)) → map export_value (v
 values_seen [] = refl
 values_seen (e ∷ es) = ap (λ xs. export_value e.1 ∷ xs) (values_seen es)
 
-pub seen_answer : {T E : Type 0} (items : T → List Export) (r : Result T E) (vs : List Export) (seen : List ExportValue) → IfOk r (λ v. items v ≡ vs) → map export_value vs ≡ seen → IfOk r (λ v. map export_value (items v) ≡ seen)
+pub seen_answer : {T E : Type 0} (items : T → List Export) (r : Result T E) (vs : List Export) (seen : List ExportValue) → IfOk r (λ v. items v ≡ vs)
+    → map export_value vs ≡ seen → IfOk r (λ v. map export_value (items v) ≡ seen)
 seen_answer items (Ok v) vs seen h e = ap (map export_value) h ∙ e
 seen_answer items (Err f) vs seen h e = h
 
@@ -66,24 +70,31 @@ module _ (s : SettingsValue) (m : DecodedModule) (exports : List ExportValue) (l
 
   -- of what was found
 
-  pub found_fault : (x : FoundValue) → x ≡ found_in m live → (f : GcFault) → IsFoundCause s m x f × ((g : GcFault) → order_of g < order_of f → ¬ (IsFoundCause s m x g)) → IsLaterFault s m exports live f
+  pub found_fault : (x : FoundValue) → x ≡ found_in m live → (f : GcFault) → IsFoundCause s m x f × ((g : GcFault) → order_of g < order_of f
+      → ¬ (IsFoundCause s m x g)) → IsLaterFault s m exports live f
   found_fault x is f c =
-      let small = found_small s m x f c.0 in
-      (found_later f small (subst (λ (z : FoundValue). IsFoundCause s m z f) is c.0), λ g h k. c.1 g h (subst (λ (z : FoundValue). IsFoundCause s m z g) (sym is) (later_found g (omega arith) k)))
+      let small = found_small s m x f c.0 in (
+        found_later f small (subst (λ (z : FoundValue). IsFoundCause s m z f) is c.0),
+        λ g h k. c.1 g h (subst (λ (z : FoundValue). IsFoundCause s m z g) (sym is) (later_found g (omega arith) k)),
+      )
 
-  large_fault : (x : FoundValue) → x ≡ found_in m live → ((f : GcFault) → ¬ (IsFoundCause s m x f)) → ¬ (FitsBits (edited_image (edit s m exports live))) → IsLaterFault s m exports live TooLarge
+  large_fault : (x : FoundValue) → x ≡ found_in m live → ((f : GcFault) → ¬ (IsFoundCause s m x f))
+      → ¬ (FitsBits (edited_image (edit s m exports live))) → IsLaterFault s m exports live TooLarge
   large_fault x is none large = (large, λ g small k. none g (subst (λ (z : FoundValue). IsFoundCause s m z g) (sym is) (later_found g small k)))
 
-  one_large : (x : FoundValue) → x ≡ found_in m live → ((f : GcFault) → ¬ (IsFoundCause s m x f)) → (f : GcFault) → (f ≡ Memory) ⊎ ((f ≡ TooLarge) × ¬ (FitsBits (edited_image (edit s m exports live)))) → (f ≡ Memory) ⊎ IsLaterFault s m exports live f
+  one_large : (x : FoundValue) → x ≡ found_in m live → ((f : GcFault) → ¬ (IsFoundCause s m x f)) → (f : GcFault)
+      → (f ≡ Memory) ⊎ ((f ≡ TooLarge) × ¬ (FitsBits (edited_image (edit s m exports live)))) → (f ≡ Memory) ⊎ IsLaterFault s m exports live f
   one_large x is none f (inl e) = inl e
   one_large x is none f (inr k) = inr (subst (IsLaterFault s m exports live) (sym k.0) (large_fault x is none k.1))
 
   pub text_fault : {T : Type 0} (x : FoundValue) → x ≡ found_in m live → ((f : GcFault) → ¬ (IsFoundCause s m x f)) → (r : Result T GcFault)
-      → IfErr r (λ f. (f ≡ Memory) ⊎ ((f ≡ TooLarge) × ¬ (FitsBits (edited_image (edit s m exports live))))) → IfErr r (λ f. (f ≡ Memory) ⊎ IsLaterFault s m exports live f)
+      → IfErr r (λ f. (f ≡ Memory) ⊎ ((f ≡ TooLarge) × ¬ (FitsBits (edited_image (edit s m exports live)))))
+      → IfErr r (λ f. (f ≡ Memory) ⊎ IsLaterFault s m exports live f)
   text_fault x is none (Ok v) h = h
   text_fault x is none (Err f) h = one_large x is none f h
 
-  pub none_later : (x : FoundValue) → x ≡ found_in m live → ((f : GcFault) → ¬ (IsFoundCause s m x f)) → FitsBits (edited_image (edit s m exports live)) → (f : GcFault) → ¬ (IsLaterCause s m exports live f)
+  pub none_later : (x : FoundValue) → x ≡ found_in m live → ((f : GcFault) → ¬ (IsFoundCause s m x f))
+      → FitsBits (edited_image (edit s m exports live)) → (f : GcFault) → ¬ (IsLaterCause s m exports live f)
   none_later x is none fits TooLarge c = c fits
   none_later x is none fits f c = none f (subst (λ (z : FoundValue). IsFoundCause s m z f) (sym is) c)
 
@@ -99,33 +110,40 @@ module _ (s : SettingsValue) (m : DecodedModule) (exports : List ExportValue) (l
 
 -- what liveness says of a module that was read
 
-pub live_sound : (a : Module) (required : List (List ℕ)) (live : ItemIndex → Bool) (turns : ℕ) → IsLivenessOf required (module_value a) live turns → (n : ℕ) → IsTrue (live (Funcs, n)) → is_sound_at (decoded_module a) (Funcs, n) ≡ true
+pub live_in_range : (a : Module) (required : List (List ℕ)) (live : ItemIndex → Bool) (turns : ℕ) → IsLivenessOf required (module_value a) live turns
+    → (n : ℕ) → IsTrue (live (Funcs, n)) → is_item_in_range (decoded_module a) (Funcs, n) ≡ true
 unfolding decoded_module
-live_sound a required live turns l n h = by (is_sound_at (decode (module_value a)) (Funcs, n)) refl
+live_in_range a required live turns l n h = by (is_item_in_range (decode (module_value a)) (Funcs, n)) refl
   where
-    by : (b : Bool) → is_sound_at (decode (module_value a)) (Funcs, n) ≡ b → b ≡ true
+    by : (b : Bool) → is_item_in_range (decode (module_value a)) (Funcs, n) ≡ b → b ≡ true
     by true e = refl
-    by false e = absurd (l.sound ((Funcs, n), (l.is_live (Funcs, n)).0 h, e))
+    by false e = absurd (l.in_range ((Funcs, n), (l.is_live (Funcs, n)).0 h, e))
 
-module _ (s : SettingsValue) (a : Module) (required : List (List ℕ)) (live : ItemIndex → Bool) (turns : ℕ) (l : IsLivenessOf required (module_value a) live turns) where
-  pub trimmed_of : {T : Type 0} (items : T → List ℕ) (r : Result T GcFault) → IfOk r (λ v. items v ≡ built_text (edited_image (edit s (decoded_module a) (kept_exports required (module_value a).exports) live)))
-      → (IsOk r → (f : GcFault) → ¬ (IsLaterCause s (decoded_module a) (kept_exports required (module_value a).exports) live f)) → IfOk r (λ v. IsTrimmedOf s required (module_value a) (items v))
+module _ (s : SettingsValue) (a : Module) (required : List (List ℕ)) (live : ItemIndex → Bool) (turns : ℕ)
+    (l : IsLivenessOf required (module_value a) live turns) where
+  pub trimmed_of : {T : Type 0} (items : T → List ℕ) (r : Result T GcFault)
+      → IfOk r (λ v. items v ≡ built_text (edited_image (edit s (decoded_module a) (kept_exports required (module_value a).exports) live)))
+      → (IsOk r → (f : GcFault) → ¬ (IsLaterCause s (decoded_module a) (kept_exports required (module_value a).exports) live f))
+      → IfOk r (λ v. IsTrimmedOf s required (module_value a) (items v))
   unfolding decoded_module
-  trimmed_of items (Ok v) w none = record { live = live; decides = l.is_live; supported = l.supported; sound = l.sound; none = none refl; written = w }
+  trimmed_of items (Ok v) w none = record { live = live; decides = l.is_live; supported = l.supported; in_range = l.in_range; none = none refl; written = w }
   trimmed_of items (Err f) w none = w
 
-  one_fault : (f : GcFault) → (f ≡ Memory) ⊎ IsLaterFault s (decoded_module a) (kept_exports required (module_value a).exports) live f → IsTrimFaultOf s required (module_value a) f
+  one_fault : (f : GcFault) → (f ≡ Memory) ⊎ IsLaterFault s (decoded_module a) (kept_exports required (module_value a).exports) live f
+      → IsTrimFaultOf s required (module_value a) f
   unfolding decoded_module
   one_fault f (inl e) = inl (subst (IsFaultOf required (module_value a)) (sym e) refl)
-  one_fault f (inr k) = inr (record { live = live; decides = l.is_live; supported = l.supported; sound = l.sound; fault = k })
+  one_fault f (inr k) = inr (record { live = live; decides = l.is_live; supported = l.supported; in_range = l.in_range; fault = k })
 
-  pub later_of : {T : Type 0} (r : Result T GcFault) → IfErr r (λ f. (f ≡ Memory) ⊎ IsLaterFault s (decoded_module a) (kept_exports required (module_value a).exports) live f) → IfErr r (IsTrimFaultOf s required (module_value a))
+  pub later_of : {T : Type 0} (r : Result T GcFault)
+      → IfErr r (λ f. (f ≡ Memory) ⊎ IsLaterFault s (decoded_module a) (kept_exports required (module_value a).exports) live f)
+      → IfErr r (IsTrimFaultOf s required (module_value a))
   later_of (Ok v) h = h
   later_of (Err f) h = one_fault f h
 
 -- a fault of liveness is one of trimming
 
-cause_small : (w : Wanted) (f : GcFault) → IsCause w f → order_of f < 5
+cause_small : (w : TrimInput) (f : GcFault) → IsCause w f → order_of f < 5
 cause_small w Memory c = omega arith
 cause_small w (Read r) c = omega arith
 cause_small w (MissingExport name) c = omega arith
@@ -133,7 +151,7 @@ cause_small w UnsupportedSection c = omega arith
 cause_small w LiveBody c = omega arith
 cause_small w f c = absurd c.2
 
-pub fault_trims : (s : SettingsValue) (w : Wanted) (f : GcFault) → IsFault w f → IsTrimFault s w f
+pub fault_trims : (s : SettingsValue) (w : TrimInput) (f : GcFault) → IsFault w f → IsTrimFault s w f
 fault_trims s w f (inl e) = inl e
 fault_trims s w f (inr c) =
     let small = cause_small w f c.0 in
@@ -156,20 +174,22 @@ bools false false f g = refl
 pub tests_one : (required : List (List ℕ)) (m : ModuleValue) (a b : ItemIndex → Bool) → DecidesLive required m a → DecidesLive required m b → a ≡ b
 tests_one required m a b ta tb = fun_ext (λ x. bools (a x) (b x) (λ h. (tb x).1 ((ta x).0 h)) (λ h. (ta x).1 ((tb x).0 h)))
 
-module _ (settings : SettingsValue) (w : Wanted) (m : ModuleValue) (s : SpellsModule w.bytes m) where
-  same_later : (live : ItemIndex → Bool) → DecidesLive w.required m live → (f : GcFault) → IsLaterCauseIn settings w f → IsLaterCause settings (decode m) (kept_exports w.required m.exports) live f
+module _ (settings : SettingsValue) (w : TrimInput) (m : ModuleValue) (s : SpellsModule w.bytes m) where
+  same_later : (live : ItemIndex → Bool) → DecidesLive w.required m live → (f : GcFault) → IsLaterCauseIn settings w f
+      → IsLaterCause settings (decode m) (kept_exports w.required m.exports) live f
   same_later live decides f (m', live', s', decides', c) =
       let one : m' ≡ m = modules_one w.bytes m' m s' s in
       let decided = subst (λ (z : ModuleValue). DecidesLive w.required z live') one decides' in
       let cause = subst (λ (z : ModuleValue). IsLaterCause settings (decode z) (kept_exports w.required z.exports) live' f) one c in
-      subst (λ (z : ItemIndex → Bool). IsLaterCause settings (decode m) (kept_exports w.required m.exports) z f) (tests_one w.required m live' live decided decides) cause
+      subst (λ (z : ItemIndex → Bool). IsLaterCause settings (decode m) (kept_exports w.required m.exports) z f)
+      (tests_one w.required m live' live decided decides) cause
 
   one_answer : (f : GcFault) → IsTrimFaultOf settings w.required m f → IsTrimFault settings w f
   one_answer f (inl h) = fault_trims settings w f (fault_of w m s f h)
   one_answer f (inr k) = inr (
     inr (m, k.live, s, k.decides, k.fault.0),
     λ g h c. elim c [
-      | inl a ↦ no_cause_of w m s k.supported k.sound g a
+      | inl a ↦ no_cause_of w m s k.supported k.in_range g a
       | inr b ↦ k.fault.1 g h (same_later k.live k.decides g b)
     ],
   )
@@ -178,35 +198,35 @@ module _ (settings : SettingsValue) (w : Wanted) (m : ModuleValue) (s : SpellsMo
   fault_answer (Ok v) h = h
   fault_answer (Err f) h = one_answer f h
 
-  pub trimmed_answer : {T : Type 0} (items : T → List ℕ) (r : Result T GcFault) → IfOk r (λ v. IsTrimmedOf settings w.required m (items v)) → IfOk r (λ v. IsTrimmed settings w (items v))
+  pub trimmed_answer : {T : Type 0} (items : T → List ℕ) (r : Result T GcFault) → IfOk r (λ v. IsTrimmedOf settings w.required m (items v))
+      → IfOk r (λ v. IsTrimmed settings w (items v))
   trimmed_answer items (Ok v) h = record { value = m; live = h.live; spelled = s; decides = h.decides; written = h.written }
   trimmed_answer items (Err f) h = h
 
-  pub no_cause_answer : {T : Type 0} (items : T → List ℕ) (r : Result T GcFault) → IfOk r (λ v. IsTrimmedOf settings w.required m (items v)) → IsOk r → (f : GcFault) → ¬ (IsTrimCause settings w f)
-  no_cause_answer items (Ok v) h ok f c = elim c [ inl a ↦ no_cause_of w m s h.supported h.sound f a | inr b ↦ h.none f (same_later h.live h.decides f b) ]
+  pub no_cause_answer : {T : Type 0} (items : T → List ℕ) (r : Result T GcFault) → IfOk r (λ v. IsTrimmedOf settings w.required m (items v)) → IsOk r
+      → (f : GcFault) → ¬ (IsTrimCause settings w f)
+  no_cause_answer items (Ok v) h ok f c = elim c [ inl a ↦ no_cause_of w m s h.supported h.in_range f a | inr b ↦ h.none f (same_later h.live h.decides f b) ]
   no_cause_answer items (Err e) h ok f c = absurd cc
 
 -- each item of a module that was read has an index of 32 bits
 
-few_types : (content : Option (List ℕ)) (types : List FuncTypeValue) → IfSome content AreBytes → MatchOption content (types ≡ []) (λ c. SpellsFuncTypes c types) → length types < 2 ^ 32
-few_types None types all h = rw h (omega arith)
-few_types (Some c) types all h = number_fits h.3 (front_bytes h.0 h.1 (rw h.2 at all))
-
-length_map : {A B : Type 0} (f : A → B) (xs : List A) → length (map f xs) ≡ length xs
-length_map f [] = refl
-length_map f (x ∷ xs) = ap suc (length_map f xs)
+bounded_types : (content : Option (List ℕ)) (types : List FuncTypeValue) → IfSome content AreBytes
+    → MatchOption content (types ≡ []) (λ c. SpellsFuncTypes c types) → length types < 2 ^ 32
+bounded_types None types all h = rw h (omega arith)
+bounded_types (Some c) types all h = number_fits h.3 (front_bytes h.0 h.1 (rw h.2 at all))
 
 below : {A B : Type 0} (f : A → B) (xs : List A) → length (map f xs) < 2 ^ 32 → length xs < 2 ^ 32
-below f xs h = let e = length_map f xs in omega arith
+below f xs h = let e = length-map xs f in omega arith
 
-pub few_items : (bytes : List ℕ) (a : Module) → AreBytes bytes → SpellsModule bytes (module_value a) → AreFewItems a
-few_items bytes a all s =
-    let types = few_types (content_of type_id s.sections) s.has_sections.parts.types (content_bytes type_id s.sections (all_bytes bytes s.sections s.has_frames all)) s.has_sections.has_contents.has_types in
-    let few = s.has_sections.valid.few in
+pub bounded_items : (bytes : List ℕ) (a : Module) → AreBytes bytes → SpellsModule bytes (module_value a) → ItemCountsFitU32 a
+bounded_items bytes a all s =
+    let types = bounded_types (content_of type_id s.sections) s.has_sections.parts.types
+    (content_bytes type_id s.sections (all_bytes bytes s.sections s.has_frames all)) s.has_sections.has_contents.has_types in
+    let bounded = s.has_sections.valid.bounded in
     record {
       types = below _ a.types.items (subst (λ (m : ModuleValue). length m.types < 2 ^ 32) (sym s.has_sections.assembled.is) types);
-      funcs = below _ a.funcs.items few.funcs;
-      tables = below _ a.tables.items few.tables;
-      memories = below _ a.memories.items few.memories;
-      globals = below _ a.globals.items few.globals;
+      funcs = below _ a.funcs.items bounded.funcs;
+      tables = below _ a.tables.items bounded.tables;
+      memories = below _ a.memories.items bounded.memories;
+      globals = below _ a.globals.items bounded.globals;
     }

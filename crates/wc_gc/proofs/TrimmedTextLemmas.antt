@@ -28,8 +28,8 @@ use Rattle.wc_gc.specs.Image.{new_global}
 use Rattle.wc_gc.specs.Laws.{AreSettings}
 use Rattle.wc_gc.specs.Parts.{SettingsValue, parts_of}
 use Rattle.wc_gc.specs.KeptExports.{kept_exports}
-use Rattle.wc_gc.specs.Liveness.{HasLiveBody, Wanted}
-use Rattle.wc_gc.specs.Soundness.{is_sound_at}
+use Rattle.wc_gc.specs.Liveness.{HasLiveBody, TrimInput}
+use Rattle.wc_gc.specs.InRange.{is_item_in_range}
 use Rattle.wc_gc.specs.Trimming.{IsTrimCause, IsTrimmed}
 use Rattle.wc_gc.specs.declared.fault.GcFault.{GcFault}
 use Rattle.wc_gc.specs.declared.parts.Parts.{Parts}
@@ -79,10 +79,10 @@ module _ (bytes : List ℕ) (required : List (List ℕ)) (m : ModuleValue) (live
         distinct = pairs_kept (λ a b. a.name ≢ b.name) differ_back required m.exports (pairs_named (λ (e : ExportValue). e.name) m.exports v.distinct);
       }
 
-  pub live_sound : ¬ (HasLiveBody required m) → (n : ℕ) → IsTrue (live (Funcs, n)) → is_sound_at (decode m) (Funcs, n) ≡ true
-  live_sound none n h = by (is_sound_at (decode m) (Funcs, n)) refl
+  pub live_in_range : ¬ (HasLiveBody required m) → (n : ℕ) → IsTrue (live (Funcs, n)) → is_item_in_range (decode m) (Funcs, n) ≡ true
+  live_in_range none n h = by (is_item_in_range (decode m) (Funcs, n)) refl
     where
-      by : (b : Bool) → is_sound_at (decode m) (Funcs, n) ≡ b → b ≡ true
+      by : (b : Bool) → is_item_in_range (decode m) (Funcs, n) ≡ b → b ≡ true
       by true e = refl
       by false e = absurd (none ((Funcs, n), (decides (Funcs, n)).0 h, e))
 
@@ -108,7 +108,7 @@ module _ (bytes : List ℕ) (required : List (List ℕ)) (m : ModuleValue) (live
       same ∙ ap by (added_types_stay r p f)
 
   pub edited_text_read : (set : SettingsValue) → AreSettings set → ¬ (HasLiveBody required m) → FitsBits (edited_image (edit set (decode m) exports live)) → IsRead (edited_image (edit set (decode m) exports live))
-  edited_text_read set are sound fits =
+  edited_text_read set are in_range fits =
       let is = edited_value_is set in
       let fit = subst FitsBits is fits in
       let f = found_in (decode m) live in
@@ -117,8 +117,8 @@ module _ (bytes : List ℕ) (required : List (List ℕ)) (m : ModuleValue) (live
       let items = have_items bytes m all s in
       let v = s.has_sections.valid in
       let b = edited_value set in
-      let funcs = edited_funcs_can set m exports live p are w items v live_are_kept (live_sound sound) fit.funcs fit.types (short_names b fit.sizes) in
-      let starts = edited_start set m exports live p are w items v live_are_kept (live_sound sound) fit.funcs in
+      let funcs = edited_funcs_can set m exports live p are w items v live_are_kept (live_in_range in_range) fit.funcs fit.types (short_names b fit.sizes) in
+      let starts = edited_start set m exports live p are w items v live_are_kept (live_in_range in_range) fit.funcs in
       let r = new set m exports live p f in
       let written = funcs_written set m exports live p f in
       let kept = types_written m live r in
@@ -155,7 +155,7 @@ bits_fit b h = record {
   sizes = sizes_fit b (λ none. h (λ all. none all.sizes));
 }
 
-pub trimmed_text_read : (s : SettingsValue) (w : Wanted) (text : List ℕ) → AreSettings s → AreBytes w.bytes → (t : IsTrimmed s w text) → ((f : GcFault) → ¬ (IsTrimCause s w f))
+pub trimmed_text_read : (s : SettingsValue) (w : TrimInput) (text : List ℕ) → AreSettings s → AreBytes w.bytes → (t : IsTrimmed s w text) → ((f : GcFault) → ¬ (IsTrimCause s w f))
     → IsRead (edited_image (edit s (decode t.value) (kept_exports w.required t.value.exports) t.live))
 trimmed_text_read s w text are all t none =
     edited_text_read w.bytes w.required t.value t.live all t.spelled t.decides s are (λ h. none LiveBody (inl (t.value, t.spelled, h)))

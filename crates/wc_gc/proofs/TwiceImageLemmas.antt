@@ -1,7 +1,7 @@
 -- Where nothing is added, the image of a cut is the cut without its names.
 use Rattle.std.proofs.Common.{◌≡◌, ℕ, ◌+◌, ◌-◌, ◌<◌, List, [], ◌∷◌, ◌++◌, length, map, refl, sym, ◌∙◌, ap, subst, Bool, true, false, cond, Option}
 use Rattle.std.proofs.Common.{Some, None, arith, append-nil}
-use Rattle.std.specs.Prelude.{IsTrue, filter}
+use Rattle.std.specs.Prelude.{IsTrue, filter, ◌&&◌}
 use Rattle.std.specs.List.{AllByRecursion, slice_get}
 use Rattle.std.specs.Option.{option_map, option_map_or}
 use Rattle.std.proofs.lemmas.Bool.{lt-ltb}
@@ -33,7 +33,7 @@ use Rattle.wc_gc.proofs.CutImageLemmas.{both_mapped, kept_twice}
 use Rattle.wc_gc.proofs.CutListLemmas.{count_all, keep_all}
 use Rattle.wc_gc.proofs.FoundLemmas.{realloc_seen}
 use Rattle.wc_gc.proofs.ImageLemmas.{all_kept, map_twice}
-use Rattle.wc_gc.proofs.ImageUnfoldingLemmas.{func_whole, global_whole}
+use Rattle.wc_gc.proofs.ImageUnfoldingLemmas.{func_of_code, global_of_code}
 use Rattle.wc_gc.proofs.RankLawLemmas.{fewer_below}
 use Rattle.wc_gc.proofs.TwiceListLemmas.{defined_at, enumerated_same, group_of, group_same, imports_at, kept_passing}
 
@@ -54,6 +54,16 @@ parts_none s f n =
 pub mapped_each : {A B : Type 0} (P : B → Type 0) (f : A → B) (xs : List A) → AllByRecursion (λ x. P (f x)) xs → AllByRecursion P (map f xs)
 mapped_each P f [] h = tt
 mapped_each P f (x ∷ xs) h = (h.0, mapped_each P f xs h.1)
+
+-- without parts an edit changes only imported reallocs that are reached
+
+pub def_same : (funcs : ℕ) (s : SettingsValue) (f : FoundValue) (reached exported : Bool) (d : DefValue (Option BodyValue))
+    → (reached && is_realloc d) ≡ false → edited_def funcs s no_parts f reached exported d ≡ d
+def_same funcs s f reached exported (imported m n) h = ap (λ b. cond b (replaced s f) (imported m n)) h
+def_same funcs s f reached exported (local b) h = refl
+
+abbrev pub func_with : FuncCode → DefValue (Option BodyValue) → FuncCode
+func_with f d = record { ty = f.ty; def = d }
 
 -- what is live is closed; its functions are no reallocs among the imports; its bodies and initialisers are code; in the cut
 -- imported functions come first
@@ -99,15 +109,8 @@ module _ (s : SettingsValue) (m : DecodedModule) (exports : List ExportValue) (l
 
   -- the edit changes no function
 
-  def_same : (x : DefValue (Option BodyValue)) → is_realloc x ≡ false → (b : Bool) → edited_def K s no_parts g b x ≡ x
-  def_same (imported y z) h b = ap (λ c. cond c (replaced s g) (imported y z)) h
-  def_same (local o) h b = refl
-
-  abbrev func_with : FuncCode → DefValue (Option BodyValue) → FuncCode
-  func_with x d = record { ty = x.ty; def = d }
-
-  one_same : (x : FuncCode) → is_realloc x.def ≡ false → (n : ℕ) → edited_func K s no_parts g (is_exported_func C.exports n) x ≡ x
-  one_same x h n = ap (func_with x) (def_same x.def h (is_exported_func C.exports n))
+  one_same : (x : FuncCode) → is_realloc x.def ≡ false → (n : ℕ) → edited_func K s no_parts g true (is_exported_func C.exports n) x ≡ x
+  one_same x h n = ap (func_with x) (def_same K s g true (is_exported_func C.exports n) x.def h)
 
   none_in_cut : AllByRecursion (λ (x : FuncCode). is_realloc x.def ≡ false) C.funcs
   none_in_cut =
@@ -117,9 +120,9 @@ module _ (s : SettingsValue) (m : DecodedModule) (exports : List ExportValue) (l
 
   funcs_same : N.value.funcs ≡ C.funcs
   funcs_same =
-      enumerated_same (λ x. edited_func K s no_parts g (is_exported_func C.exports x.0) x.1) C.funcs 0
+      enumerated_same (λ x. edited_func K s no_parts g true (is_exported_func C.exports x.0) x.1) C.funcs 0
       (each_weaker (λ (x : FuncCode). is_realloc x.def ≡ false)
-      (λ x. (n : ℕ) → edited_func K s no_parts g (is_exported_func C.exports n) x ≡ x) C.funcs one_same none_in_cut)
+      (λ x. (n : ℕ) → edited_func K s no_parts g true (is_exported_func C.exports n) x ≡ x) C.funcs one_same none_in_cut)
 
   -- ranks of ranks
 
@@ -137,13 +140,13 @@ module _ (s : SettingsValue) (m : DecodedModule) (exports : List ExportValue) (l
 
   pub rank_stays : (x : ItemIndex) → live x ≡ true → Agrees r R r x
   rank_stays (Types, n) h =
-      let few = fewer_below (λ j. live (Types, j)) n (length m.types) h (i.closed.there (Types, n) h) in
+      let bounded = fewer_below (λ j. live (Types, j)) n (length m.types) h (i.closed.there (Types, n) h) in
       let long = types_kept m exports live in
-      type_stays (r Types n) (omega (arith, few, long))
+      type_stays (r Types n) (omega (arith, bounded, long))
   rank_stays (Funcs, n) h =
-      let few = fewer_below (λ j. live (Funcs, j)) n (length m.funcs) h (i.closed.there (Funcs, n) h) in
+      let bounded = fewer_below (λ j. live (Funcs, j)) n (length m.funcs) h (i.closed.there (Funcs, n) h) in
       let long = funcs_kept m exports live in
-      func_stays (r Funcs n) (omega (arith, few, long))
+      func_stays (r Funcs n) (omega (arith, bounded, long))
   rank_stays (Tables, n) h = count_all (r Tables n)
   rank_stays (Memories, n) h = count_all (r Memories n)
   rank_stays (Globals, n) h = count_all (r Globals n)
@@ -261,8 +264,8 @@ module _ (s : SettingsValue) (m : DecodedModule) (exports : List ExportValue) (l
   pub plain_read : built_module plain ≡ unnamed
   plain_read =
       let funcs : map (item_seen Some) (map (new_func r) kept_funcs) ≡ C.funcs =
-      kept_twice (λ n. live (Funcs, n)) m.funcs (new_func r) (item_seen Some) (renumber_func r) (λ n x h at. func_whole r x (i.func_code n x h at)) in
+      kept_twice (λ n. live (Funcs, n)) m.funcs (new_func r) (item_seen Some) (renumber_func r) (λ n x h at. func_of_code r x (i.func_code n x h at)) in
       let globals : map (item_seen Some) (map (new_global r) kept_globals) ≡ C.globals =
       kept_twice (λ n. live (Globals, n)) m.globals (new_global r) (item_seen Some) (renumber_global r)
-      (λ n x h at. global_whole r x (i.global_code n x h at)) in
+      (λ n x h at. global_of_code r x (i.global_code n x h at)) in
       rw (funcs, globals) refl

@@ -5,7 +5,7 @@ use Rattle.std.specs.Prelude.{Contains, IsSome, IsTrue, is_some, string_bytes}
 use Rattle.std.specs.List.{AllByRecursion, list_all, list_any, range_with_len, slice_get}
 use Rattle.std.specs.Option.{option_map, option_map_or, option_to_list}
 use Rattle.std.specs.Str.{bytes_eq}
-use Rattle.std.proofs.lemmas.Bool.{false≢true, lt-ltb}
+use Rattle.std.proofs.lemmas.Bool.{false≢true, lt-ltb, not-true, and_parts}
 use Rattle.std.proofs.lemmas.List.{length-map}
 use Rattle.std.proofs.lemmas.Option.{slice_get-map, slice_get_within}
 use Rattle.wc_read.specs.Bodies.{BodyValue}
@@ -31,42 +31,41 @@ use Rattle.wc_gc.specs.Found.{FoundValue, allocation_state, found_in, is_mutable
 use Rattle.wc_gc.specs.Image.{kept_of, new_export, rank, renumber_body, kept_items, new_table}
 use Rattle.wc_gc.specs.KeptExports.{export_names, is_exported, is_required, kept_exports, missing_name}
 use Rattle.wc_gc.specs.Laws.{AreSettings}
-use Rattle.wc_gc.specs.Liveness.{HasLiveBody, HasUnsupported, IsCause, Wanted}
+use Rattle.wc_gc.specs.Liveness.{HasLiveBody, HasUnsupported, IsCause, TrimInput}
 use Rattle.wc_gc.specs.Parts.{SettingsValue, is_any, is_lazy, last_of, parts_of}
 use Rattle.wc_gc.specs.Reached.{IsReached}
-use Rattle.wc_gc.specs.Soundness.{is_sound_at, is_sound_def, is_sound_entry}
-use Rattle.wc_gc.specs.Traces.{AddsNothing, AreClosed, IsTrimmedTo, TrimTwice, all_items, wanted_of}
+use Rattle.wc_gc.specs.InRange.{is_item_in_range, is_def_in_range, is_entry_in_range}
+use Rattle.wc_gc.specs.Traces.{AddsNothing, AreClosed, IsTrimmedTo, TrimTwice, all_items, trim_input_of}
 use Rattle.wc_gc.specs.Trimming.{IsLaterCause, IsTrimCause, IsTrimmed}
 use Rattle.wc_gc.specs.Unfolding.{built_module, is_code, renumber_func, renumber_global}
 use Rattle.wc_gc.specs.declared.fault.GcFault.{GcFault}
 use Rattle.wc_gc.specs.declared.fault.GcFault.TheVariants.{Memory, Read, MissingExport, UnsupportedSection, LiveBody, SeveralNamed, LiveTable}
 use Rattle.wc_gc.specs.declared.fault.GcFault.TheVariants.{SeveralMemories, LocalMemory, ReallocType, ReallocMemory, TooLarge}
 use Rattle.wc_gc.specs.declared.parts.Parts.{Parts}
-use Rattle.wc_gc.proofs.BuiltPartLemmas.{each_weaker}
+use Rattle.wc_gc.proofs.BuiltPartLemmas.{each_weaker, seen_imported}
 use Rattle.wc_gc.proofs.ChainLemmas.{any_fails, contains_unmapped, exports_required, fails_any, in_all, same_names}
 use Rattle.wc_gc.proofs.CutCauseLemmas.{causes_are_of_cut}
 use Rattle.wc_gc.proofs.CutCodeLemmas.{Agrees, body_agrees, func_type_agrees, global_twice, table_agrees}
 use Rattle.wc_gc.proofs.CutFoundLemmas.{cut, cut_is, found_moved, parts_same, parts_stackless}
 use Rattle.wc_gc.proofs.CutImageLemmas.{both_mapped, image_is_of_cut, kept_twice}
 use Rattle.wc_gc.proofs.CutListLemmas.{keep_all}
-use Rattle.wc_gc.proofs.EditedIndexLemmas.{both_true}
 use Rattle.wc_gc.proofs.ImageLemmas.{map_twice}
 use Rattle.wc_gc.proofs.InitRefLemmas.{global_coded}
 use Rattle.wc_gc.proofs.KeptItemLemmas.{get_some, kept_first}
 use Rattle.wc_gc.proofs.LiveItemLemmas.{contains_mapped}
 use Rattle.wc_gc.proofs.TraceLemmas.{each_in, live_closed}
 use Rattle.wc_gc.proofs.TrimLemmas.{bools, tests_one}
-use Rattle.wc_gc.proofs.TrimmedTextLemmas.{live_sound, trimmed_text_read}
+use Rattle.wc_gc.proofs.TrimmedTextLemmas.{live_in_range, trimmed_text_read}
 use Rattle.wc_gc.proofs.TwiceImageLemmas.{IsPlain, func_names, global_names, mapped_each, no_parts, parts_none, plain, type_names, table_names}
 use Rattle.wc_gc.proofs.TwiceImageLemmas.{plain_image, plain_read}
-use Rattle.wc_gc.proofs.TwiceListLemmas.{count_within, filter_none, kept_within, none_found, not_true}
-use Rattle.wc_gc.proofs.TwiceReachLemmas.{moved_in, named_cut, of_item, reached_moved, sound_moved}
+use Rattle.wc_gc.proofs.TwiceListLemmas.{count_within, filter_none, kept_within, none_found}
+use Rattle.wc_gc.proofs.TwiceReachLemmas.{moved_in, named_cut, of_item, reached_moved, in_range_moved}
 use Rattle.wc_gc.proofs.UntouchedLiveLemmas.{live_there}
 use Rattle.wc_read.specs.Types.{FuncTypeValue}
 use Rattle.wc_read.specs.declared.operators.Space.{Space}
-use Rattle.wc_gc.proofs.TwiceTextLemmas.{all_exports_kept, and_and_false, built_read, find_same, func_of, required_there, rest_false, seen_import}
+use Rattle.wc_gc.proofs.TwiceTextLemmas.{all_exports_kept, and_and_false, built_read, find_same, func_of, required_there, rest_false}
 
-module _ (s : SettingsValue) (w : Wanted) (text : List ℕ) (are : AreSettings s) (all : AreBytes w.bytes) (bytes : AreBytes text)
+module _ (s : SettingsValue) (w : TrimInput) (text : List ℕ) (are : AreSettings s) (all : AreBytes w.bytes) (bytes : AreBytes text)
     (t : IsTrimmedTo s w text) (none : AddsNothing s (found_in (decode t.trimmed.value) t.trimmed.live)) where
   abbrev m : ModuleValue
   m = t.trimmed.value
@@ -95,11 +94,11 @@ module _ (s : SettingsValue) (w : Wanted) (text : List ℕ) (are : AreSettings s
   valid : IsModule m
   valid = t.trimmed.spelled.has_sections.valid
 
-  sound : ¬ (HasLiveBody w.required m)
-  sound h = t.no_cause LiveBody (inl (m, t.trimmed.spelled, h))
+  in_range : ¬ (HasLiveBody w.required m)
+  in_range h = t.no_cause LiveBody (inl (m, t.trimmed.spelled, h))
 
   closed : AreClosed D ex live
-  closed = live_closed w.required w.bytes m live all t.trimmed.spelled t.trimmed.decides sound
+  closed = live_closed w.required w.bytes m live all t.trimmed.spelled t.trimmed.decides in_range
 
   -- the adapter
 
@@ -110,15 +109,15 @@ module _ (s : SettingsValue) (w : Wanted) (text : List ℕ) (are : AreSettings s
       ∙ rest_false (live (Funcs, n)) (is_realloc_at D n) h
       (none_found (λ i. live (Funcs, i) && is_realloc_at D i) (length D.funcs) n none.reallocs (slice_get_within D.funcs n x at))
 
-  coded : (x : DefValue (Option BodyValue)) → is_sound_def D x ≡ true → IsTrue (is_code x)
+  coded : (x : DefValue (Option BodyValue)) → is_def_in_range D x ≡ true → IsTrue (is_code x)
   coded (imported a b) h = refl
   coded (local None) h = absurd (false≢true h)
   coded (local (Some b)) h = refl
 
   func_coded : (n : ℕ) (x : FuncCode) → live (Funcs, n) ≡ true → slice_get D.funcs n ≡ Some x → IsTrue (is_code x.def)
   func_coded n x h at =
-      coded x.def (sym (ap (λ o. is_sound_entry D (option_map_or func_entry o no_entry)) at)
-      ∙ live_sound w.bytes w.required m live all t.trimmed.spelled t.trimmed.decides sound n h)
+      coded x.def (sym (ap (λ o. is_entry_in_range D (option_map_or func_entry o no_entry)) at)
+      ∙ live_in_range w.bytes w.required m live all t.trimmed.spelled t.trimmed.decides in_range n h)
 
   init_coded : (n : ℕ) (x : GlobalCode) → live (Globals, n) ≡ true → slice_get D.globals n ≡ Some x → IsTrue (is_code x.def)
   init_coded n x h at =
@@ -133,8 +132,8 @@ module _ (s : SettingsValue) (w : Wanted) (text : List ℕ) (are : AreSettings s
   imports_first : HasImportsFirst C.funcs
   imports_first =
       let decoded : HasImportsFirst D.funcs = subst (λ xs. HasImportsFirst (map (item_seen body_in) xs)) (keep_all m.funcs)
-      (kept_first (item_seen body_in) (λ i. seen_import body_in i.def) (λ n. true) m.funcs writable.funcs_ordered) in
-      kept_first (renumber_func (rank live)) (λ i. seen_import (option_map (renumber_body (rank live))) i.def) (λ n. live (Funcs, n)) D.funcs decoded
+      (kept_first (item_seen body_in) (λ i. seen_imported body_in i.def) (λ n. true) m.funcs writable.funcs_ordered) in
+      kept_first (renumber_func (rank live)) (λ i. seen_imported (option_map (renumber_body (rank live))) i.def) (λ n. live (Funcs, n)) D.funcs decoded
 
   is_plain : IsPlain D ex live
   is_plain = record { closed = closed; no_realloc = no_realloc; func_code = func_coded; global_code = init_coded; first = imports_first }
@@ -208,21 +207,21 @@ module _ (s : SettingsValue) (w : Wanted) (text : List ℕ) (are : AreSettings s
     (λ l. subst (λ d. IsTrue (is_in d y)) decoded (live_there w.required n spelled.has_sections.valid y l)),
   )
 
-  sound_live : (x : ItemIndex) → live x ≡ true → is_sound_at D x ≡ true
-  sound_live x h = by (is_sound_at D x) refl
+  in_range_live : (x : ItemIndex) → live x ≡ true → is_item_in_range D x ≡ true
+  in_range_live x h = by (is_item_in_range D x) refl
     where
-      by : (c : Bool) → is_sound_at D x ≡ c → c ≡ true
+      by : (c : Bool) → is_item_in_range D x ≡ c → c ≡ true
       by true e = refl
-      by false e = absurd (sound (x, (t.trimmed.decides x).0 h, e))
+      by false e = absurd (in_range (x, (t.trimmed.decides x).0 h, e))
 
-  sound_read : ¬ (HasLiveBody w.required n)
-  sound_read h =
+  in_range_read : ¬ (HasLiveBody w.required n)
+  in_range_read h =
       let x = of_item D ex live closed [] h.0 ((decides h.0).1 h.1) in
-      false≢true (sym (subst (λ d. is_sound_at d h.0 ≡ false) decoded h.2)
-      ∙ subst (λ z. is_sound_at U z ≡ true) x.2 (sound_moved D ex live closed [] x.0 x.1 (sound_live x.0 x.1)))
+      false≢true (sym (subst (λ d. is_item_in_range d h.0 ≡ false) decoded h.2)
+      ∙ subst (λ z. is_item_in_range U z ≡ true) x.2 (in_range_moved D ex live closed [] x.0 x.1 (in_range_live x.0 x.1)))
 
   closed_again : AreClosed U C.exports there
-  closed_again = from_read (λ d es. AreClosed d es there) (live_closed w.required text n there bytes spelled decides sound_read)
+  closed_again = from_read (λ d es. AreClosed d es there) (live_closed w.required text n there bytes spelled decides in_range_read)
 
   -- a cut of the cut
 
@@ -398,7 +397,7 @@ module _ (s : SettingsValue) (w : Wanted) (text : List ℕ) (are : AreSettings s
   found_again LocalMemory h = ap (list_any (is_own_memory_at C)) (sym memories_same) ∙ h
   found_again ReallocType h = absurd (false≢true (sym (ap (λ xs. not (list_all (has_realloc_type U) xs)) called_none) ∙ h))
   found_again ReallocMemory h =
-      absurd (false≢true (sym grows_none ∙ (both_true (grows_memory s G) (not (list_any (has_page_size_at U s.exponent) G.memories)) h).0))
+      absurd (false≢true (sym grows_none ∙ (and_parts (grows_memory s G) (not (list_any (has_page_size_at U s.exponent) G.memories)) h).0))
   found_again x h = absurd h
 
   cut_image : edited_image (edit s U U.exports all_items) ≡ edited_image (edit s C C.exports all_items)
@@ -415,9 +414,9 @@ module _ (s : SettingsValue) (w : Wanted) (text : List ℕ) (are : AreSettings s
       (subst (λ d. IsLaterCause s d d.exports all_items x) (sym (cut_is D ex live)) (later_cut x cut_cause)) in
       t.no_cause x (inr (m, live, t.trimmed.spelled, t.trimmed.decides, old_cause))
 
-  -- no wanted export is missing
+  -- no required export is missing
 
-  module _ (name : List ℕ) (wanted : is_required w.required name ≡ true) where
+  module _ (name : List ℕ) (none_missing : is_required w.required name ≡ true) where
     abbrev differs : ExportValue → Type 0
     differs e = bytes_eq name e.name ≡ false
 
@@ -441,7 +440,7 @@ module _ (s : SettingsValue) (w : Wanted) (text : List ℕ) (are : AreSettings s
         by true q =
             absurd (false≢true (sym
             (kept_differs h e ((exports_required w.required m e valid).1
-            (record { there = c; named = ap (is_required w.required) (sym (same_names name e.name q)) ∙ wanted }))) ∙ q))
+            (record { there = c; named = ap (is_required w.required) (sym (same_names name e.name q)) ∙ none_missing }))) ∙ q))
         by false q = refl
 
     new_differs : is_exported m.exports name ≡ false → (e : ExportValue) → Contains C.exports e → differs e
@@ -453,8 +452,8 @@ module _ (s : SettingsValue) (w : Wanted) (text : List ℕ) (are : AreSettings s
     missing_where =
         ap (λ es. not (is_exported es name)) exports_same
         ∙ bools (not (is_exported C.exports name)) (not (is_exported m.exports name))
-        (λ h. ap not (names_fail m.exports (old_differs (not_true (is_exported C.exports name) h))))
-        (λ h. ap not (names_fail C.exports (new_differs (not_true (is_exported m.exports name) h))))
+        (λ h. ap not (names_fail m.exports (old_differs (not-true (is_exported C.exports name) h))))
+        (λ h. ap not (names_fail C.exports (new_differs (not-true (is_exported m.exports name) h))))
 
   missing_same : missing_name n.exports w.required ≡ missing_name m.exports w.required
   missing_same =
@@ -478,17 +477,17 @@ module _ (s : SettingsValue) (w : Wanted) (text : List ℕ) (are : AreSettings s
   supported (inl h) = not_started n.start (ap start_built image_plain) h
   supported (inr h) = h refl
 
-  liveness_again : (x : GcFault) → ¬ (IsCause (wanted_of w text) x)
+  liveness_again : (x : GcFault) → ¬ (IsCause (trim_input_of w text) x)
   liveness_again Memory c = c.2
   liveness_again (Read e) c = c.0 n spelled
   liveness_again (MissingExport name) c =
       t.no_cause (MissingExport name)
       (inl (m, t.trimmed.spelled, sym missing_same ∙ same_module (λ v. missing_name v.exports w.required ≡ Some (string_bytes name)) c.0 c.1 c.2))
   liveness_again UnsupportedSection c = supported (same_module HasUnsupported c.0 c.1 c.2)
-  liveness_again LiveBody c = sound_read (same_module (HasLiveBody w.required) c.0 c.1 c.2)
+  liveness_again LiveBody c = in_range_read (same_module (HasLiveBody w.required) c.0 c.1 c.2)
   liveness_again x c = c.2
 
-  cause_again : (x : GcFault) → ¬ (IsTrimCause s (wanted_of w text) x)
+  cause_again : (x : GcFault) → ¬ (IsTrimCause s (trim_input_of w text) x)
   cause_again x (inl c) = liveness_again x c
   cause_again x (inr c) =
       let one : c.0 ≡ n = modules_one text c.0 n c.2 spelled in
@@ -500,7 +499,7 @@ module _ (s : SettingsValue) (w : Wanted) (text : List ℕ) (are : AreSettings s
   written_again : text ≡ built_text (edited_image (edit s (decode n) (kept_exports w.required n.exports) there))
   written_again = t.trimmed.written ∙ ap built_text (sym (to_read (λ d es. edited_image (edit s d es there) ≡ b) image_again))
 
-  trimmed_again : IsTrimmedTo s (wanted_of w text) text
+  trimmed_again : IsTrimmedTo s (trim_input_of w text) text
   trimmed_again = record {
     trimmed = record {
       value = n;
@@ -512,7 +511,7 @@ module _ (s : SettingsValue) (w : Wanted) (text : List ℕ) (are : AreSettings s
     no_cause = cause_again;
   }
 
-  one_again : (other : List ℕ) → IsTrimmed s (wanted_of w text) other → other ≡ text
+  one_again : (other : List ℕ) → IsTrimmed s (trim_input_of w text) other → other ≡ text
   one_again other o =
       let one : o.value ≡ n = modules_one text o.value n o.spelled spelled in
       let decided = subst (λ z. DecidesLive w.required z o.live) one o.decides in

@@ -4,7 +4,7 @@ use Rattle.std.proofs.Common.{not, cond, Some, arith, inl, inr}
 use Rattle.std.specs.Prelude.{filter}
 use Rattle.std.specs.List.{AllByRecursion, enumerate_from, list_any, range_with_len, slice_get}
 use Rattle.std.specs.Option.{option_map_or}
-use Rattle.std.proofs.lemmas.Bool.{cases_lt, false≢true}
+use Rattle.std.proofs.lemmas.Bool.{cases_lt, false≢true, not-true}
 use Rattle.std.proofs.lemmas.List.{length-append}
 use Rattle.std.proofs.lemmas.List.Elements.{filter_passes, recursion_from_All}
 use Rattle.wc_read.specs.Items.{ItemValue}
@@ -133,10 +133,6 @@ defined_at {T} {C} xs n = option_map_or (λ (x : ItemValue T C). is_defined x) (
 abbrev pub group_of : {T C : Type 0} → List (ItemValue T C) → ℕ → ℕ
 group_of xs n = cond (imports_at xs n) (count_below (imports_at xs) n) (count_below (imports_at xs) (length xs) + 0 + count_below (defined_at xs) n)
 
-pub not_true : (b : Bool) → not b ≡ true → b ≡ false
-not_true true h = absurd (false≢true h)
-not_true false h = refl
-
 module _ {T C : Type 0} (xs : List (ItemValue T C)) (first : HasImportsFirst xs) where
   abbrev front : List (ItemValue T C)
   front = filter is_imported xs
@@ -176,7 +172,7 @@ module _ {T C : Type 0} (xs : List (ItemValue T C)) (first : HasImportsFirst xs)
       ∙ (ap (slice_get (front ++ back)) split ∙ (back_at front back (n - length front) ∙ x.1)) in
       let is = back_is (n - length front) x.0 x.1 in (
         ap (λ o. option_map_or (λ (y : ItemValue T C). is_imported y) o false) at
-            ∙ not_true (is_imported x.0) is,
+            ∙ not-true (is_imported x.0) is,
         ap (λ o. option_map_or (λ (y : ItemValue T C). is_defined y) o false) at ∙ is,
       )
 

@@ -1,10 +1,10 @@
--- In a cut all items are reached by its exports, and code that is reached stays sound.
+-- In a cut all items are reached by its exports, and code that is reached stays in range.
 use Rattle.std.proofs.Common.{◌≡◌, ℕ, List, [], ◌∷◌, map, refl, sym, ◌∙◌, ap, subst, Bool, true, false, ◌&&◌, not, cond, Option, Some, None, arith}
 use Rattle.std.proofs.Common.{◌<◌, length, ltb-true}
 use Rattle.std.specs.Prelude.{Contains, IsTrue, filter}
 use Rattle.std.specs.List.{AllByRecursion, list_all, slice_get}
 use Rattle.std.specs.Option.{option_map, option_map_or}
-use Rattle.std.proofs.lemmas.Bool.{false≢true, lt-ltb}
+use Rattle.std.proofs.lemmas.Bool.{false≢true, lt-ltb, and_parts}
 use Rattle.std.proofs.lemmas.List.Elements.{All-contains_itself, recursion_from_All}
 use Rattle.std.proofs.lemmas.Option.{slice_get-map}
 use Rattle.wc_read.specs.Bodies.{BodyValue, local_types}
@@ -25,14 +25,13 @@ use Rattle.wc_gc.specs.Entries.{Entry, body_refs, code_body_refs, code_refs, def
 use Rattle.wc_gc.specs.Entries.{memory_entry, no_entry, refs_in, table_entry, type_entry, val_type_refs}
 use Rattle.wc_gc.specs.Image.{kept_items, new_export, new_table, rank, renumber_body, renumber_code}
 use Rattle.wc_gc.specs.Reached.{IsPath, IsReached}
-use Rattle.wc_gc.specs.Soundness.{is_sound, is_sound_at, is_sound_code, is_sound_code_body, is_sound_def, is_sound_entry}
+use Rattle.wc_gc.specs.InRange.{is_operator_in_range, is_item_in_range, is_code_in_range, is_code_body_in_range, is_def_in_range, is_entry_in_range}
 use Rattle.wc_gc.specs.Traces.{AreClosed, CutIsReached}
 use Rattle.wc_gc.specs.Unfolding.{renumber_entry, renumber_func, renumber_global}
 use Rattle.wc_gc.proofs.BuiltPartLemmas.{each_weaker}
 use Rattle.wc_gc.proofs.ChainLemmas.{contains_unmapped, in_all, in_filter}
 use Rattle.wc_gc.proofs.CutFoundLemmas.{cut, cut_is, funcs_kept, globals_kept, memories_kept, tables_kept, types_kept}
 use Rattle.wc_gc.proofs.CutListLemmas.{split_all}
-use Rattle.wc_gc.proofs.EditedIndexLemmas.{both_true}
 use Rattle.wc_gc.proofs.KeptItemLemmas.{get_some, rank_at}
 use Rattle.wc_gc.proofs.LiveItemLemmas.{contains_mapped}
 use Rattle.wc_gc.proofs.RankLawLemmas.{fewer_below}
@@ -106,9 +105,9 @@ module _ (m : DecodedModule) (exports : List ExportValue) (live : ItemIndex → 
 
   pub moved_in : (x : ItemIndex) → live x ≡ true → is_in named_cut (moved x) ≡ true
   moved_in x h =
-      let few = fewer_below (λ n. live (x.0, n)) x.1 (size_of m x.0) h (k.there x h) in
+      let bounded = fewer_below (λ n. live (x.0, n)) x.1 (size_of m x.0) h (k.there x h) in
       let size = kept_size x.0 in
-      lt-ltb (r x.0 x.1) (size_of named_cut x.0) (omega (arith, few, size))
+      lt-ltb (r x.0 x.1) (size_of named_cut x.0) (omega (arith, bounded, size))
 
   -- the item that came to this index
   pub of_item : (y : ItemIndex) → is_in named_cut y ≡ true → (x : ItemIndex) × (live x ≡ true) × (moved x ≡ y)
@@ -149,7 +148,7 @@ module _ (m : DecodedModule) (exports : List ExportValue) (live : ItemIndex → 
       let root = root_moved a.0 a.1 in
       (moved a.0, root.1, map moved a.2, path_moved a.0 a.2 x root.0 a.3)
 
-  -- sound code
+  -- code in range
 
   abbrev IsLiveItem : ItemIndex → Type 0
   IsLiveItem y = live y ≡ true
@@ -159,47 +158,48 @@ module _ (m : DecodedModule) (exports : List ExportValue) (live : ItemIndex → 
   all_moved_in xs all =
       all_mapped_pass (is_in named_cut) moved xs (each_weaker IsLiveItem (λ y. is_in named_cut (moved y) ≡ true) xs moved_in all)
 
-  instr_sound : (i : InstrValue) → is_sound m i ≡ true → AllByRecursion IsLiveItem (instr_refs i) → is_sound named_cut (renumber_instr r i) ≡ true
-  instr_sound i h all =
-      let both = both_true (list_all (is_in m) (instr_refs i)) (not (names_segment i.immediates)) h in
+  instr_in_range : (i : InstrValue) → is_operator_in_range m i ≡ true → AllByRecursion IsLiveItem (instr_refs i)
+      → is_operator_in_range named_cut (renumber_instr r i) ≡ true
+  instr_in_range i h all =
+      let both = and_parts (list_all (is_in m) (instr_refs i)) (not (names_segment i.immediates)) h in
       ap (λ ys. list_all (is_in named_cut) ys && not (names_segment (renumber_immediates r i.immediates))) (instr_under r i)
       ∙ (ap (λ b. b && not (names_segment (renumber_immediates r i.immediates))) (all_moved_in (instr_refs i) all)
       ∙ (ap not (segments_under r i.immediates) ∙ both.1))
 
-  code_sound : (is : List InstrValue) → is_sound_code m is ≡ true → AllByRecursion IsLiveItem (code_refs is)
-      → is_sound_code named_cut (renumber_code r is) ≡ true
-  code_sound [] h all = refl
-  code_sound (i ∷ is) h all =
-      let both = both_true (is_sound m i) (is_sound_code m is) h in
+  code_in_range : (is : List InstrValue) → is_code_in_range m is ≡ true → AllByRecursion IsLiveItem (code_refs is)
+      → is_code_in_range named_cut (renumber_code r is) ≡ true
+  code_in_range [] h all = refl
+  code_in_range (i ∷ is) h all =
+      let both = and_parts (is_operator_in_range m i) (is_code_in_range m is) h in
       let parts = split_all IsLiveItem (instr_refs i) (code_refs is) all in
-      ap (λ b. b && is_sound_code named_cut (renumber_code r is)) (instr_sound i both.0 parts.0) ∙ code_sound is both.1 parts.1
+      ap (λ b. b && is_code_in_range named_cut (renumber_code r is)) (instr_in_range i both.0 parts.0) ∙ code_in_range is both.1 parts.1
 
-  body_sound : (b : BodyValue) → is_sound_code_body m b ≡ true → AllByRecursion IsLiveItem (code_body_refs b)
-      → is_sound_code_body named_cut (renumber_body r b) ≡ true
-  body_sound b h all =
+  body_in_range : (b : BodyValue) → is_code_body_in_range m b ≡ true → AllByRecursion IsLiveItem (code_body_refs b)
+      → is_code_body_in_range named_cut (renumber_body r b) ≡ true
+  body_in_range b h all =
       let types = val_type_refs (local_types b.locals) in
-      let both = both_true (list_all (is_in m) types) (is_sound_code m b.operators) h in
+      let both = and_parts (list_all (is_in m) types) (is_code_in_range m b.operators) h in
       let parts = split_all IsLiveItem types (code_refs b.operators) all in
-      ap (λ ys. list_all (is_in named_cut) ys && is_sound_code named_cut (renumber_code r b.operators)) (locals_under r b.locals)
-      ∙ (ap (λ c. c && is_sound_code named_cut (renumber_code r b.operators)) (all_moved_in types parts.0) ∙ code_sound b.operators both.1 parts.1)
+      ap (λ ys. list_all (is_in named_cut) ys && is_code_in_range named_cut (renumber_code r b.operators)) (locals_under r b.locals)
+      ∙ (ap (λ c. c && is_code_in_range named_cut (renumber_code r b.operators)) (all_moved_in types parts.0) ∙ code_in_range b.operators both.1 parts.1)
 
-  def_sound : (d : DefValue (Option BodyValue)) → is_sound_def m d ≡ true → AllByRecursion IsLiveItem (def_refs body_refs d)
-      → is_sound_def named_cut (def_seen (option_map (renumber_body r)) d) ≡ true
-  def_sound (imported a b) h all = refl
-  def_sound (local None) h all = absurd (false≢true h)
-  def_sound (local (Some b)) h all = body_sound b h all
+  def_in_range : (d : DefValue (Option BodyValue)) → is_def_in_range m d ≡ true → AllByRecursion IsLiveItem (def_refs body_refs d)
+      → is_def_in_range named_cut (def_seen (option_map (renumber_body r)) d) ≡ true
+  def_in_range (imported a b) h all = refl
+  def_in_range (local None) h all = absurd (false≢true h)
+  def_in_range (local (Some b)) h all = body_in_range b h all
 
-  entry_sound : (e : Entry) → is_sound_entry m e ≡ true → AllByRecursion IsLiveItem (entry_refs e) → is_sound_entry named_cut (renumber_entry r e)
+  entry_in_range : (e : Entry) → is_entry_in_range m e ≡ true → AllByRecursion IsLiveItem (entry_refs e) → is_entry_in_range named_cut (renumber_entry r e)
       ≡ true
-  entry_sound no_entry h all = refl
-  entry_sound (type_entry t) h all = refl
-  entry_sound (func_entry f) h all = def_sound f.def h all.1
-  entry_sound (table_entry t) h all = refl
-  entry_sound (memory_entry t) h all = refl
-  entry_sound (global_entry g) h all = refl
+  entry_in_range no_entry h all = refl
+  entry_in_range (type_entry t) h all = refl
+  entry_in_range (func_entry f) h all = def_in_range f.def h all.1
+  entry_in_range (table_entry t) h all = refl
+  entry_in_range (memory_entry t) h all = refl
+  entry_in_range (global_entry g) h all = refl
 
-  pub sound_moved : (x : ItemIndex) → live x ≡ true → is_sound_at m x ≡ true → is_sound_at named_cut (moved x) ≡ true
-  sound_moved x h sound = ap (is_sound_entry named_cut) (entry_is x h) ∙ entry_sound (entry_at m x) sound (k.named x h)
+  pub in_range_moved : (x : ItemIndex) → live x ≡ true → is_item_in_range m x ≡ true → is_item_in_range named_cut (moved x) ≡ true
+  in_range_moved x h in_range = ap (is_entry_in_range named_cut) (entry_is x h) ∙ entry_in_range (entry_at m x) in_range (k.named x h)
 
 pub cut_is_reached : CutIsReached
 cut_is_reached m exports live k all y h =

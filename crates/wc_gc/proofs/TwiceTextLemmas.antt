@@ -15,7 +15,7 @@ use Rattle.wc_read.specs.Operators.{InstrValue}
 use Rattle.wc_read.specs.declared.types.GlobalType.{GlobalType}
 use Rattle.wc_read.proofs.DecodingLemmas.{body_found, init_found}
 use Rattle.wc_write.specs.BodyText.{body_text}
-use Rattle.wc_write.specs.BuiltValues.{IsRead, IsReadBody, IsReadInit, def_seen, is_import, item_seen, written_module}
+use Rattle.wc_write.specs.BuiltValues.{IsRead, IsReadBody, IsReadInit, def_seen, item_seen, written_module}
 use Rattle.wc_write.specs.ModuleText.{BuiltValue, init_text}
 use Rattle.wc_write.specs.Spaces.{DefinedValue, defined, defined_by, defined_contents}
 use Rattle.wc_gc.specs.Decoded.{FuncCode, GlobalCode, decode}
@@ -75,10 +75,6 @@ pub and_and_false : (b c : Bool) → (b && (c && false)) ≡ false
 and_and_false true true = refl
 and_and_false true false = refl
 and_and_false false c = refl
-
-pub seen_import : {C E : Type 0} (view : C → E) (d : DefValue C) → is_import (def_seen view d) ≡ is_import d
-seen_import view (imported m n) = refl
-seen_import view (local x) = refl
 
 filter_fails : {A : Type 0} (p : A → Bool) (xs : List A) → AllByRecursion (λ x. p x ≡ false) xs → filter p xs ≡ []
 filter_fails p [] h = refl

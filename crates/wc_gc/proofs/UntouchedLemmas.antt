@@ -1,23 +1,27 @@
 -- Items from which no references lead to an edited function unfold as they did; functions that begin with a call keep
 -- their code.
-use Rattle.std.proofs.Common.{◌≡◌, ℕ, zero, suc, ◌+◌, ◌<◌, List, [], ◌∷◌, ◌++◌, length, map, refl, sym, ◌∙◌, ap, Bool, true, false, ◌&&◌, ◌||◌, not, cond, Option, Some, ltb-true}
+use Rattle.std.proofs.Common.{◌≡◌, ℕ, zero, suc, ◌+◌, ◌<◌, List, [], ◌∷◌, ◌++◌, length, map, refl, sym, ◌∙◌, ap, Bool, true, false, ◌&&◌, not, cond, Option}
+use Rattle.std.proofs.Common.{Some, ltb-true}
 use Rattle.std.specs.Prelude.{IsTrue, Contains}
 use Rattle.std.specs.List.{AllByRecursion, enumerate_from, slice_get}
 use Rattle.std.specs.Option.{option_map, option_map_or}
 use Rattle.std.proofs.lemmas.List.{length-map}
 use Rattle.std.proofs.lemmas.List.Elements.{recursion_from_All, All-contains_itself}
 use Rattle.std.proofs.lemmas.List.FromFn.{length-enumerate_from}
+use Rattle.std.proofs.lemmas.Bool.{and_parts, or_parts}
 use Rattle.wc_read.specs.Bodies.{BodyValue}
 use Rattle.wc_read.specs.Items.{DefValue, imported, local}
 use Rattle.wc_read.specs.declared.operators.Space.TheVariants.{Types, Funcs, Tables, Memories, Globals}
 use Rattle.wc_write.specs.BuiltValues.{is_defined, is_import}
 use Rattle.wc_gc.specs.Decoded.{FuncCode, ItemIndex}
-use Rattle.wc_gc.specs.Edited.{added_funcs, added_imports, edit, edited_def, edited_func, edited_funcs, import_func, is_exported_func, lazy_func, lazy_position, one_if, only_if, replaced, with_call}
+use Rattle.wc_gc.specs.Edited.{added_funcs, added_imports, edit, edited_def, edited_func, edited_funcs, import_func, is_exported_func, lazy_func, lazy_position}
+use Rattle.wc_gc.specs.Edited.{one_if, only_if, replaced, with_call}
 use Rattle.wc_gc.specs.Entries.{Entry, no_entry, type_entry, func_entry, entry_at, entry_refs}
 use Rattle.wc_gc.specs.Found.{FoundValue, found_in, is_realloc, is_realloc_at}
 use Rattle.wc_gc.specs.Parts.{SettingsValue}
 use Rattle.wc_gc.specs.Unfolding.{Tree, blank, unfolding_of}
-use Rattle.wc_gc.specs.Untouched.{Original, parts, edited, begins_with_call, is_edited, IsUnedited, UntouchedUnfold, NamesUnedited, UneditedUnfold, lazy_index, KeepsCode, CallsKeepCode}
+use Rattle.wc_gc.specs.Untouched.{Original, parts, edited, begins_with_call, is_edited, IsUnedited, UntouchedUnfold, NamesUnedited, UneditedUnfold, lazy_index}
+use Rattle.wc_gc.specs.Untouched.{KeepsCode, CallsKeepCode}
 use Rattle.wc_gc.specs.declared.parts.Parts.{Parts}
 use Rattle.wc_gc.proofs.BuiltPartLemmas.{each_weaker}
 use Rattle.wc_gc.proofs.ImageLemmas.{enumerated_read}
@@ -26,33 +30,23 @@ use Rattle.wc_gc.proofs.KeptItemLemmas.{get_some}
 
 -- a function that is not edited
 
-pub first_false : (x y : Bool) → (x || y) ≡ false → x ≡ false
-first_false true y h = absurd cc
-first_false false y h = refl
-
-pub second_false : (x y : Bool) → (x || y) ≡ false → y ≡ false
-second_false true y h = absurd cc
-second_false false y h = h
-
 drop_true : (x y : Bool) → (x && (y && true)) ≡ (x && y)
 drop_true true true = refl
 drop_true true false = refl
 drop_true false y = refl
 
-def_same : (funcs : ℕ) (s : SettingsValue) (p : Parts) (f : FoundValue) (exported : Bool) (d : DefValue (Option BodyValue)) → is_realloc d ≡ false → (p.lazy && (exported && not (is_import d))) ≡ false
-    → edited_def funcs s p f exported d ≡ d
-def_same funcs s p f exported (imported m n) h k = ap (λ b. cond b (replaced s f) (imported m n)) h
-def_same funcs s p f exported (local b) h k =
+def_same : (funcs : ℕ) (s : SettingsValue) (p : Parts) (f : FoundValue) (reached exported : Bool) (d : DefValue (Option BodyValue))
+    → (reached && is_realloc d) ≡ false → (p.lazy && (exported && not (is_import d))) ≡ false
+    → edited_def funcs s p f reached exported d ≡ d
+def_same funcs s p f reached exported (imported m n) h k = ap (λ b. cond b (replaced s f) (imported m n)) h
+def_same funcs s p f reached exported (local b) h k =
     ap (λ c. local (cond c (option_map (with_call (funcs + lazy_position p)) b) b)) (sym (drop_true p.lazy exported) ∙ k)
 
-first_true : (x y : Bool) → (x && y) ≡ true → x ≡ true
-first_true true y h = refl
-first_true false y h = absurd cc
-
 -- one that begins with a call
-def_called : (funcs : ℕ) (s : SettingsValue) (p : Parts) (f : FoundValue) (exported : Bool) (b : BodyValue) → (p.lazy && (exported && true)) ≡ true
-    → edited_def funcs s p f exported (local (Some b)) ≡ local (Some (with_call (funcs + lazy_position p) b))
-def_called funcs s p f exported b h =
+def_called : (funcs : ℕ) (s : SettingsValue) (p : Parts) (f : FoundValue) (reached exported : Bool) (b : BodyValue)
+    → (p.lazy && (exported && true)) ≡ true
+    → edited_def funcs s p f reached exported (local (Some b)) ≡ local (Some (with_call (funcs + lazy_position p) b))
+def_called funcs s p f reached exported b h =
     ap (λ c. local (cond c (option_map (with_call (funcs + lazy_position p)) (Some b)) (Some b))) (sym (drop_true p.lazy exported) ∙ h)
 
 abbrev func_with : FuncCode → DefValue (Option BodyValue) → FuncCode
@@ -69,10 +63,10 @@ module _ (a : Original) where
   added = added_imports (length a.value.types) a.settings (parts a) ++ added_funcs (length a.value.types) (length olds) a.settings (parts a) found
 
   abbrev editeds : List FuncCode
-  editeds = edited_funcs a.exports a.settings (parts a) found olds
+  editeds = edited_funcs a.exports a.live a.settings (parts a) found olds
 
   abbrev one : ℕ → FuncCode → FuncCode
-  one n f = edited_func (length olds) a.settings (parts a) found (is_exported_func a.exports n) f
+  one n f = edited_func (length olds) a.settings (parts a) found (a.live (Funcs, n)) (is_exported_func a.exports n) f
 
   -- each function is edited where it was
   func_edited : (n : ℕ) (f : FuncCode) → slice_get olds n ≡ Some f → entry_at (edited a) (Funcs, n) ≡ func_entry (one n f)
@@ -84,13 +78,15 @@ module _ (a : Original) where
   func_same : (n : ℕ) → n < length olds → is_edited a (Funcs, n) ≡ false → entry_at (edited a) (Funcs, n) ≡ entry_at a.value (Funcs, n)
   func_same n below h =
       let f = get_some olds n below in
-      let kept : is_realloc f.0.def ≡ false =
-      sym (ap (λ o. option_map_or (λ (g : FuncCode). is_realloc g.def) o false) f.1) ∙ first_false (is_realloc_at a.value n) (begins_with_call a n) h in
+      let reached : Bool = a.live (Funcs, n) in
+      let none = or_parts (reached && is_realloc_at a.value n) (begins_with_call a n) h in
+      let kept : (reached && is_realloc f.0.def) ≡ false =
+      sym (ap (λ o. reached && option_map_or (λ (g : FuncCode). is_realloc g.def) o false) f.1) ∙ none.0 in
       let free : ((parts a).lazy && (is_exported_func a.exports n && not (is_import f.0.def))) ≡ false =
       sym (ap (λ o. (parts a).lazy && (is_exported_func a.exports n && option_map_or (λ (g : FuncCode). is_defined g) o false)) f.1)
-      ∙ second_false (is_realloc_at a.value n) (begins_with_call a n) h in
+      ∙ none.1 in
       func_edited n f.0 f.1
-      ∙ (ap (λ d. func_entry (func_with f.0 d)) (def_same (length olds) a.settings (parts a) found (is_exported_func a.exports n) f.0.def kept free)
+      ∙ (ap (λ d. func_entry (func_with f.0 d)) (def_same (length olds) a.settings (parts a) found reached (is_exported_func a.exports n) f.0.def kept free)
       ∙ sym (ap (λ o. option_map_or func_entry o no_entry) f.1))
 
   same_at : (x : ItemIndex) → IsUnedited a x → entry_at (edited a) x ≡ entry_at a.value x
@@ -104,7 +100,8 @@ module _ (a : Original) where
   same_at (Globals, n) h = refl
 
   -- trees of items that are not edited, and name such items alone
-  module _ (P : ItemIndex → Type 0) (unedited : (x : ItemIndex) → P x → IsUnedited a x) (closed : (x y : ItemIndex) → P x → Contains (entry_refs (entry_at a.value x)) y → P y) where
+  module _ (P : ItemIndex → Type 0) (unedited : (x : ItemIndex) → P x → IsUnedited a x) (closed : (x y : ItemIndex) → P x
+      → Contains (entry_refs (entry_at a.value x)) y → P y) where
     map_same : {T : Type 0} (f g : ItemIndex → T) (xs : List ItemIndex) → AllByRecursion (λ x. f x ≡ g x) xs → map f xs ≡ map g xs
     map_same f g [] e = refl
     map_same f g (x ∷ xs) e = ap (λ y. y ∷ map f xs) e.0 ∙ ap (λ ys. g x ∷ ys) (map_same f g xs e.1)
@@ -118,10 +115,12 @@ module _ (a : Original) where
         each_weaker (Contains refs) (λ y. unfolding_of n (edited a) y ≡ unfolding_of n a.value y) refs (λ y c. trees_same n y (closed x y k c))
         (recursion_from_All (Contains refs) refs (All-contains_itself refs)) in
         ap (λ (e : Entry). let t : T = (blank e, map (unfolding_of n (edited a)) (entry_refs e)) in t) (same_at x (unedited x k))
-        ∙ ap (λ (ts : List (Tree n)). let t : T = (blank (entry_at a.value x), ts) in t) (map_same (unfolding_of n (edited a)) (unfolding_of n a.value) refs each)
+        ∙ ap (λ (ts : List (Tree n)). let t : T = (blank (entry_at a.value x), ts) in
+        t) (map_same (unfolding_of n (edited a)) (unfolding_of n a.value) refs each)
 
   -- the lazy code comes first of what is added but an import
-  lazy_at : (lazy import_realloc : Bool) (x y : FuncCode) (ys : List FuncCode) → lazy ≡ true → slice_get (only_if import_realloc x ++ (only_if lazy y ++ ys)) (one_if import_realloc) ≡ Some y
+  lazy_at : (lazy import_realloc : Bool) (x y : FuncCode) (ys : List FuncCode) → lazy ≡ true
+      → slice_get (only_if import_realloc x ++ (only_if lazy y ++ ys)) (one_if import_realloc) ≡ Some y
   lazy_at true true x y ys h = refl
   lazy_at true false x y ys h = refl
   lazy_at false b x y ys h = absurd cc
@@ -133,18 +132,21 @@ module _ (a : Original) where
       ap (λ o. option_map_or func_entry o no_entry)
       (ap (λ k. slice_get (editeds ++ added) (k + lazy_position (parts a))) (sym long)
       ∙ (back_at editeds added (lazy_position (parts a))
-      ∙ lazy_at (parts a).lazy (parts a).import_realloc (import_func (length a.value.types) a.settings) (lazy_func (length a.value.types) (length olds) (parts a) found) _ h))
+      ∙ lazy_at (parts a).lazy (parts a).import_realloc (import_func (length a.value.types) a.settings)
+      (lazy_func (length a.value.types) (length olds) (parts a) found) _ h))
 
   keeps_code : (n : ℕ) (f : FuncCode) (b : BodyValue) → begins_with_call a n ≡ true → slice_get olds n ≡ Some f → f.def ≡ local (Some b) → KeepsCode a n f b
   keeps_code n f b h at is =
+      let reached = a.live (Funcs, n) in
+      let exported = is_exported_func a.exports n in
       let calls : ((parts a).lazy && (is_exported_func a.exports n && true)) ≡ true =
       sym (ap (λ o. (parts a).lazy && (is_exported_func a.exports n && option_map_or (λ (g : FuncCode). is_defined g) o false)) at
       ∙ ap (λ (d : DefValue (Option BodyValue)). (parts a).lazy && (is_exported_func a.exports n && not (is_import d))) is) ∙ h in
       record {
         code = func_edited n f at
-            ∙ (ap (λ d. func_entry (func_with f (edited_def (length olds) a.settings (parts a) found (is_exported_func a.exports n) d))) is
-            ∙ ap (λ d. func_entry (func_with f d)) (def_called (length olds) a.settings (parts a) found (is_exported_func a.exports n) b calls));
-        callee = callee_at (first_true (parts a).lazy (is_exported_func a.exports n && true) calls);
+            ∙ (ap (λ d. func_entry (func_with f (edited_def (length olds) a.settings (parts a) found reached exported d))) is
+            ∙ ap (λ d. func_entry (func_with f d)) (def_called (length olds) a.settings (parts a) found reached exported b calls));
+        callee = callee_at (and_parts (parts a).lazy (is_exported_func a.exports n && true) calls).0;
       }
 
 pub untouched_unfold : UntouchedUnfold

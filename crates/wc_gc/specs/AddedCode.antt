@@ -81,7 +81,7 @@ allocation realloc stack =
     const (pos 0) ∷ const (pos 0) ∷ const (pos 8) ∷ const (pos 65536) ∷ call realloc
     ∷ const (pos 65536) ∷ plain 0x6a ∷ set_global stack ∷ []
 
--- the same where a state is 0, which becomes 1 before it and 2 after it
+-- where a state is 0, a block of 65536 bytes is asked for; the state becomes 1 before that and 2 after it
 abbrev pub allocation_once : ℕ → ℕ → ℕ → List InstrValue
 allocation_once realloc stack state =
     get_global state ∷ const (pos 0) ∷ plain 0x46 ∷ with 0x04 (WithBlock Empty)

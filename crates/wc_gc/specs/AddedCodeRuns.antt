@@ -34,15 +34,16 @@ stack_request align = 0 ∷ 0 ∷ align ∷ stack_size ∷ []
 
 -- a realloc that gives out blocks of a stack's size, over a memory whose pages have 2 ^ exponent bytes
 pub record IsGrowingRealloc (exponent : ℕ) (b : BodyValue) : Type 0 where
-  -- it traps unless the old pointer and the old length are 0 and the new length is a stack's
+  -- the realloc traps unless the old pointer and the old length are 0 and the new length is a stack's
   pub others_trap : (s : Store) (pointer old_length align new_length : ℕ) →
       ¬ ((pointer ≡ 0) × (old_length ≡ 0) × (new_length ≡ stack_size)) →
       call_outcome exponent b (pointer ∷ old_length ∷ align ∷ new_length ∷ []) s ≡ trapped
-  -- so asked, with any alignment, it grows the memory by the pages of a stack, and answers the old size in bytes
+  -- asked for a stack, with any alignment, the realloc grows the memory by the pages of a stack, and answers the old
+  -- size in bytes
   pub grows : (s : Store) (align : ℕ) → can_grow exponent s (stack_pages exponent) ≡ true →
       call_outcome exponent b (stack_request align) s
       ≡ finished (grown_store s (stack_pages exponent)) (s.pages * 2 ^ exponent ∷ [])
-  -- it traps where growth is refused
+  -- the realloc traps where growth is refused
   pub refused_trap : (s : Store) (align : ℕ) → can_grow exponent s (stack_pages exponent) ≡ false →
       call_outcome exponent b (stack_request align) s ≡ trapped
 
@@ -84,7 +85,7 @@ pub record AllocatesOnce (realloc stack state : ℕ) (b : BodyValue) (exponent :
   -- the realloc is called at most once
   pub at_most_once : (events : List Event) → All WritesNoZero events →
       length (after_events exponent b state events (start_of s)).requests ≤ 1
-  -- and exactly once, for a stack, where a call of the code finds 0
+  -- the realloc is called exactly once, for a stack, where a call of the code finds 0
   pub once_at_zero : (events later : List Event) → All WritesNoZero events → All WritesNoZero later →
       (after_events exponent b state events (start_of s)).stopped ≡ false →
       IsGlobal (after_events exponent b state events (start_of s)).store state 0 →

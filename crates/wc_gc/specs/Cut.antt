@@ -1,4 +1,4 @@
--- The cut of an adapter: its wanted exports and what they reach, and nothing else.
+-- The cut of an adapter: its required exports and what they reach, and nothing else.
 use Rattle.std.specs.Prelude.{ℕ, List, [], ◌++◌, map, Bool, None}
 use Rattle.wc_read.specs.Exports.{ExportValue}
 use Rattle.wc_read.specs.Names.{GlobalNameValue}

@@ -8,6 +8,7 @@ use Rattle.wc_read.specs.Bodies.{BodyValue}
 use Rattle.wc_read.specs.Items.{DefValue, imported, local}
 use Rattle.wc_read.specs.declared.exports.ExportKind.{ExportKind}
 use Rattle.wc_read.specs.declared.exports.ExportKind.TheVariants.{Func, Table, Memory, Global}
+use Rattle.wc_read.specs.declared.operators.Space.TheVariants.{Funcs}
 use Rattle.wc_gc.specs.AddedCode.{call, growing_body, stack_body, realloc_type, empty_type}
 use Rattle.wc_gc.specs.Decoded.{DecodedModule, FuncCode, ItemIndex}
 use Rattle.wc_gc.specs.Found.{main_module, is_realloc, FoundValue, found_in, is_empty}
@@ -95,7 +96,7 @@ start_of funcs p = cond p.start (Some (funcs + start_position p)) None
 
 -- the functions that were there
 
--- an imported realloc is the main module's, or grows memory itself
+-- what is instead of an imported realloc: an import of the main module's, or code that grows memory
 abbrev pub replaced : SettingsValue → FoundValue → DefValue (Option BodyValue)
 replaced s f = option_map_or (λ name. imported main_module name) s.realloc (growing_code s f)
 
@@ -116,16 +117,20 @@ is_exported_func exports n = list_any (λ e. is_func e.kind && nat_eq n e.index)
 abbrev pub edited_body : ℕ → Parts → Bool → Option BodyValue → Option BodyValue
 edited_body funcs p exported b = cond (p.lazy && exported) (option_map (with_call (funcs + lazy_position p)) b) b
 
-abbrev pub edited_def : ℕ → SettingsValue → Parts → FoundValue → Bool → DefValue (Option BodyValue) → DefValue (Option BodyValue)
-edited_def funcs s p f exported (imported m n) = cond (is_realloc {C = ℕ} (imported m n)) (replaced s f) (imported m n)
-edited_def funcs s p f exported (local b) = local (edited_body funcs p exported b)
+-- an imported realloc is replaced where it is reached
+abbrev pub edited_def : ℕ → SettingsValue → Parts → FoundValue → Bool → Bool → DefValue (Option BodyValue) → DefValue (Option BodyValue)
+edited_def funcs s p f reached exported (imported m n) =
+    cond (reached && is_realloc {C = ℕ} (imported m n)) (replaced s f) (imported m n)
+edited_def funcs s p f reached exported (local b) = local (edited_body funcs p exported b)
 
-abbrev pub edited_func : ℕ → SettingsValue → Parts → FoundValue → Bool → FuncCode → FuncCode
-edited_func funcs s p f exported func = record { ty = func.ty; def = edited_def funcs s p f exported func.def }
+abbrev pub edited_func : ℕ → SettingsValue → Parts → FoundValue → Bool → Bool → FuncCode → FuncCode
+edited_func funcs s p f reached exported func =
+    record { ty = func.ty; def = edited_def funcs s p f reached exported func.def }
 
-abbrev pub edited_funcs : List ExportValue → SettingsValue → Parts → FoundValue → List FuncCode → List FuncCode
-edited_funcs exports s p f funcs =
-    map (λ x. edited_func (length funcs) s p f (is_exported_func exports x.0) x.1) (enumerate_from 0 funcs)
+abbrev pub edited_funcs : List ExportValue → (ItemIndex → Bool) → SettingsValue → Parts → FoundValue → List FuncCode → List FuncCode
+edited_funcs exports live s p f funcs =
+    map (λ x. edited_func (length funcs) s p f (live (Funcs, x.0)) (is_exported_func exports x.0) x.1)
+    (enumerate_from 0 funcs)
 
 -- the adapter with some of its exports, its functions edited; which of its items are kept; and what is added, which is
 -- kept too: imports have the indices after the functions, functions those after the imports, types those after the types
@@ -139,7 +144,7 @@ pub record EditedModule : Type 0 where
 abbrev pub edited_by : SettingsValue → DecodedModule → List ExportValue → (ItemIndex → Bool) → Parts → FoundValue → EditedModule
 edited_by s m exports live p f = record {
   value = record m {
-    funcs = edited_funcs exports s p f m.funcs;
+    funcs = edited_funcs exports live s p f m.funcs;
     exports = exports;
     start = start_of (length m.funcs) p;
   };

@@ -1,6 +1,6 @@
 -- What trimming makes of an edited adapter: its kept items and what is added, in their order, with every index replaced
 -- by its rank.
-use Rattle.std.specs.Prelude.{ℕ, ◌+◌, ◌-◌, ◌<◌, ◌^◌, ◌++◌, map, Bool, false, ◌&&◌, cond, nat_lt, length}
+use Rattle.std.specs.Prelude.{◌≡◌, ◌⊎◌, ℕ, ◌+◌, ◌-◌, ◌<◌, ◌^◌, ◌++◌, map, Bool, false, ◌&&◌, cond, nat_lt, length}
 use Rattle.std.specs.List.{slice_get}
 use Rattle.std.specs.Option.{option_map, option_map_or}
 use Rattle.wc_read.specs.Renumbering.{Renumbering, renumber_func_type}
@@ -10,6 +10,8 @@ use Rattle.wc_write.specs.ModuleText.{BuiltValue, SizesFit}
 use Rattle.wc_gc.specs.Counts.{count_below}
 use Rattle.wc_gc.specs.Decoded.{FuncCode}
 use Rattle.wc_gc.specs.Edited.{EditedModule}
+use Rattle.wc_gc.specs.declared.fault.GcFault.{GcFault}
+use Rattle.wc_gc.specs.declared.fault.GcFault.TheVariants.{Memory, TooLarge}
 use Rattle.wc_gc.specs.Image.{rank, kept_items, kept_of, new_func, new_table, new_global, new_export}
 
 -- kept functions that are imported, and those that are defined, after they were edited
@@ -63,8 +65,12 @@ edited_image e = record {
   producers = e.value.producers;
 }
 
--- its types and functions have indices of 32 bits, and its sections sizes of 32 bits
+-- types and functions of an image have indices of 32 bits, and its sections sizes of 32 bits
 pub record FitsBits (b : BuiltValue) : Type 0 where
   pub types : length b.types < 2 ^ 32
   pub funcs : length b.funcs < 2 ^ 32
   pub sizes : SizesFit b
+
+-- memory ran out, or the image does not fit
+abbrev pub IsImageFault : BuiltValue → GcFault → Type 0
+IsImageFault b f = (f ≡ Memory) ⊎ ((f ≡ TooLarge) × ¬ (FitsBits b))

@@ -44,7 +44,7 @@ type_items ns = map (λ n. (Types, n)) ns
 abbrev pub val_type_refs : List ValType → List ItemIndex
 val_type_refs ts = type_items (type_indices ts)
 
--- those of the parameters of a function type, and those of its results
+-- the types named by the parameters of a function type, and by its results
 abbrev pub func_type_refs : FuncTypeValue → List ItemIndex
 func_type_refs t = val_type_refs t.params ++ val_type_refs t.results
 
@@ -55,7 +55,7 @@ instr_refs i = type_items (type_refs_of i.immediates) ++ refs_list (refs_of i.im
 abbrev pub code_refs : List InstrValue → List ItemIndex
 code_refs is = flat_map instr_refs is
 
--- none, where there is no code
+-- what an initialiser names; nothing, where it is no code
 abbrev pub init_refs : Option (List InstrValue) → List ItemIndex
 init_refs is = option_map_or code_refs is []
 
@@ -66,7 +66,7 @@ code_body_refs b = val_type_refs (local_types b.locals) ++ code_refs b.operators
 abbrev pub body_refs : Option BodyValue → List ItemIndex
 body_refs b = option_map_or code_body_refs b []
 
--- none of an import
+-- what a definition names; nothing, where it is an import
 abbrev pub def_refs : {C : Type 0} → (C → List ItemIndex) → DefValue C → List ItemIndex
 def_refs refs (imported m n) = []
 def_refs refs (local x) = refs x
@@ -87,7 +87,7 @@ entry_refs (table_entry t) = val_type_refs (t.ty.element_type ∷ [])
 entry_refs (memory_entry m) = []
 entry_refs (global_entry g) = global_refs g
 
--- those of some items that the module has
+-- of some items those that the module has
 abbrev pub present : DecodedModule → List ItemIndex → List ItemIndex
 present m xs = filter (is_in m) xs
 

@@ -8,5 +8,5 @@ abbrev pub is_aside : {L : Type 0} → Gathered L → ℕ → Bool
 is_aside g x = holds g.aside.keys x
 
 -- whether a number is in the set or set aside, where a set of numbers has them by `has`
-abbrev pub gathers : {L : Type 0} → (L → ℕ → Bool) → Gathered L → ℕ → Bool
-gathers has g x = has g.set x || is_aside g x
+abbrev pub has_or_aside : {L : Type 0} → (L → ℕ → Bool) → Gathered L → ℕ → Bool
+has_or_aside has g x = has g.set x || is_aside g x

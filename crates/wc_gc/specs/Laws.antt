@@ -12,7 +12,7 @@ use Rattle.wc_gc.specs.EditedImage.{edited_image}
 use Rattle.wc_gc.specs.Image.{renumber_body, renumber_code}
 use Rattle.wc_gc.specs.Parts.{SettingsValue}
 use Rattle.wc_gc.specs.KeptExports.{kept_exports}
-use Rattle.wc_gc.specs.Liveness.{Wanted}
+use Rattle.wc_gc.specs.Liveness.{TrimInput}
 use Rattle.wc_gc.specs.Trimming.{IsTrimCause, IsTrimmed}
 use Rattle.wc_gc.specs.declared.fault.GcFault.{GcFault}
 
@@ -24,19 +24,19 @@ KeepsBits new = (space : Space) (n : ℕ) → n < 2 ^ 32 → new space n < 2 ^ 3
 abbrev pub BodiesStaySpellable : Type 0
 BodiesStaySpellable = (new : Renumbering) (b : BodyValue) → KeepsBits new → IsBody b → IsBody (renumber_body new b)
 
--- so can an initialiser
+-- an initialiser that can be spelled can be under such indices
 abbrev pub InitialisersStaySpellable : Type 0
 InitialisersStaySpellable = (new : Renumbering) (is : List InstrValue) → KeepsBits new → IsInitialiser is → IsInitialiser (renumber_code new is)
 
 -- a realloc's name is text, and pages have 2 ^ 16 bytes at most
 pub record AreSettings (s : SettingsValue) : Type 0 where
   pub name_is_text : IfSome s.realloc IsUtf8
-  pub few_bytes : s.exponent ≤ 16
+  pub bounded_bytes : s.exponent ≤ 16
 
 -- what trimming answers is the text of an image: it spells the image and no other module; the same of its bodies and
 -- initialisers
 abbrev pub TrimmedIsRead : Type 0
-TrimmedIsRead = (s : SettingsValue) (w : Wanted) (text : List ℕ) → AreSettings s → AreBytes w.bytes →
+TrimmedIsRead = (s : SettingsValue) (w : TrimInput) (text : List ℕ) → AreSettings s → AreBytes w.bytes →
     (t : IsTrimmed s w text) →
     ((f : GcFault) → ¬ (IsTrimCause s w f)) →
     IsRead (edited_image (edit s (decode t.value) (kept_exports w.required t.value.exports) t.live))

@@ -9,7 +9,7 @@ pub data Event : Type 0 where
   begins : Event
   -- the last call of the realloc that has no answer yet gets this one
   answers : ℕ → Event
-  -- that call traps
+  -- the last call of the realloc that has no answer yet traps
   traps : Event
   -- other code writes a number into the state
   writes : ℕ → Event

@@ -117,7 +117,7 @@ grown_store s more = record { globals = s.globals; pages = s.pages + more; growt
 
 pub data Step : Type 0 where
   goes_on : Frame → Store → Step
-  -- to the `end` of the `if`
+  -- a step to the `end` of an `if`
   skips : Frame → Store → Step
   traps : Step
   calls : ℕ → List ℕ → Frame → Store → Step
@@ -173,10 +173,10 @@ pub record OpenCall : Type 0 where
   pub code : List InstrValue
 
 pub data Outcome : Type 0 where
-  -- at the end of the code, with results
+  -- a run at the end of the code, with results
   finished : Store → List ℕ → Outcome
   trapped : Outcome
-  -- at a call of a function with arguments
+  -- a run at a call of a function with arguments
   called : Store → ℕ → List ℕ → OpenCall → Outcome
   no_meaning : Outcome
 
@@ -190,7 +190,7 @@ abbrev pub with_operator : Option MachineOperator → (MachineOperator → Outco
 with_operator None next = no_meaning
 with_operator (Some o) next = next o
 
--- on after a step, with so many `end`s to be skipped
+-- a run that goes on after a step, with so many `end`s to be skipped
 abbrev pub outcome_after : Step → List InstrValue → (ℕ → Frame → Store → Outcome) → Outcome
 outcome_after (goes_on f s) code next = next 0 f s
 outcome_after (skips f s) code next = next 1 f s

@@ -9,7 +9,7 @@ use Rattle.wc_gc.specs.declared.new_indices.Counts.{Counts}
 use Rattle.wc_gc.specs.declared.new_indices.NewIndices.{NewIndices}
 use Rattle.wc_gc.specs.declared.new_indices.SpaceRanks.{SpaceRanks}
 
--- they are those of kept items, and of functions in two groups
+-- ranks are those of kept items, and of functions in two groups
 pub record AreRanksOf (kept : ItemIndex → Bool) (is_import is_defined : ℕ → Bool) (r : SpaceRanks) : Type 0 where
   pub types : has_number r.types ≡ (λ n. kept (Types, n))
   pub imports : has_number r.imports ≡ is_import
@@ -24,7 +24,7 @@ HasRoom r c =
     (rank_of r.types c.types + c.added_types < 2 ^ 32)
     × (rank_of r.imports c.funcs + rank_of r.defined c.funcs + (c.added_imports + c.added_funcs) < 2 ^ 32)
 
--- the same, by what is live
+-- live items and what is added have indices of 32 bits, by what is live
 abbrev pub HasRoomFor : (ItemIndex → Bool) → (ℕ → Bool) → (ℕ → Bool) → Counts → Type 0
 HasRoomFor kept is_import is_defined c =
     (count_below (λ n. kept (Types, n)) c.types + c.added_types < 2 ^ 32)

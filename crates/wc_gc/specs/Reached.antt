@@ -4,7 +4,7 @@ use Rattle.wc_read.specs.Exports.{ExportValue}
 use Rattle.wc_gc.specs.Decoded.{DecodedModule, ItemIndex, exported_item}
 use Rattle.wc_gc.specs.Entries.{refs_in}
 
--- from a thing over the others to the last, each named by the one before
+-- a path from a thing over others to the last of them, each named by the one before
 abbrev pub IsPath : {X : Type 0} → (X → List X) → X → List X → X → Type 0
 IsPath names x [] y = x ≡ y
 IsPath names x (z ∷ zs) y = Contains (names x) z × IsPath names z zs y

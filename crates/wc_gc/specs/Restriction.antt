@@ -21,7 +21,7 @@ use Rattle.wc_write.specs.Values.{AreBytes}
 use Rattle.wc_gc.specs.Decoded.{ItemIndex, decode}
 use Rattle.wc_gc.specs.Found.{is_realloc_at, main_module}
 use Rattle.wc_gc.specs.Laws.{AreSettings}
-use Rattle.wc_gc.specs.Liveness.{IsLive, Wanted}
+use Rattle.wc_gc.specs.Liveness.{IsLive, TrimInput}
 use Rattle.wc_gc.specs.Parts.{SettingsValue}
 use Rattle.wc_gc.specs.Trimming.{IsTrimCause, IsTrimmed}
 use Rattle.wc_gc.specs.declared.fault.GcFault.{GcFault}
@@ -33,14 +33,14 @@ pub data ItemType : Type 0 where
   memory_item : MemoryType → ItemType
   global_item : GlobalType → ItemType
 
--- that of an import of a module with these types
+-- the type of an import of a module with these types
 abbrev pub import_type : List FuncTypeValue → ImportType → Option ItemType
 import_type types (Func index) = option_map func_item (slice_get types index)
 import_type types (Table t) = Some (table_item t)
 import_type types (Memory t) = Some (memory_item t)
 import_type types (Global t) = Some (global_item t)
 
--- that of the item that an export of a kind names by its index
+-- the type of the item that an export of a kind names by its index
 abbrev pub export_type : ModuleValue → ExportKind → ℕ → Option ItemType
 export_type m export.Func index = option_and_then (λ (f : FuncValue). option_map func_item (slice_get m.types f.ty)) (slice_get m.funcs index)
 export_type m export.Table index = option_map (λ (t : TableValue). table_item t.ty) (slice_get m.tables index)
@@ -55,20 +55,20 @@ without_indices (memory_item t) = memory_item t
 without_indices (global_item t) = global_item (renumber_global_type (λ space n. 0) t)
 
 -- types of items of two modules, where they are there, are the same but for such indices
-abbrev pub AreTypesAlike : Option ItemType → Option ItemType → Type 0
-AreTypesAlike t u = option_map without_indices t ≡ option_map without_indices u
+abbrev pub AreSameTypesButIndices : Option ItemType → Option ItemType → Type 0
+AreSameTypesButIndices t u = option_map without_indices t ≡ option_map without_indices u
 
 -- an import of one module, and one of another: of the same module, by the same name, and of the same type but for indices
 pub record SameImport (v m : ModuleValue) (j i : ImportValue) : Type 0 where
   pub from : j.module_name ≡ i.module_name
   pub name : j.name ≡ i.name
-  pub ty : AreTypesAlike (import_type v.types j.ty) (import_type m.types i.ty)
+  pub ty : AreSameTypesButIndices (import_type v.types j.ty) (import_type m.types i.ty)
 
--- the same of exports
+-- an export of one module, and one of another: by the same name, and of the same type but for type indices
 pub record SameExport (v m : ModuleValue) (x y : ExportValue) : Type 0 where
   pub name : x.name ≡ y.name
   pub kind : x.kind ≡ y.kind
-  pub ty : AreTypesAlike (export_type v x.kind x.index) (export_type m y.kind y.index)
+  pub ty : AreSameTypesButIndices (export_type v x.kind x.index) (export_type m y.kind y.index)
 
 -- an import of the function that the main module exports as this realloc
 pub record IsMainImport (realloc : Option (List ℕ)) (m : ModuleValue) (i : ImportValue) : Type 0 where
@@ -133,7 +133,7 @@ pub record IsRestriction (realloc : Option (List ℕ)) (names : List (List ℕ))
 
 -- the module that a trimmed adapter's bytes spell
 abbrev pub TrimmedIsRestriction : Type 0
-TrimmedIsRestriction = (s : SettingsValue) (w : Wanted) (text : List ℕ) → AreSettings s → AreBytes w.bytes →
+TrimmedIsRestriction = (s : SettingsValue) (w : TrimInput) (text : List ℕ) → AreSettings s → AreBytes w.bytes →
     (t : IsTrimmed s w text) →
     ((f : GcFault) → ¬ (IsTrimCause s w f)) →
     (m : ModuleValue) → SpellsModule text m →

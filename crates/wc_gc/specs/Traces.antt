@@ -1,4 +1,4 @@
--- What leaves no trace in a trimmed adapter: what its wanted exports do not reach, and that it was trimmed before.
+-- What leaves no trace in a trimmed adapter: what its required exports do not reach, and that it was trimmed before.
 use Rattle.std.specs.Prelude.{◌≡◌, ◌↔◌, ℕ, ◌<◌, List, [], Bool, true, false, IsTrue}
 use Rattle.std.specs.List.{AllByRecursion}
 use Rattle.wc_read.specs.Exports.{ExportValue}
@@ -13,7 +13,7 @@ use Rattle.wc_gc.specs.Entries.{entry_at, entry_refs}
 use Rattle.wc_gc.specs.Found.{FoundValue, found_in}
 use Rattle.wc_gc.specs.KeptExports.{kept_exports}
 use Rattle.wc_gc.specs.Laws.{AreSettings}
-use Rattle.wc_gc.specs.Liveness.{IsCause, Wanted}
+use Rattle.wc_gc.specs.Liveness.{IsCause, TrimInput}
 use Rattle.wc_gc.specs.Parts.{SettingsValue, adds_growing, adds_import, adds_start, is_lazy}
 use Rattle.wc_gc.specs.Reached.{IsReached}
 use Rattle.wc_gc.specs.Trimming.{IsLaterCause, IsTrimCause, IsTrimFault, IsTrimmed}
@@ -52,32 +52,32 @@ CausesAreOfCut = (s : SettingsValue) (m : DecodedModule) (exports : List ExportV
     ↔ IsLaterCause s (cut_of m exports live) (cut_of m exports live).exports all_items f
 
 -- The bytes spell an adapter of this cut.
-pub record HasCut (w : Wanted) (c : DecodedModule) : Type 0 where
+pub record HasCut (w : TrimInput) (c : DecodedModule) : Type 0 where
   pub value : ModuleValue
   pub live : ItemIndex → Bool
   pub spelled : SpellsModule w.bytes value
   pub decides : DecidesLive w.required value live
   pub is_cut : c ≡ cut_of (decode value) (kept_exports w.required value.exports) live
 
--- Liveness finds no fault: the bytes are a module, no wanted export is missing, nothing is unsupported, and the bodies that
--- are reached are code.
-abbrev pub HasLiveness : Wanted → Type 0
+-- Liveness finds no fault: the bytes are a module, no required export is missing, nothing is unsupported, and the
+-- bodies that are reached are code.
+abbrev pub HasLiveness : TrimInput → Type 0
 HasLiveness w = (f : GcFault) → ¬ (IsCause w f)
 
--- Both are trimmed to the same text, or have the same fault.
-pub record AreTrimmedAlike (s : SettingsValue) (v w : Wanted) : Type 0 where
+-- Two adapters are trimmed to the same text, or have the same fault.
+pub record AreTrimmedToTheSame (s : SettingsValue) (v w : TrimInput) : Type 0 where
   pub texts : (a b : List ℕ) → IsTrimmed s v a → IsTrimmed s w b → a ≡ b
   pub causes : (f : GcFault) → IsTrimCause s v f ↔ IsTrimCause s w f
   pub faults : (f : GcFault) → IsTrimFault s v f ↔ IsTrimFault s w f
 
--- Nothing counts but the cut: two adapters that have the same are trimmed alike.
+-- Nothing counts but the cut: two adapters that have the same are trimmed to the same.
 abbrev pub NoTrace : Type 0
-NoTrace = (s : SettingsValue) (v w : Wanted) (c : DecodedModule) → AreBytes v.bytes → AreBytes w.bytes →
+NoTrace = (s : SettingsValue) (v w : TrimInput) (c : DecodedModule) → AreBytes v.bytes → AreBytes w.bytes →
     HasLiveness v →
     HasLiveness w →
     HasCut v c →
     HasCut w c →
-    AreTrimmedAlike s v w
+    AreTrimmedToTheSame s v w
 
 -- Of what is found, nothing makes a part to be added, and no realloc is among the live imports.
 pub record AddsNothing (s : SettingsValue) (f : FoundValue) : Type 0 where
@@ -87,23 +87,23 @@ pub record AddsNothing (s : SettingsValue) (f : FoundValue) : Type 0 where
   pub start : adds_start s f ≡ false
   pub reallocs : f.reallocs ≡ []
 
--- other bytes, of which the same exports are wanted
-abbrev pub wanted_of : Wanted → List ℕ → Wanted
-wanted_of w bytes = record { bytes = bytes; required = w.required }
+-- other bytes, of which the same exports are required
+abbrev pub trim_input_of : TrimInput → List ℕ → TrimInput
+trim_input_of w bytes = record { bytes = bytes; required = w.required }
 
 -- Memory aside, trimming answers this text: it is the trimmed one, and no fault has a cause.
-pub record IsTrimmedTo (s : SettingsValue) (w : Wanted) (text : List ℕ) : Type 0 where
+pub record IsTrimmedTo (s : SettingsValue) (w : TrimInput) (text : List ℕ) : Type 0 where
   pub trimmed : IsTrimmed s w text
   pub no_cause : (f : GcFault) → ¬ (IsTrimCause s w f)
 
 -- Memory aside, trimming a text again answers the text, and no other.
-pub record IsTrimmedToItself (s : SettingsValue) (w : Wanted) (text : List ℕ) : Type 0 where
-  pub answer : IsTrimmedTo s (wanted_of w text) text
-  pub alone : (other : List ℕ) → IsTrimmed s (wanted_of w text) other → other ≡ text
+pub record IsTrimmedToItself (s : SettingsValue) (w : TrimInput) (text : List ℕ) : Type 0 where
+  pub answer : IsTrimmedTo s (trim_input_of w text) text
+  pub alone : (other : List ℕ) → IsTrimmed s (trim_input_of w text) other → other ≡ text
 
 -- What an adapter was trimmed to without an addition is trimmed to itself.
 abbrev pub TrimTwice : Type 0
-TrimTwice = (s : SettingsValue) (w : Wanted) (text : List ℕ) → AreSettings s → AreBytes w.bytes → AreBytes text →
+TrimTwice = (s : SettingsValue) (w : TrimInput) (text : List ℕ) → AreSettings s → AreBytes w.bytes → AreBytes text →
     (t : IsTrimmedTo s w text) →
     AddsNothing s (found_in (decode t.trimmed.value) t.trimmed.live) →
     IsTrimmedToItself s w text

@@ -1,7 +1,8 @@
 -- What trimming answers: the text of the image, or why there is none.
-use Rattle.std.specs.Prelude.{◌≡◌, ℕ, ◌<◌, List, Bool, ◌⊎◌}
+use Rattle.std.specs.Prelude.{◌≡◌, ℕ, ◌<◌, List, Bool, ◌⊎◌, String}
 use Rattle.wc_read.specs.Exports.{ExportValue}
-use Rattle.wc_read.specs.Modules.{ModuleValue, SpellsModule}
+use Rattle.wc_read.specs.Modules.{ModuleValue, SpellsModule, module_value}
+use Rattle.wc_read.specs.declared.core_module.Module.{Module}
 use Rattle.wc_write.specs.ModuleText.{built_text}
 use Rattle.wc_gc.specs.Decoded.{DecodedModule, ItemIndex, decode}
 use Rattle.wc_gc.specs.Causes.{IsFoundCause, DecidesLive}
@@ -9,7 +10,7 @@ use Rattle.wc_gc.specs.Found.{found_in}
 use Rattle.wc_gc.specs.Edited.{edit}
 use Rattle.wc_gc.specs.EditedImage.{FitsBits, edited_image}
 use Rattle.wc_gc.specs.KeptExports.{kept_exports}
-use Rattle.wc_gc.specs.Liveness.{IsCause, IsFaultOf, IsSupported, HasLiveBody, Wanted, order_of}
+use Rattle.wc_gc.specs.Liveness.{IsCause, IsFaultOf, IsSupported, HasLiveBody, TrimInput, names_of, order_of}
 use Rattle.wc_gc.specs.Parts.{SettingsValue}
 use Rattle.wc_gc.specs.declared.fault.GcFault.{GcFault}
 use Rattle.wc_gc.specs.declared.fault.GcFault.TheVariants.{Memory, TooLarge}
@@ -19,36 +20,40 @@ abbrev pub IsLaterCause : SettingsValue → DecodedModule → List ExportValue �
 IsLaterCause s m exports live TooLarge = ¬ (FitsBits (edited_image (edit s m exports live)))
 IsLaterCause s m exports live f = IsFoundCause s m (found_in m live) f
 
--- such a cause of the module that the bytes spell, by the items that are live in it
-abbrev pub IsLaterCauseIn : SettingsValue → Wanted → GcFault → Type 0
+-- a cause besides those of liveness, of the module that the bytes spell, by the items that are live in it
+abbrev pub IsLaterCauseIn : SettingsValue → TrimInput → GcFault → Type 0
 IsLaterCauseIn s w f =
     (m : ModuleValue) × (live : ItemIndex → Bool) × SpellsModule w.bytes m × DecidesLive w.required m live
     × IsLaterCause s (decode m) (kept_exports w.required m.exports) live f
 
 -- the cause of each fault but Memory, by itself
-abbrev pub IsTrimCause : SettingsValue → Wanted → GcFault → Type 0
+abbrev pub IsTrimCause : SettingsValue → TrimInput → GcFault → Type 0
 IsTrimCause s w f = IsCause w f ⊎ IsLaterCauseIn s w f
 
 -- Memory at any time; another fault where its cause is so, and none before it
-abbrev pub IsTrimFault : SettingsValue → Wanted → GcFault → Type 0
+abbrev pub IsTrimFault : SettingsValue → TrimInput → GcFault → Type 0
 IsTrimFault s w f =
     (f ≡ Memory) ⊎ (IsTrimCause s w f × ((g : GcFault) → order_of g < order_of f → ¬ (IsTrimCause s w g)))
 
+-- the exports of an adapter that are kept for these names
+abbrev pub wanted_exports : {A : Type 0} → List (String A) → Module → List ExportValue
+wanted_exports names adapter = kept_exports (names_of names) (module_value adapter).exports
+
 -- the text of the image of the module that the bytes spell, with its kept exports, after it was edited
-pub record IsTrimmed (s : SettingsValue) (w : Wanted) (text : List ℕ) : Type 0 where
+pub record IsTrimmed (s : SettingsValue) (w : TrimInput) (text : List ℕ) : Type 0 where
   pub value : ModuleValue
   pub live : ItemIndex → Bool
   pub spelled : SpellsModule w.bytes value
   pub decides : DecidesLive w.required value live
   pub written : text ≡ built_text (edited_image (edit s (decode value) (kept_exports w.required value.exports) live))
 
--- the same of a module, by what is live in it
+-- the text of the image of a module with its kept exports, after it was edited, by what is live in it
 
 pub record IsTrimmedOf (s : SettingsValue) (required : List (List ℕ)) (m : ModuleValue) (text : List ℕ) : Type 0 where
   pub live : ItemIndex → Bool
   pub decides : DecidesLive required m live
   pub supported : IsSupported required m
-  pub sound : ¬ (HasLiveBody required m)
+  pub in_range : ¬ (HasLiveBody required m)
   pub none : (f : GcFault) → ¬ (IsLaterCause s (decode m) (kept_exports required m.exports) live f)
   pub written : text ≡ built_text (edited_image (edit s (decode m) (kept_exports required m.exports) live))
 
@@ -61,7 +66,7 @@ pub record IsLaterFaultOf (s : SettingsValue) (required : List (List ℕ)) (m : 
   pub live : ItemIndex → Bool
   pub decides : DecidesLive required m live
   pub supported : IsSupported required m
-  pub sound : ¬ (HasLiveBody required m)
+  pub in_range : ¬ (HasLiveBody required m)
   pub fault : IsLaterFault s (decode m) (kept_exports required m.exports) live f
 
 abbrev pub IsTrimFaultOf : SettingsValue → List (List ℕ) → ModuleValue → GcFault → Type 0

@@ -1,6 +1,6 @@
 -- What trimming leaves as it was: items from which no references lead to a function that is edited; and the old code of
 -- functions that begin with a call.
-use Rattle.std.specs.Prelude.{◌≡◌, ℕ, ◌+◌, ◌∷◌, List, length, Bool, false, ◌&&◌, ◌||◌, IsTrue, Some, Contains}
+use Rattle.std.specs.Prelude.{◌≡◌, ℕ, ◌+◌, ◌∷◌, List, length, Bool, false, ◌&&◌, ◌||◌, IsTrue, None, Some, Contains}
 use Rattle.std.specs.List.{slice_get}
 use Rattle.std.specs.Option.{option_map_or}
 use Rattle.wc_read.specs.Bodies.{BodyValue}
@@ -18,10 +18,11 @@ use Rattle.wc_gc.specs.Edited.{edit, is_exported_func, lazy_func, lazy_position}
 use Rattle.wc_gc.specs.Entries.{entry_at, entry_refs, func_entry, refs_in}
 use Rattle.wc_gc.specs.Found.{found_in, is_realloc_at}
 use Rattle.wc_gc.specs.KeptExports.{kept_exports}
-use Rattle.wc_gc.specs.Liveness.{HasLiveBody, IsLive, Wanted}
+use Rattle.wc_gc.specs.Liveness.{HasLiveBody, IsLive, TrimInput}
 use Rattle.wc_gc.specs.Parts.{SettingsValue, parts_of}
 use Rattle.wc_gc.specs.Reached.{IsPath}
-use Rattle.wc_gc.specs.Unfolding.{unfolding_of, whole_of}
+use Rattle.wc_gc.specs.Traces.{AddsNothing}
+use Rattle.wc_gc.specs.Unfolding.{unfolding_of, edited_module}
 use Rattle.wc_gc.specs.declared.parts.Parts.{Parts}
 
 -- an adapter, and what trimming edits it by
@@ -35,12 +36,12 @@ pub record Original : Type 0 where
 abbrev pub parts : Original → Parts
 parts a = parts_of a.settings (found_in a.value a.live)
 
--- it, after it was edited, with what is added
+-- an original after it was edited, with what is added
 abbrev pub edited : Original → DecodedModule
-edited a = whole_of (edit a.settings a.value a.exports a.live)
+edited a = edited_module (edit a.settings a.value a.exports a.live)
 
--- the functions that are edited: a realloc that is imported is replaced; where code is lazy, a function that is defined
--- and exported begins with a call of it
+-- the functions that are edited: a realloc that is imported and reached is replaced; where code is lazy, a function that
+-- is defined and exported begins with a call of it
 
 abbrev pub is_defined_at : DecodedModule → ℕ → Bool
 is_defined_at m n = option_map_or (λ (f : FuncCode). is_defined f) (slice_get m.funcs n) false
@@ -50,7 +51,7 @@ begins_with_call a n = (parts a).lazy && (is_exported_func a.exports n && is_def
 
 abbrev pub is_edited_in : Original → Space → ℕ → Bool
 is_edited_in a Types n = false
-is_edited_in a Funcs n = is_realloc_at a.value n || begins_with_call a n
+is_edited_in a Funcs n = (a.live (Funcs, n) && is_realloc_at a.value n) || begins_with_call a n
 is_edited_in a Tables n = false
 is_edited_in a Memories n = false
 is_edited_in a Globals n = false
@@ -85,8 +86,14 @@ NamesUnedited a x = (path : List ItemIndex) (y : ItemIndex) →
 abbrev pub UneditedUnfold : Type 0
 UneditedUnfold = (a : Original) (x : ItemIndex) → NamesUnedited a x → UnfoldsAsBefore a x
 
+-- an adapter to which nothing is added, and of which no imported realloc is reached, is what it was but for the exports that
+-- are dropped and a start function
+abbrev pub EditsNothing : Type 0
+EditsNothing = (a : Original) → AddsNothing a.settings (found_in a.value a.live) →
+    edited a ≡ record a.value { exports = a.exports; start = None }
+
 -- an adapter that was read, and its live items
-abbrev pub original_of : SettingsValue → Wanted → ModuleValue → (ItemIndex → Bool) → Original
+abbrev pub original_of : SettingsValue → TrimInput → ModuleValue → (ItemIndex → Bool) → Original
 original_of s w m live = record {
   settings = s;
   value = decode m;
@@ -95,17 +102,17 @@ original_of s w m live = record {
 }
 
 -- a live item of an adapter that has no faulty live body, from which no items lead to one that is edited
-pub record IsUntouched (s : SettingsValue) (w : Wanted) (m : ModuleValue) (live : ItemIndex → Bool) (x : ItemIndex) : Type 0 where
+pub record IsUntouched (s : SettingsValue) (w : TrimInput) (m : ModuleValue) (live : ItemIndex → Bool) (x : ItemIndex) : Type 0 where
   pub bytes : AreBytes w.bytes
   pub spelled : SpellsModule w.bytes m
   pub decides : DecidesLive w.required m live
-  pub sound : ¬ (HasLiveBody w.required m)
+  pub in_range : ¬ (HasLiveBody w.required m)
   pub is_live : IsLive w.required m x
   pub leads : (path : List ItemIndex) (y : ItemIndex) → IsPath (refs_in (decode m)) x path y →
       is_edited (original_of s w m live) y ≡ false
 
 abbrev pub LiveUnfold : Type 0
-LiveUnfold = (s : SettingsValue) (w : Wanted) (m : ModuleValue) (live : ItemIndex → Bool) (x : ItemIndex) →
+LiveUnfold = (s : SettingsValue) (w : TrimInput) (m : ModuleValue) (live : ItemIndex → Bool) (x : ItemIndex) →
     IsUntouched s w m live x → UnfoldsAsBefore (original_of s w m live) x
 
 -- the index of the lazy code

@@ -6,7 +6,7 @@ ghost use Rattle.wc_write.specs.BodyText.{body_text};
 ghost use Rattle.wc_write.specs.Values.{IsU32};
 ghost use Rattle.wc_gc.specs.AddedCode.{allocation, allocation_once, growing_body, growth, shifted, stack_body, stack_code, trap_unless};
 ghost use Rattle.wc_gc.specs.AddedCodeRuns.{IsGrowingRealloc, IsStackCode, SpellsOnly};
-ghost use Rattle.wc_gc.specs.MachineOperators.{code_text, operator_text};
+ghost use Rattle.wc_gc.specs.Private.MachineOperators.{code_text, operator_text};
 
 use crate::machine_laws::{added_bodies_are_spellable, growing_body_grows, stack_body_allocates};
 use crate::machine_operators::MachineOperator::{

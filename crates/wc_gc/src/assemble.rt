@@ -11,16 +11,16 @@ ghost use Rattle.wc_read.specs.declared.operators.Space.TheVariants.{Funcs};
 ghost use Rattle.wc_write.specs.ModuleText.{built_value_by};
 ghost use Rattle.wc_gc.specs.AddedCode.{empty_type, realloc_type};
 ghost use Rattle.wc_gc.specs.Decoded.{decoded_module, global_code};
-ghost use Rattle.wc_gc.specs.Edited.{added_types, only_if, types_added};
+ghost use Rattle.wc_gc.specs.Edited.{only_if, types_added};
 ghost use Rattle.wc_gc.specs.EditedImage.{edited_image, edited_rank};
-ghost use Rattle.wc_gc.specs.Edits.{AreCoded, edited_of, found_of, funcs_added, funcs_of, imports_added, live_funcs, new_funcs, new_indices, settings_of, types_of, written_funcs};
-ghost use Rattle.wc_gc.specs.Fewness.{AreFewItems};
-ghost use Rattle.wc_gc.specs.FuncGroups.{AreGroups};
+ghost use Rattle.wc_gc.specs.Private.Edits.{AreCoded, edited_of, funcs_of, image_funcs, image_types, live_funcs, new_funcs, new_indices, settings_of, types_of, written_funcs};
+ghost use Rattle.wc_gc.specs.Private.ItemCounts.{ItemCountsFitU32};
+ghost use Rattle.wc_gc.specs.Private.FuncGroups.{AreGroups};
 ghost use Rattle.wc_gc.specs.Image.{kept_items, new_export, new_global, new_table};
 ghost use Rattle.wc_gc.specs.LiveSets.{has_item};
 ghost use Rattle.wc_gc.specs.NewBodies.{body_written};
 ghost use Rattle.wc_gc.specs.NewIndices.{new_of};
-ghost use Rattle.wc_gc.specs.Soundness.{is_sound_at};
+ghost use Rattle.wc_gc.specs.InRange.{is_item_in_range};
 
 use crate::edit::{Edit, NewFunc};
 use crate::func_groups::FuncGroups;
@@ -47,11 +47,11 @@ pub fn image<'a, 'n, L: LiveSet>(
     groups: &FuncGroups<L>,
     edit: Edit<'a, 'n>,
 ) -> Result<Built<'a, NewBody<'a, 'n>>, AllocError>
-    requires few { AreFewItems adapter.now }
+    requires bounded { ItemCountsFitU32 adapter.now }
     requires groups { AreGroups L.has (settings_of edit) adapter.now.funcs.items
         (L.has live.now.funcs) (map export_value exports.now) groups.now }
-    requires sound { (n : ℕ) → IsTrue (L.has live.now.funcs n)
-        → is_sound_at (decoded_module adapter.now) (Funcs, n) ≡ true }
+    requires in_range { (n : ℕ) → IsTrue (L.has live.now.funcs n)
+        → is_item_in_range (decoded_module adapter.now) (Funcs, n) ≡ true }
     requires types { types_of edit ≡ length adapter.now.types.items }
     requires funcs { funcs_of edit ≡ length adapter.now.funcs.items }
     requires indices { new_indices edit ≡ edited_rank (edited_of edit
@@ -89,9 +89,7 @@ fn new_types<L: LiveSet>(
 ) -> Result<Vec<FuncType>, AllocError>
     requires { length types.now < 2 ^ 32 }
     ensures { IfOk result (λ v. map func_type_value v.items
-        ≡ map (renumber_func_type (new_indices edit.entry))
-        (kept_items (L.has live.now) (length types.now) (map func_type_value types.now))
-        ++ added_types edit.entry.parts (found_of edit.entry)) }
+        ≡ image_types edit.entry (L.has live.now) types.now) }
 {
     let mut types = kept_types(alloc, live, types, edit.new)?;
     append_types(alloc, &mut types, edit.parts, edit.found.empties.is_empty())?;
@@ -149,14 +147,11 @@ fn new_funcs<'a, 'n, L: LiveSet>(
     groups: &FuncGroups<L>,
     edit: Edit<'a, 'n>,
 ) -> Result<Vec<NewFunc<'a, 'n>>, AllocError>
-    requires few { length funcs.now < 2 ^ 32 }
+    requires bounded { length funcs.now < 2 ^ 32 }
     requires imports { AreCoded (L.has groups.now.imports) funcs.now }
     requires defined { AreCoded (L.has groups.now.defined) funcs.now }
-    ensures { IfOk result (λ v. written_funcs v.items
-        ≡ live_funcs edit.entry (L.has groups.now.imports) (L.has groups.now.exported) funcs.now
-        ++ (new_funcs edit.entry (imports_added edit.entry)
-        ++ (live_funcs edit.entry (L.has groups.now.defined) (L.has groups.now.exported) funcs.now
-        ++ new_funcs edit.entry (funcs_added edit.entry)))) }
+    ensures { let g = groups.now in IfOk result (λ v. written_funcs v.items ≡ image_funcs
+        edit.entry (L.has g.imports) (L.has g.defined) (L.has g.exported) funcs.now) }
 {
     let mut items = Vec::new(alloc);
     append_funcs(&mut items, funcs, &groups.imports, &groups.exported, edit)?;
@@ -174,17 +169,17 @@ fn append_funcs<'a, 'n, L: LiveSet>(
     exported: &L,
     edit: Edit<'a, 'n>,
 ) -> Result<(), AllocError>
-    requires few { length funcs.now < 2 ^ 32 }
+    requires bounded { length funcs.now < 2 ^ 32 }
     requires coded { AreCoded (L.has kept.now) funcs.now }
     ensures { OnOk result (written_funcs items.new.items ≡ written_funcs items.old.items
         ++ live_funcs edit.entry (L.has kept.now) (L.has exported.now) funcs.now) }
 {
-    let mut place: usize = 0;
-    let mut exported_place: usize = 0;
+    let mut position: usize = 0;
+    let mut exported_position: usize = 0;
     for index in 0..funcs.len() {
-        if kept.contains_from(index as u32, &mut place) {
+        if kept.contains_from(index as u32, &mut position) {
             let func = func_at(funcs, index);
-            let exported = exported.contains_from(index as u32, &mut exported_place);
+            let exported = exported.contains_from(index as u32, &mut exported_position);
             items.push(edit.edited_func(&func, exported))?;
         }
     }
@@ -211,9 +206,9 @@ fn kept_items<T: Copy, L: LiveSet>(
         ≡ kept_items (L.has live.now) (length items.now) items.now) }
 {
     let mut kept = Vec::new(alloc);
-    let mut place: usize = 0;
+    let mut position: usize = 0;
     for index in 0..items.len() {
-        if live.contains_from(index as u32, &mut place) {
+        if live.contains_from(index as u32, &mut position) {
             kept.push(items[index])?;
         }
     }
@@ -233,9 +228,9 @@ fn kept_types<L: LiveSet>(
         (kept_items (L.has live.now) (length types.now) (map func_type_value types.now))) }
 {
     let mut kept = Vec::new(alloc);
-    let mut place: usize = 0;
+    let mut position: usize = 0;
     for index in 0..types.len() {
-        if live.contains_from(index as u32, &mut place) {
+        if live.contains_from(index as u32, &mut position) {
             kept.push(new.func_type(alloc, &types[index])?)?;
         }
     }

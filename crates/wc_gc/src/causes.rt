@@ -7,7 +7,7 @@ ghost use Rattle.wc_read.specs.Types.{func_type_value};
 ghost use Rattle.wc_gc.specs.Causes.{IsFoundCause, called_reallocs, grows_memory, has_page_size, has_page_size_at, has_realloc_type, is_realloc_type_at};
 ghost use Rattle.wc_gc.specs.Decoded.{decoded_module};
 ghost use Rattle.wc_gc.specs.Found.{are_i32, found_value, is_i32, is_own_memory_at, is_realloc_type};
-ghost use Rattle.wc_gc.specs.Liveness.{order_of};
+ghost use Rattle.wc_gc.specs.Liveness.{IsFirstCause};
 ghost use Rattle.wc_gc.specs.Parts.{settings_value};
 
 use crate::fault::GcFault;
@@ -25,10 +25,8 @@ pub fn check_parts(
     settings: Settings<'_>,
     found: &Found,
 ) -> Result<(), GcFault>
-    ensures fault { IfErr result (λ f. IsFoundCause
-        (settings_value settings.entry) (decoded_module adapter.now) (found_value found.now) f
-        × ((g : GcFault) → order_of g < order_of f → ¬ (IsFoundCause
-        (settings_value settings.entry) (decoded_module adapter.now) (found_value found.now) g))) }
+    ensures fault { IfErr result (IsFirstCause (IsFoundCause
+        (settings_value settings.entry) (decoded_module adapter.now) (found_value found.now))) }
     ensures none { IsOk result → (f : GcFault) → ¬ (IsFoundCause
         (settings_value settings.entry) (decoded_module adapter.now) (found_value found.now) f) }
 {
@@ -148,7 +146,7 @@ fn grows_memory(settings: Settings<'_>, found: &Found) -> bool
         || (!settings.realloc.is_some() && !found.reallocs.is_empty())
 }
 
-/// Whether a live memory is of 32 bits and has pages of the wanted size.
+/// Whether a live memory is of 32 bits and has pages of the required size.
 fn has_memory_to_grow(adapter: &Module<'_>, settings: Settings<'_>, found: &Found) -> bool
     ensures { result ≡ list_any (has_page_size_at (decoded_module adapter.now)
         settings.entry.page_size_log2) (found_value found.now).memories }

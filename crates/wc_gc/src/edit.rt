@@ -41,7 +41,7 @@ pub struct Edit<'a, 'n> {
 }
 
 impl<'a, 'n> Edit<'a, 'n> {
-    ghost use Rattle.wc_gc.specs.Edits.{found_of, funcs_added, funcs_of, growing_of, imports_added, lazy_of, new_edited, new_funcs, new_indices, settings_of, start_func_of, types_of, written_funcs};
+    ghost use Rattle.wc_gc.specs.Private.Edits.{found_of, funcs_added, funcs_of, growing_of, imports_added, lazy_of, new_edited, new_funcs, new_indices, settings_of, start_func_of, types_of, written_funcs};
 
     /// A function of the adapter.
     pub fn edited_func(self, func: &Func<'a>, exported: bool) -> NewFunc<'a, 'n>
@@ -110,9 +110,9 @@ impl<'a, 'n> Edit<'a, 'n> {
 
     /// The body that allocates a stack.
     fn stack_body(self) -> NewBody<'a, 'n>
-        ensures { body_written result ≡ new_body (new_indices self.entry) (Some (stack_body
-            (called_realloc (funcs_of self.entry) self.entry.parts (found_of self.entry))
-            (stack_of (found_of self.entry)) (state_of (found_of self.entry)))) }
+        ensures { let e = self.entry in body_written result ≡ new_body (new_indices e)
+            (Some (stack_body (called_realloc (funcs_of e) e.parts (found_of e))
+            (stack_of (found_of e)) (state_of (found_of e)))) }
     {
         NewBody::Stack(StackBody {
             realloc: self.called_realloc(),

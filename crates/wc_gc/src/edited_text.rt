@@ -7,13 +7,13 @@ ghost use Rattle.wc_write.specs.ModuleText.{built_text};
 ghost use Rattle.wc_gc.specs.Counts.{AreDisjoint};
 ghost use Rattle.wc_gc.specs.Decoded.{decoded_module};
 ghost use Rattle.wc_gc.specs.Edited.{added_types, edit, one_if};
-ghost use Rattle.wc_gc.specs.EditedImage.{FitsBits, edited_image};
-ghost use Rattle.wc_gc.specs.Fewness.{AreFewItems};
+ghost use Rattle.wc_gc.specs.EditedImage.{FitsBits, IsImageFault, edited_image};
+ghost use Rattle.wc_gc.specs.Private.ItemCounts.{ItemCountsFitU32};
 ghost use Rattle.wc_gc.specs.Found.{found_in, found_value};
 ghost use Rattle.wc_gc.specs.LiveSets.{has_item};
 ghost use Rattle.wc_gc.specs.NewIndices.{AreRanksOf, HasRoomFor};
 ghost use Rattle.wc_gc.specs.Parts.{settings_value};
-ghost use Rattle.wc_gc.specs.Soundness.{is_sound_at};
+ghost use Rattle.wc_gc.specs.InRange.{is_item_in_range};
 
 use crate::assemble::image;
 use crate::edit::Edit;
@@ -37,9 +37,9 @@ pub fn edited_text<L: LiveSet>(
     settings: Settings<'_>,
     found: &Found,
 ) -> Result<Vec<u8>, GcFault>
-    requires few { AreFewItems adapter.now }
-    requires sound { (n : ℕ) → IsTrue (L.has live.now.funcs n)
-        → is_sound_at (decoded_module adapter.now) (Funcs, n) ≡ true }
+    requires bounded { ItemCountsFitU32 adapter.now }
+    requires in_range { (n : ℕ) → IsTrue (L.has live.now.funcs n)
+        → is_item_in_range (decoded_module adapter.now) (Funcs, n) ≡ true }
     requires found { found_value found.now
         ≡ found_in (decoded_module adapter.now) (has_item L.has live.now) }
     ensures written { IfOk result (λ v. v.items ≡ built_text (edited_image
@@ -48,10 +48,9 @@ pub fn edited_text<L: LiveSet>(
     ensures fits { IsOk result → FitsBits (edited_image
         (edit (settings_value settings.entry) (decoded_module adapter.now)
         (map export_value exports.now) (has_item L.has live.now))) }
-    ensures fault { IfErr result (λ f. (f ≡ GcFault.Memory)
-        ⊎ ((f ≡ GcFault.TooLarge) × ¬ (FitsBits (edited_image
+    ensures fault { IfErr result (IsImageFault (edited_image
         (edit (settings_value settings.entry) (decoded_module adapter.now)
-        (map export_value exports.now) (has_item L.has live.now)))))) }
+        (map export_value exports.now) (has_item L.has live.now)))) }
 {
     let parts = Parts::of(settings, found);
     let groups = FuncGroups::new(alloc, &adapter.funcs, &live.funcs, exports, settings)?;
@@ -93,7 +92,7 @@ fn new_indices<L: LiveSet>(
 /// How many types and functions an adapter has, and how many are added.
 #[tactic(auto, using(crate::proofs::EditedTextLemmas::count_added_types))]
 fn counts(adapter: &Module<'_>, parts: Parts, found: &Found) -> Counts
-    requires { AreFewItems adapter.now }
+    requires { ItemCountsFitU32 adapter.now }
     ensures types { result.types ≡ length adapter.now.types.items }
     ensures funcs { result.funcs ≡ length adapter.now.funcs.items }
     ensures added_types { result.added_types

@@ -1,11 +1,11 @@
 //! The exports that are kept.
 
-ghost use Rattle.std.specs.Prelude.{◌≡◌, ◌≢◌, ◌⊎◌, map, AllPairs, None, Some, IfErr, IfOk, IsOk, String, string_bytes};
+ghost use Rattle.std.specs.Prelude.{◌≡◌, ◌≢◌, map, AllPairs, None, Some, IfErr, IfOk, IsOk, String, string_bytes};
 ghost use Rattle.std.specs.Option.{option_map};
 ghost use Rattle.std.specs.Str.{bytes_eq};
 ghost use Rattle.indexmap.specs.IndexMap.{swap_remove_entry};
 ghost use Rattle.wc_read.specs.Exports.{export_value};
-ghost use Rattle.wc_gc.specs.KeptExports.{AreNamed, by_name, export_entries, export_names, kept_exports, missing_name};
+ghost use Rattle.wc_gc.specs.KeptExports.{AreNamed, IsMissingFault, by_name, export_entries, export_names, kept_exports, missing_name};
 
 use crate::fault::GcFault;
 use indexmap::{IndexMap, IndexSet};
@@ -53,10 +53,8 @@ pub fn check_required(
     requires { AreNamed exports.now.entries }
     ensures none { IsOk result → missing_name (export_entries exports.now.entries)
         (map string_bytes required.now.keys) ≡ None }
-    ensures fault { IfErr result (λ f. (f ≡ GcFault.Memory)
-        ⊎ (name : String Global) × (f ≡ GcFault.MissingExport name)
-        × (missing_name (export_entries exports.now.entries) (map string_bytes required.now.keys)
-        ≡ Some (string_bytes name))) }
+    ensures fault { IfErr result (IsMissingFault (export_entries exports.now.entries)
+        (map string_bytes required.now.keys)) }
 {
     match missing_name(exports, required) {
         None => Ok(()),

@@ -18,7 +18,7 @@ pub enum GcFault {
     /// The bytes are no module.
     #[error("Read: {0}")]
     Read(ReadFault),
-    /// The first of the wanted names that the adapter does not export.
+    /// The first of the required names that the adapter does not export.
     #[error("adapter module does not have export `{0}`")]
     MissingExport(String),
     /// The adapter has a start function, or a section of elements, data or a data count.
@@ -42,7 +42,7 @@ pub enum GcFault {
     /// An imported realloc that becomes a growing realloc, or that lazy code calls, is of another type.
     #[error("ReallocType")]
     ReallocType,
-    /// A realloc grows memory, and no live memory is of 32 bits and has pages of the wanted size.
+    /// A realloc grows memory, and no live memory is of 32 bits and has pages of the required size.
     #[error("ReallocMemory")]
     ReallocMemory,
     /// A count or a size of the trimmed module is no number of 32 bits.

@@ -5,7 +5,7 @@ ghost use Rattle.std.specs.List.{range_with_len};
 ghost use Rattle.wc_gc.specs.Decoded.{decoded_module};
 ghost use Rattle.wc_gc.specs.Found.{allocation_state, found_in, found_value, has_name, indices_where, is_empty_type, is_empty_type_at, is_mutable_i32, is_mutable_i32_at, is_named_at, is_realloc, is_realloc_at, is_realloc_name, main_module, stack_pointer};
 ghost use Rattle.wc_gc.specs.LiveSets.{has_item};
-ghost use Rattle.wc_gc.specs.Fewness.{AreFewItems};
+ghost use Rattle.wc_gc.specs.Private.ItemCounts.{ItemCountsFitU32};
 ghost use Rattle.wc_read.specs.Items.{def_value};
 ghost use Rattle.wc_read.specs.Types.{func_type_value};
 
@@ -47,7 +47,7 @@ pub fn find_parts<L: LiveSet>(
     adapter: &Module<'_>,
     live: &LiveSets<L>,
 ) -> Result<Found, AllocError>
-    requires { AreFewItems adapter.now }
+    requires { ItemCountsFitU32 adapter.now }
     ensures { IfOk result (λ f. found_value f
         ≡ found_in (decoded_module adapter.now) (has_item L.has live.now)) }
 {
@@ -79,7 +79,7 @@ fn live_named<L: LiveSet>(
     live: &L,
     name: &str,
 ) -> Result<Vec<u32>, AllocError>
-    requires { AreFewItems adapter.now }
+    requires { ItemCountsFitU32 adapter.now }
     ensures { IfOk result (λ v. v.items ≡ filter
         (λ n. L.has live.now n && is_named_at (decoded_module adapter.now) name.now n)
         (range_with_len 0 (length adapter.now.globals.items))) }
@@ -95,7 +95,7 @@ fn live_reallocs<L: LiveSet>(
     adapter: &Module<'_>,
     live: &L,
 ) -> Result<Vec<u32>, AllocError>
-    requires { AreFewItems adapter.now }
+    requires { ItemCountsFitU32 adapter.now }
     ensures { IfOk result (λ v. v.items ≡ filter
         (λ n. L.has live.now n && is_realloc_at (decoded_module adapter.now) n)
         (range_with_len 0 (length adapter.now.funcs.items))) }
@@ -111,7 +111,7 @@ fn live_empties<L: LiveSet>(
     adapter: &Module<'_>,
     live: &L,
 ) -> Result<Vec<u32>, AllocError>
-    requires { AreFewItems adapter.now }
+    requires { ItemCountsFitU32 adapter.now }
     ensures { IfOk result (λ v. v.items ≡ filter
         (λ n. L.has live.now n && is_empty_type_at (decoded_module adapter.now) n)
         (range_with_len 0 (length adapter.now.types.items))) }

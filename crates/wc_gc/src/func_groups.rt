@@ -4,7 +4,7 @@ ghost use Rattle.std.specs.Prelude.{◌≡◌, ◌<◌, ◌^◌, ℕ, ◌&&◌, 
 ghost use Rattle.wc_read.specs.Exports.{export_value};
 ghost use Rattle.wc_gc.specs.Decoded.{func_code};
 ghost use Rattle.wc_gc.specs.Edited.{is_exported_func, is_func};
-ghost use Rattle.wc_gc.specs.FuncGroups.{AreGroups, has_func, is_import_after, is_in_group};
+ghost use Rattle.wc_gc.specs.Private.FuncGroups.{AreGroups, has_func, is_import_after, is_in_group};
 ghost use Rattle.wc_gc.specs.Parts.{settings_value};
 
 use crate::found::imports_realloc;
@@ -58,9 +58,9 @@ fn group<L: LiveSet>(
         && has_func (is_in_group (settings_value settings.entry) imported) funcs.now n)) }
 {
     let mut set = L::new(alloc);
-    let mut place: usize = 0;
+    let mut position: usize = 0;
     for index in 0..funcs.len() {
-        let member = is_live_in_group(live, &mut place, funcs, index as u32, settings, imported);
+        let member = is_live_in_group(live, &mut position, funcs, index as u32, settings, imported);
         insert_if(&mut set, index as u32, member)?;
     }
     Ok(set)
@@ -69,7 +69,7 @@ fn group<L: LiveSet>(
 /// Whether a function is live, and imported after the edit or not.
 fn is_live_in_group<L: LiveSet>(
     live: &L,
-    place: &mut usize,
+    position: &mut usize,
     funcs: &[Func<'_>],
     index: u32,
     settings: Settings<'_>,
@@ -78,7 +78,7 @@ fn is_live_in_group<L: LiveSet>(
     ensures { result ≡ (L.has live.now index
         && has_func (is_in_group (settings_value settings.entry) imported) funcs.now index) }
 {
-    has_func_in_group(funcs, index, settings, imported) && live.contains_from(index, place)
+    has_func_in_group(funcs, index, settings, imported) && live.contains_from(index, position)
 }
 
 /// Whether the function of an index is imported after the edit, or whether it is not.

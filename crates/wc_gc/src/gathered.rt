@@ -3,7 +3,7 @@
 ghost use Rattle.std.specs.Prelude.{◌≡◌, [], ℕ, IfOk, OnOk, OnErr};
 ghost use Rattle.std.specs.List.Sorted.{IsSortedBy};
 ghost use Rattle.wc_gc.specs.LiveSets.{Inserts};
-ghost use Rattle.wc_gc.specs.Gathering.{gathers, is_aside};
+ghost use Rattle.wc_gc.specs.Gathering.{has_or_aside, is_aside};
 
 use crate::live::{LiveSet, insert_all};
 use crate::range_set::RangeSet;
@@ -28,7 +28,7 @@ pub struct Gathered<L> {
 }
 
 impl<L: LiveSet> LiveSet for Gathered<L> {
-    ghost has = { gathers L.has };
+    ghost has = { has_or_aside L.has };
 
     fn new(alloc: Global) -> Gathered<L> {
         Gathered {
@@ -56,7 +56,7 @@ impl<L: LiveSet> LiveSet for Gathered<L> {
         self.has(x)
     }
 
-    fn contains_from(&self, x: u32, _place: &mut usize) -> bool {
+    fn contains_from(&self, x: u32, _position: &mut usize) -> bool {
         self.has(x)
     }
 
@@ -70,7 +70,7 @@ impl<L: LiveSet> LiveSet for Gathered<L> {
 impl<L: LiveSet> Gathered<L> {
     /// The set, with all numbers in it.
     pub fn settled(mut self) -> Result<L, AllocError>
-        ensures { IfOk result (λ s. (y : ℕ) → L.has s y ≡ gathers L.has self y) }
+        ensures { IfOk result (λ s. (y : ℕ) → L.has s y ≡ has_or_aside L.has self y) }
     {
         self.settle()?;
         let Gathered { set, .. } = self;
@@ -79,7 +79,7 @@ impl<L: LiveSet> Gathered<L> {
 
     /// Whether a number is in the set.
     fn has(&self, x: u32) -> bool
-        ensures { result ≡ gathers L.has self.now x }
+        ensures { result ≡ has_or_aside L.has self.now x }
     {
         self.set.contains(x) || self.has_aside(x)
     }
@@ -97,9 +97,9 @@ impl<L: LiveSet> Gathered<L> {
     /// Puts a number in.
     fn put(&mut self, x: u32) -> Result<(), AllocError>
         ensures inserts { OnOk result
-            (Inserts (gathers L.has self.old) (gathers L.has self.new) x) }
+            (Inserts (has_or_aside L.has self.old) (has_or_aside L.has self.new) x) }
         ensures err { OnErr result ((y : ℕ) →
-            gathers L.has self.new y ≡ gathers L.has self.old y) }
+            has_or_aside L.has self.new y ≡ has_or_aside L.has self.old y) }
     {
         if u64::from(x) < self.next {
             return self.set_aside(x);
@@ -113,9 +113,9 @@ impl<L: LiveSet> Gathered<L> {
     /// Sets a number aside.
     fn set_aside(&mut self, x: u32) -> Result<(), AllocError>
         ensures inserts { OnOk result
-            (Inserts (gathers L.has self.old) (gathers L.has self.new) x) }
+            (Inserts (has_or_aside L.has self.old) (has_or_aside L.has self.new) x) }
         ensures err { OnErr result ((y : ℕ) →
-            gathers L.has self.new y ≡ gathers L.has self.old y) }
+            has_or_aside L.has self.new y ≡ has_or_aside L.has self.old y) }
     {
         self.settle_many()?;
         self.aside.insert(x)?;
@@ -124,7 +124,7 @@ impl<L: LiveSet> Gathered<L> {
 
     /// Puts the numbers that are set aside into the set, if they are many.
     fn settle_many(&mut self) -> Result<(), AllocError>
-        ensures { (y : ℕ) → gathers L.has self.new y ≡ gathers L.has self.old y }
+        ensures { (y : ℕ) → has_or_aside L.has self.new y ≡ has_or_aside L.has self.old y }
     {
         let aside = self.aside.len();
         if aside < FEWEST || aside < self.count / 4 {
@@ -135,7 +135,7 @@ impl<L: LiveSet> Gathered<L> {
 
     /// Puts the numbers that are set aside into the set.
     fn settle(&mut self) -> Result<(), AllocError>
-        ensures same { (y : ℕ) → gathers L.has self.new y ≡ gathers L.has self.old y }
+        ensures same { (y : ℕ) → has_or_aside L.has self.new y ≡ has_or_aside L.has self.old y }
         ensures empty { OnOk result (self.new.aside.keys ≡ []) }
     {
         if self.aside.is_empty() {

@@ -5,7 +5,7 @@ ghost use Rattle.std.specs.Prelude.{Bool};
 ghost use Rattle.wc_gc.specs.Decoded.{ItemIndex};
 ghost use Rattle.wc_gc.specs.Image.{rank};
 ghost use Rattle.wc_gc.specs.Edited.{EditedModule};
-ghost use Rattle.wc_gc.specs.Unfolding.{ImageUnfolds, RenumberedUnfolds, TrimmedIsWhole, TrimmedUnfolds};
+ghost use Rattle.wc_gc.specs.Unfolding.{ImageUnfolds, RenumberedUnfolds, TrimmedIsClosed, TrimmedUnfolds};
 ghost use Rattle.wc_gc.specs.RankLaws.{RanksDiffer, RanksKeepOrder};
 
 pub use crate::machine_laws::{
@@ -56,6 +56,6 @@ pub fn image_unfolds()
 /// What the image of an adapter that `run` trims has is there, is code and names such items alone. So each kept or added
 /// item unfolds in the image as it does in the edited adapter, at every depth.
 pub fn trimmed_unfolds()
-    ensures whole { TrimmedIsWhole }
+    ensures closed { TrimmedIsClosed }
     ensures unfolds { TrimmedUnfolds }
 {}

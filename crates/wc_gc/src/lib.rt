@@ -1,11 +1,11 @@
-//! Trimming of adapter modules: an adapter cut to what its wanted exports reach, under new indices, with imported
+//! Trimming of adapter modules: an adapter cut to what its required exports reach, under new indices, with imported
 //! reallocs replaced and code added that allocates a stack (`run`); that code alone (`realloc_via_memory_grow`,
 //! `allocate_stack_via_realloc`); the items that exports reach (`liveness_counted`), and the sets that these are in
 //! (`LiveSet`, `LiveSets`, `RangeSet`, `BitVec`, `Ranks`).
 //!
 //! An item is a type, function, table, memory or global. An export names an item, a function its type and what the
 //! operators of its body name, a global what its initialiser names. What is reached is the end of a list of items that
-//! begins at the item of a wanted export, each of them named by the one before.
+//! begins at the item of a required export, each of them named by the one before.
 //!
 //! ```rust
 //! use indexmap::IndexSet;
@@ -13,7 +13,7 @@
 //! use wc_gc::{GcFault, LiveSet, liveness_counted};
 //! use wc_read::Space;
 //!
-//! /// Whether the wanted exports of an adapter reach its first memory.
+//! /// Whether the required exports of an adapter reach its first memory.
 //! pub fn reaches_memory(
 //!     alloc: Global,
 //!     adapter: &[u8],

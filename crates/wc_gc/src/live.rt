@@ -49,9 +49,10 @@ pub trait LiveSet: Sized + Drop {
     fn contains(&self, x: u32) -> bool
         ensures { result ≡ has self.now x };
 
-    /// Whether a number is in the set, for one number after another in ascending order. `place` is 0 at first, and what
-    /// the call before left in it. With any other place and in any other order the answer is the same, but takes longer.
-    fn contains_from(&self, x: u32, place: &mut usize) -> bool
+    /// Whether a number is in the set, for one number after another in ascending order. `position` is 0 at first, and
+    /// what the call before left in it. With any other position and in any other order the answer is the same, but
+    /// takes longer.
+    fn contains_from(&self, x: u32, position: &mut usize) -> bool
         ensures { result ≡ has self.now x };
 
     /// How many numbers of the set are below each number.
@@ -69,7 +70,7 @@ pub trait LiveSet: Sized + Drop {
 #[derive(Debug, Drop)]
 pub struct BitVec {
     words: Vec<u64>,
-    ghost few: { length words.items ≤ 2 ^ 26 },
+    ghost bounded: { length words.items ≤ 2 ^ 26 },
 }
 
 impl LiveSet for BitVec {
@@ -99,7 +100,7 @@ impl LiveSet for BitVec {
         has_bit(&self.words, x)
     }
 
-    fn contains_from(&self, x: u32, _place: &mut usize) -> bool {
+    fn contains_from(&self, x: u32, _position: &mut usize) -> bool {
         has_bit(&self.words, x)
     }
 
@@ -226,12 +227,12 @@ fn has_bit(words: &[u64], x: u32) -> bool
     }
 }
 
-/// Puts a number in, if it is wanted.
-pub fn insert_if<L: LiveSet>(set: &mut L, index: u32, wanted: bool) -> Result<(), AllocError>
+/// Puts a number in, if a condition holds.
+pub fn insert_if<L: LiveSet>(set: &mut L, index: u32, condition: bool) -> Result<(), AllocError>
     ensures { OnOk result ((n : ℕ) →
-        L.has set.new n ≡ (L.has set.old n || (wanted && nat_eq n index))) }
+        L.has set.new n ≡ (L.has set.old n || (condition && nat_eq n index))) }
 {
-    if !wanted {
+    if !condition {
         return Ok(());
     }
     set.insert(index)?;
@@ -240,7 +241,8 @@ pub fn insert_if<L: LiveSet>(set: &mut L, index: u32, wanted: bool) -> Result<()
 
 /// Puts numbers in, in any order.
 pub fn insert_all<L: LiveSet>(set: &mut L, numbers: &[u32]) -> Result<(), AllocError>
-    ensures { OnOk result ((y : ℕ) → L.has set.new y ≡ (L.has set.old y || holds numbers.now y)) }
+    ensures { OnOk result ((y : ℕ) →
+        L.has set.new y ≡ (L.has set.old y || holds numbers.now y)) }
 {
     for number in numbers {
         insert_if(set, *number, true)?;

@@ -1,14 +1,14 @@
-//! The items that the wanted exports of an adapter reach.
+//! The items that the required exports of an adapter reach.
 
 ghost use Rattle.std.specs.Prelude.{◌≡◌, map, IsTrue, IsOk, IfOk, IfErr, ◌↔◌};
 ghost use Rattle.indexmap.specs.IndexMap.{values};
 ghost use Rattle.wc_read.specs.Exports.{export_value};
 ghost use Rattle.wc_read.specs.Modules.{IsModule, module_value};
 ghost use Rattle.wc_gc.specs.Decoded.{ItemIndex, exported_item};
-ghost use Rattle.wc_gc.specs.Gathering.{gathers};
+ghost use Rattle.wc_gc.specs.Gathering.{has_or_aside};
 ghost use Rattle.wc_gc.specs.KeptExports.{kept_exports};
 ghost use Rattle.wc_gc.specs.LiveSets.{has_item};
-ghost use Rattle.wc_gc.specs.Liveness.{HasUnsupported, IsCause, IsFault, IsFaultOf, IsLiveness, IsLivenessOf, IsSupported, names_of, wanted};
+ghost use Rattle.wc_gc.specs.Liveness.{HasUnsupported, IsCause, IsFault, IsFaultOf, IsLiveness, IsLivenessOf, IsSupported, names_of, trim_input};
 
 use crate::exports::{check_required, drop_exports, exports_by_name};
 use crate::fault::GcFault;
@@ -29,16 +29,16 @@ pub struct Liveness<L> {
     pub turns: u64,
 }
 
-/// The items that the wanted exports of an adapter reach: those that they name, and those that a reached item names. A
-/// function names its type and what its body names, a global what its initialiser names. Each reached item is taken up
-/// once. Bodies that are not reached are not read.
+/// The items that the required exports of an adapter reach: those that they name, and those that a reached item names.
+/// A function names its type and what its body names, a global what its initialiser names. Each reached item is taken
+/// up once. Bodies that are not reached are not read.
 ///
 /// # Errors
 ///
 /// Of several causes the first in this order is named; `Memory` may come in place of any.
 ///
 /// - `Read`: the bytes are no module; the fault of `read_module`.
-/// - `MissingExport`: a wanted name is not exported; the first of them.
+/// - `MissingExport`: a required name is not exported; the first of them.
 /// - `UnsupportedSection`: the adapter has a start function, or a section of elements, data or a data count.
 /// - `LiveBody`: a body that is reached is no code, or names a segment or an index that is out of range.
 /// - `Memory`: an allocation failed.
@@ -48,13 +48,13 @@ pub fn liveness_counted(
     required: &IndexSet<String>,
 ) -> Result<Liveness<RangeSet>, GcFault>
     // What is live is what is reached.
-    ensures live { IfOk result (λ l. IsLiveness (wanted wasm.now required.now.keys)
+    ensures live { IfOk result (λ l. IsLiveness (trim_input wasm.now required.now.keys)
         (has_item ⟦<RangeSet as LiveSet>⟧.has l.live) l.turns) }
     // A fault has its cause, and no fault before it has.
-    ensures fault { IfErr result (IsFault (wanted wasm.now required.now.keys)) }
+    ensures fault { IfErr result (IsFault (trim_input wasm.now required.now.keys)) }
     // Without a fault there is no cause.
     ensures no_cause { IsOk result →
-        (f : GcFault) → ¬ (IsCause (wanted wasm.now required.now.keys) f) }
+        (f : GcFault) → ¬ (IsCause (trim_input wasm.now required.now.keys) f) }
 {
     find_live::<RangeSet>(alloc, wasm, required)
 }
@@ -66,10 +66,10 @@ fn find_live<L: LiveSet>(
     required: &IndexSet<String>,
 ) -> Result<Liveness<L>, GcFault>
     ensures live { IfOk result (λ l.
-        IsLiveness (wanted wasm.now required.now.keys) (has_item L.has l.live) l.turns) }
-    ensures fault { IfErr result (IsFault (wanted wasm.now required.now.keys)) }
+        IsLiveness (trim_input wasm.now required.now.keys) (has_item L.has l.live) l.turns) }
+    ensures fault { IfErr result (IsFault (trim_input wasm.now required.now.keys)) }
     ensures no_cause { IsOk result →
-        (f : GcFault) → ¬ (IsCause (wanted wasm.now required.now.keys) f) }
+        (f : GcFault) → ¬ (IsCause (trim_input wasm.now required.now.keys) f) }
 {
     let adapter = read_module(alloc, wasm)?;
     find_live_in(alloc, &adapter, required)
@@ -98,7 +98,7 @@ pub fn find_live_in<L: LiveSet>(
 /// The sets of all that was gathered.
 fn settled<L: LiveSet>(gathered: LiveSets<Gathered<L>>) -> Result<LiveSets<L>, AllocError>
     ensures { IfOk result (λ s. (x : ItemIndex) →
-        has_item L.has s x ≡ has_item (gathers L.has) gathered x) }
+        has_item L.has s x ≡ has_item (has_or_aside L.has) gathered x) }
 {
     Ok(LiveSets {
         types: gathered.types.settled()?,

@@ -3,7 +3,7 @@
 ghost use Rattle.std.specs.Prelude.{◌≡◌};
 ghost use Rattle.wc_read.specs.Operators.{WithIndex, index_of, instr_value};
 ghost use Rattle.wc_gc.specs.AddedCode.{plain, with};
-ghost use Rattle.wc_gc.specs.MachineOperators.{instr_of};
+ghost use Rattle.wc_gc.specs.Private.MachineOperators.{instr_of};
 
 use wc_read::{BlockType, Immediates, Index, IndexKind, Instr, Opcode, Space};
 

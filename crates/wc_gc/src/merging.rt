@@ -3,7 +3,7 @@
 ghost use Rattle.std.specs.Prelude.{◌≡◌, ◌≤◌, ◌<◌, ◌+◌, ◌-◌, ℕ, ◌||◌, IsTrue, false, nat_lt, length, slice_index_or, ◌↔◌, IfOk, OnOk};
 ghost use Rattle.std.specs.List.Sorted.{IsSortedBy};
 ghost use Rattle.wc_gc.specs.Ranges.{AreRanges, holds, in_ranges, is_within};
-ghost use Rattle.wc_gc.specs.Merging.{BeginBy, HasAppended, lengthened};
+ghost use Rattle.wc_gc.specs.Private.Merging.{BeginBy, HasAppended, lengthened};
 
 use std::alloc::{AllocError, Global};
 
@@ -101,7 +101,8 @@ fn append_at(
     requires ranges { AreRanges ranges.now }
     requires within { index < length ranges.now }
     requires sorted { AreRanges merged.old.items }
-    requires before { (d : ℕ × ℕ) → BeginBy (slice_index_or ranges.now index d).0 merged.old.items }
+    requires before { (d : ℕ × ℕ) →
+        BeginBy (slice_index_or ranges.now index d).0 merged.old.items }
     ensures sorted { OnOk result (AreRanges merged.new.items) }
     ensures begun { OnOk result ((d : ℕ × ℕ) →
         BeginBy (slice_index_or ranges.now index d).0 merged.new.items) }

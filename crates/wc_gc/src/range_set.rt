@@ -3,7 +3,7 @@
 ghost use Rattle.std.specs.Prelude.{◌≡◌, ◌≤◌, ◌<◌, ◌+◌, ◌-◌, ℕ, IsTrue, not, false, length, slice_index_or, IfOk, OnOk, OnErr};
 ghost use Rattle.wc_gc.specs.Ranges.{AreRanges, in_ranges};
 ghost use Rattle.wc_gc.specs.LiveSets.{Inserts};
-ghost use Rattle.wc_gc.specs.Positions.{IsCut, joined_at};
+ghost use Rattle.wc_gc.specs.Private.Positions.{IsCut, joined_at};
 ghost use Rattle.wc_gc.specs.Ranks.{has_number};
 
 use crate::live::LiveSet;
@@ -46,9 +46,9 @@ impl LiveSet for RangeSet {
         has_at(&self.ranges, index, x)
     }
 
-    fn contains_from(&self, x: u32, place: &mut usize) -> bool {
-        let index = range_near(&self.ranges, *place, x);
-        *place = index;
+    fn contains_from(&self, x: u32, position: &mut usize) -> bool {
+        let index = range_near(&self.ranges, *position, x);
+        *position = index;
         has_at(&self.ranges, index, x)
     }
 
@@ -69,7 +69,8 @@ impl RangeSet {
 
     /// The set of the numbers that are ranked.
     pub(crate) fn of_ranks(alloc: Global, ranks: &Ranks) -> Result<RangeSet, AllocError>
-        ensures { IfOk result (λ s. (x : ℕ) → in_ranges s.ranges.items x ≡ has_number ranks.now x) }
+        ensures { IfOk result (λ s. (x : ℕ) →
+            in_ranges s.ranges.items x ≡ has_number ranks.now x) }
     {
         Ok(RangeSet {
             ranges: Vec::from_slice(alloc, ranks.ranges())?,
@@ -77,17 +78,17 @@ impl RangeSet {
     }
 }
 
-/// The index of the first range that does not end before a number; sooner where that is at a place or the next.
-fn range_near(ranges: &[(u32, u32)], place: usize, x: u32) -> usize
+/// The index of the first range that does not end before a number; sooner where that is at a position or the next.
+fn range_near(ranges: &[(u32, u32)], position: usize, x: u32) -> usize
     requires { AreRanges ranges.now }
     ensures cut { IsCut x ranges.now result }
     ensures within { result ≤ length ranges.now }
 {
-    if is_cut(ranges, place, x) {
-        return place;
+    if is_cut(ranges, position, x) {
+        return position;
     }
-    if place < ranges.len() && is_cut(ranges, place + 1, x) {
-        return place + 1;
+    if position < ranges.len() && is_cut(ranges, position + 1, x) {
+        return position + 1;
     }
     range_from(ranges, x)
 }

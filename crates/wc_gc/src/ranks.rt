@@ -96,7 +96,8 @@ impl Ranks {
     fn rank_between(&self, index: usize, x: u32) -> u32
         requires before { (k : ℕ) (d : ℕ × ℕ) → k < index
             → (slice_index_or self.now.ranges.items k d).1 < x }
-        requires after { (k : ℕ) (d : ℕ × ℕ) → index ≤ k → k < length self.now.ranges.items
+        requires after { (k : ℕ) (d : ℕ × ℕ) → index ≤ k
+            → k < length self.now.ranges.items
             → x < (slice_index_or self.now.ranges.items k d).0 }
         ensures { result ≡ rank_of self.now x }
     {

@@ -12,7 +12,7 @@ ghost use Rattle.wc_write.specs.Text.{vector_text};
 ghost use Rattle.wc_gc.specs.Image.{new_init, renumber_code, renumber_locals};
 ghost use Rattle.wc_gc.specs.NewBodies.{calls_of, old_body_written, text_left};
 ghost use Rattle.wc_gc.specs.NewIndices.{new_of};
-ghost use Rattle.wc_gc.specs.Rewriting.{WritesRun};
+ghost use Rattle.wc_gc.specs.Private.Rewriting.{WritesRun};
 ghost use Rattle.wc_gc.specs.AddedCode.{call};
 ghost use Rattle.wc_write.specs.OperatorText.{instr_text};
 

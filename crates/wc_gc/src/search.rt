@@ -13,9 +13,9 @@ ghost use Rattle.wc_read.specs.Decoding.{body_in, body_of, bytes_left, init_in, 
 ghost use Rattle.wc_gc.specs.Decoded.{ItemIndex, decoded_module, func_code, global_code, is_in};
 ghost use Rattle.wc_gc.specs.Entries.{body_refs, code_refs, func_refs, func_type_refs, global_refs, instr_refs, present, refs_in, refs_list, type_items, val_type_refs};
 ghost use Rattle.wc_gc.specs.Reached.{IsReachedFrom};
-ghost use Rattle.wc_gc.specs.Searches.{Finds, IsConsistent, PassesKnown, finds};
-ghost use Rattle.wc_gc.specs.Soundness.{is_sound, is_sound_at, is_sound_body, is_sound_def};
-ghost use Rattle.wc_gc.specs.Liveness.{IsCount};
+ghost use Rattle.wc_gc.specs.Private.Searches.{FindsItems, IsConsistent, PassesKnown, finds};
+ghost use Rattle.wc_gc.specs.InRange.{is_body_in_range, is_def_in_range, is_item_in_range, is_operator_in_range};
+ghost use Rattle.wc_gc.specs.Liveness.{IsCount, IsReachFault};
 
 use crate::fault::GcFault;
 use crate::live::{LiveSet, LiveSets};
@@ -46,7 +46,7 @@ impl<L: LiveSet> Search<L> {
 
     /// Finds an item.
     fn reach(&mut self, item: (Space, u32)) -> Result<(), AllocError>
-        ensures { OnOk result (Finds L.has self.old self.new (item ∷ [])) }
+        ensures { OnOk result (FindsItems L.has self.old self.new (item ∷ [])) }
     {
         if self.live.insert(item)? {
             self.order.push(item)?;
@@ -61,7 +61,8 @@ impl<L: LiveSet> Search<L> {
         item: (Space, u32),
     ) -> Result<bool, AllocError>
         ensures found { OnOk result
-            (Finds L.has self.old self.new (present (decoded_module adapter.now) (item ∷ []))) }
+            (FindsItems L.has self.old self.new (present (decoded_module adapter.now)
+            (item ∷ []))) }
         ensures there { IfOk result (λ there. there ≡ is_in (decoded_module adapter.now) item) }
     {
         let there = has_item(adapter, item);
@@ -77,7 +78,7 @@ impl<L: LiveSet> Search<L> {
         adapter: &Module<'_>,
         item: Option<(Space, u32)>,
     ) -> Result<bool, AllocError>
-        ensures found { OnOk result (Finds L.has self.old self.new
+        ensures found { OnOk result (FindsItems L.has self.old self.new
             (present (decoded_module adapter.now) (option_to_list item))) }
         ensures there { IfOk result (λ there. there
             ≡ list_all (is_in (decoded_module adapter.now)) (option_to_list item)) }
@@ -90,10 +91,10 @@ impl<L: LiveSet> Search<L> {
 
     /// Finds the type that a value type names, and answers whether the adapter has it.
     fn reach_type(&mut self, adapter: &Module<'_>, ty: ValType) -> Result<bool, AllocError>
-        ensures found { OnOk result (Finds L.has self.old self.new
+        ensures found { OnOk result (FindsItems L.has self.old self.new
             (present (decoded_module adapter.now) (option_to_list (type_reference ty)))) }
-        ensures there { IfOk result (λ there. there
-            ≡ list_all (is_in (decoded_module adapter.now)) (option_to_list (type_reference ty))) }
+        ensures there { IfOk result (λ there. there ≡ list_all
+            (is_in (decoded_module adapter.now)) (option_to_list (type_reference ty))) }
     {
         match ty {
             ValType::TypeRef { index, .. } => self.reach_present(adapter, (Space::Types, index)),
@@ -103,7 +104,7 @@ impl<L: LiveSet> Search<L> {
 
     /// Finds the types that value types name, and answers whether the adapter has them all.
     fn reach_types(&mut self, adapter: &Module<'_>, types: &[ValType]) -> Result<bool, AllocError>
-        ensures found { OnOk result (Finds L.has self.old self.new
+        ensures found { OnOk result (FindsItems L.has self.old self.new
             (present (decoded_module adapter.now) (val_type_refs types.now))) }
         ensures there { IfOk result (λ there. there
             ≡ list_all (is_in (decoded_module adapter.now)) (val_type_refs types.now)) }
@@ -118,7 +119,7 @@ impl<L: LiveSet> Search<L> {
     /// Finds the types that the types of a `select` name, and answers whether the adapter has them all.
     #[inline(always)]
     fn reach_select(&mut self, adapter: &Module<'_>, instr: &Instr<'_>) -> Result<bool, AllocError>
-        ensures found { OnOk result (Finds L.has self.old self.new (present
+        ensures found { OnOk result (FindsItems L.has self.old self.new (present
             (decoded_module adapter.now)
             (type_items (type_refs_of (instr_value instr.now).immediates)))) }
         ensures there { IfOk result (λ there. there
@@ -133,7 +134,7 @@ impl<L: LiveSet> Search<L> {
 
     /// Finds the items that references name, and answers whether the adapter has them all.
     fn reach_refs(&mut self, adapter: &Module<'_>, named: Refs) -> Result<bool, AllocError>
-        ensures found { OnOk result (Finds L.has self.old self.new
+        ensures found { OnOk result (FindsItems L.has self.old self.new
             (present (decoded_module adapter.now) (refs_list named))) }
         ensures there { IfOk result (λ there. there
             ≡ list_all (is_in (decoded_module adapter.now)) (refs_list named)) }
@@ -143,16 +144,17 @@ impl<L: LiveSet> Search<L> {
         Ok(first && second)
     }
 
-    /// Finds the items that an operator names, and answers whether it is sound.
+    /// Finds the items that an operator names, and answers whether it names items of the adapter
+    /// alone.
     fn reach_operator(
         &mut self,
         adapter: &Module<'_>,
         instr: &Instr<'_>,
     ) -> Result<bool, AllocError>
-        ensures found { OnOk result (Finds L.has self.old self.new
+        ensures found { OnOk result (FindsItems L.has self.old self.new
             (present (decoded_module adapter.now) (instr_refs (instr_value instr.now)))) }
-        ensures sound { IfOk result (λ sound. sound
-            ≡ is_sound (decoded_module adapter.now) (instr_value instr.now)) }
+        ensures in_range { IfOk result (λ in_range. in_range
+            ≡ is_operator_in_range (decoded_module adapter.now) (instr_value instr.now)) }
     {
         let types = self.reach_select(adapter, instr)?;
         let items = self.reach_refs(adapter, refs(instr))?;
@@ -218,8 +220,9 @@ impl<L: LiveSet> Search<L> {
         operators: &Operators<'_>,
     ) -> Result<bool, AllocError>
         requires { KeepsLocals operators.now }
-        ensures found { OnOk result (Finds L.has self.old self.new (present
-            (decoded_module adapter.now) (val_type_refs (local_types (locals_read operators.now))))) }
+        ensures found { OnOk result (FindsItems L.has self.old self.new
+            (present (decoded_module adapter.now)
+            (val_type_refs (local_types (locals_read operators.now))))) }
         ensures there { IfOk result (λ there. there ≡ list_all
             (is_in (decoded_module adapter.now))
             (val_type_refs (local_types (locals_read operators.now)))) }
@@ -235,10 +238,10 @@ impl<L: LiveSet> Search<L> {
 
     /// Finds the types that runs of locals name, and answers whether the adapter has them all.
     fn reach_runs(&mut self, adapter: &Module<'_>, runs: &[Locals]) -> Result<bool, AllocError>
-        ensures found { OnOk result (Finds L.has self.old self.new
+        ensures found { OnOk result (FindsItems L.has self.old self.new
             (present (decoded_module adapter.now) (val_type_refs (local_types runs.now)))) }
-        ensures there { IfOk result (λ there. there
-            ≡ list_all (is_in (decoded_module adapter.now)) (val_type_refs (local_types runs.now))) }
+        ensures there { IfOk result (λ there. there ≡ list_all
+            (is_in (decoded_module adapter.now)) (val_type_refs (local_types runs.now))) }
     {
         let mut there = true;
         for run in runs {
@@ -254,19 +257,21 @@ impl<L: LiveSet> Search<L> {
         adapter: &Module<'_>,
         bytes: &[u8],
     ) -> Result<(), GcFault>
-        ensures found { OnOk result (Finds L.has self.old self.new
+        ensures found { OnOk result (FindsItems L.has self.old self.new
             (present (decoded_module adapter.now) (body_refs (body_in bytes.now)))) }
-        ensures sound { IsOk result →
-            is_sound_body (decoded_module adapter.now) (body_in bytes.now) ≡ true }
+        ensures in_range { IsOk result →
+            is_body_in_range (decoded_module adapter.now) (body_in bytes.now) ≡ true }
         ensures fault { IfErr result (λ f. (f ≡ GcFault.Memory) ⊎ ((f ≡ GcFault.LiveBody)
-            × (is_sound_body (decoded_module adapter.now) (body_in bytes.now) ≡ false))) }
+            × (is_body_in_range (decoded_module adapter.now) (body_in bytes.now) ≡ false))) }
     {
         let mut operators = operators_of(alloc, bytes)?;
         if !self.reach_locals(alloc, adapter, &operators)? {
             return Err(GcFault::LiveBody);
         }
         while let Some(instr) = self.next_unknown(alloc, adapter, &mut operators)? {
-            if !self.reach_operator(adapter, &instr)? {
+            let is_operator_in_range = self.reach_operator(adapter, &instr)?;
+            drop(instr);
+            if !is_operator_in_range {
                 return Err(GcFault::LiveBody);
             }
         }
@@ -275,7 +280,7 @@ impl<L: LiveSet> Search<L> {
 
     /// Finds the items that an initialiser names.
     fn reach_code(&mut self, adapter: &Module<'_>, code: &[Instr<'_>]) -> Result<(), AllocError>
-        ensures { OnOk result (Finds L.has self.old self.new
+        ensures { OnOk result (FindsItems L.has self.old self.new
             (present (decoded_module adapter.now) (code_refs (instr_values code.now)))) }
     {
         for instr in code {
@@ -293,12 +298,12 @@ impl<L: LiveSet> Search<L> {
         adapter: &Module<'_>,
         func: Func<'_>,
     ) -> Result<(), GcFault>
-        ensures found { OnOk result (Finds L.has self.old self.new (present
+        ensures found { OnOk result (FindsItems L.has self.old self.new (present
             (decoded_module adapter.now) (func_refs (func_code func.entry)))) }
-        ensures sound { IsOk result →
-            is_sound_def (decoded_module adapter.now) (func_code func.entry).def ≡ true }
+        ensures in_range { IsOk result →
+            is_def_in_range (decoded_module adapter.now) (func_code func.entry).def ≡ true }
         ensures fault { IfErr result (λ f. (f ≡ GcFault.Memory) ⊎ ((f ≡ GcFault.LiveBody)
-            × (is_sound_def (decoded_module adapter.now) (func_code func.entry).def ≡ false))) }
+            × (is_def_in_range (decoded_module adapter.now) (func_code func.entry).def ≡ false))) }
     {
         self.reach_present(adapter, (Space::Types, func.ty))?;
         match func.def {
@@ -309,7 +314,7 @@ impl<L: LiveSet> Search<L> {
 
     /// Finds the types that the parameters and results of a function type name.
     fn reach_func_type(&mut self, adapter: &Module<'_>, ty: &FuncType) -> Result<(), AllocError>
-        ensures { OnOk result (Finds L.has self.old self.new (present
+        ensures { OnOk result (FindsItems L.has self.old self.new (present
             (decoded_module adapter.now) (func_type_refs (func_type_value ty.now)))) }
     {
         self.reach_types(adapter, ty.params())?;
@@ -319,7 +324,7 @@ impl<L: LiveSet> Search<L> {
 
     /// Finds the type that the elements of a table name.
     fn reach_table(&mut self, adapter: &Module<'_>, ty: TableType) -> Result<(), AllocError>
-        ensures { OnOk result (Finds L.has self.old self.new (present
+        ensures { OnOk result (FindsItems L.has self.old self.new (present
             (decoded_module adapter.now) (val_type_refs (ty.element_type ∷ [])))) }
     {
         self.reach_type(adapter, ty.element_type)?;
@@ -333,7 +338,7 @@ impl<L: LiveSet> Search<L> {
         adapter: &Module<'_>,
         global: ModuleGlobal<'_>,
     ) -> Result<(), AllocError>
-        ensures { OnOk result (Finds L.has self.old self.new (present
+        ensures { OnOk result (FindsItems L.has self.old self.new (present
             (decoded_module adapter.now) (global_refs (global_code global.entry)))) }
     {
         self.reach_type(adapter, global.ty.content_type)?;
@@ -354,10 +359,10 @@ impl<L: LiveSet> Search<L> {
         item: (Space, u32),
     ) -> Result<(), GcFault>
         ensures found { OnOk result
-            (Finds L.has self.old self.new (refs_in (decoded_module adapter.now) item)) }
-        ensures sound { IsOk result → is_sound_at (decoded_module adapter.now) item ≡ true }
+            (FindsItems L.has self.old self.new (refs_in (decoded_module adapter.now) item)) }
+        ensures in_range { IsOk result → is_item_in_range (decoded_module adapter.now) item ≡ true }
         ensures fault { IfErr result (λ f. (f ≡ GcFault.Memory) ⊎ ((f ≡ GcFault.LiveBody)
-            × (is_sound_at (decoded_module adapter.now) item ≡ false))) }
+            × (is_item_in_range (decoded_module adapter.now) item ≡ false))) }
     {
         let index = item.1 as usize;
         match item.0 {
@@ -395,12 +400,10 @@ impl<L: LiveSet> Search<L> {
             ↔ IsReachedFrom (refs_in (decoded_module adapter.now)) roots.now x }
         ensures counted { IfOk result
             (IsCount (IsReachedFrom (refs_in (decoded_module adapter.now)) roots.now)) }
-        ensures sound { IsOk result → (x : ItemIndex) →
+        ensures in_range { IsOk result → (x : ItemIndex) →
             IsReachedFrom (refs_in (decoded_module adapter.now)) roots.now x →
-            is_sound_at (decoded_module adapter.now) x ≡ true }
-        ensures fault { IfErr result (λ f. (f ≡ GcFault.Memory) ⊎ ((f ≡ GcFault.LiveBody)
-            × (x : ItemIndex) × IsReachedFrom (refs_in (decoded_module adapter.now)) roots.now x
-            × (is_sound_at (decoded_module adapter.now) x ≡ false))) }
+            is_item_in_range (decoded_module adapter.now) x ≡ true }
+        ensures fault { IfErr result (IsReachFault (decoded_module adapter.now) roots.now) }
     {
         for root in roots {
             self.reach(*root)?;

@@ -7,17 +7,16 @@ ghost use Rattle.wc_read.specs.Modules.{IsModule, module_value};
 ghost use Rattle.wc_read.specs.declared.operators.Space.TheVariants.{Funcs};
 ghost use Rattle.wc_write.specs.ModuleText.{built_text};
 ghost use Rattle.wc_gc.specs.Decoded.{decoded_module};
-ghost use Rattle.wc_gc.specs.Fewness.{AreFewItems};
+ghost use Rattle.wc_gc.specs.Private.ItemCounts.{ItemCountsFitU32};
 ghost use Rattle.wc_gc.specs.Edited.{edit};
 ghost use Rattle.wc_gc.specs.EditedImage.{edited_image};
-ghost use Rattle.wc_gc.specs.KeptExports.{kept_exports};
 ghost use Rattle.wc_gc.specs.Laws.{AreSettings};
-ghost use Rattle.wc_gc.specs.Liveness.{names_of, wanted};
+ghost use Rattle.wc_gc.specs.Liveness.{names_of, trim_input};
 ghost use Rattle.wc_gc.specs.LiveSets.{has_item};
 ghost use Rattle.wc_gc.specs.Parts.{settings, settings_value};
-ghost use Rattle.wc_gc.specs.Soundness.{is_sound_at};
+ghost use Rattle.wc_gc.specs.InRange.{is_item_in_range};
 ghost use Rattle.wc_gc.specs.TrimmedText.{IsTrimmedRead};
-ghost use Rattle.wc_gc.specs.Trimming.{IsLaterCause, IsLaterFault, IsTrimCause, IsTrimFault, IsTrimFaultOf, IsTrimmed, IsTrimmedOf};
+ghost use Rattle.wc_gc.specs.Trimming.{IsLaterCause, IsLaterFault, IsTrimCause, IsTrimFault, IsTrimFaultOf, IsTrimmed, IsTrimmedOf, wanted_exports};
 
 use crate::causes::check_parts;
 use crate::edited_text::edited_text;
@@ -33,10 +32,10 @@ use std::alloc::{AllocError, Global};
 use wc_read::{Export, Module, read_module};
 use wc_write::laws::slices_are_bytes;
 
-/// Trims an adapter: its wanted exports, and of its items those that they reach, in their order, each index replaced by
-/// the item's rank among these. Exports that are not wanted are taken out one after another, in their order; the last
-/// one takes the index of each. Bodies that are not reached are not read. Numbers are written as minimal LEB128, runs
-/// of locals and the content of producers as they were; names of globals and other custom sections are left out.
+/// Trims an adapter: its required exports, and of its items those that they reach, in their order, each index replaced
+/// by the item's rank among these. Exports that are not required are taken out one after another, in their order; the
+/// last one takes the index of each. Bodies that are not reached are not read. Numbers are written as minimal LEB128,
+/// runs of locals and the content of producers as they were; names of globals and other custom sections are left out.
 ///
 /// A live import of `cabi_realloc` or `canonical_abi_realloc` from `__main_module__` takes the name
 /// `main_module_realloc`; without that name it becomes a function of the adapter that grows memory, as
@@ -47,7 +46,7 @@ use wc_write::laws::slices_are_bytes;
 ///
 /// - With `main_module_realloc` and no live realloc import, an import of it is added after the others of functions,
 ///   called or not.
-/// - With `main_module_realloc` and another such global named `allocation_state`, each defined function that a wanted
+/// - With `main_module_realloc` and another such global named `allocation_state`, each defined function that a required
 ///   export names begins with a call of the code, which is added after all functions.
 /// - Otherwise, if a memory is live, the code is the start function, added last. A function that grows memory is added
 ///   before it where no global has the state, or where there is neither `main_module_realloc` nor a live realloc import.
@@ -61,7 +60,7 @@ use wc_write::laws::slices_are_bytes;
 /// Of several causes the first in this order is named; `Memory` may come in place of any.
 ///
 /// - `Read`: the bytes are no module; the fault of `read_module`.
-/// - `MissingExport`: a wanted name is not exported; the first of them.
+/// - `MissingExport`: a required name is not exported; the first of them.
 /// - `UnsupportedSection`: the adapter has a start function, or a section of elements, data or a data count.
 /// - `LiveBody`: a body that is reached is no code, or names a segment or an index that is out of range.
 /// - `SeveralNamed`: two live mutable globals of type i32 are named `__stack_pointer`, or two `allocation_state`.
@@ -86,19 +85,19 @@ pub fn run(
     // What is answered is the text of the image.
     ensures trimmed { IfOk result (λ v. IsTrimmed
         (settings main_module_realloc.entry page_size_log2)
-        (wanted wasm.now required.now.keys) v.items) }
+        (trim_input wasm.now required.now.keys) v.items) }
     // A fault has its cause, and no fault before it has.
     ensures fault { IfErr result (IsTrimFault (settings main_module_realloc.entry page_size_log2)
-        (wanted wasm.now required.now.keys)) }
+        (trim_input wasm.now required.now.keys)) }
     // Without a fault there is no cause.
     ensures no_cause { IsOk result → (f : GcFault) →
         ¬ (IsTrimCause (settings main_module_realloc.entry page_size_log2)
-        (wanted wasm.now required.now.keys) f) }
+        (trim_input wasm.now required.now.keys) f) }
     // What is answered spells the image, and no other module. What is kept or added unfolds in it as in the edited
     // adapter.
     ensures read { IfOk result (λ v. IsTrimmedRead
         (settings main_module_realloc.entry page_size_log2)
-        (wanted wasm.now required.now.keys) v.items) }
+        (trim_input wasm.now required.now.keys) v.items) }
 {
     let settings = Settings {
         realloc: main_module_realloc,
@@ -115,13 +114,13 @@ fn trim<L: LiveSet>(
     settings: Settings<'_>,
 ) -> Result<Vec<u8>, GcFault>
     ensures trimmed { IfOk result (λ v. IsTrimmed (settings_value settings.entry)
-        (wanted wasm.now required.now.keys) v.items) }
+        (trim_input wasm.now required.now.keys) v.items) }
     ensures fault { IfErr result
-        (IsTrimFault (settings_value settings.entry) (wanted wasm.now required.now.keys)) }
+        (IsTrimFault (settings_value settings.entry) (trim_input wasm.now required.now.keys)) }
     ensures no_cause { IsOk result → (f : GcFault) → ¬ (IsTrimCause
-        (settings_value settings.entry) (wanted wasm.now required.now.keys) f) }
+        (settings_value settings.entry) (trim_input wasm.now required.now.keys) f) }
     ensures read { IfOk result (λ v. IsTrimmedRead (settings_value settings.entry)
-        (wanted wasm.now required.now.keys) v.items) }
+        (trim_input wasm.now required.now.keys) v.items) }
 {
     settings_are_valid(settings);
     // So a vector has fewer than 2^32 items.
@@ -138,7 +137,7 @@ fn trim_module<L: LiveSet>(
     settings: Settings<'_>,
 ) -> Result<Vec<u8>, GcFault>
     requires valid { IsModule (module_value adapter.now) }
-    requires few { AreFewItems adapter.now }
+    requires bounded { ItemCountsFitU32 adapter.now }
     ensures trimmed { IfOk result (λ v. IsTrimmedOf (settings_value settings.entry)
         (names_of required.now.keys) (module_value adapter.now) v.items) }
     ensures fault { IfErr result (IsTrimFaultOf (settings_value settings.entry)
@@ -157,21 +156,21 @@ fn image_text<L: LiveSet>(
     settings: Settings<'_>,
 ) -> Result<Vec<u8>, GcFault>
     requires valid { IsModule (module_value adapter.now) }
-    requires few { AreFewItems adapter.now }
-    requires sound { (n : ℕ) → IsTrue (L.has live.now.funcs n)
-        → is_sound_at (decoded_module adapter.now) (Funcs, n) ≡ true }
+    requires bounded { ItemCountsFitU32 adapter.now }
+    requires in_range { (n : ℕ) → IsTrue (L.has live.now.funcs n)
+        → is_item_in_range (decoded_module adapter.now) (Funcs, n) ≡ true }
     ensures written { IfOk result (λ v. v.items
         ≡ built_text (edited_image (edit
         (settings_value settings.entry) (decoded_module adapter.now)
-        (kept_exports (names_of required.now.keys) (module_value adapter.now).exports)
+        (wanted_exports required.now.keys adapter.now)
         (has_item L.has live.now)))) }
     ensures none { IsOk result → (f : GcFault) →
         ¬ (IsLaterCause (settings_value settings.entry) (decoded_module adapter.now)
-        (kept_exports (names_of required.now.keys) (module_value adapter.now).exports)
+        (wanted_exports required.now.keys adapter.now)
         (has_item L.has live.now) f) }
     ensures fault { IfErr result (λ f. (f ≡ GcFault.Memory)
         ⊎ IsLaterFault (settings_value settings.entry) (decoded_module adapter.now)
-        (kept_exports (names_of required.now.keys) (module_value adapter.now).exports)
+        (wanted_exports required.now.keys adapter.now)
         (has_item L.has live.now) f) }
 {
     let found = find_parts(alloc, adapter, live)?;
@@ -188,7 +187,7 @@ fn exports_kept<'a>(
 ) -> Result<Vec<Export<'a>>, AllocError>
     requires { IsModule (module_value adapter.now) }
     ensures { IfOk result (λ v. map export_value v.items
-        ≡ kept_exports (names_of required.now.keys) (module_value adapter.now).exports) }
+        ≡ wanted_exports required.now.keys adapter.now) }
 {
     let mut exports = exports_by_name(alloc, &adapter.exports)?;
     drop_exports(&mut exports, &adapter.exports, required);

@@ -3,16 +3,12 @@ use Rattle.std.proofs.Common.{◌≡◌, ℕ, ◌<◌, ◌≤◌, ◌^◌, List,
 use Rattle.std.specs.Char.{digit_value}
 use Rattle.std.specs.Option.{ok_or}
 use Rattle.std.specs.Str.Parse.{AllDigits, IsNumeral, ParsesUnsigned, digits_value, without_leading_plus}
-use Rattle.std.proofs.lemmas.Bool.{ltb-true, lt-ltb}
+use Rattle.std.proofs.lemmas.Bool.{ltb-true, lt-ltb, and_parts}
 use Rattle.json.specs.Json.{Json, null, boolean, number, string, array, object}
 use Rattle.json.specs.Find.{as_number}
 use Rattle.wc_json.specs.Faults.{Reading, refusal}
 use Rattle.wc_json.specs.Ids.{all_digits, index, index_of_digits, is_numeral}
 use Rattle.wc_json.specs.declared.fault.Problem.TheVariants.{NotAnIndex}
-
-pub both_true : (a b : Bool) → (a && b) ≡ true → (a ≡ true) × (b ≡ true)
-both_true true b h = (refl, h)
-both_true false b h = let bad : ⊥ = cc h in absurd bad
 
 pub cond-not_true : {A : Type 0} (b : Bool) (x y : A) → (b ≡ true → ⊥) → cond b x y ≡ y
 cond-not_true true x y h = absurd (h refl)
@@ -24,7 +20,7 @@ all_digits-AllDigits (c ∷ cs) h = rw (lt-ltb (digit_value c) 10 h.0) (all_digi
 
 AllDigits_all_digits : (ds : List ℕ) → all_digits ds ≡ true → AllDigits 10 ds
 AllDigits_all_digits [] h = tt
-AllDigits_all_digits (c ∷ cs) h = let p = both_true (nat_lt (digit_value c) 10) (all_digits cs) h in
+AllDigits_all_digits (c ∷ cs) h = let p = and_parts (nat_lt (digit_value c) 10) (all_digits cs) h in
     (ltb-true (digit_value c) 10 p.0, AllDigits_all_digits cs p.1)
 
 pub is_numeral-IsNumeral : (ds : List ℕ) → IsNumeral 10 ds → is_numeral ds ≡ true
@@ -40,7 +36,7 @@ pub index_of_digits-refused : (ds : List ℕ) (bound : ℕ) → 2 ^ 32 ≤ bound
     → index_of_digits ds ≡ refusal NotAnIndex
 index_of_digits-refused ds bound large h =
     cond-not_true (is_numeral ds && nat_lt (digits_value 10 ds) (2 ^ 32)) (Ok (digits_value 10 ds)) (refusal NotAnIndex)
-    (λ t. let p = both_true (is_numeral ds) (nat_lt (digits_value 10 ds) (2 ^ 32)) t in
+    (λ t. let p = and_parts (is_numeral ds) (nat_lt (digits_value 10 ds) (2 ^ 32)) t in
     let below : digits_value 10 ds < 2 ^ 32 = ltb-true (digits_value 10 ds) (2 ^ 32) p.1 in
     h (IsNumeral_is_numeral ds p.0, omega (arith, below, large)))
 

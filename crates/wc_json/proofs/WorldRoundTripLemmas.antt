@@ -1,10 +1,11 @@
 -- Worlds that are written are read back.
-use Rattle.std.proofs.Common.{◌≡◌, ℕ, ◌^◌, List, ◌++◌, Option, Some, None, Ok, Err, All, Bool, true, false, cond, ◌&&◌, nat_lt, codes, decimal, length, take, drop, refl, sym, ap, ◌∙◌}
+use Rattle.std.proofs.Common.{◌≡◌, ℕ, ◌^◌, List, ◌++◌, Option, Some, None, Ok, Err, All, Bool, true, false, cond, ◌&&◌, nat_lt, codes, decimal, length, take}
+use Rattle.std.proofs.Common.{drop, refl, sym, ap, ◌∙◌}
 use Rattle.std.specs.Bool.{Decides}
 use Rattle.std.specs.Str.{bytes_eq}
 use Rattle.std.specs.Str.Parse.{digits_value, without_leading_plus}
 use Rattle.std.proofs.Math.Seq.{drop-append_seam, take-append_seam}
-use Rattle.std.proofs.lemmas.Bool.{cond-true, ltb-true}
+use Rattle.std.proofs.lemmas.Bool.{cond-true, ltb-true, and_parts}
 use Rattle.std.proofs.lemmas.List.{take-append-drop}
 use Rattle.std.proofs.lemmas.Option.{cond_some}
 use Rattle.std.proofs.lemmas.Slice.Eq.{bytes_eq-Decides}
@@ -16,9 +17,9 @@ use Rattle.wc_json.specs.Ids.{index_of_digits, is_numeral}
 use Rattle.wc_json.specs.Keys.{canonical_index, index_written_as, key_of_index, key_of_rest, rest_after, world_key}
 use Rattle.wc_json.specs.ToJson.{item_json, key_text, world_items_json, world_json}
 use Rattle.wc_json.specs.Worlds.{item, items, world}
-use Rattle.wc_json.proofs.IdLemmas.{both_true}
 use Rattle.wc_json.proofs.MapRoundTripLemmas.{entries_after-members_json}
-use Rattle.wc_json.proofs.TypeRoundTripLemmas.{function-function_json, index-index_json, index_of_digits-decimal, nullable-index_json, nullable-string, without_leading_plus-decimal}
+use Rattle.wc_json.proofs.TypeRoundTripLemmas.{function-function_json, index-index_json, index_of_digits-decimal, nullable-index_json, nullable-string}
+use Rattle.wc_json.proofs.TypeRoundTripLemmas.{without_leading_plus-decimal}
 
 -- the keys of interfaces
 
@@ -56,7 +57,7 @@ cond-Ok false x y fault e = let bad : ⊥ = cc e in absurd bad
 FitsU32_index_of_digits : (ds : List ℕ) (n : ℕ) → Ok n ≡ index_of_digits ds → FitsU32 n
 FitsU32_index_of_digits ds n e =
     let p = cond-Ok (is_numeral ds && nat_lt (digits_value 10 ds) (2 ^ 32)) (digits_value 10 ds) n _ e in
-    rw (← p.1) (ltb-true (digits_value 10 ds) (2 ^ 32) (both_true (is_numeral ds) (nat_lt (digits_value 10 ds) (2 ^ 32)) p.0).1)
+    rw (← p.1) (ltb-true (digits_value 10 ds) (2 ^ 32) (and_parts (is_numeral ds) (nat_lt (digits_value 10 ds) (2 ^ 32)) p.0).1)
 
 index_written_as_is : (text : List ℕ) (r : Reading ℕ) (n : ℕ) → Some n ≡ index_written_as text r → (r ≡ Ok n) × (decimal n ≡ text)
 index_written_as_is text (Ok m) n e =

@@ -30,7 +30,7 @@ fault_here problem = record { path = []; problem = problem }
 abbrev pub refusal : {A : Type 0} → Problem → Reading A
 refusal problem = Err (fault_here problem)
 
--- this fault, or memory ran out
+-- a fault is this one, or that memory ran out
 abbrev pub IsFault : JsonFault → Fault → Type 0
 IsFault Memory fault = ⊤
 IsFault NotJson fault = ⊥

@@ -25,13 +25,13 @@ abbrev pub at_step : {A : Type 0} → List ℕ → Reading A → Reading A
 at_step step (Ok a) = Ok a
 at_step step (Err fault) = Err (fault_at step fault)
 
--- the same fault with a step before its path, or memory ran out
+-- a fault is another one with a step before its path, or that memory ran out
 abbrev pub IsFaultAt : List ℕ → JsonFault → JsonFault → Type 0
 IsFaultAt step fault Memory = ⊤
 IsFaultAt step (Wrong p a) (Wrong q b) = (string_bytes q ≡ join step (string_bytes p)) × (b ≡ a)
 IsFaultAt step fault moved = moved ≡ fault
 
--- the same value, or the same fault with a step before its path
+-- a result is that of reading what is at a step: the value, or the fault with this step before its path
 abbrev pub IsReadAt : {A : Type 0} → List ℕ → Result A JsonFault → Result A JsonFault → Type 0
 IsReadAt step (Ok x) (Ok y) = y ≡ x
 IsReadAt step (Ok x) (Err f) = ⊥

@@ -189,31 +189,44 @@ suffix_unique (TypeRef nullable index) u m x y = absurd x
 suffix_unique I32 (TypeRef nullable index) m x y = absurd y
 suffix_unique I64 (TypeRef nullable index) m x y = absurd y
 
-choice_unique : (first last name : List ℕ) (t u : ValType) → IsChoice first (pointer_suffixes t) last name → IsChoice first (pointer_suffixes u) last name → t ≡ u
+choice_unique : (first last name : List ℕ) (t u : ValType) → IsChoice first (pointer_suffixes t) last name → IsChoice first (pointer_suffixes u) last name
+    → t ≡ u
 choice_unique first last name t u x y =
     let same : x.0 ≡ y.0 = append_cancel_right x.0 y.0 last (append_cancel_left first (x.0 ++ last) (y.0 ++ last) (sym x.2 ∙ y.2)) in
     suffix_unique t u y.0 (subst (IsOneOf (pointer_suffixes t)) same x.1) y.1
 
 -- a number of a type, by the text between
-slot_middle_unique : (t u : ValType) (n m : ℕ) (p q x y : List ℕ) → IsOneOf (slot_prefixes t) p → IsOneOf (slot_prefixes u) q → SpellsNumber n x → SpellsNumber m y → p ++ x ≡ q ++ y → (t ≡ u) × (n ≡ m)
-slot_middle_unique I32 I32 n m p q x y (inl a) (inl b) s r e =
-    (refl, number_unique y n m (subst (SpellsNumber n) (append_cancel_left [] x y (sym (ap (λ (z : List ℕ). z ++ x) a) ∙ (e ∙ ap (λ (z : List ℕ). z ++ y) b))) s) r)
+slot_middle_unique : (t u : ValType) (n m : ℕ) (p q x y : List ℕ) → IsOneOf (slot_prefixes t) p → IsOneOf (slot_prefixes u) q → SpellsNumber n x
+    → SpellsNumber m y → p ++ x ≡ q ++ y → (t ≡ u) × (n ≡ m)
+slot_middle_unique I32 I32 n m p q x y (inl a) (inl b) s r e = (
+  refl,
+  number_unique y n m (subst (SpellsNumber n)
+      (append_cancel_left [] x y (sym (ap (λ (z : List ℕ). z ++ x) a) ∙ (e ∙ ap (λ (z : List ℕ). z ++ y) b))) s) r,
+)
 slot_middle_unique I32 I32 n m p q x y (inl a) (inr b) s r e =
     absurd (no_letter_first n x (codes "32-" ++ y) s (sym (ap (λ (z : List ℕ). z ++ x) a) ∙ (e ∙ ap (λ (z : List ℕ). z ++ y) b)))
 slot_middle_unique I32 I32 n m p q x y (inr a) (inl b) s r e =
     absurd (no_letter_first m y (codes "32-" ++ x) r (sym (ap (λ (z : List ℕ). z ++ y) b) ∙ (sym e ∙ ap (λ (z : List ℕ). z ++ x) a)))
-slot_middle_unique I32 I32 n m p q x y (inr a) (inr b) s r e =
-    (refl, number_unique y n m (subst (SpellsNumber n) (append_cancel_left (codes "i32-") x y (sym (ap (λ (z : List ℕ). z ++ x) a) ∙ (e ∙ ap (λ (z : List ℕ). z ++ y) b))) s) r)
-slot_middle_unique I64 I64 n m p q x y a b s r e =
-    (refl, number_unique y n m (subst (SpellsNumber n) (append_cancel_left (codes "i64-") x y (sym (ap (λ (z : List ℕ). z ++ x) a) ∙ (e ∙ ap (λ (z : List ℕ). z ++ y) b))) s) r)
+slot_middle_unique I32 I32 n m p q x y (inr a) (inr b) s r e = (
+  refl,
+  number_unique y n m (subst (SpellsNumber n)
+      (append_cancel_left (codes "i32-") x y (sym (ap (λ (z : List ℕ). z ++ x) a) ∙ (e ∙ ap (λ (z : List ℕ). z ++ y) b))) s) r,
+)
+slot_middle_unique I64 I64 n m p q x y a b s r e = (
+  refl,
+  number_unique y n m (subst (SpellsNumber n)
+      (append_cancel_left (codes "i64-") x y (sym (ap (λ (z : List ℕ). z ++ x) a) ∙ (e ∙ ap (λ (z : List ℕ). z ++ y) b))) s) r,
+)
 slot_middle_unique I32 I64 n m p q x y (inl a) b s r e =
     absurd (no_letter_first n x (codes "64-" ++ y) s (sym (ap (λ (z : List ℕ). z ++ x) a) ∙ (e ∙ ap (λ (z : List ℕ). z ++ y) b)))
 slot_middle_unique I32 I64 n m p q x y (inr a) b s r e =
-    absurd (let f : 51 ≡ 54 = ap (λ (z : List ℕ). slice_index z 1) (sym (ap (λ (z : List ℕ). z ++ x) a) ∙ (e ∙ ap (λ (z : List ℕ). z ++ y) b)) in omega (arith, f))
+    absurd (let f : 51 ≡ 54 = ap (λ (z : List ℕ). slice_index z 1) (sym (ap (λ (z : List ℕ). z ++ x) a) ∙ (e ∙ ap (λ (z : List ℕ). z ++ y) b)) in omega
+    (arith, f))
 slot_middle_unique I64 I32 n m p q x y a (inl b) s r e =
     absurd (no_letter_first m y (codes "64-" ++ x) r (sym (ap (λ (z : List ℕ). z ++ y) b) ∙ (sym e ∙ ap (λ (z : List ℕ). z ++ x) a)))
 slot_middle_unique I64 I32 n m p q x y a (inr b) s r e =
-    absurd (let f : 54 ≡ 51 = ap (λ (z : List ℕ). slice_index z 1) (sym (ap (λ (z : List ℕ). z ++ x) a) ∙ (e ∙ ap (λ (z : List ℕ). z ++ y) b)) in omega (arith, f))
+    absurd (let f : 54 ≡ 51 = ap (λ (z : List ℕ). slice_index z 1) (sym (ap (λ (z : List ℕ). z ++ x) a) ∙ (e ∙ ap (λ (z : List ℕ). z ++ y) b)) in omega
+    (arith, f))
 slot_middle_unique F32 u n m p q x y a b s r e = absurd a
 slot_middle_unique I32 F32 n m p q x y a b s r e = absurd b
 slot_middle_unique I64 F32 n m p q x y a b s r e = absurd b
@@ -239,9 +252,11 @@ slot_middle_unique (TypeRef nullable index) u n m p q x y a b s r e = absurd a
 slot_middle_unique I32 (TypeRef nullable index) n m p q x y a b s r e = absurd b
 slot_middle_unique I64 (TypeRef nullable index) n m p q x y a b s r e = absurd b
 
-slot_unique : (first last name : List ℕ) (t u : ValType) (n m : ℕ) → IsSlot first (slot_prefixes t) n last name → IsSlot first (slot_prefixes u) m last name → (t ≡ u) × (n ≡ m)
+slot_unique : (first last name : List ℕ) (t u : ValType) (n m : ℕ) → IsSlot first (slot_prefixes t) n last name → IsSlot first (slot_prefixes u) m last name
+    → (t ≡ u) × (n ≡ m)
 slot_unique first last name t u n m x y =
-    let same : x.0 ++ x.1 ≡ y.0 ++ y.1 = append_cancel_right (x.0 ++ x.1) (y.0 ++ y.1) last (append_cancel_left first ((x.0 ++ x.1) ++ last) ((y.0 ++ y.1) ++ last)
+    let same : x.0 ++ x.1 ≡ y.0 ++ y.1 =
+    append_cancel_right (x.0 ++ x.1) (y.0 ++ y.1) last (append_cancel_left first ((x.0 ++ x.1) ++ last) ((y.0 ++ y.1) ++ last)
     (sym (slot_middle name first last t n x) ∙ slot_middle name first last u m y)) in
     slot_middle_unique t u n m x.0 y.0 x.1 y.1 x.2 y.2 x.3 y.3 same
 
@@ -256,9 +271,11 @@ encoding_unique UTF16 CompactUTF16 h = absurd (let l : 5 ≡ 12 = ap length h in
 encoding_unique CompactUTF16 UTF8 h = absurd (let l : 12 ≡ 4 = ap length h in omega (arith, l))
 encoding_unique CompactUTF16 UTF16 h = absurd (let l : 12 ≡ 5 = ap length h in omega (arith, l))
 
-encoded_unique : (first text : List ℕ) (e f : StringEncoding) → text ≡ first ++ (encoding_text e ++ codes "]") → text ≡ first ++ (encoding_text f ++ codes "]") → e ≡ f
+encoded_unique : (first text : List ℕ) (e f : StringEncoding)
+    → text ≡ first ++ (encoding_text e ++ codes "]") → text ≡ first ++ (encoding_text f ++ codes "]") → e ≡ f
 encoded_unique first text e f x y =
-    encoding_unique e f (append_cancel_right (encoding_text e) (encoding_text f) (codes "]") (append_cancel_left first (encoding_text e ++ codes "]") (encoding_text f ++ codes "]") (sym x ∙ y)))
+    encoding_unique e f (append_cancel_right (encoding_text e) (encoding_text f) (codes "]") (append_cancel_left first (encoding_text e ++ codes "]")
+    (encoding_text f ++ codes "]") (sym x ∙ y)))
 
 -- a built-in with other types, numbers and encodings, and with those of a certain one
 abbrev Parameters : Type 0
@@ -354,11 +371,13 @@ same_but_parameters a b same =
     let e : Some (with_parameters a certain) ≡ Some (with_parameters b certain) = sym (has_number a) ∙ (ap (slice_get builtins) same ∙ has_number b) in
     cc e
 
-parameters_unique : (b : Builtin) (p q : Parameters) (text : List ℕ) → Spells (legacy_row (with_parameters b p)).names text → Spells (legacy_row (with_parameters b q)).names text → with_parameters b p ≡ with_parameters b q
+parameters_unique : (b : Builtin) (p q : Parameters) (text : List ℕ) → Spells (legacy_row (with_parameters b p)).names text
+    → Spells (legacy_row (with_parameters b q)).names text → with_parameters b p ≡ with_parameters b q
 parameters_unique (waitable_set_wait t) p q text x y = ap waitable_set_wait (choice_unique (codes "[waitable-set-wait") (codes "]") text p.0 q.0 x y)
 parameters_unique (waitable_set_poll t) p q text x y = ap waitable_set_poll (choice_unique (codes "[waitable-set-poll") (codes "]") text p.0 q.0 x y)
 parameters_unique (error_context_new e) p q text x y = ap error_context_new (encoded_unique (codes "[error-context-new-") text p.2 q.2 x y)
-parameters_unique (error_context_debug_message e) p q text x y = ap error_context_debug_message (encoded_unique (codes "[error-context-debug-message-") text p.2 q.2 x y)
+parameters_unique (error_context_debug_message e) p q text x y =
+    ap error_context_debug_message (encoded_unique (codes "[error-context-debug-message-") text p.2 q.2 x y)
 parameters_unique (context_get t n) p q text x y =
     let both = slot_unique (codes "[context-get-") (codes "]") text p.0 q.0 p.1 q.1 x y in
     ap (λ (z : ValType). context_get z p.1) both.0 ∙ ap (context_get q.0) both.1
@@ -378,7 +397,8 @@ same_builtin a b text same x y =
     let left : Named text (with_parameters (with_parameters b certain) (parameters a)) =
     subst (λ (z : Builtin). Named text (with_parameters z (parameters a))) base (subst (Named text) (sym (put_together a)) x) in
     let right : Named text (with_parameters (with_parameters b certain) (parameters b)) = subst (Named text) (sym (put_together b)) y in
-    sym (put_together a) ∙ (ap (λ (z : Builtin). with_parameters z (parameters a)) base ∙ (parameters_unique (with_parameters b certain) (parameters a) (parameters b) text left right ∙ put_together b))
+    sym (put_together a) ∙ (ap (λ (z : Builtin). with_parameters z (parameters a)) base ∙
+    (parameters_unique (with_parameters b certain) (parameters a) (parameters b) text left right ∙ put_together b))
 
 -- a name is of one built-in
 pub builtin_unique : (s : Scheme) (a b : Builtin) (text : List ℕ) → NamesBuiltin s a text → NamesBuiltin s b text → a ≡ b

@@ -1,36 +1,39 @@
 -- An import means one thing at most.
 use Rattle.std.proofs.Common.{◌≡◌, ℕ, Bool, true, false, List, ◌++◌, Some, None, inl, inr, sym, ap, ◌∙◌, subst}
 use Rattle.std.proofs.lemmas.List.{append_cancel_left}
+use Rattle.wc_names.proofs.OptionLemmas.{some_unique}
 use Rattle.wc_read.specs.declared.types.MemoryType.{MemoryType}
 use Rattle.wc_read.specs.Types.{FuncTypeValue}
 use Rattle.wc_resolve.specs.Views.{FunctionView, plain_key}
 use Rattle.wc_resolve.specs.WellFormed.{HaveDistinctNames}
 use Rattle.wc_names.specs.Builtins.{builtin_import, builtin_type}
 use Rattle.wc_names.specs.Environment.{environment_meaning}
-use Rattle.wc_names.specs.Imports.{Classified, CoreFunction, CoreImport, IsKind, IsReadBy, IsRule, Kind, NamesExportedInterface, NamesImportedInterface, Rule, Setting, adapter_function, adapter_meaning, by_scheme, environment, export_intrinsic, export_other_name, export_root_intrinsic, export_unknown, func_type, function_type, import_abi, interface_function, interface_intrinsic, interface_other_name, interface_unknown, main_item, main_memory, memory_type, not_function, root_builtin, root_function, root_intrinsic, root_other_item, root_unknown, rules, scope_of, without_prefix}
+use Rattle.wc_names.specs.Imports.{Classified, CoreFunction, CoreImport, IsKind, IsReadBy, IsRule, Kind, NamesExportedInterface, NamesImportedInterface, Rule, NameScope, adapter_function, adapter_meaning, by_scheme, environment, export_intrinsic, export_other_name, export_root_intrinsic, export_unknown, func_type, function_type, import_abi, interface_function, interface_intrinsic, interface_other_name, interface_unknown, main_item, main_memory, memory_type, not_function, root_builtin, root_function, root_intrinsic, root_other_item, root_unknown, rules, scope_of, without_prefix}
 use Rattle.wc_names.specs.Interfaces.{FoundInterface, NamesInterface}
-use Rattle.wc_names.specs.Lookups.{function_named, world_scope}
+use Rattle.wc_names.specs.Keys.{function_named, world_scope}
 use Rattle.wc_names.specs.Meanings.{Meaning, means}
 use Rattle.wc_names.specs.Schemes.{Scheme, export_prefix, interface_prefix, marker}
 use Rattle.wc_names.specs.Views.{Builtin, interface_func, main_module_memory, world_func}
 use Rattle.wc_names.specs.WitIntrinsics.{IsWitIntrinsic}
 use Rattle.wc_names.proofs.BuiltinLemmas.{builtin_unique}
-use Rattle.wc_names.proofs.MeaningLemmas.{environment_names_unique, function_unique, interface_unique, some_unique, wit_intrinsic_unique}
+use Rattle.wc_names.proofs.MeaningLemmas.{environment_names_unique, function_unique, interface_unique, wit_intrinsic_unique}
 use Rattle.wc_names.proofs.SearchLemmas.{first_unique}
 
 builtin_meaning : Builtin → Meaning
 builtin_meaning b = means (builtin_import b) (Some (builtin_type b))
 
-world_meaning : Setting → List ℕ → FunctionView → Bool → Meaning
+world_meaning : NameScope → List ℕ → FunctionView → Bool → Meaning
 world_meaning e name f a = means (world_func (plain_key name) f.name (import_abi a)) (Some (function_type e.resolve (import_abi a) f))
 
-interface_meaning : Setting → FoundInterface → FunctionView → Bool → Meaning
+interface_meaning : NameScope → FoundInterface → FunctionView → Bool → Meaning
 interface_meaning e found f a = means (interface_func found.0 found.1 f.name (import_abi a)) (Some (function_type e.resolve (import_abi a) f))
 
-module _ (e : Setting) (distinct : HaveDistinctNames e.resolve.packages) where
+module _ (e : NameScope) (distinct : HaveDistinctNames e.resolve.packages) where
   exported_unique : (s : Scheme) (from : List ℕ) (f g : FoundInterface) → NamesExportedInterface s e from f → NamesExportedInterface s e from g → f ≡ g
   exported_unique s from f g x y =
-      let text : x.0 ≡ y.0 = append_cancel_left (export_prefix s) x.0 y.0 (append_cancel_left (interface_prefix s) (export_prefix s ++ x.0) (export_prefix s ++ y.0) (sym x.1 ∙ y.1)) in
+      let text : x.0 ≡ y.0 =
+      append_cancel_left (export_prefix s) x.0 y.0 (append_cancel_left (interface_prefix s) (export_prefix s ++ x.0) (export_prefix s ++ y.0)
+      (sym x.1 ∙ y.1)) in
       interface_unique e.resolve distinct e.world.exports s y.0 f g (subst (λ z. NamesInterface s e.resolve e.world.exports z f) text x.2) y.2
 
   imported_unique : (s : Scheme) (from : List ℕ) (f g : FoundInterface) → NamesImportedInterface s e from f → NamesImportedInterface s e from g → f ≡ g
@@ -43,7 +46,9 @@ module _ (e : Setting) (distinct : HaveDistinctNames e.resolve.packages) where
   kind_unique s c root_builtin m n x y = x.3 ∙ (ap builtin_meaning (builtin_unique s x.1 y.1 c.name x.2 y.2) ∙ sym y.3)
   kind_unique s c root_function m n x y =
       let names = function_unique s x.1 y.1 x.2 y.2 c.name x.4 y.4 in
-      let f : x.3 ≡ y.3 = some_unique (function_named e.resolve e.world true world_scope y.2) x.3 y.3 (subst (λ z. function_named e.resolve e.world true world_scope z ≡ Some x.3) names.1 x.5) y.5 in
+      let f : x.3 ≡ y.3 =
+      some_unique (function_named e.resolve e.world true world_scope y.2) x.3 y.3
+      (subst (λ z. function_named e.resolve e.world true world_scope z ≡ Some x.3) names.1 x.5) y.5 in
       x.6 ∙ (ap (λ z. world_meaning e z x.3 x.1) names.1 ∙ (ap (λ z. world_meaning e y.2 z x.1) f ∙ (ap (world_meaning e y.2 y.3) names.0 ∙ sym y.6)))
   kind_unique s c (root_intrinsic k) m n x y = wit_intrinsic_unique s e.resolve e.world true world_scope c.name k m n x.1 y.1
   kind_unique s c root_other_item m n x y = x.5 ∙ sym y.5
@@ -61,7 +66,8 @@ module _ (e : Setting) (distinct : HaveDistinctNames e.resolve.packages) where
       let found : x.0 ≡ y.0 = imported_unique s c.from x.0 y.0 x.4 y.4 in
       let names = function_unique s x.1 y.1 x.2 y.2 c.name x.5 y.5 in
       let own : function_named e.resolve e.world true (scope_of y.0) y.2 ≡ Some x.3 =
-      subst (λ (z : FoundInterface). function_named e.resolve e.world true (scope_of z) y.2 ≡ Some x.3) found (subst (λ z. function_named e.resolve e.world true (scope_of x.0) z ≡ Some x.3) names.1 x.6) in
+      subst (λ (z : FoundInterface). function_named e.resolve e.world true (scope_of z) y.2 ≡ Some x.3) found
+      (subst (λ z. function_named e.resolve e.world true (scope_of x.0) z ≡ Some x.3) names.1 x.6) in
       let f : x.3 ≡ y.3 = some_unique (function_named e.resolve e.world true (scope_of y.0) y.2) x.3 y.3 own y.6 in
       x.7 ∙ (ap (λ z. interface_meaning e z x.3 x.1) found ∙ (ap (λ z. interface_meaning e y.0 z x.1) f ∙ (ap (interface_meaning e y.0 y.3) names.0 ∙ sym y.7)))
   kind_unique s c (interface_intrinsic k) m n x y =

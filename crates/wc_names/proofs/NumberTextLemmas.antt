@@ -49,7 +49,8 @@ spelled_plus : (ds : List ℕ) (n : ℕ) → n < 2 ^ 32 → IsZerosAndDecimal ds
 spelled_plus ds n fits r =
     record { plus = codes "+"; zeros = r.zeros; one_or_none = inr refl; fits = fits; is_text = ap (λ (z : List ℕ). 43 ∷ z) r.is_text }
 
-pub number_spelled : (text : List ℕ) (n : ℕ) → IsNumeral 10 (without_leading_plus text) → digits_value 10 (without_leading_plus text) ≡ n → n < 2 ^ 32 → SpellsNumber n text
+pub number_spelled : (text : List ℕ) (n : ℕ) → IsNumeral 10 (without_leading_plus text) → digits_value 10 (without_leading_plus text) ≡ n → n < 2 ^ 32
+    → SpellsNumber n text
 number_spelled [] n numeral is fits = absurd (let bad : 0 < 0 = numeral.0 in omega (arith, bad))
 number_spelled (c ∷ cs) n numeral is fits = elim (cases_eq c 43) [
   | inl plus ↦
@@ -58,7 +59,8 @@ number_spelled (c ∷ cs) n numeral is fits = elim (cases_eq c 43) [
       (spelled_plus cs n fits (zeros_and_decimal cs n (subst (IsNumeral 10) same numeral) (subst (λ (z : List ℕ). digits_value 10 z ≡ n) same is) fits)))
   | inr other ↦
       (let same = without_leading_plus_none (c ∷ cs) other in
-      spelled_bare (c ∷ cs) n fits (zeros_and_decimal (c ∷ cs) n (subst (IsNumeral 10) same numeral) (subst (λ (z : List ℕ). digits_value 10 z ≡ n) same is) fits))
+      spelled_bare (c ∷ cs) n fits (zeros_and_decimal (c ∷ cs) n (subst (IsNumeral 10) same numeral)
+      (subst (λ (z : List ℕ). digits_value 10 z ≡ n) same is) fits))
 ]
 
 -- zeros and a decimal are digits of this value
@@ -73,7 +75,7 @@ no_plus : (ds : List ℕ) → IsNumeral 10 ds → get_or ds 0 0 ≢ 43
 no_plus [] numeral e = absurd (let bad : 0 < 0 = numeral.0 in omega (arith, bad))
 no_plus (c ∷ cs) numeral e = let digit = digit_from_value c numeral.1.0 in omega (arith, digit, e)
 
--- and what is spelled is read
+-- a number that is spelled is read
 pub number_read : (text : List ℕ) (n : ℕ) → SpellsNumber n text → IsNumeral 10 (without_leading_plus text) × (digits_value 10 (without_leading_plus text) ≡ n)
 number_read text n s = elim s.one_or_none [
   | inl none ↦ subst Reads (sym (s.is_text ∙ ap (λ (z : List ℕ). z ++ ds) none)) (subst Is (sym (without_leading_plus_none ds (no_plus ds read.0))) read)
@@ -95,7 +97,7 @@ number_read text n s = elim s.one_or_none [
 pub number_unique : (text : List ℕ) (n m : ℕ) → SpellsNumber n text → SpellsNumber m text → n ≡ m
 number_unique text n m s t = sym (number_read text n s).1 ∙ (number_read text m t).1
 
--- and doesn't begin with an `i`
+-- a text that spells a number doesn't begin with an `i`
 pub no_letter_first : (n : ℕ) (text rest : List ℕ) → SpellsNumber n text → ¬ (text ≡ codes "i" ++ rest)
 no_letter_first n text rest s is =
     let digits = (number_read (codes "i" ++ rest) n (subst (SpellsNumber n) is s)).0.1 in
@@ -108,7 +110,8 @@ no_unit n s =
     let digit : digit_value 117 < 10 = digits.0 in omega (arith, digit)
 
 -- the answer of `parse`
-pub number_parsed : {E : Type 0} (text : List ℕ) (r : Result ℕ E) → OkIff r (IsNumeral 10 (without_leading_plus text) × (digits_value 10 (without_leading_plus text) < 2 ^ 32)) (digits_value 10 (without_leading_plus text))
+pub number_parsed : {E : Type 0} (text : List ℕ) (r : Result ℕ E)
+    → OkIff r (IsNumeral 10 (without_leading_plus text) × (digits_value 10 (without_leading_plus text) < 2 ^ 32)) (digits_value 10 (without_leading_plus text))
     → Finds (result_ok r) (λ (n : ℕ). SpellsNumber n text)
 number_parsed text (Ok n) parsed =
     number_spelled text n parsed.0.0 (sym parsed.1) (subst (λ (z : ℕ). z < 2 ^ 32) (sym parsed.1) parsed.0.1)

@@ -11,8 +11,9 @@ pub record IsFirstInRest {K O : Type 0} (H : K → O → Type 0) (all rest : Lis
 pub rest_is_all : {K O : Type 0} (H : K → O → Type 0) (all : List K) → IsFirstInRest H all all
 rest_is_all H all = record { from_rest = λ o f. f; to_rest = λ o f. f }
 
--- after one that holds of nothing
-pub rest_after : {K O : Type 0} (H : K → O → Type 0) (all rest : List K) (k : K) → IsFirstInRest H all (k ∷ rest) → ((o : O) → ¬ H k o) → IsFirstInRest H all rest
+-- the rest after a kind that holds of nothing
+pub rest_after : {K O : Type 0} (H : K → O → Type 0) (all rest : List K) (k : K) → IsFirstInRest H all (k ∷ rest) → ((o : O) → ¬ H k o)
+    → IsFirstInRest H all rest
 rest_after {K} {O} H all rest k l none = record {
   from_rest = λ o f. l.from_rest o (inr (none, f));
   to_rest = λ o f. past o (l.to_rest o f);
@@ -58,7 +59,8 @@ first_of_after H (x ∷ xs) ys o none (inl h) = absurd (none.0 o h)
 first_of_after H (x ∷ xs) ys o none (inr h) = first_of_after H xs ys o none.1 h.1
 
 -- where each kind holds of one thing at most, the first is one
-pub first_unique : {K O : Type 0} (H : K → O → Type 0) → ((k : K) (o p : O) → H k o → H k p → o ≡ p) → (ks : List K) (o p : O) → FirstOf H ks o → FirstOf H ks p → o ≡ p
+pub first_unique : {K O : Type 0} (H : K → O → Type 0) → ((k : K) (o p : O) → H k o → H k p → o ≡ p) → (ks : List K) (o p : O) → FirstOf H ks o → FirstOf H ks p
+    → o ≡ p
 first_unique H one [] o p f g = absurd f
 first_unique H one (k ∷ ks) o p (inl h) (inl i) = one k o p h i
 first_unique H one (k ∷ ks) o p (inl h) (inr i) = absurd (i.0 o h)
@@ -72,7 +74,8 @@ first_kind H (k ∷ ks) o (inl h) = (k, h)
 first_kind H (k ∷ ks) o (inr h) = first_kind H ks o h.1
 
 -- what one relation has the other has too, and each kind that the other holds of something the one holds of something
-pub first_carried : {K O : Type 0} (H G : K → O → Type 0) (ks : List K) (o : O) → ((k : K) → H k o → G k o) → ((k : K) (p : O) → G k p → (q : O) × H k q) → FirstOf H ks o → FirstOf G ks o
+pub first_carried : {K O : Type 0} (H G : K → O → Type 0) (ks : List K) (o : O) → ((k : K) → H k o → G k o) → ((k : K) (p : O) → G k p → (q : O) × H k q)
+    → FirstOf H ks o → FirstOf G ks o
 first_carried H G [] o here there f = f
 first_carried H G (k ∷ ks) o here there (inl h) = inl (here k h)
 first_carried H G (k ∷ ks) o here there (inr h) = inr ((λ p g. let q = there k p g in h.0 q.0 q.1), first_carried H G ks o here there h.1)

@@ -9,7 +9,7 @@ use Rattle.wc_read.specs.declared.types.ValType.{ValType}
 use Rattle.wc_read.specs.declared.types.ValType.TheVariants.{I32, I64, F32, F64, V128, FuncRef, ExternRef, FuncRefNonNull, ExternRefNonNull, TypeRef}
 use Rattle.wc_names.specs.Builtins.{pointer_suffixes, slot_prefixes}
 use Rattle.wc_names.specs.Finds.{Finds}
-use Rattle.wc_names.specs.Texts.{SpellsNumber, IsOneOf, IsChoice, IsSlot, Lacks}
+use Rattle.wc_names.specs.Texts.{SpellsNumber, IsOneOf, IsChoice, IsSlot, Lacks, HasNoSlot, HasSlot}
 
 pub lacks_head : (c b : ℕ) (bs : List ℕ) → Lacks c (b ∷ bs) → b ≢ c
 lacks_head c b bs lacks = lacks 0 (omega arith)
@@ -34,7 +34,7 @@ pub lacks_after : (c : ℕ) (a b : List ℕ) → Lacks c (a ++ b) → Lacks c b
 lacks_after c [] b l = l
 lacks_after c (x ∷ xs) b l = lacks_after c xs b (lacks_tail c x (xs ++ b) l)
 
--- a test that computes
+-- a test of whether a text lacks a byte, which computes
 abbrev pub lacks : ℕ → List ℕ → Bool
 lacks c [] = true
 lacks c (b ∷ bs) = cond (nat_eq b c) false (lacks c bs)
@@ -68,11 +68,13 @@ pub between_is : (name first last rest : List ℕ) (r : Option (Bor (List ℕ)))
 between_is name first last rest None is none = λ x e. none x (append_cancel_left first rest (x ++ last) (sym is ∙ e))
 between_is name first last rest (Some x) is some = is ∙ ap (λ z. first ++ z) some
 
-pub no_number : (text prefix digits rest : List ℕ) (n : ℕ) → text ≡ prefix ++ digits → ((m : ℕ) → ¬ SpellsNumber m digits) → text ≡ prefix ++ rest → ¬ SpellsNumber n rest
+pub no_number : (text prefix digits rest : List ℕ) (n : ℕ) → text ≡ prefix ++ digits → ((m : ℕ) → ¬ SpellsNumber m digits) → text ≡ prefix ++ rest
+    → ¬ SpellsNumber n rest
 no_number text prefix digits rest n is none e s = none n (subst (λ z. SpellsNumber n z) (append_cancel_left prefix rest digits (sym e ∙ is)) s)
 
 -- a text and a suffix between two texts
-pub choice_none : (name first last suffix : List ℕ) → name ≡ first ++ (suffix ++ last) → suffix ≢ [] → suffix ≢ codes "-i32" → suffix ≢ codes "-i64" → (t : ValType) → ¬ IsChoice first (pointer_suffixes t) last name
+pub choice_none : (name first last suffix : List ℕ) → name ≡ first ++ (suffix ++ last) → suffix ≢ [] → suffix ≢ codes "-i32" → suffix ≢ codes "-i64"
+    → (t : ValType) → ¬ IsChoice first (pointer_suffixes t) last name
 choice_none name first last suffix is a b d t h = at t h.1 where
   same : suffix ≡ h.0
   same = append_cancel_right suffix h.0 last (append_cancel_left first (suffix ++ last) (h.0 ++ last) (sym is ∙ h.2))
@@ -90,14 +92,9 @@ choice_none name first last suffix is a b d t h = at t h.1 where
   at ExternRefNonNull e = e
   at (TypeRef nullable index) e = e
 
--- no number after a prefix
-abbrev pub NoSlot : List ℕ → List ℕ → Type 0
-NoSlot text prefix = (rest : List ℕ) (n : ℕ) → text ≡ prefix ++ rest → ¬ SpellsNumber n rest
-
-abbrev pub HasSlot : ValType → List ℕ → List ℕ → ValType × ℕ → Type 0
-HasSlot ty text prefix r = (r.0 ≡ ty) × (rest : List ℕ) × (text ≡ prefix ++ rest) × SpellsNumber r.1 rest
-
-pub slot_found : (name first last text prefix : List ℕ) (u : ValType) (r : ValType × ℕ) → name ≡ first ++ (text ++ last) → IsOneOf (slot_prefixes u) prefix → HasSlot u text prefix r → IsSlot first (slot_prefixes r.0) r.1 last name
+-- a number after a prefix, and its type
+pub slot_found : (name first last text prefix : List ℕ) (u : ValType) (r : ValType × ℕ) → name ≡ first ++ (text ++ last) → IsOneOf (slot_prefixes u) prefix
+    → HasSlot u text prefix r → IsSlot first (slot_prefixes r.0) r.1 last name
 slot_found name first last text prefix u r is one has = (
   prefix,
   has.1,
@@ -106,10 +103,13 @@ slot_found name first last text prefix u r is one has = (
   is ∙ ap (λ z. first ++ z) (ap (λ z. z ++ last) has.2 ∙ append_assoc prefix has.1 last),
 )
 
-slot_none : (name first last text : List ℕ) → name ≡ first ++ (text ++ last) → NoSlot text (codes "i64-") → NoSlot text (codes "i32-") → NoSlot text [] → (t : ValType) (n : ℕ) → ¬ IsSlot first (slot_prefixes t) n last name
+slot_none : (name first last text : List ℕ) → name ≡ first ++ (text ++ last) → HasNoSlot text (codes "i64-") → HasNoSlot text (codes "i32-") → HasNoSlot text []
+    → (t : ValType) (n : ℕ) → ¬ IsSlot first (slot_prefixes t) n last name
 slot_none name first last text is no64 no32 bare t n h = at t h.2 where
   same : text ≡ h.0 ++ h.1
-  same = append_cancel_right text (h.0 ++ h.1) last (append_cancel_left first (text ++ last) ((h.0 ++ h.1) ++ last) (sym is ∙ (h.4 ∙ ap (λ z. first ++ z) (sym (append_assoc h.0 h.1 last)))))
+  same =
+      append_cancel_right text (h.0 ++ h.1) last (append_cancel_left first (text ++ last) ((h.0 ++ h.1) ++ last)
+      (sym is ∙ (h.4 ∙ ap (λ z. first ++ z) (sym (append_assoc h.0 h.1 last)))))
 
   at : (t : ValType) → IsOneOf (slot_prefixes t) h.0 → ⊥
   at I32 (inl e) = bare h.1 n (same ∙ ap (λ z. z ++ h.1) e) h.3
@@ -124,7 +124,8 @@ slot_none name first last text is no64 no32 bare t n h = at t h.2 where
   at ExternRefNonNull e = e
   at (TypeRef nullable index) e = e
 
-pub slot_end : (name first last text : List ℕ) (r : Option (ValType × ℕ)) → name ≡ first ++ (text ++ last) → NoSlot text (codes "i64-") → NoSlot text (codes "i32-") → MatchOption r (NoSlot text []) (HasSlot I32 text [])
+pub slot_end : (name first last text : List ℕ) (r : Option (ValType × ℕ)) → name ≡ first ++ (text ++ last) → HasNoSlot text (codes "i64-")
+    → HasNoSlot text (codes "i32-") → MatchOption r (HasNoSlot text []) (HasSlot I32 text [])
     → Finds r (λ (x : ValType × ℕ). IsSlot first (slot_prefixes x.0) x.1 last name)
 slot_end name first last text None is no64 no32 bare = λ x. slot_none name first last text is no64 no32 bare x.0 x.1
 slot_end name first last text (Some x) is no64 no32 has = slot_found name first last text [] I32 x is (inl refl) has

@@ -10,7 +10,7 @@ use Rattle.wc_resolve.specs.Futures.{function_futures}
 use Rattle.wc_resolve.specs.Views.{FunctionView, WorldView}
 use Rattle.wc_resolve.specs.World.{ResolveView}
 use Rattle.wc_names.specs.Builtins.{signature}
-use Rattle.wc_names.specs.Lookups.{Scope, scope_key, function_named}
+use Rattle.wc_names.specs.Keys.{Scope, scope_key, function_named}
 use Rattle.wc_names.specs.Schemes.{Scheme, standard, legacy, lowered_name}
 use Rattle.wc_names.specs.Texts.{Lacks, SpellsNumber}
 use Rattle.wc_names.specs.declared.async_values.AsyncValue.{AsyncValue}
@@ -23,7 +23,7 @@ abbrev pub value_text : AsyncValue → List ℕ
 value_text Future = codes "future"
 value_text Stream = codes "stream"
 
--- reading and writing: the end, and a pointer to the values; of a stream also how many
+-- the parameters of reading and writing: the end, and a pointer to the values; of a stream also how many
 abbrev pub copy_params : AsyncValue → List ValType
 copy_params Future = I32 ∷ I32 ∷ []
 copy_params Stream = I32 ∷ I32 ∷ I32 ∷ []
@@ -37,7 +37,7 @@ pub record OperationRow : Type 0 where
 abbrev pub row : List ℕ → List ValType → List ValType → Bool → OperationRow
 row text params results may_be_lowered = record { text = text; ty = signature params results; may_be_lowered = may_be_lowered }
 
--- the table
+-- the text and the signature of each operation
 abbrev pub operation_row : AsyncValue → Operation → OperationRow
 operation_row v New = row (codes "new") [] (I64 ∷ []) false
 operation_row v Write = row (codes "write") (copy_params v) (I32 ∷ []) true
@@ -83,7 +83,8 @@ abbrev pub IsPayloadType : ResolveView → WorldView → Bool → Scope → Asyn
 IsPayloadType r w imported scope v which function ty = ((which ≡ unit_text) × (ty ≡ unit_type v)) ⊎ IsListedType r w imported scope which function ty
 
 -- the text of an operation on a future or stream; S has no closing bracket
-pub record IsAsyncValueName (r : ResolveView) (w : WorldView) (imported : Bool) (scope : Scope) (v : AsyncValue) (op : Operation) (is_async : Bool) (info : PayloadView) (name : List ℕ) : Type 0 where
+pub record IsAsyncValueName (r : ResolveView) (w : WorldView) (imported : Bool) (scope : Scope) (v : AsyncValue) (op : Operation) (is_async : Bool)
+    (info : PayloadView) (name : List ℕ) : Type 0 where
   pub which : List ℕ
   pub function : List ℕ
   pub which_ends : Lacks closing_bracket which
@@ -95,18 +96,27 @@ pub record IsAsyncValueName (r : ResolveView) (w : WorldView) (imported : Bool) 
   pub is_interface : info.interface ≡ scope.interface
   pub is_imported : info.imported ≡ imported
 
--- the standard scheme has no such names
+-- the standard scheme has no names of built-ins of futures and streams
 abbrev pub NamesAsyncValue : Scheme → ResolveView → WorldView → Bool → Scope → AsyncValue → Operation → Bool → PayloadView → List ℕ → Type 0
 NamesAsyncValue standard r w imported scope v op is_async info name = ⊥
 NamesAsyncValue (legacy hook) r w imported scope v op is_async info name = IsAsyncValueName r w imported scope v op is_async info name
 
--- the import of such a name
+-- a name is of an operation on a future or stream, with these S and F; S has no closing bracket
+abbrev pub HasParts : List ℕ → AsyncValue → Operation → List ℕ → List ℕ → Type 0
+HasParts name v op which function = (name ≡ async_value_name v op which function) × Lacks closing_bracket which
+
+-- a name is of no operation on a future or stream
+abbrev pub HasNoParts : List ℕ → Type 0
+HasNoParts name =
+    (v : AsyncValue) (op : Operation) (which function : List ℕ) → Lacks closing_bracket which → ¬ (name ≡ async_value_name v op which function)
+
+-- the import of the name of a built-in of a future or stream
 abbrev pub NamesAsyncImport : Scheme → ResolveView → WorldView → Bool → Scope → List ℕ → ImportView → Type 0
 NamesAsyncImport s r w imported scope name i =
     (v : AsyncValue) × (op : Operation) × (is_async : Bool) × (info : PayloadView)
     × NamesAsyncValue s r w imported scope v op is_async info name × (i ≡ async_value v op is_async info)
 
--- the import of such a name, without the `[async-lower]` that is before it or isn't
+-- the import of the name of a built-in of a future or stream, without the `[async-lower]` that is before it or isn't
 abbrev pub IsOwnNameImport : ResolveView → WorldView → Bool → Scope → List ℕ → Bool → ImportView → Type 0
 IsOwnNameImport r w imported scope name is_async i =
     (v : AsyncValue) × (op : Operation) × (info : PayloadView)

@@ -1,5 +1,5 @@
 -- Canonical built-ins of no interface: their names and their core signatures (component model, "Canonical built-ins").
-use Rattle.std.specs.Prelude.{ℕ, List, [], ◌∷◌, ◌++◌, codes}
+use Rattle.std.specs.Prelude.{◌≡◌, ℕ, List, [], ◌∷◌, ◌++◌, codes}
 use Rattle.wc_read.specs.declared.types.ValType.{ValType}
 use Rattle.wc_read.specs.declared.types.ValType.TheVariants.{I32, I64}
 use Rattle.wc_read.specs.Types.{FuncTypeValue}
@@ -53,7 +53,7 @@ with_encoding begin e = name (begin ++ (encoding_text e ++ codes "]"))
 abbrev pub with_slot : List ℕ → ValType → ℕ → Spelling
 with_slot begin t n = slot begin (slot_prefixes t) n (codes "]")
 
--- the table
+-- the names and the signature of each built-in by the legacy scheme
 abbrev pub legacy_row : Builtin → BuiltinRow
 legacy_row error_context_drop = row (name (codes "[error-context-drop]")) (I32 ∷ []) []
 legacy_row backpressure_inc = row (name (codes "[backpressure-inc]")) [] []
@@ -79,7 +79,7 @@ legacy_row thread_yield_then_resume = row (name (codes "[thread-yield-then-resum
 legacy_row thread_suspend_then_promote = row (name (codes "[thread-suspend-then-promote]")) (I32 ∷ []) (I32 ∷ [])
 legacy_row thread_yield_then_promote = row (name (codes "[thread-yield-then-promote]")) (I32 ∷ []) (I32 ∷ [])
 
--- the standard scheme has none of them
+-- the standard scheme has no names of built-ins
 abbrev pub NamesBuiltin : Scheme → Builtin → List ℕ → Type 0
 NamesBuiltin standard b text = ⊥
 NamesBuiltin (legacy hook) b text = Spells (legacy_row b).names text
@@ -105,3 +105,7 @@ IsThreadBuiltin thread_yield_then_resume = Unit {0}
 IsThreadBuiltin thread_suspend_then_promote = Unit {0}
 IsThreadBuiltin thread_yield_then_promote = Unit {0}
 IsThreadBuiltin b = ⊥
+
+-- the import of a built-in of threads by its name
+abbrev pub NamesThreadImport : Scheme → List ℕ → ImportView → Type 0
+NamesThreadImport s name i = (b : Builtin) × IsThreadBuiltin b × NamesBuiltin s b name × (i ≡ builtin_import b)

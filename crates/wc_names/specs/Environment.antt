@@ -31,7 +31,7 @@ params_of ty = ty.params
 abbrev pub row : List ℕ → (FuncTypeValue → List ValType) → (ValType → ImportView) → EnvironmentRow
 row text types meaning = record { text = text; types = types; meaning = meaning }
 
--- the table
+-- the name, the types and the meaning of each function of `env`
 abbrev pub environment_row : EnvironmentFunction → EnvironmentRow
 environment_row get_stack_pointer = row (codes "__wasm_get_stack_pointer") results_of (λ t. builtin (context_get t 0))
 environment_row set_stack_pointer = row (codes "__wasm_set_stack_pointer") params_of (λ t. builtin (context_set t 0))
@@ -43,7 +43,7 @@ IsEnvironmentImport name ty i =
     (f : EnvironmentFunction) × (t : ValType) × (rest : List ValType)
     × (name ≡ (environment_row f).text) × ((environment_row f).types ty ≡ t ∷ rest) × (i ≡ (environment_row f).meaning t)
 
--- the standard scheme has none of them
+-- the standard scheme has no functions of `env`
 abbrev pub NamesEnvironment : Scheme → List ℕ → FuncTypeValue → ImportView → Type 0
 NamesEnvironment standard name ty i = ⊥
 NamesEnvironment (legacy hook) name ty i = IsEnvironmentImport name ty i
@@ -56,10 +56,11 @@ environment_type (tls_base_get t) = Some t
 environment_type (tls_base_set t) = Some t
 environment_type i = None
 
--- whether that type names a type of the module by its index
+-- whether the type of the value names a type of the module by its index
 abbrev pub names_value_type : ImportView → Bool
 names_value_type i = is_some (option_and_then type_index (environment_type i))
 
--- what such an import means; where it names a type, it is refused, since indices mean nothing in another module
+-- what an import of `env` means; where its value's type names a type, it is refused, since indices mean nothing in another
+-- module
 abbrev pub environment_meaning : ImportView → Meaning
 environment_meaning i = if names_value_type i then refuses typed_reference else means i None

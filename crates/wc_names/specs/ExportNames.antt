@@ -12,16 +12,16 @@ use Rattle.wc_resolve.specs.Views.{KeyView, plain_key, FunctionView, InterfaceVi
 use Rattle.wc_resolve.specs.World.{ResolveView}
 use Rattle.wc_encoder.specs.Entries.{Entries}
 use Rattle.wc_names.specs.declared.export_names.ExportSyntax.{ExportSyntax}
-use Rattle.wc_names.specs.declared.export_names.ExportSyntax.TheVariants.{Barred, Hashed}
+use Rattle.wc_names.specs.declared.export_names.ExportSyntax.TheVariants.{Standard, Legacy}
 use Rattle.wc_names.specs.First.{FirstOf}
 use Rattle.wc_names.specs.Interfaces.{FoundInterface}
-use Rattle.wc_names.specs.Lookups.{as_function, as_interface, item_under, resource_at, under_name}
+use Rattle.wc_names.specs.Keys.{as_function, as_interface, item_under, resource_at, under_name}
 use Rattle.wc_names.specs.Schemes.{Scheme, standard, legacy}
 use Rattle.wc_names.specs.Texts.{Lacks}
 
 abbrev pub export_syntax : Scheme → ExportSyntax
-export_syntax standard = Barred
-export_syntax (legacy hook) = Hashed
+export_syntax standard = Standard
+export_syntax (legacy hook) = Legacy
 
 abbrev pub bar : ℕ
 bar = 124
@@ -29,10 +29,14 @@ bar = 124
 -- the name of a member of an interface with this text, or of the world: `|I|M` and `||M`, or `I#M` and `M`; an interface's
 -- text has no bar, or no `#`
 abbrev pub IsExportName : ExportSyntax → List ℕ → Option (List ℕ) → List ℕ → Type 0
-IsExportName Barred name None member = name ≡ bar ∷ (bar ∷ member)
-IsExportName Barred name (Some text) member = (name ≡ bar ∷ (text ++ (bar ∷ member))) × Lacks bar text × (text ≢ [])
-IsExportName Hashed name None member = (name ≡ core_name None member) × Lacks hash_sign name
-IsExportName Hashed name (Some text) member = (name ≡ core_name (Some text) member) × Lacks hash_sign text
+IsExportName Standard name None member = name ≡ bar ∷ (bar ∷ member)
+IsExportName Standard name (Some text) member = (name ≡ bar ∷ (text ++ (bar ∷ member))) × Lacks bar text × (text ≢ [])
+IsExportName Legacy name None member = (name ≡ core_name None member) × Lacks hash_sign name
+IsExportName Legacy name (Some text) member = (name ≡ core_name (Some text) member) × Lacks hash_sign text
+
+-- a text is no name of an export
+abbrev pub IsNoExportName : ExportSyntax → List ℕ → Type 0
+IsNoExportName x name = (interface : Option (List ℕ)) (member : List ℕ) → ¬ IsExportName x name interface member
 
 -- what a world exports
 abbrev pub world_exports : ResolveView → ℕ → Entries
@@ -44,12 +48,13 @@ exported_interface exports key = option_and_then as_interface (item_under export
 
 -- the text of an interface: its plain key, or its id, of which the standard scheme has the canonical one
 abbrev pub interface_text : ExportSyntax → ResolveView → KeyView → Option (List ℕ)
-interface_text Barred r key = key_text track r key
-interface_text Hashed r key = key_text parts_text r key
+interface_text Standard r key = key_text track r key
+interface_text Legacy r key = key_text parts_text r key
 
 -- the interface that is exported under a key, with its text
 abbrev pub interface_with_text : ExportSyntax → ResolveView → Entries → KeyView → Option (List ℕ × ℕ)
-interface_with_text x r exports key = option_and_then (λ (i : ℕ). option_map (λ (text : List ℕ). (text, i)) (interface_text x r key)) (exported_interface exports key)
+interface_with_text x r exports key =
+    option_and_then (λ (i : ℕ). option_map (λ (text : List ℕ). (text, i)) (interface_text x r key)) (exported_interface exports key)
 
 abbrev pub if_text : List ℕ → KeyView → List ℕ × ℕ → Option FoundInterface
 if_text text key p = if bytes_eq text p.0 then Some (key, p.1) else None
@@ -58,10 +63,10 @@ if_text text key p = if bytes_eq text p.0 then Some (key, p.1) else None
 unfoldable pub interfaces_of_text : ExportSyntax → ResolveView → Entries → List KeyView → List ℕ → List FoundInterface
 interfaces_of_text x r exports keys text = filter_map (λ (key : KeyView). option_and_then (if_text text key) (interface_with_text x r exports key)) keys
 
--- those of them in which members are looked up: by the standard scheme the first alone
+-- the interfaces of a text in which members are looked up: by the standard scheme the first alone
 abbrev pub searched_interfaces : ExportSyntax → ResolveView → Entries → List KeyView → List ℕ → List FoundInterface
-searched_interfaces Barred r exports keys text = take 1 (interfaces_of_text Barred r exports keys text)
-searched_interfaces Hashed r exports keys text = interfaces_of_text Hashed r exports keys text
+searched_interfaces Standard r exports keys text = take 1 (interfaces_of_text Standard r exports keys text)
+searched_interfaces Legacy r exports keys text = interfaces_of_text Legacy r exports keys text
 
 -- a function that is exported: the key of the set, the interface, if it is of one, and the function
 pub record ExportTarget : Type 0 where
@@ -102,13 +107,21 @@ abbrev pub NamesFunctionExport : ExportSyntax → ResolveView → Entries → Li
 NamesFunctionExport x r exports keys name t =
     (interface : Option (List ℕ)) × (member : List ℕ) × IsExportName x name interface member × IsExportedFunction x r exports keys interface member t
 
+-- an export of this name by a scheme is for this function, which the world at an index exports
+abbrev pub NamesWorldFunction : Scheme → ResolveView → ℕ → List KeyView → List ℕ → ExportTarget → Type 0
+NamesWorldFunction s r world keys name t = NamesFunctionExport (export_syntax s) r (world_exports r world) keys name t
+
 -- the destructor of a resource, as a member of its interface
 abbrev pub destructor_member : ExportSyntax → List ℕ → List ℕ
-destructor_member Barred resource = resource ++ codes "_dtor"
-destructor_member Hashed resource = codes "[dtor]" ++ resource
+destructor_member Standard resource = resource ++ codes "_dtor"
+destructor_member Legacy resource = codes "[dtor]" ++ resource
 
 -- an export of this name is the destructor of this resource
 abbrev pub NamesDestructor : ExportSyntax → ResolveView → Entries → List KeyView → List ℕ → ℕ → Type 0
 NamesDestructor x r exports keys name t =
     (text resource : List ℕ) × IsExportName x name (Some text) (destructor_member x resource)
     × FirstOf (HasResource r resource) (searched_interfaces x r exports keys text) t
+
+-- an export of this name by a scheme is the destructor of this resource, in an interface that the world at an index exports
+abbrev pub NamesWorldDestructor : Scheme → ResolveView → ℕ → List KeyView → List ℕ → ℕ → Type 0
+NamesWorldDestructor s r world keys name t = NamesDestructor (export_syntax s) r (world_exports r world) keys name t

@@ -47,6 +47,6 @@ export_view (exports.InterfaceFuncCallback key name) = exported_interface_func_c
 export_view exports.IndirectFunctionTable = indirect_function_table
 export_view exports.WasmTaskHook = wasm_task_hook
 
--- a key, an interface or none, and a function
+-- the function that an export is for: its key, its interface or none, and the function
 abbrev pub export_target : Bor WorldKey × Option InterfaceId × Bor Function → ExportTarget
 export_target t = target (key_view t.0.now) (option_map id_of_interface t.1) (function_view t.2.now)

@@ -21,7 +21,7 @@ use Rattle.wc_names.specs.Builtins.{signature, NamesBuiltin, builtin_type, built
 use Rattle.wc_names.specs.Environment.{environment_meaning, environment_module, NamesEnvironment}
 use Rattle.wc_names.specs.First.{FirstOf}
 use Rattle.wc_names.specs.Interfaces.{FoundInterface, NamesInterface}
-use Rattle.wc_names.specs.Lookups.{Scope, world_scope, interface_scope, item_under, function_named}
+use Rattle.wc_names.specs.Keys.{Scope, world_scope, interface_scope, item_under, function_named}
 use Rattle.wc_names.specs.Meanings.{not_a_function, no_root_import, root_not_function, bad_syntax, unknown_interface, unknown_intrinsic, missing_function, typed_reference, Meaning, means, refuses}
 use Rattle.wc_names.specs.Schemes.{Scheme, standard, legacy, marker, root_module, interface_prefix, export_prefix, NamesFunction}
 use Rattle.wc_names.specs.Views.{Builtin, ImportView, world_func, interface_func, adapter_export, main_module_memory, main_module_export}
@@ -29,7 +29,7 @@ use Rattle.wc_names.specs.WitIntrinsics.{WitIntrinsic, wit_intrinsics, IsWitIntr
 
 -- what names are looked up in: a `Resolve`, a world of it, the names of adapters, whether legacy names are rejected, and
 -- the name of the task hook
-pub record Setting : Type 0 where
+pub record NameScope : Type 0 where
   pub resolve : ResolveView
   pub world : WorldView
   pub adapters : List (List ℕ)
@@ -55,7 +55,7 @@ pub record CoreImport : Type 0 where
   pub name : List ℕ
   pub ty : ExternType
 
--- the same of a function, as a scheme reads it
+-- an import of a function: the name of its module as a scheme reads it, its own name, and its type
 pub record CoreFunction : Type 0 where
   pub from : List ℕ
   pub name : List ℕ
@@ -82,7 +82,7 @@ abbrev pub import_abi : Bool → AbiVariant
 import_abi true = GuestImportAsync
 import_abi false = GuestImport
 
--- an imported function, lowered so
+-- what an imported function means that is lowered in this way
 abbrev pub NamesFunctionAs : Scheme → List ℕ → AbiVariant → List ℕ → Type 0
 NamesFunctionAs s function abi name = (is_async : Bool) × NamesFunction s is_async function name × (abi ≡ import_abi is_async)
 
@@ -105,7 +105,7 @@ pub data Kind : Type 0 where
   interface_intrinsic : WitIntrinsic → Kind
   interface_other_name : Kind
 
--- in their order
+-- the kinds of functions, in their order
 abbrev pub kinds : List Kind
 kinds =
     root_builtin ∷ root_function ∷ (map root_intrinsic (wit_intrinsics true)
@@ -122,16 +122,16 @@ abbrev pub IsInterfaceModule : Scheme → List ℕ → List ℕ → Type 0
 IsInterfaceModule s from text = from ≡ interface_prefix s ++ text
 
 -- the module's name is about an interface that the world exports, or about one that it imports
-abbrev pub NamesExportedInterface : Scheme → Setting → List ℕ → FoundInterface → Type 0
+abbrev pub NamesExportedInterface : Scheme → NameScope → List ℕ → FoundInterface → Type 0
 NamesExportedInterface s e from found = (text : List ℕ) × IsExportModule s from text × NamesInterface s e.resolve e.world.exports text found
 
-abbrev pub NamesImportedInterface : Scheme → Setting → List ℕ → FoundInterface → Type 0
+abbrev pub NamesImportedInterface : Scheme → NameScope → List ℕ → FoundInterface → Type 0
 NamesImportedInterface s e from found = (text : List ℕ) × IsInterfaceModule s from text × NamesInterface s e.resolve e.world.imports text found
 
 abbrev pub scope_of : FoundInterface → Scope
 scope_of found = interface_scope found.0 found.1
 
-abbrev pub IsKind : Scheme → Setting → CoreFunction → Kind → Meaning → Type 0
+abbrev pub IsKind : Scheme → NameScope → CoreFunction → Kind → Meaning → Type 0
 IsKind s e c root_builtin m = (c.from ≡ root_module s) × (b : Builtin) × NamesBuiltin s b c.name × (m ≡ means (builtin_import b) (Some (builtin_type b)))
 IsKind s e c root_function m =
     (c.from ≡ root_module s) × (is_async : Bool) × (name : List ℕ) × (f : FunctionView) × NamesFunction s is_async name c.name
@@ -166,7 +166,7 @@ IsKind s e c (interface_intrinsic k) m =
 IsKind s e c interface_other_name m = m ≡ refuses missing_function
 
 -- the scheme that a module's name is read by, and the name as that scheme reads it
-abbrev pub IsReadBy : Setting → List ℕ → Scheme → List ℕ → Type 0
+abbrev pub IsReadBy : NameScope → List ℕ → Scheme → List ℕ → Type 0
 IsReadBy e from s name =
     ((from ≡ marker ++ name) × (s ≡ standard))
     ⊎ (((text : List ℕ) → ¬ (from ≡ marker ++ text)) × (name ≡ from) × (s ≡ (if e.reject_legacy_names then standard else legacy e.hook)))
@@ -179,7 +179,7 @@ pub data Rule : Type 0 where
   adapter_function : Rule
   by_scheme : Kind → Rule
 
--- in their order
+-- the kinds of imports, in their order
 abbrev pub rules : List Rule
 rules = main_memory ∷ main_item ∷ not_function ∷ adapter_function ∷ map by_scheme kinds
 
@@ -191,7 +191,7 @@ abbrev pub adapter_meaning : List ℕ → List ℕ → FuncTypeValue → Meaning
 adapter_meaning adapter name ty =
     if names_types ty then refuses typed_reference else means (adapter_export adapter name ty) None
 
-abbrev pub IsRule : Setting → CoreImport → Rule → Meaning → Type 0
+abbrev pub IsRule : NameScope → CoreImport → Rule → Meaning → Type 0
 IsRule e a main_memory m =
     (a.from ≡ environment_module) × (a.name ≡ codes "memory") × (ty : MemoryType) × (a.ty ≡ memory_type ty) × (m ≡ means (main_module_memory ty) None)
 IsRule e a main_item m = (a.from ≡ codes "__main_module__") × (m ≡ means (main_module_export a.name (extern_kind a.ty)) None)
@@ -203,5 +203,5 @@ IsRule e a (by_scheme k) m =
     × IsKind s e (record { from = from; name = a.name; ty = ty }) k m
 
 -- what an import means
-abbrev pub Classified : Setting → CoreImport → Meaning → Type 0
+abbrev pub Classified : NameScope → CoreImport → Meaning → Type 0
 Classified e a m = FirstOf (IsRule e a) rules m

@@ -1,17 +1,35 @@
--- Which interface of a world's imports or exports a text is about.
-use Rattle.std.specs.Prelude.{◌≡◌, ℕ, ◌<◌, ◌^◌, List, [], ◌∷◌, Option, Some, None, slice_get}
-use Rattle.std.specs.Option.{IsSome, option_and_then}
+-- Texts that are ids of interfaces, and which interface of a world's imports or exports a text is about.
+use Rattle.std.specs.Prelude.{◌≡◌, ℕ, List, ◌<◌, ◌^◌, [], ◌∷◌, Option, Some, None, slice_get, IfOk, Result}
+use Rattle.std.specs.Option.{IfSome, IsSome, option_and_then, option_map}
+use Rattle.semver.specs.Grammar.{IsValid}
+use Rattle.semver.specs.Identifiers.{parts_text}
+use Rattle.wc_resolve.specs.Characters.{slash, colon, at_sign}
+use Rattle.wc_resolve.specs.Queries.{VersionView, member_text, canonical_id, qualified_name}
+use Rattle.wc_resolve.specs.Views.{PackageNameView, KeyView, key_view, plain_key, interface_key, ItemView, interface_item, InterfaceView, PackageView}
+use Rattle.wc_names.specs.Texts.{Lacks}
 use Rattle.wc_resolve.specs.declared.ids.InterfaceId.{InterfaceId}
 use Rattle.wc_resolve.specs.declared.worlds.WorldKey.{WorldKey}
 use Rattle.wc_resolve.specs.Names.{track}
-use Rattle.wc_resolve.specs.Queries.{VersionView, canonical_id, qualified_name}
-use Rattle.wc_resolve.specs.Views.{KeyView, key_view, plain_key, interface_key, ItemView, interface_item, InterfaceView, PackageView, PackageNameView}
 use Rattle.wc_resolve.specs.World.{ResolveView}
 use Rattle.wc_encoder.specs.Entries.{Entries}
 use Rattle.wc_names.specs.First.{FirstOf}
-use Rattle.wc_names.specs.InterfaceIds.{IsIdText}
-use Rattle.wc_names.specs.Lookups.{as_interface, item_under, under_name}
+use Rattle.wc_names.specs.Keys.{as_interface, item_under, under_name}
 use Rattle.wc_names.specs.Schemes.{Scheme, standard, legacy}
+use Rattle.std.specs.declared.alloc.AllocError.{AllocError}
+use Rattle.wc_names.specs.Finds.{Finds}
+
+-- the text of a version (Semantic Versioning 2.0.0), whose numbers are below 2^64
+abbrev pub IsVersionText : List ℕ → VersionView → Type 0
+IsVersionText text v = (text ≡ parts_text v) × IsValid v
+
+-- the text is the id of an interface of this name, in a package of this name and version; no part has the character that
+-- ends it
+pub record IsIdText (text : List ℕ) (p : PackageNameView) (name : List ℕ) : Type 0 where
+  pub is_text : text ≡ member_text parts_text p name
+  pub valid : IfSome p.version IsValid
+  pub namespace_ends : Lacks colon p.namespace
+  pub package_ends : Lacks slash p.name
+  pub name_ends : Lacks at_sign name
 
 -- a key, and the interface under it
 abbrev pub FoundInterface : Type 0
@@ -20,9 +38,13 @@ FoundInterface = KeyView × ℕ
 abbrev pub found_interface : WorldKey × InterfaceId → FoundInterface
 found_interface f = (key_view f.0, f.1.0)
 
--- under its own key
+-- an interface under its own key
 abbrev pub under_own_key : InterfaceId → FoundInterface
 under_own_key id = (interface_key id.0, id.0)
+
+-- the answer of a search for an interface of an own key, if memory did not run out
+abbrev pub FindsOwnKey : Result (Option InterfaceId) AllocError → (FoundInterface → Type 0) → Type 0
+FindsOwnKey result Passes = IfOk result (λ (found : Option InterfaceId). Finds (option_map under_own_key found) Passes)
 
 -- the package of this name and version, build included, has this interface under this name; packages with indices past
 -- 32 bits have no ids
@@ -52,7 +74,7 @@ abbrev pub IsTrackOf : Option VersionView → List ℕ → Type 0
 IsTrackOf None text = ⊥
 IsTrackOf (Some v) text = text ≡ track v
 
--- the interface at an index is a copy of the one at another
+-- the interface at an index is a clone of the one at another
 abbrev pub IsCloneOf : ResolveView → ℕ → ℕ → Type 0
 IsCloneOf r source i = option_and_then (λ (v : InterfaceView). v.clone_of) (slice_get r.interfaces i) ≡ Some source
 
@@ -60,6 +82,10 @@ IsCloneOf r source i = option_and_then (λ (v : InterfaceView). v.clone_of) (sli
 abbrev pub IsEntryOf : (ℕ → Type 0) → KeyView × ItemView → FoundInterface → Type 0
 IsEntryOf P (plain_key n, item) found = ⊥
 IsEntryOf P (interface_key i, item) found = P i × (found ≡ (interface_key i, i))
+
+-- the first interface with a key that is on the track of an id
+abbrev pub IsFirstOnTrack : ResolveView → Entries → PackageNameView → List ℕ → FoundInterface → Type 0
+IsFirstOnTrack r entries p name found = FirstOf (IsEntryOf (IsOnTrack r p name)) entries found
 
 -- how the legacy scheme finds the interface of an id: the one of exactly that version, a clone of that one, or one on
 -- the version's track
@@ -77,7 +103,7 @@ IsIdMatch r entries p name exact_version found =
 IsIdMatch r entries p name clone found = (source : ℕ) × IsMemberOf r p name source × FirstOf (IsEntryOf (IsCloneOf r source)) entries found
 IsIdMatch r entries p name same_track found = FirstOf (IsEntryOf (IsOnTrack r p name)) entries found
 
--- and of any text: the interface under it as a plain key, else the one of an id
+-- how the legacy scheme finds the interface of any text: the one under it as a plain key, else the one of an id
 pub data TextMatch : Type 0 where
   by_plain_key : TextMatch
   by_id : TextMatch
@@ -111,6 +137,6 @@ abbrev pub IsAbout : InterfaceTexts → ResolveView → Entries → List ℕ →
 IsAbout canonical_ids r entries text found = FirstOf (IsCanonicalEntry r text) entries found
 IsAbout full_ids r entries text found = FirstOf (IsTextMatch r entries text) text_matches found
 
--- and by a scheme
+-- the interface that a text is about by a scheme
 abbrev pub NamesInterface : Scheme → ResolveView → Entries → List ℕ → FoundInterface → Type 0
 NamesInterface s r entries text found = IsAbout (interface_texts s) r entries text found

@@ -15,7 +15,7 @@ abbrev pub root_module : Scheme → List ℕ
 root_module standard = []
 root_module (legacy hook) = codes "$root"
 
--- how all other modules begin
+-- how the names of all modules but that of the root begin
 abbrev pub interface_prefix : Scheme → List ℕ
 interface_prefix standard = codes "|"
 interface_prefix (legacy hook) = []
@@ -44,7 +44,7 @@ abbrev pub task_hook_name : Scheme → Option (List ℕ)
 task_hook_name standard = None
 task_hook_name (legacy hook) = Some hook
 
--- a name, and the same after `[async-lower]`
+-- a name, or the name after `[async-lower]`
 abbrev pub lowered_name : Bool → List ℕ → List ℕ
 lowered_name true name = codes "[async-lower]" ++ name
 lowered_name false name = name

@@ -1,6 +1,7 @@
 -- Texts of which names are put together.
 use Rattle.std.specs.Prelude.{◌≡◌, ◌≢◌, ◌⊎◌, ℕ, ◌<◌, ◌^◌, List, [], ◌∷◌, ◌++◌, length, replicate, slice_index, codes}
 use Rattle.std.specs.Fmt.{decimal}
+use Rattle.wc_read.specs.declared.types.ValType.{ValType}
 use Rattle.wc_resolve.specs.Characters.{digit_zero}
 
 -- no byte of the text is this one
@@ -11,7 +12,7 @@ Lacks c text = (i : ℕ) → i < length text → slice_index text i ≢ c
 abbrev pub IsSplitAtFirst : ℕ → List ℕ → List ℕ → List ℕ → Type 0
 IsSplitAtFirst c text first second = (text ≡ first ++ (c ∷ second)) × Lacks c first
 
--- one of these texts
+-- the text is one of a list
 abbrev pub IsOneOf : List (List ℕ) → List ℕ → Type 0
 IsOneOf [] text = ⊥
 IsOneOf (t ∷ []) text = text ≡ t
@@ -24,6 +25,14 @@ pub record SpellsNumber (n : ℕ) (text : List ℕ) : Type 0 where
   pub one_or_none : IsOneOf ([] ∷ codes "+" ∷ []) plus
   pub fits : n < 2 ^ 32
   pub is_text : text ≡ plus ++ (replicate zeros digit_zero ++ decimal n)
+
+-- a type and a number: this type, and the number that a text is after a prefix
+abbrev pub HasSlot : ValType → List ℕ → List ℕ → ValType × ℕ → Type 0
+HasSlot ty text prefix found = (found.0 ≡ ty) × (rest : List ℕ) × (text ≡ prefix ++ rest) × SpellsNumber found.1 rest
+
+-- a text is no number after a prefix
+abbrev pub HasNoSlot : List ℕ → List ℕ → Type 0
+HasNoSlot text prefix = (rest : List ℕ) (n : ℕ) → text ≡ prefix ++ rest → ¬ SpellsNumber n rest
 
 -- the names of a thing: a text; a text, one of several and another text; or these with a number before the last text
 pub data Spelling : Type 0 where

@@ -106,7 +106,8 @@ import_view (imports.AdapterExport adapter func ty) = adapter_export (string_byt
 import_view (imports.MainModuleMemory ty) = main_module_memory ty
 import_view (imports.MainModuleExport name kind) = main_module_export (string_bytes name) kind
 import_view (imports.Item item) = library_item (library_item_view item)
-import_view (imports.ExportedTaskReturn key interface function) = exported_task_return (key_view key) (option_map id_of_interface interface) (function_view function)
+import_view (imports.ExportedTaskReturn key interface function) =
+    exported_task_return (key_view key) (option_map id_of_interface interface) (function_view function)
 import_view imports.ExportedTaskCancel = exported_task_cancel
 import_view (imports.ContextGet ty slot) = builtin (context_get ty slot)
 import_view (imports.ContextSet ty slot) = builtin (context_set ty slot)

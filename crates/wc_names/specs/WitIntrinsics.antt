@@ -7,7 +7,7 @@ use Rattle.wc_resolve.specs.Views.{FunctionView, KeyView, WorldView}
 use Rattle.wc_resolve.specs.World.{ResolveView}
 use Rattle.wc_names.specs.AsyncValues.{NamesAsyncValue, operation_row}
 use Rattle.wc_names.specs.Builtins.{signature}
-use Rattle.wc_names.specs.Lookups.{Scope, scope_key, resource_named, function_named}
+use Rattle.wc_names.specs.Keys.{Scope, scope_key, resource_named, function_named}
 use Rattle.wc_names.specs.Meanings.{Meaning, means, refuses, no_such_export}
 use Rattle.wc_names.specs.Schemes.{Scheme, ResourceOperation, resource_drop, resource_new, resource_rep, NamesResource, NamesTaskReturn, NamesTaskCancel}
 use Rattle.wc_names.specs.declared.async_values.AsyncValue.{AsyncValue}

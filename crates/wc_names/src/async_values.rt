@@ -1,11 +1,9 @@
 //! Built-ins of futures and streams: `[W-OPERATION-S]F`.
 
 ghost use Rattle.std.specs.Prelude.{◌≡◌, ℕ, List, MatchOption};
-ghost use Rattle.wc_resolve.specs.Characters.{closing_bracket};
 ghost use Rattle.wc_names.specs.declared.async_values.AsyncValue.{AsyncValue};
 ghost use Rattle.wc_names.specs.declared.async_values.Operation.{Operation};
-ghost use Rattle.wc_names.specs.AsyncValues.{async_value_name, bracketed_text, operation_row, operation_text};
-ghost use Rattle.wc_names.specs.Texts.{Lacks};
+ghost use Rattle.wc_names.specs.AsyncValues.{bracketed_text, operation_row, operation_text, HasNoParts, HasParts};
 
 use crate::texts::{after, split_at_first};
 
@@ -114,11 +112,8 @@ fn bracketed(text: &str) -> Option<(AsyncValue, Operation, &str)>
 
 /// The parts of a name.
 pub(crate) fn name_parts(name: &str) -> Option<AsyncValueName<'_>>
-    ensures { MatchOption result
-        ((v : AsyncValue) (op : Operation) (which f : List ℕ) → Lacks closing_bracket which
-        → ¬ (name.now ≡ async_value_name v op which f))
-        (λ n. (name.now ≡ async_value_name n.value n.operation n.which.now n.function.now)
-        × Lacks closing_bracket n.which.now) }
+    ensures { MatchOption result (HasNoParts name.now)
+        (λ n. HasParts name.now n.value n.operation n.which.now n.function.now) }
 {
     let Some(rest) = after(name, "[") else {
         return None;

@@ -1,7 +1,7 @@
 //! Names of exports: of functions of a world and of its interfaces, and of destructors of resources.
 
-ghost use Rattle.std.specs.Prelude.{◌≡◌, ℕ, List, Option, MatchOption, option_copied};
-ghost use Rattle.wc_names.specs.ExportNames.{IsExportName, destructor_member};
+ghost use Rattle.std.specs.Prelude.{◌≡◌, ℕ, List, MatchOption, option_copied};
+ghost use Rattle.wc_names.specs.ExportNames.{IsExportName, destructor_member, IsNoExportName};
 ghost use Rattle.wc_names.specs.Finds.{Finds};
 
 use crate::texts::{after, before, split_at_first};
@@ -10,9 +10,9 @@ use crate::texts::{after, before, split_at_first};
 #[derive(Clone, Copy, Debug, PartialEq, Eq)]
 pub enum ExportSyntax {
     /// `|my:demo/host@1|hello`, and `||run`.
-    Barred,
+    Standard,
     /// `my:demo/host@1.2.3#hello`, and `run`.
-    Hashed,
+    Legacy,
 }
 
 /// The parts of a name.
@@ -24,12 +24,10 @@ pub(crate) struct ExportParts<'a> {
     pub member: &'a str,
 }
 
-/// The parts of a name with bars.
-fn barred_parts(name: &str) -> Option<ExportParts<'_>>
-    ensures { MatchOption result
-        ((interface : Option (List ℕ)) (member : List ℕ)
-        → ¬ IsExportName ExportSyntax.Barred name.now interface member)
-        (λ parts. IsExportName ExportSyntax.Barred name.now (option_copied parts.interface)
+/// The parts of a name of the standard scheme, with bars.
+fn standard_parts(name: &str) -> Option<ExportParts<'_>>
+    ensures { MatchOption result (IsNoExportName ExportSyntax.Standard name.now)
+        (λ parts. IsExportName ExportSyntax.Standard name.now (option_copied parts.interface)
         parts.member.now) }
 {
     let Some(rest) = after(name, "|") else {
@@ -51,9 +49,9 @@ fn barred_parts(name: &str) -> Option<ExportParts<'_>>
     }
 }
 
-/// The parts of a name with `#`, or without.
-fn hashed_parts(name: &str) -> ExportParts<'_>
-    ensures { IsExportName ExportSyntax.Hashed name.now (option_copied result.interface)
+/// The parts of a name of the legacy scheme, with `#` or without.
+fn legacy_parts(name: &str) -> ExportParts<'_>
+    ensures { IsExportName ExportSyntax.Legacy name.now (option_copied result.interface)
         result.member.now }
 {
     match split_at_first(name, '#') {
@@ -70,15 +68,13 @@ fn hashed_parts(name: &str) -> ExportParts<'_>
 
 /// The parts of a name.
 pub(crate) fn export_parts(syntax: ExportSyntax, name: &str) -> Option<ExportParts<'_>>
-    ensures { MatchOption result
-        ((interface : Option (List ℕ)) (member : List ℕ)
-        → ¬ IsExportName syntax name.now interface member)
+    ensures { MatchOption result (IsNoExportName syntax name.now)
         (λ parts. IsExportName syntax name.now (option_copied parts.interface)
         parts.member.now) }
 {
     match syntax {
-        ExportSyntax::Barred => barred_parts(name),
-        ExportSyntax::Hashed => Some(hashed_parts(name)),
+        ExportSyntax::Standard => standard_parts(name),
+        ExportSyntax::Legacy => Some(legacy_parts(name)),
     }
 }
 
@@ -88,7 +84,7 @@ pub(crate) fn destructed_resource(syntax: ExportSyntax, member: &str) -> Option<
         (λ (resource : List ℕ). member.now ≡ destructor_member syntax resource) }
 {
     match syntax {
-        ExportSyntax::Barred => before(member, "_dtor"),
-        ExportSyntax::Hashed => after(member, "[dtor]"),
+        ExportSyntax::Standard => before(member, "_dtor"),
+        ExportSyntax::Legacy => after(member, "[dtor]"),
     }
 }

@@ -1,24 +1,79 @@
-//! Which interface of a world's imports or exports a text is about.
+//! Ids of interfaces, `namespace:package/name` or `namespace:package/name@version`; and which interface of a world's
+//! imports or exports a text is about.
 
-ghost use Rattle.std.specs.Prelude.{◌≡◌, ◌↔◌, ◌<◌, All, IfOk, IsTrue, length, map};
+ghost use Rattle.std.specs.Prelude.{ℕ, List, IfOk, MatchOption, ◌↔◌, ◌<◌, All, IsTrue, length, map};
 ghost use Rattle.std.specs.Option.{option_map};
 ghost use Rattle.semver.specs.Identifiers.{parts_of};
+ghost use Rattle.wc_resolve.specs.Queries.{VersionView};
+ghost use Rattle.wc_resolve.specs.Views.{PackageNameView, package_name_view, item_view, key_view, world_entry};
+ghost use Rattle.wc_names.specs.Finds.{Finds};
+ghost use Rattle.wc_names.specs.Interfaces.{IsIdText, IsVersionText, AreOnSameTrack, IsCanonicalEntry, IsCloneOf, IsEntryOf, IsIdMatch, IsMemberOf, IsOnTrack, IsTextMatch, IsTrackOf, found_interface, id_matches, text_matches, under_own_key, IsFirstOnTrack, FindsOwnKey};
 ghost use Rattle.wc_resolve.specs.Dependencies.{id_of_interface};
 ghost use Rattle.wc_resolve.specs.declared.ids.InterfaceId.{InterfaceId};
 ghost use Rattle.wc_resolve.specs.Ranges.{IsKeyIn};
-ghost use Rattle.wc_resolve.specs.Views.{item_view, key_view, package_name_view, world_entry};
-ghost use Rattle.wc_names.specs.Finds.{Finds};
 ghost use Rattle.wc_names.specs.First.{FirstOf};
-ghost use Rattle.wc_names.specs.Interfaces.{AreOnSameTrack, IsCanonicalEntry, IsCloneOf, IsEntryOf, IsIdMatch, IsMemberOf, IsOnTrack, IsTextMatch, IsTrackOf, found_interface, id_matches, text_matches, under_own_key};
 
-use crate::interface_ids::{IdParts, id_parts};
-use crate::lookups::{interface_under, is_key, plain_interface};
+use crate::keys::{interface_under, is_key, plain_interface};
+use crate::texts::split_at_first;
 use indexmap::IndexMap;
-use semver::Version;
+use semver::{Error, Version};
 use std::alloc::{AllocError, Global};
 use wc_resolve::{InterfaceId, PackageName, Resolve, WorldItem, WorldKey};
 
-/// Whether an interface is a copy of another one.
+/// The parts of an id: the name of a package, and of an interface of it.
+#[derive(Drop)]
+pub(crate) struct IdParts<'a> {
+    pub package: PackageName,
+    pub interface: &'a str,
+}
+
+/// The version that a text is of.
+fn version_of(alloc: Global, text: &str) -> Result<Option<Version>, AllocError>
+    ensures { IfOk result (λ found. Finds (option_map parts_of found)
+        (λ (v : VersionView). IsVersionText text.now v)) }
+{
+    match Version::parse(alloc, text) {
+        Ok(version) => Ok(Some(version)),
+        Err(error) => {
+            if error == Error::from(AllocError) {
+                Err(AllocError)
+            } else {
+                Ok(None)
+            }
+        }
+    }
+}
+
+/// The parts of an id.
+pub(crate) fn id_parts(alloc: Global, text: &str) -> Result<Option<IdParts<'_>>, AllocError>
+    ensures { IfOk result (λ found. MatchOption found
+        ((p : PackageNameView) (n : List ℕ) → ¬ IsIdText text.now p n)
+        (λ id. IsIdText text.now (package_name_view id.«package») id.interface.now)) }
+{
+    let Some((namespace, rest)) = split_at_first(text, ':') else {
+        return Ok(None);
+    };
+    let Some((name, rest)) = split_at_first(rest, '/') else {
+        return Ok(None);
+    };
+    let (interface, version) = match split_at_first(rest, '@') {
+        Some((interface, version)) => match version_of(alloc, version)? {
+            Some(version) => (interface, Some(version)),
+            None => {
+                return Ok(None);
+            }
+        },
+        None => (rest, None),
+    };
+    let package = PackageName {
+        namespace: String::from_str(alloc, namespace)?,
+        name: String::from_str(alloc, name)?,
+        version,
+    };
+    Ok(Some(IdParts { package, interface }))
+}
+
+/// Whether an interface is a clone of another one.
 fn is_clone_of(resolve: &Resolve, id: InterfaceId, source: InterfaceId) -> bool
     requires { id.0 < length resolve.now.interfaces }
     ensures { IsTrue result ↔ IsCloneOf resolve.now source.0 id.0 }
@@ -29,7 +84,7 @@ fn is_clone_of(resolve: &Resolve, id: InterfaceId, source: InterfaceId) -> bool
     }
 }
 
-/// The first interface that is a key and a copy of this one.
+/// The first interface that is a key and a clone of this one.
 fn first_clone(
     resolve: &Resolve,
     items: &IndexMap<WorldKey, WorldItem>,
@@ -114,9 +169,9 @@ fn first_of_track(
 ) -> Option<InterfaceId>
     requires in_range { All (λ x. IsKeyIn resolve.now x.0) (map world_entry items.now.entries) }
     requires track { IsTrackOf (package_name_view id.now.«package»).version track.now }
-    ensures { Finds (option_map under_own_key result) (FirstOf
-        (IsEntryOf (IsOnTrack resolve.now (package_name_view id.now.«package»)
-        id.now.interface.now)) (map world_entry items.now.entries)) }
+    ensures { Finds (option_map under_own_key result)
+        (IsFirstOnTrack resolve.now (map world_entry items.now.entries)
+        (package_name_view id.now.«package») id.now.interface.now) }
 {
     for (key, _item) in items.iter() {
         if let WorldKey::Interface(interface) = key {
@@ -137,9 +192,8 @@ fn first_on_track(
     id: &IdParts<'_>,
 ) -> Result<Option<InterfaceId>, AllocError>
     requires { All (λ x. IsKeyIn resolve.now x.0) (map world_entry items.now.entries) }
-    ensures { IfOk result (λ found. Finds (option_map under_own_key found) (FirstOf
-        (IsEntryOf (IsOnTrack resolve.now (package_name_view id.now.«package»)
-        id.now.interface.now)) (map world_entry items.now.entries))) }
+    ensures { FindsOwnKey result (IsFirstOnTrack resolve.now (map world_entry items.now.entries)
+        (package_name_view id.now.«package») id.now.interface.now) }
 {
     match &id.package.version {
         Some(version) => {
@@ -150,7 +204,7 @@ fn first_on_track(
     }
 }
 
-/// The interface of an id, which is a key: that of exactly the id, a copy of it, or one on the version's track.
+/// The interface of an id, which is a key: that of exactly the id, a clone of it, or one on the version's track.
 fn interface_of_id(
     alloc: Global,
     resolve: &Resolve,
@@ -158,9 +212,8 @@ fn interface_of_id(
     id: &IdParts<'_>,
 ) -> Result<Option<InterfaceId>, AllocError>
     requires { All (λ x. IsKeyIn resolve.now x.0) (map world_entry items.now.entries) }
-    ensures { IfOk result (λ found. Finds (option_map under_own_key found) (FirstOf
-        (IsIdMatch resolve.now (map world_entry items.now.entries)
-        (package_name_view id.now.«package») id.now.interface.now) id_matches)) }
+    ensures { FindsOwnKey result (FirstOf (IsIdMatch resolve.now (map world_entry items.now.entries)
+        (package_name_view id.now.«package») id.now.interface.now) id_matches) }
 {
     resolve.well_formedness();
     if let Some(exact) = member_of(resolve, id) {

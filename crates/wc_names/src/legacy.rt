@@ -5,7 +5,7 @@ ghost use Rattle.wc_names.specs.Imports.{NamesFunctionAs};
 ghost use Rattle.wc_names.specs.Schemes.{legacy};
 
 use crate::environment::environment_import;
-use crate::export_set::{matched_destructor, matched_export};
+use crate::export_index::{matched_destructor, matched_export};
 use crate::interfaces::legacy_interface;
 use crate::payloads::async_value_import;
 use crate::texts::{after, pointer_type, slot};
@@ -266,7 +266,7 @@ impl<'h> NameMangling for Legacy<'h> {
         world: WorldId,
         exports: &'a IndexSet<WorldKey>,
     ) -> Result<Option<(&'a WorldKey, Option<InterfaceId>, &'a Function)>, AllocError> {
-        matched_export(alloc, ExportSyntax::Hashed, name, resolve, world, exports)
+        matched_export(alloc, ExportSyntax::Legacy, name, resolve, world, exports)
     }
 
     fn match_wit_resource_dtor<'a>(
@@ -277,7 +277,7 @@ impl<'h> NameMangling for Legacy<'h> {
         world: WorldId,
         exports: &'a IndexSet<WorldKey>,
     ) -> Result<Option<TypeId>, AllocError> {
-        matched_destructor(alloc, ExportSyntax::Hashed, name, resolve, world, exports)
+        matched_destructor(alloc, ExportSyntax::Legacy, name, resolve, world, exports)
     }
 }
 
@@ -298,6 +298,6 @@ impl<'h> NameIndexes for Legacy<'h> {
         world: WorldId,
         exports: &'a IndexSet<WorldKey>,
     ) -> Result<ExportNames<'a>, AllocError> {
-        ExportNames::new(alloc, ExportSyntax::Hashed, resolve, world, exports)
+        ExportNames::new(alloc, ExportSyntax::Legacy, resolve, world, exports)
     }
 }

@@ -15,9 +15,9 @@
 //! | destroys a resource `file` of an interface | `my:demo/host@1.2.3#[dtor]file` | `\|my:demo/host@1\|file_dtor` |
 //!
 //! A module's text is looked up among what a world imports or exports (`NameMangling::module_to_interface`), and the
-//! names of functions and resources in an interface or in the world itself (`PayloadLookupContext`). Which of several
-//! kinds a name is of is for the caller to decide; that an import means one thing at most, and what it names is there,
-//! is a law (`laws`), and the same of an export.
+//! names of functions and resources in an interface or in the world itself (`PayloadLookupContext`, and `keys` for each
+//! step of it). Which of several kinds a name is of is for the caller to decide; that an import means one thing at most,
+//! and what it names is there, is a law (`laws`), and the same of an export.
 //!
 //! Exports are those of an export set, a set of keys of a world: `NameMangling::match_wit_export` and
 //! `match_wit_resource_dtor` look up one name.
@@ -44,31 +44,26 @@
 
 mod async_values;
 mod environment;
-mod export_interfaces;
+mod export_index;
 mod export_names;
-mod export_set;
 mod exports;
-mod first_interfaces;
 mod imports;
-mod interface_ids;
-mod interface_names;
+mod interface_index;
 mod interfaces;
+pub mod keys;
 pub mod laws;
 mod legacy;
-mod lookups;
 mod mangling;
-mod name_indexes;
 mod payloads;
 mod standard;
 mod texts;
 
+pub use export_index::ExportNames;
 pub use export_names::ExportSyntax;
-pub use export_set::ExportNames;
 pub use exports::Export;
 pub use imports::{Import, PayloadInfo, PayloadType};
-pub use interface_names::InterfaceNames;
+pub use interface_index::InterfaceNames;
 pub use legacy::Legacy;
-pub use mangling::{MaybeAsyncLowered, NameMangling};
-pub use name_indexes::NameIndexes;
+pub use mangling::{MaybeAsyncLowered, NameIndexes, NameMangling};
 pub use payloads::PayloadLookupContext;
 pub use standard::Standard;

@@ -1,4 +1,4 @@
-//! Naming schemes.
+//! Naming schemes, and the indexes that they make.
 
 ghost use Rattle.std.specs.Prelude.{◌≡◌, ◌↔◌, ℕ, Bool, List, All, IfOk, IsTrue, MatchOption, length, map, option_copied, ◌<◌};
 ghost use Rattle.std.specs.Option.{ForSome, option_map};
@@ -8,19 +8,20 @@ ghost use Rattle.wc_encoder.specs.declared.encoding.StringEncoding.{StringEncodi
 ghost use Rattle.wc_resolve.specs.Ranges.{IsKeyIn, IsWorldIn};
 ghost use Rattle.wc_resolve.specs.Roots.{id_index};
 ghost use Rattle.wc_resolve.specs.Views.{key_view, world_entry, world_view};
-ghost use Rattle.wc_names.specs.AsyncValues.{NamesAsyncImport};
-ghost use Rattle.wc_names.specs.Builtins.{IsThreadBuiltin, NamesBuiltin, builtin_import};
+ghost use Rattle.wc_names.specs.Builtins.{IsThreadBuiltin, NamesBuiltin, NamesThreadImport};
 ghost use Rattle.wc_names.specs.Environment.{NamesEnvironment};
-ghost use Rattle.wc_names.specs.ExportNames.{NamesDestructor, NamesFunctionExport, export_syntax, world_exports};
+ghost use Rattle.wc_names.specs.ExportIndex.{names_view};
+ghost use Rattle.wc_names.specs.ExportNames.{export_syntax, world_exports, NamesWorldDestructor, NamesWorldFunction};
 ghost use Rattle.wc_names.specs.ExportViews.{export_target};
 ghost use Rattle.wc_names.specs.Finds.{Finds};
 ghost use Rattle.wc_names.specs.Imports.{NamesFunctionAs};
-ghost use Rattle.wc_names.specs.Interfaces.{FoundInterface, NamesInterface, found_interface};
+ghost use Rattle.wc_names.specs.InterfaceIndex.{interface_names_view};
+ghost use Rattle.wc_names.specs.Interfaces.{NamesInterface, found_interface, interface_texts};
 ghost use Rattle.wc_names.specs.Schemes.{export_prefix, function_table_name, initialize_name, interface_prefix, memory_name, realloc_name, root_module, task_hook_name, NamesAsyncLift, NamesCallback, NamesPostReturn, NamesResource, NamesStackfulLift, NamesTaskCancel, NamesTaskReturn, resource_drop, resource_new, resource_rep};
-ghost use Rattle.wc_names.specs.Contexts.{context_scope};
+ghost use Rattle.wc_names.specs.Contexts.{NamesImportIn};
 ghost use Rattle.wc_names.specs.Views.{Builtin, import_view, backpressure_dec, backpressure_inc, context_get, context_set, error_context_debug_message, error_context_drop, error_context_new, subtask_cancel, subtask_drop, waitable_join, waitable_set_drop, waitable_set_new, waitable_set_poll, waitable_set_wait};
 
-use crate::{Import, PayloadLookupContext};
+use crate::{ExportNames, Import, InterfaceNames, PayloadLookupContext};
 use indexmap::{IndexMap, IndexSet};
 use std::alloc::{AllocError, Global};
 use wc_encoder::StringEncoding;
@@ -184,8 +185,7 @@ pub trait NameMangling {
     fn thread_intrinsic(&self, name: &str) -> Option<Import>
         ensures { MatchOption result
             ((b : Builtin) → IsThreadBuiltin b → ¬ NamesBuiltin (scheme self.now) b name.now)
-            (λ i. (b : Builtin) × IsThreadBuiltin b × NamesBuiltin (scheme self.now) b name.now
-            × (import_view i ≡ builtin_import b)) };
+            (λ i. NamesThreadImport (scheme self.now) name.now (import_view i)) };
 
     /// The name of the function that the world imports, and how it is lowered.
     fn world_key_name_and_abi<'a>(&self, name: &'a str) -> (&'a str, AbiVariant)
@@ -214,9 +214,7 @@ pub trait NameMangling {
         requires interface { ForSome context.now.id
             (λ id. id.0 < length context.now.resolve.now.interfaces) }
         ensures { IfOk result (λ found. Finds (option_map import_view found)
-            (NamesAsyncImport (scheme self.now) context.now.resolve.now
-            (world_view context.now.world.now) context.now.imported
-            (context_scope context.now) name.now)) };
+            (NamesImportIn (scheme self.now) context.now name.now)) };
 
     /// The interface that a module's name is about, without what comes before it (`import_non_root_prefix`,
     /// `import_exported_intrinsic_prefix`), among what a world imports or exports, and its key there. For many names of
@@ -270,8 +268,8 @@ pub trait NameMangling {
     ) -> Result<Option<(&'a WorldKey, Option<InterfaceId>, &'a Function)>, AllocError>
         requires { world.0 < length resolve.now.worlds }
         ensures { IfOk result (λ found. Finds (option_map export_target found)
-            (NamesFunctionExport (export_syntax (scheme self.now)) resolve.now
-            (world_exports resolve.now world.0) (map key_view exports.now.keys) name.now)) };
+            (NamesWorldFunction (scheme self.now) resolve.now world.0
+            (map key_view exports.now.keys) name.now)) };
 
     /// The resource whose destructor an export of this name is, among the interfaces of an export set that a world
     /// exports. An alias of a resource is none. For many names of one set there is `NameIndexes::export_names`.
@@ -291,6 +289,53 @@ pub trait NameMangling {
     ) -> Result<Option<TypeId>, AllocError>
         requires { world.0 < length resolve.now.worlds }
         ensures { IfOk result (λ found. Finds (option_map id_index found)
-            (NamesDestructor (export_syntax (scheme self.now)) resolve.now
-            (world_exports resolve.now world.0) (map key_view exports.now.keys) name.now)) };
+            (NamesWorldDestructor (scheme self.now) resolve.now world.0
+            (map key_view exports.now.keys) name.now)) };
+}
+
+/// A naming scheme that makes indexes, to look up many names: of the interfaces that a world imports or exports, and of
+/// an export set. Their functions find what `NameMangling::module_to_interface`, `match_wit_export` and
+/// `match_wit_resource_dtor` find of one name at a time.
+///
+/// `InterfaceNames` and `ExportNames` are made in this crate alone; any crate can implement `NameMangling`.
+pub trait NameIndexes: NameMangling {
+    /// The interfaces of a world's imports or exports by their texts, to look up many of them
+    /// (`InterfaceNames::interface`). It is made in a time linear in the keys, and a text is looked up in a time that
+    /// doesn't depend on them.
+    ///
+    /// The keys must be in range of the `Resolve` (`has_interface`).
+    ///
+    /// # Errors
+    ///
+    /// `AllocError`: an allocation failed.
+    fn interface_names<'a>(
+        &self,
+        alloc: Global,
+        resolve: &'a Resolve,
+        items: &'a IndexMap<WorldKey, WorldItem>,
+    ) -> Result<InterfaceNames<'a>, AllocError>
+        requires { All (λ x. IsKeyIn resolve.now x.0) (map world_entry items.now.entries) }
+        ensures { IfOk result (λ names. names ≡ interface_names_view
+            (interface_texts (Self.scheme self.now)) resolve.now
+            (map world_entry items.now.entries)) };
+
+    /// The names of the exports of a world that are in an export set, to look up many of them. Only keys that the world
+    /// exports have names; the first key of the set that fits a name counts. It is made in a time linear in the set,
+    /// and a name is looked up in a time that doesn't depend on the set.
+    ///
+    /// The world must be in range (`has_world`).
+    ///
+    /// # Errors
+    ///
+    /// `AllocError`: an allocation failed.
+    fn export_names<'a>(
+        &self,
+        alloc: Global,
+        resolve: &'a Resolve,
+        world: WorldId,
+        exports: &'a IndexSet<WorldKey>,
+    ) -> Result<ExportNames<'a>, AllocError>
+        requires { world.0 < length resolve.now.worlds }
+        ensures { IfOk result (λ names. names ≡ names_view (export_syntax (Self.scheme self.now))
+            resolve.now (world_exports resolve.now world.0) (map key_view exports.now.keys)) };
 }

@@ -5,15 +5,15 @@ ghost use Rattle.std.specs.Option.{ForSome, option_map};
 ghost use Rattle.wc_resolve.specs.Ranges.{IsWorldIn};
 ghost use Rattle.wc_resolve.specs.Roots.{id_index};
 ghost use Rattle.wc_resolve.specs.Views.{function_view, key_view, world_view};
-ghost use Rattle.wc_names.specs.AsyncValues.{IsOwnNameImport, IsPayloadType, NamesAsyncImport, operation_row, unit_type};
-ghost use Rattle.wc_names.specs.Contexts.{context_scope};
+ghost use Rattle.wc_names.specs.AsyncValues.{operation_row, unit_type};
+ghost use Rattle.wc_names.specs.Contexts.{context_scope, IsOwnNameImportIn, IsPayloadTypeIn, NamesImportIn};
 ghost use Rattle.wc_names.specs.Finds.{Finds};
-ghost use Rattle.wc_names.specs.Lookups.{function_named, resource_named, scope_key, type_named};
+ghost use Rattle.wc_names.specs.Keys.{function_named, resource_named, scope_key, type_named};
 ghost use Rattle.wc_names.specs.Schemes.{legacy};
 ghost use Rattle.wc_names.specs.Views.{async_value, import_view, payload_type_view, payload_view};
 
 use crate::async_values::{AsyncValue, AsyncValueName, Operation, name_parts};
-use crate::lookups::{function_under, if_resource, plain_function, plain_type, type_under};
+use crate::keys::{function_under, if_resource, plain_function, plain_type, type_under};
 use crate::texts::{after, number};
 use crate::{Import, PayloadInfo, PayloadType};
 use std::alloc::{AllocError, Global};
@@ -135,9 +135,7 @@ fn payload_type(
     requires interface { ForSome context.now.id
         (λ id. id.0 < length context.now.resolve.now.interfaces) }
     ensures { IfOk result (λ found. Finds (option_map payload_type_view found)
-        (IsPayloadType context.now.resolve.now (world_view context.now.world.now)
-        context.now.imported (context_scope context.now) name.now.value name.now.which.now
-        name.now.function.now)) }
+        (IsPayloadTypeIn context.now name.now.value name.now.which.now name.now.function.now)) }
 {
     context.resolve.well_formedness();
     if name.which == "unit" {
@@ -198,8 +196,7 @@ fn own_name_import(
     requires interface { ForSome context.now.id
         (λ id. id.0 < length context.now.resolve.now.interfaces) }
     ensures { IfOk result (λ found. Finds (option_map import_view found)
-        (IsOwnNameImport context.now.resolve.now (world_view context.now.world.now)
-        context.now.imported (context_scope context.now) name.now async_)) }
+        (IsOwnNameImportIn context.now name.now async_)) }
 {
     let Some(parts) = name_parts(name) else {
         return Ok(None);
@@ -230,9 +227,7 @@ pub(crate) fn async_value_import(
     requires interface { ForSome context.now.id
         (λ id. id.0 < length context.now.resolve.now.interfaces) }
     ensures { IfOk result (λ found. Finds (option_map import_view found)
-        (NamesAsyncImport (legacy []) context.now.resolve.now
-        (world_view context.now.world.now) context.now.imported
-        (context_scope context.now) name.now)) }
+        (NamesImportIn (legacy []) context.now name.now)) }
 {
     match after(name, "[async-lower]") {
         Some(rest) => own_name_import(alloc, context, rest, true),

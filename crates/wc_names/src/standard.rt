@@ -1,6 +1,6 @@
 //! The standard scheme.
 
-use crate::export_set::{matched_destructor, matched_export};
+use crate::export_index::{matched_destructor, matched_export};
 use crate::interfaces::standard_interface;
 use crate::texts::before;
 use crate::{
@@ -192,7 +192,7 @@ impl NameMangling for Standard {
         world: WorldId,
         exports: &'a IndexSet<WorldKey>,
     ) -> Result<Option<(&'a WorldKey, Option<InterfaceId>, &'a Function)>, AllocError> {
-        matched_export(alloc, ExportSyntax::Barred, name, resolve, world, exports)
+        matched_export(alloc, ExportSyntax::Standard, name, resolve, world, exports)
     }
 
     fn match_wit_resource_dtor<'a>(
@@ -203,7 +203,7 @@ impl NameMangling for Standard {
         world: WorldId,
         exports: &'a IndexSet<WorldKey>,
     ) -> Result<Option<TypeId>, AllocError> {
-        matched_destructor(alloc, ExportSyntax::Barred, name, resolve, world, exports)
+        matched_destructor(alloc, ExportSyntax::Standard, name, resolve, world, exports)
     }
 }
 
@@ -224,6 +224,6 @@ impl NameIndexes for Standard {
         world: WorldId,
         exports: &'a IndexSet<WorldKey>,
     ) -> Result<ExportNames<'a>, AllocError> {
-        ExportNames::new(alloc, ExportSyntax::Barred, resolve, world, exports)
+        ExportNames::new(alloc, ExportSyntax::Standard, resolve, world, exports)
     }
 }

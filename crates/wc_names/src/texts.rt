@@ -4,7 +4,7 @@ ghost use Rattle.std.specs.Prelude.{◌≡◌, ◌++◌, ◌<◌, ℕ, List, Mat
 ghost use Rattle.wc_read.specs.declared.types.ValType.{ValType};
 ghost use Rattle.wc_names.specs.Builtins.{pointer_suffixes, slot_prefixes};
 ghost use Rattle.wc_names.specs.Finds.{Finds};
-ghost use Rattle.wc_names.specs.Texts.{IsChoice, IsSlot, IsSplitAtFirst, Lacks, SpellsNumber};
+ghost use Rattle.wc_names.specs.Texts.{IsChoice, IsSlot, IsSplitAtFirst, Lacks, SpellsNumber, HasNoSlot, HasSlot};
 
 use wc_read::ValType;
 
@@ -73,10 +73,8 @@ pub(crate) fn pointer_type(name: &str, first: &str, last: &str) -> Option<ValTyp
 
 /// The number after a beginning, with this type.
 fn number_after(text: &str, first: &str, ty: ValType) -> Option<(ValType, u32)>
-    ensures { MatchOption result
-        ((rest : List ℕ) (n : ℕ) → text.now ≡ first.now ++ rest → ¬ SpellsNumber n rest)
-        (λ slot. (slot.0 ≡ ty) × (rest : List ℕ) × (text.now ≡ first.now ++ rest)
-        × SpellsNumber slot.1 rest) }
+    ensures { MatchOption result (HasNoSlot text.now first.now)
+        (HasSlot ty text.now first.now) }
 {
     match after(text, first) {
         Some(digits) => match number(digits) {

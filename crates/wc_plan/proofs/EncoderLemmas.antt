@@ -32,8 +32,8 @@ module _ (options : OptionsOf) (e : EncoderView) where
   module _ (w : ComponentWorldView) (made : IsWorldOf options e w) where
     pub planned : (r : Result Plan PlanFault) → IfOk r (λ p. plan_view p ≡ plan_of w) → OnOk r (HasNoFault w)
         → IfOk r (λ p. (x : ComponentWorldView) × IsWorldOf options e x × HasNoFault x × (plan_view p ≡ plan_of x))
-    planned (Ok p) h sound = (w, made, sound, h)
-    planned (Err f) h sound = tt
+    planned (Ok p) h servable = (w, made, servable, h)
+    planned (Err f) h servable = tt
 
     no_world_fault : (g : WorldFault) (p : IsFirstFault w (World g)) (k : UseFault) → p.kind ≡ k → ⊥
     no_world_fault g p no_memory is = subst (λ k. IsFaultNamed k p.at.0.name (World g)) is p.named

@@ -2,12 +2,12 @@
 use Rattle.std.proofs.Common.{◌≡◌, ◌∷◌, ◌++◌, All, Some, None, sym, ◌∙◌, subst}
 use Rattle.std.proofs.lemmas.List.Elements.{All-head}
 use Rattle.wc_world.specs.Views.{ComponentWorldView}
-use Rattle.wc_plan.specs.Faults.{HasNoFault, IsFirstFault, IsSound}
+use Rattle.wc_plan.specs.Faults.{HasNoFault, IsFirstFault, IsServable}
 use Rattle.wc_plan.specs.declared.fault.PlanFault.{PlanFault}
-use Rattle.wc_plan.proofs.ModuleLemmas.{all_right}
+use Rattle.wc_world.proofs.PairListLemmas.{all_back}
 
 pub no_first_fault : (w : ComponentWorldView) (f : PlanFault) → HasNoFault w → ¬ IsFirstFault w f
-no_first_fault w f sound p =
-    let cut : All (IsSound w) (p.front ++ p.at ∷ p.back) = subst (All (IsSound w)) p.cut sound in
-    let bad : Some p.kind ≡ None = sym p.stopped ∙ All-head (IsSound w) p.at p.back (all_right (IsSound w) p.front (p.at ∷ p.back) cut) in
+no_first_fault w f servable p =
+    let cut : All (IsServable w) (p.front ++ p.at ∷ p.back) = subst (All (IsServable w)) p.cut servable in
+    let bad : Some p.kind ≡ None = sym p.stopped ∙ All-head (IsServable w) p.at p.back (all_back (IsServable w) p.front (p.at ∷ p.back) cut) in
     cc bad

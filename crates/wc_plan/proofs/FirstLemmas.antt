@@ -1,33 +1,21 @@
 -- Of equal functions the first, found one after another.
-use Rattle.std.proofs.Common.{◌≡◌, ℕ, List, [], ◌∷◌, ◌++◌, Bool, true, false, cond, ◌&&◌, ◌||◌, Option, Some, None, refl, sym, ◌∙◌, ap, subst}
+use Rattle.std.proofs.Common.{◌≡◌, ℕ, List, [], ◌∷◌, ◌++◌, Bool, true, false, cond, ◌&&◌, ◌||◌, Option, Some, None, refl, ◌∙◌, ap, subst}
 use Rattle.std.specs.Prelude.{not, filter}
 use Rattle.std.specs.List.{list_any}
 use Rattle.std.specs.Option.{option_eq}
 use Rattle.std.specs.Str.{bytes_eq}
 use Rattle.std.proofs.lemmas.List.Folds.{list_any-append}
 use Rattle.std.proofs.lemmas.Slice.Eq.{bytes_eq-Decides}
+use Rattle.std.proofs.lemmas.Bool.{and_parts}
 use Rattle.wc_resolve.specs.declared.functions.AbiVariant.{AbiVariant}
 use Rattle.wc_resolve.specs.declared.functions.AbiVariant.TheVariants.{GuestImport, GuestExport, GuestImportAsync, GuestExportAsync, GuestExportAsyncStackful}
 use Rattle.wc_world.specs.FunctionsLowered.{abi_eq}
 use Rattle.wc_plan.specs.Calls.{Wanted, call_eq, firsts, owner_eq}
 use Rattle.wc_plan.specs.Progress.{is_seen, left}
 use Rattle.wc_plan.specs.Views.{CallView, OwnerView, adapter_owner, main_owner}
+use Rattle.wc_world.proofs.RequiredLemmas.{bytes_turned}
 
 -- what is equal by tests is equal
-
-bytes_at : (m n : List ℕ) (a b : Bool) → bytes_eq m n ≡ a → bytes_eq n m ≡ b → a ≡ b
-bytes_at m n true true h g = refl
-bytes_at m n false false h g = refl
-bytes_at m n true false h g = sym ((bytes_eq-Decides n m).1 (sym ((bytes_eq-Decides m n).0 h))) ∙ g
-bytes_at m n false true h g = sym h ∙ (bytes_eq-Decides m n).1 (sym ((bytes_eq-Decides n m).0 g))
-
-bytes_turned : (m n : List ℕ) → bytes_eq m n ≡ bytes_eq n m
-bytes_turned m n = bytes_at m n (bytes_eq m n) (bytes_eq n m) refl refl
-
-both_true : (a b : Bool) → (a && b) ≡ true → (a ≡ true) × (b ≡ true)
-both_true true true h = (refl, refl)
-both_true true false h = absurd (let bad : ⊥ = cc h in bad)
-both_true false b h = absurd (let bad : ⊥ = cc h in bad)
 
 owner_is : (a b : OwnerView) → owner_eq a b ≡ true → a ≡ b
 owner_is main_owner main_owner h = refl
@@ -54,12 +42,13 @@ call owner interface name abi = record { owner = owner; interface = interface; n
 
 pub call_is : (a b : CallView) → call_eq a b ≡ true → a ≡ b
 call_is a b h =
-    let owner = both_true (owner_eq a.owner b.owner) (option_eq bytes_eq a.interface b.interface && (bytes_eq a.name b.name && abi_eq a.abi b.abi)) h in
-    let interface = both_true (option_eq bytes_eq a.interface b.interface) (bytes_eq a.name b.name && abi_eq a.abi b.abi) owner.1 in
-    let name = both_true (bytes_eq a.name b.name) (abi_eq a.abi b.abi) interface.1 in
+    let owner = and_parts (owner_eq a.owner b.owner) (option_eq bytes_eq a.interface b.interface && (bytes_eq a.name b.name && abi_eq a.abi b.abi)) h in
+    let interface = and_parts (option_eq bytes_eq a.interface b.interface) (bytes_eq a.name b.name && abi_eq a.abi b.abi) owner.1 in
+    let name = and_parts (bytes_eq a.name b.name) (abi_eq a.abi b.abi) interface.1 in
     ap (λ z. call z a.interface a.name a.abi) (owner_is a.owner b.owner owner.0)
     ∙ (ap (λ z. call b.owner z a.name a.abi) (interface_is a.interface b.interface interface.0)
-    ∙ (ap (λ z. call b.owner b.interface z a.abi) ((bytes_eq-Decides a.name b.name).0 name.0) ∙ ap (call b.owner b.interface b.name) (abi_is a.abi b.abi name.1)))
+    ∙ (ap (λ z. call b.owner b.interface z a.abi) ((bytes_eq-Decides a.name b.name).0 name.0)
+    ∙ ap (call b.owner b.interface b.name) (abi_is a.abi b.abi name.1)))
 
 -- the tests don't ask for an order
 
@@ -90,7 +79,8 @@ call_turned a b =
 -- what passes one test of those that pass another
 
 module _ {X : Type 0} (p q r : X → Bool) where
-  filter_at : (x : X) (xs : List X) (a b c : Bool) → c ≡ (b && a) → p x ≡ a → filter p (filter q xs) ≡ filter r xs → filter p (cond b (x ∷ filter q xs) (filter q xs)) ≡ cond c (x ∷ filter r xs) (filter r xs)
+  filter_at : (x : X) (xs : List X) (a b c : Bool) → c ≡ (b && a) → p x ≡ a → filter p (filter q xs) ≡ filter r xs
+      → filter p (cond b (x ∷ filter q xs) (filter q xs)) ≡ cond c (x ∷ filter r xs) (filter r xs)
   filter_at x xs true true c is test rest = rw (test, is) (ap (λ z. x ∷ z) rest)
   filter_at x xs false true c is test rest = rw (test, is) rest
   filter_at x xs a false c is test rest = rw is rest
@@ -119,7 +109,8 @@ module _ (x : Wanted) (xs : List Wanted) (seen : List CallView) where
 
   pub left_seen : is_seen seen x ≡ true → left seen (x ∷ xs) ≡ left seen xs
   left_seen there =
-      ap (λ b. cond (not b) (x ∷ filter (λ y. not (is_seen seen y)) (filter Other (firsts xs))) (filter (λ y. not (is_seen seen y)) (filter Other (firsts xs)))) there
+      ap (λ b. cond (not b) (x ∷ filter (λ y. not (is_seen seen y)) (filter Other (firsts xs)))
+      (filter (λ y. not (is_seen seen y)) (filter Other (firsts xs)))) there
       ∙ filter_after (λ y. not (is_seen seen y)) Other (λ y. not (is_seen seen y)) (λ y. seen_at y (call_eq x.0 y.0) refl there) (firsts xs)
 
   new_at : (a b : Bool) → not (a || (b || false)) ≡ (not b && not a)
@@ -130,7 +121,9 @@ module _ (x : Wanted) (xs : List Wanted) (seen : List CallView) where
 
   pub left_new : is_seen seen x ≡ false → left seen (x ∷ xs) ≡ x ∷ left (seen ++ x.0 ∷ []) xs
   left_new new =
-      ap (λ b. cond (not b) (x ∷ filter (λ y. not (is_seen seen y)) (filter Other (firsts xs))) (filter (λ y. not (is_seen seen y)) (filter Other (firsts xs)))) new
+      ap (λ b. cond (not b) (x ∷ filter (λ y. not (is_seen seen y)) (filter Other (firsts xs)))
+      (filter (λ y. not (is_seen seen y)) (filter Other (firsts xs)))) new
       ∙ ap (λ z. x ∷ z)
       (filter_after (λ y. not (is_seen seen y)) Other (λ y. not (is_seen (seen ++ x.0 ∷ []) y))
-      (λ y. ap not (list_any-append (call_eq y.0) seen (x.0 ∷ [])) ∙ (ap (λ b. not (is_seen seen y || (b || false))) (call_turned y.0 x.0) ∙ new_at (is_seen seen y) (call_eq x.0 y.0))) (firsts xs))
+      (λ y. ap not (list_any-append (call_eq y.0) seen (x.0 ∷ [])) ∙ (ap (λ b. not (is_seen seen y || (b || false))) (call_turned y.0 x.0)
+      ∙ new_at (is_seen seen y) (call_eq x.0 y.0))) (firsts xs))

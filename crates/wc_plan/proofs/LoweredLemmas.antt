@@ -6,8 +6,8 @@ use Rattle.std.specs.Option.{IsSome, option_map}
 use Rattle.std.proofs.lemmas.List.Elements.{All-append, All-cons, All-filter, All-head, All-nil, All-tail, All-weaker}
 use Rattle.wc_resolve.specs.World.{ResolveView}
 use Rattle.wc_names.specs.Views.{ImportView, interface_func, world_func}
-use Rattle.wc_validate.specs.ExportMaps.{ExportRecord}
-use Rattle.wc_validate.specs.ImportMaps.{imports_in}
+use Rattle.wc_validate.specs.Exports.Map.{ExportRecord}
+use Rattle.wc_validate.specs.Imports.Map.{imports_in}
 use Rattle.wc_world.specs.FunctionsLowered.{IsLoweredIn}
 use Rattle.wc_world.specs.Slots.{all_imports, imports_of}
 use Rattle.wc_world.specs.Views.{ComponentWorldView, ImportMapView, LoweringView, NamedWorldAdapter}
@@ -19,7 +19,8 @@ use Rattle.wc_plan.specs.Progress.{IsPlanFault}
 use Rattle.wc_plan.specs.Views.{CallView, OwnerView, adapter_owner, main_owner}
 use Rattle.wc_plan.specs.declared.fault.PlanFault.{PlanFault}
 use Rattle.wc_plan.specs.declared.fault.PlanFault.TheVariants.{NoLowering}
-use Rattle.wc_plan.proofs.ModuleLemmas.{Single, all_right, of_adapters, of_main}
+use Rattle.wc_plan.proofs.ModuleLemmas.{Single, of_adapters, of_main}
+use Rattle.wc_world.proofs.PairListLemmas.{all_back}
 
 lowered_nameable : (r : ResolveView) (m : ImportMapView) (i : ImportView) → IsLoweredIn r m i → IsNameable r i
 lowered_nameable r m (interface_func key i name abi) h = (h.0, h.1)
@@ -29,13 +30,15 @@ abbrev AreLowered : ComponentWorldView → Type 0
 AreLowered w = All (IsLoweredIn w.encoder.resolve w.import_map) (imports_of (all_imports w.info w.adapters))
 
 pub lowered_are_nameable : (w : ComponentWorldView) → AreLowered w → AreNameable w
-lowered_are_nameable w h = All-weaker (IsLoweredIn w.encoder.resolve w.import_map) (IsNameable w.encoder.resolve) (lowered_nameable w.encoder.resolve w.import_map) (imports_of (all_imports w.info w.adapters)) h
+lowered_are_nameable w h = All-weaker (IsLoweredIn w.encoder.resolve w.import_map) (IsNameable w.encoder.resolve)
+    (lowered_nameable w.encoder.resolve w.import_map) (imports_of (all_imports w.info w.adapters)) h
 
 module _ (w : ComponentWorldView) where
   abbrev HasLowering : Wanted → Type 0
   HasLowering x = IsSome (lowering_of w x.0)
 
-  one_wanted : (owner : OwnerView) (exports : ExportRecord) (i : ImportView) (rest : List Wanted) → IsLoweredIn w.encoder.resolve w.import_map i → All HasLowering rest
+  one_wanted : (owner : OwnerView) (exports : ExportRecord) (i : ImportView) (rest : List Wanted) → IsLoweredIn w.encoder.resolve w.import_map i
+      → All HasLowering rest
       → All HasLowering (cons_option (option_map (λ (c : CallView). (c, exports)) (call_of w.encoder.resolve owner i)) rest)
   one_wanted owner exports (world_func key name abi) rest h later = All-cons HasLowering _ rest h later
   one_wanted owner exports (interface_func key i name abi) rest h later = All-cons HasLowering _ rest h.2 later
@@ -45,16 +48,22 @@ module _ (w : ComponentWorldView) where
       → All HasLowering (filter_map (λ (x : Single). option_map (λ (c : CallView). (c, exports)) (call_of w.encoder.resolve owner x.1.1)) xs)
   module_wanted owner exports [] h = All-nil HasLowering
   module_wanted owner exports (x ∷ xs) h =
-      one_wanted owner exports x.1.1 (filter_map (λ (x : Single). option_map (λ (c : CallView). (c, exports)) (call_of w.encoder.resolve owner x.1.1)) xs) (All-head (IsLoweredIn w.encoder.resolve w.import_map) x.1.1 (imports_of xs) h)
+      one_wanted owner exports x.1.1 (filter_map
+      (λ (x : Single). option_map (λ (c : CallView). (c, exports)) (call_of w.encoder.resolve owner x.1.1)) xs)
+      (All-head (IsLoweredIn w.encoder.resolve w.import_map) x.1.1 (imports_of xs) h)
       (module_wanted owner exports xs (All-tail (IsLoweredIn w.encoder.resolve w.import_map) x.1.1 (imports_of xs) h))
 
-  adapters_wanted : (ys : List NamedWorldAdapter) → All (λ (a : NamedWorldAdapter). All (IsLoweredIn w.encoder.resolve w.import_map) (imports_of (imports_in a.1.info.imports))) ys
+  adapters_wanted : (ys : List NamedWorldAdapter)
+      → All (λ (a : NamedWorldAdapter). All (IsLoweredIn w.encoder.resolve w.import_map) (imports_of (imports_in a.1.info.imports))) ys
       → All HasLowering (flat_map (λ (a : NamedWorldAdapter). wanted_by w.encoder.resolve (adapter_owner a.0) a.1.info) ys)
   adapters_wanted [] h = All-nil HasLowering
   adapters_wanted (a ∷ ys) h =
-      All-append HasLowering (wanted_by w.encoder.resolve (adapter_owner a.0) a.1.info) (flat_map (λ (a : NamedWorldAdapter). wanted_by w.encoder.resolve (adapter_owner a.0) a.1.info) ys)
-      (module_wanted (adapter_owner a.0) a.1.info.exports (imports_in a.1.info.imports) (All-head (λ (a : NamedWorldAdapter). All (IsLoweredIn w.encoder.resolve w.import_map) (imports_of (imports_in a.1.info.imports))) a ys h))
-      (adapters_wanted ys (All-tail (λ (a : NamedWorldAdapter). All (IsLoweredIn w.encoder.resolve w.import_map) (imports_of (imports_in a.1.info.imports))) a ys h))
+      All-append HasLowering (wanted_by w.encoder.resolve (adapter_owner a.0) a.1.info)
+      (flat_map (λ (a : NamedWorldAdapter). wanted_by w.encoder.resolve (adapter_owner a.0) a.1.info) ys)
+      (module_wanted (adapter_owner a.0) a.1.info.exports (imports_in a.1.info.imports)
+      (All-head (λ (a : NamedWorldAdapter). All (IsLoweredIn w.encoder.resolve w.import_map) (imports_of (imports_in a.1.info.imports))) a ys h))
+      (adapters_wanted ys (All-tail (λ (a : NamedWorldAdapter). All (IsLoweredIn w.encoder.resolve w.import_map)
+      (imports_of (imports_in a.1.info.imports))) a ys h))
 
   firsts_have : (xs : List Wanted) → All HasLowering xs → All HasLowering (firsts xs)
   firsts_have [] h = h
@@ -64,8 +73,10 @@ module _ (w : ComponentWorldView) where
 
   wanted_have : AreLowered w → All HasLowering (wanted w)
   wanted_have h =
-      firsts_have (all_wanted w) (All-append HasLowering (wanted_by w.encoder.resolve main_owner w.info) (flat_map (λ (a : NamedWorldAdapter). wanted_by w.encoder.resolve (adapter_owner a.0) a.1.info) w.adapters)
-      (module_wanted main_owner w.info.exports (imports_in w.info.imports) (of_main (IsLoweredIn w.encoder.resolve w.import_map) w h)) (adapters_wanted w.adapters (of_adapters (IsLoweredIn w.encoder.resolve w.import_map) w h)))
+      firsts_have (all_wanted w) (All-append HasLowering (wanted_by w.encoder.resolve main_owner w.info)
+      (flat_map (λ (a : NamedWorldAdapter). wanted_by w.encoder.resolve (adapter_owner a.0) a.1.info) w.adapters)
+      (module_wanted main_owner w.info.exports (imports_in w.info.imports) (of_main (IsLoweredIn w.encoder.resolve w.import_map) w h))
+      (adapters_wanted w.adapters (of_adapters (IsLoweredIn w.encoder.resolve w.import_map) w h)))
 
   two_faults : (a b : Bool) → cond a (Some no_memory) (cond b (Some no_realloc) None) ≡ Some no_lowering → ⊥
   two_faults true b h = cc h
@@ -78,7 +89,9 @@ module _ (w : ComponentWorldView) where
 
   not_first : (name : String Global) (kind : UseFault) (p : IsFirstFault w (NoLowering name)) → p.kind ≡ kind → AreLowered w → ⊥
   not_first name no_lowering p is h =
-      not_missing p.at (lowering_of w p.at.0) (All-head HasLowering p.at p.back (all_right HasLowering p.front (p.at ∷ p.back) (subst (All HasLowering) p.cut (wanted_have h)))) (p.stopped ∙ ap (λ (k : UseFault). Some k) is)
+      not_missing p.at (lowering_of w p.at.0)
+      (All-head HasLowering p.at p.back (all_back HasLowering p.front (p.at ∷ p.back) (subst (All HasLowering) p.cut (wanted_have h))))
+      (p.stopped ∙ ap (λ (k : UseFault). Some k) is)
   not_first name kind p is h = subst (λ k. IsFaultNamed k p.at.0.name (NoLowering name)) is p.named
 
   first_is_lowered : (f : PlanFault) → AreLowered w → IsFirstFault w f → IsLowered f

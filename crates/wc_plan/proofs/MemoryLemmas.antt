@@ -5,8 +5,8 @@ use Rattle.std.specs.Borrow.{Bor}
 use Rattle.std.specs.Option.{option_and_then, option_map}
 use Rattle.wc_read.specs.declared.types.MemoryType.{MemoryType}
 use Rattle.wc_names.specs.ExportViews.{ExportView, exported_memory}
-use Rattle.wc_validate.specs.ExportMaps.{ExportRecord, first_that, is_memory, memory_of}
-use Rattle.wc_validate.specs.ImportMaps.{memory_in}
+use Rattle.wc_validate.specs.Exports.Map.{ExportRecord, first_that, is_memory, memory_of}
+use Rattle.wc_validate.specs.Imports.Map.{memory_in}
 use Rattle.wc_validate.specs.Validated.{ModuleRecord}
 use Rattle.wc_plan.specs.Plans.{has_memory}
 

@@ -8,8 +8,8 @@ use Rattle.wc_resolve.specs.Queries.{key_text}
 use Rattle.wc_resolve.specs.Ranges.{IsKeyIn}
 use Rattle.wc_resolve.specs.World.{ResolveView}
 use Rattle.wc_names.specs.Views.{ImportView, interface_func, world_func}
-use Rattle.wc_validate.specs.ExportMaps.{ExportRecord}
-use Rattle.wc_validate.specs.ImportMaps.{imports_in}
+use Rattle.wc_validate.specs.Exports.Map.{ExportRecord}
+use Rattle.wc_validate.specs.Imports.Map.{imports_in}
 use Rattle.wc_validate.specs.Validated.{ModuleRecord}
 use Rattle.wc_world.specs.FunctionsLowered.{abi_eq}
 use Rattle.wc_world.specs.Views.{ComponentWorldView, NamedWorldAdapter}
@@ -30,11 +30,11 @@ IsNameable r import = Unit {0}
 abbrev pub Wanted : Type 0
 Wanted = CallView × ExportRecord
 
--- those of a module, in the order in which they are recorded
+-- the functions that a module imports, in the order in which they are recorded
 abbrev pub wanted_by : ResolveView → OwnerView → ModuleRecord → List Wanted
 wanted_by r owner m = filter_map (λ (x : List ℕ × (List ℕ × ImportView)). option_map (λ (c : CallView). (c, m.exports)) (call_of r owner x.1.1)) (imports_in m.imports)
 
--- those of the main module, and then those of each adapter, in order
+-- the functions that the main module imports, and then those of each adapter, in order
 abbrev pub all_wanted : ComponentWorldView → List Wanted
 all_wanted w =
     wanted_by w.encoder.resolve main_owner w.info

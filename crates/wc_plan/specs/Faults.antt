@@ -24,12 +24,12 @@ lowered_fault w x (Some l) =
 abbrev pub fault_of : ComponentWorldView → Wanted → Option UseFault
 fault_of w x = lowered_fault w x (lowering_of w x.0)
 
-abbrev pub IsSound : ComponentWorldView → Wanted → Type 0
-IsSound w x = fault_of w x ≡ None
+abbrev pub IsServable : ComponentWorldView → Wanted → Type 0
+IsServable w x = fault_of w x ≡ None
 
 -- no function has one
 abbrev pub HasNoFault : ComponentWorldView → Type 0
-HasNoFault w = All (IsSound w) (wanted w)
+HasNoFault w = All (IsServable w) (wanted w)
 
 -- a fault carries a function's name
 abbrev pub IsFaultNamed : UseFault → List ℕ → PlanFault → Type 0
@@ -38,14 +38,14 @@ IsFaultNamed no_realloc name (NoRealloc n) = string_bytes n ≡ name
 IsFaultNamed no_lowering name (NoLowering n) = string_bytes n ≡ name
 IsFaultNamed kind name f = ⊥
 
--- that of the first function that has one
+-- a fault is that of the first function that has one
 pub record IsFirstFault (w : ComponentWorldView) (f : PlanFault) : Type 0 where
   pub front : List Wanted
   pub at : Wanted
   pub back : List Wanted
   pub kind : UseFault
   pub cut : wanted w ≡ front ++ at ∷ back
-  pub sound : All (IsSound w) front
+  pub servable : All (IsServable w) front
   pub stopped : fault_of w at ≡ Some kind
   pub named : IsFaultNamed kind at.0.name f
 

@@ -10,6 +10,6 @@ use Rattle.wc_plan.specs.declared.fault.PlanFault.{PlanFault}
 abbrev pub WorldsNameable : EncoderView → Type 0
 WorldsNameable e = (options : OptionsOf) (w : ComponentWorldView) → IsWorldOf options e w → AreNameable w
 
--- where no function has a fault, none is the first
+-- where no function has a fault, there is no first fault
 abbrev pub PlansExcludeFaults : Type 0
 PlansExcludeFaults = (w : ComponentWorldView) (f : PlanFault) → HasNoFault w → ¬ IsFirstFault w f

@@ -2,8 +2,8 @@
 use Rattle.std.specs.Prelude.{ℕ, ◌+◌, ◌==◌, List, [], ◌∷◌, Bool, true, false, ◌||◌, Option, Some, None, is_some, cond, if◌then◌else◌}
 use Rattle.std.specs.Int.RustNames.{bit_and}
 use Rattle.std.specs.Option.{option_map_or}
-use Rattle.wc_validate.specs.ExportMaps.{ExportRecord, first_name, first_that, is_import_realloc, is_memory, own_or_general}
-use Rattle.wc_validate.specs.ImportMaps.{memory_in}
+use Rattle.wc_validate.specs.Exports.Map.{ExportRecord, first_name, first_that, is_import_realloc, is_memory, own_or_general}
+use Rattle.wc_validate.specs.Imports.Map.{memory_in}
 use Rattle.wc_validate.specs.Validated.{ModuleRecord}
 use Rattle.wc_world.specs.FunctionsLowered.{lowering_at}
 use Rattle.wc_world.specs.Views.{ComponentWorldView, LoweringView, direct, indirect, resource_drop}
@@ -14,7 +14,7 @@ use Rattle.wc_plan.specs.Views.{CallView, UseView}
 abbrev pub lowering_of : ComponentWorldView → CallView → Option LoweringView
 lowering_of w c = lowering_at w.import_map c.interface c.name c.abi
 
--- its options, as bits: memory is 1, realloc 2
+-- the options of a lowering, as bits: memory is 1, realloc 2
 abbrev pub options_of : LoweringView → ℕ
 options_of (direct options) = options
 options_of (indirect sig options) = options

@@ -1,5 +1,5 @@
 -- A plan that is made function by function.
-use Rattle.std.specs.Prelude.{◌≡◌, ◌⊎◌, ℕ, ◌≤◌, List, ◌++◌, map, length, filter, not, All, Bool, Option, Some, None, String}
+use Rattle.std.specs.Prelude.{◌≡◌, ◌⊎◌, ℕ, ◌≤◌, List, ◌++◌, map, length, filter, not, All, Bool, Option, Some, None, Result, IfErr, OnOk, String}
 use Rattle.std.specs.Borrow.{Bor}
 use Rattle.std.specs.List.{flat_map, list_any}
 use Rattle.std.specs.Option.{option_copied, option_map}
@@ -7,13 +7,13 @@ use Rattle.std.specs.declared.alloc.Global.{Global}
 use Rattle.wc_resolve.specs.declared.functions.AbiVariant.{AbiVariant}
 use Rattle.wc_resolve.specs.World.{ResolveView}
 use Rattle.wc_names.specs.Views.{ImportView}
-use Rattle.wc_validate.specs.ImportMaps.{imports_in}
+use Rattle.wc_validate.specs.Imports.Map.{imports_in}
 use Rattle.wc_validate.specs.Validated.{ModuleRecord}
 use Rattle.wc_world.specs.Slots.{imports_of}
 use Rattle.wc_world.specs.Views.{ComponentWorldView, NamedWorldAdapter}
 use Rattle.wc_world.specs.WorldViews.{world_view}
 use Rattle.wc_plan.specs.Calls.{IsNameable, Wanted, call_eq, call_of, firsts, wanted, wanted_by}
-use Rattle.wc_plan.specs.Faults.{IsFaultNamed, IsFirstFault, IsSound, UseFault, fault_of}
+use Rattle.wc_plan.specs.Faults.{IsFaultNamed, IsFirstFault, IsServable, UseFault, fault_of}
 use Rattle.wc_plan.specs.Plans.{has_memory, uses_from}
 use Rattle.wc_plan.specs.PlanViews.{call_view, use_view}
 use Rattle.wc_plan.specs.Views.{CallView, OwnerView, UseView, adapter_owner, main_owner}
@@ -70,7 +70,7 @@ left seen xs = filter (λ (x : Wanted). not (is_seen seen x)) (firsts xs)
 pub record Progress (w : ComponentWorldView) (rest : List Wanted) (seen : List CallView) (uses : List UseView) (slots : ℕ) : Type 0 where
   pub front : List Wanted
   pub cut : wanted w ≡ front ++ left seen rest
-  pub sound : All (IsSound w) front
+  pub servable : All (IsServable w) front
   pub made : uses_from w 0 (wanted w) ≡ uses ++ uses_from w slots (left seen rest)
 
 abbrev pub seen_view : Option (Bor (List ℕ)) × Call → CallView
@@ -79,7 +79,7 @@ seen_view c = call_view (owner_in c.0) c.1
 abbrev pub IsPlanned : ComponentWorldView → List Wanted → Planner → Type 0
 IsPlanned w rest p = Progress w rest (map seen_view p.seen.keys) (map use_view p.uses.items) p.slots
 
--- as many uses as slots at least
+-- a plan in progress has as many uses as slots at least
 abbrev pub IsCounted : Planner → Type 0
 IsCounted p = p.slots ≤ length p.uses.items
 
@@ -90,3 +90,11 @@ IsCallFault w x f = (f ≡ Memory) ⊎ ((kind : UseFault) × (fault_of w x ≡ S
 -- the first function that has a fault has this one, or memory ran out
 abbrev pub IsPlanFault : ComponentWorldView → PlanFault → Type 0
 IsPlanFault w f = (f ≡ Memory) ⊎ IsFirstFault w f
+
+-- The functions that come next are planned, once all before them are. Or else the first fault of all is answered.
+
+abbrev pub Plans : {X : Type 0} → ComponentWorldView → (List Wanted → List Wanted) → Planner → Planner → Result X PlanFault → Type 0
+Plans w next old new result = (rest : List Wanted) → IsPlanned w (next rest) old → OnOk result (IsPlanned w rest new)
+
+abbrev pub RefusesPlan : {X : Type 0} → ComponentWorldView → (List Wanted → List Wanted) → Planner → Result X PlanFault → Type 0
+RefusesPlan w next old result = (rest : List Wanted) → IsPlanned w (next rest) old → IfErr result (IsPlanFault w)

@@ -1,17 +1,17 @@
 //! Plans, function by function.
 
-ghost use Rattle.std.specs.Prelude.{◌≡◌, ◌+◌, ◌++◌, ◌∷◌, [], All, IfErr, IfOk, List, None, OnOk, cond, if◌then◌else◌, is_some, string_bytes};
+ghost use Rattle.std.specs.Prelude.{◌≡◌, ◌+◌, ◌++◌, ◌∷◌, [], All, IfErr, IfOk, None, OnOk, cond, if◌then◌else◌, is_some, string_bytes};
 ghost use Rattle.std.specs.List.{cons_option};
 ghost use Rattle.std.specs.Option.{option_map};
 ghost use Rattle.wc_names.specs.Views.{import_view};
 ghost use Rattle.wc_validate.specs.Validated.{module_record};
 ghost use Rattle.wc_world.specs.WorldViews.{lowering_view, world_view};
-ghost use Rattle.wc_plan.specs.Calls.{IsNameable, Wanted, all_wanted, wanted_by};
+ghost use Rattle.wc_plan.specs.Calls.{IsNameable, all_wanted, wanted_by};
 ghost use Rattle.wc_plan.specs.Plans.{has_memory, import_realloc, needs, plan_of, use_of};
 ghost use Rattle.wc_plan.specs.PlanViews.{call_view, owner_view, plan_view, use_view};
-ghost use Rattle.wc_plan.specs.Faults.{AreNameable, HasNoFault, IsSound};
+ghost use Rattle.wc_plan.specs.Faults.{AreNameable, HasNoFault, IsServable};
 ghost use Rattle.wc_plan.specs.Views.{OwnerView};
-ghost use Rattle.wc_plan.specs.Progress.{AreModuleNameable, IsCallFault, IsContext, IsCounted, IsPlanFault, IsPlanned, owner_in, wanted_by_adapters, wanted_call, wanted_import, world_in};
+ghost use Rattle.wc_plan.specs.Progress.{AreModuleNameable, IsCallFault, IsContext, IsCounted, IsPlanFault, IsPlanned, Plans, RefusesPlan, owner_in, wanted_by_adapters, wanted_call, wanted_import, world_in};
 
 use crate::calls::{Call, call_of};
 use crate::fault::PlanFault;
@@ -107,7 +107,7 @@ fn use_of(
     requires { IsContext context }
     ensures made { IfOk result (λ u. use_view u
         ≡ use_of (world_in context.entry) slots (wanted_call importer.entry call)) }
-    ensures sound { OnOk result (IsSound (world_in context.entry)
+    ensures servable { OnOk result (IsServable (world_in context.entry)
         (wanted_call importer.entry call)) }
     ensures fault { IfErr result (IsCallFault (world_in context.entry)
         (wanted_call importer.entry call)) }
@@ -165,12 +165,10 @@ fn add_call<'a>(
     requires world { IsContext context }
     requires counted { IsCounted planner.old }
     ensures counted { OnOk result (IsCounted planner.new) }
-    ensures made { (rest : List Wanted) → IsPlanned (world_in context.entry)
-        (wanted_call importer.entry call ∷ rest) planner.old
-        → OnOk result (IsPlanned (world_in context.entry) rest planner.new) }
-    ensures fault { (rest : List Wanted) → IsPlanned (world_in context.entry)
-        (wanted_call importer.entry call ∷ rest) planner.old
-        → IfErr result (IsPlanFault (world_in context.entry)) }
+    ensures made { Plans (world_in context.entry)
+        (λ rest. wanted_call importer.entry call ∷ rest) planner.old planner.new result }
+    ensures fault { RefusesPlan (world_in context.entry)
+        (λ rest. wanted_call importer.entry call ∷ rest) planner.old result }
 {
     let copy = copy_of(alloc, &call)?;
     let is_new = planner.seen.insert((importer.owner, copy))?;
@@ -195,14 +193,12 @@ fn add_import<'a>(
     requires world { IsContext context }
     requires counted { IsCounted planner.old }
     ensures counted { OnOk result (IsCounted planner.new) }
-    ensures made { (rest : List Wanted) → IsPlanned (world_in context.entry)
-        (cons_option (wanted_import (world_in context.entry).encoder.resolve importer.entry
-        (import_view import.now)) rest) planner.old
-        → OnOk result (IsPlanned (world_in context.entry) rest planner.new) }
-    ensures fault { (rest : List Wanted) → IsPlanned (world_in context.entry)
-        (cons_option (wanted_import (world_in context.entry).encoder.resolve importer.entry
-        (import_view import.now)) rest) planner.old
-        → IfErr result (IsPlanFault (world_in context.entry)) }
+    ensures made { let w = world_in context.entry in Plans w (cons_option
+        (wanted_import w.encoder.resolve importer.entry (import_view import.now)))
+        planner.old planner.new result }
+    ensures fault { let w = world_in context.entry in RefusesPlan w (cons_option
+        (wanted_import w.encoder.resolve importer.entry (import_view import.now)))
+        planner.old result }
 {
     let metadata = context.world.encoder.metadata();
     match call_of(alloc, &metadata.resolve, import)? {
@@ -224,14 +220,12 @@ fn add_module<'a>(
     requires world { IsContext context }
     requires counted { IsCounted planner.old }
     ensures counted { OnOk result (IsCounted planner.new) }
-    ensures made { (rest : List Wanted) → IsPlanned (world_in context.entry)
-        (wanted_by (world_in context.entry).encoder.resolve (owner_in owner.entry)
-        (module_record info.now) ++ rest) planner.old
-        → OnOk result (IsPlanned (world_in context.entry) rest planner.new) }
-    ensures fault { (rest : List Wanted) → IsPlanned (world_in context.entry)
-        (wanted_by (world_in context.entry).encoder.resolve (owner_in owner.entry)
-        (module_record info.now) ++ rest) planner.old
-        → IfErr result (IsPlanFault (world_in context.entry)) }
+    ensures made { let w = world_in context.entry in Plans w
+        (λ rest. wanted_by w.encoder.resolve (owner_in owner.entry) (module_record info.now)
+        ++ rest) planner.old planner.new result }
+    ensures fault { let w = world_in context.entry in RefusesPlan w
+        (λ rest. wanted_by w.encoder.resolve (owner_in owner.entry) (module_record info.now)
+        ++ rest) planner.old result }
 {
     let importer = Importer {
         owner,
@@ -253,12 +247,10 @@ fn add_adapters<'a>(
         a.1.info) (world_in context).adapters }
     requires world { IsContext context }
     requires counted { IsCounted planner.old }
-    ensures made { (rest : List Wanted) → IsPlanned (world_in context.entry)
-        (wanted_by_adapters (world_in context.entry) ++ rest) planner.old
-        → OnOk result (IsPlanned (world_in context.entry) rest planner.new) }
-    ensures fault { (rest : List Wanted) → IsPlanned (world_in context.entry)
-        (wanted_by_adapters (world_in context.entry) ++ rest) planner.old
-        → IfErr result (IsPlanFault (world_in context.entry)) }
+    ensures made { let w = world_in context.entry in Plans w
+        (λ rest. wanted_by_adapters w ++ rest) planner.old planner.new result }
+    ensures fault { let w = world_in context.entry in RefusesPlan w
+        (λ rest. wanted_by_adapters w ++ rest) planner.old result }
 {
     for (name, adapter) in context.world.adapters.iter() {
         add_module(alloc, context, Some(name), &adapter.info, planner)?;
@@ -302,7 +294,7 @@ fn add_modules<'a>(
 pub fn plan(alloc: Global, world: &ComponentWorld<'_>) -> Result<Plan, PlanFault>
     requires { AreNameable (world_view world.now) }
     ensures plan { IfOk result (λ p. plan_view p ≡ plan_of (world_view world.now)) }
-    ensures sound { OnOk result (HasNoFault (world_view world.now)) }
+    ensures servable { OnOk result (HasNoFault (world_view world.now)) }
     ensures fault { IfErr result (IsPlanFault (world_view world.now)) }
 {
     let mut planner = Planner {

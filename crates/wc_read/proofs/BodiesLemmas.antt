@@ -49,7 +49,7 @@ module _ (bytes : List ℕ) where
   pub too_many : (ls : List Locals) (rest : List ℕ) → vector_at locals_at bytes ≡ Some (ls, rest) → false ≡ nat_lt (local_count ls) (2 ^ 32) → (v : BodyValue) → SpellsBody bytes v → ⊥
   too_many ls rest e many v s =
       let p = body_parts ls rest e v s in
-      absurd (false≢true (many ∙ ap (λ (l : List Locals). nat_lt (local_count l) (2 ^ 32)) p.0 ∙ lt-ltb _ _ s.few_locals))
+      absurd (false≢true (many ∙ ap (λ (l : List Locals). nat_lt (local_count l) (2 ^ 32)) p.0 ∙ lt-ltb _ _ s.locals_fit_u32))
 
   pub no_operators : (ls : List Locals) (rest : List ℕ) → vector_at locals_at bytes ≡ Some (ls, rest) → ((is : List InstrValue) → SpellsItems SpellsInstr rest is → ⊥) → (v : BodyValue) → SpellsBody bytes v → ⊥
   no_operators ls rest e none v s = none v.operators (body_parts ls rest e v s).1
@@ -61,9 +61,9 @@ module _ (bytes : List ℕ) where
       absurd (false≢true (not ∙ ap (λ (os : List InstrValue). is_nested (tokens os)) same ∙ expression_nests (tokens v.operators) s.nests))
 
   pub body_is : (ls : List Locals) (rest : List ℕ) → vector_at locals_at bytes ≡ Some (ls, rest) → true ≡ nat_lt (local_count ls) (2 ^ 32) → (is : List InstrValue) → SpellsItems SpellsInstr rest is → true ≡ is_nested (tokens is) → SpellsBody bytes (record { locals = ls; operators = is })
-  body_is ls rest e few is t nests =
+  body_is ls rest e bounded is t nests =
       let u = runs_meet.parses bytes ls rest e in
-      record { runs = u.0; code = rest; cut = u.1; has_locals = u.2; few_locals = ltb-true (local_count ls) (2 ^ 32) (sym few); has_operators = t; nests = nested_is (tokens is) (sym nests) }
+      record { runs = u.0; code = rest; cut = u.1; has_locals = u.2; locals_fit_u32 = ltb-true (local_count ls) (2 ^ 32) (sym bounded); has_operators = t; nests = nested_is (tokens is) (sym nests) }
 
 made_body : List Locals → List InstrValue → BodyValue
 made_body ls is = record { locals = ls; operators = is }

@@ -19,7 +19,7 @@ use Rattle.wc_read.proofs.TypesLemmas.{val_type_meets}
 use Rattle.wc_read.proofs.LimitsLemmas.{table_meets, memory_meets}
 
 -- A relation of all of the bytes and a value, and a function that finds the value.
-pub record Finds {A : Type 0} (Spells : Format A) (find : List ℕ → Option A) : Type 0 where
+pub record DecidesSpelling {A : Type 0} (Spells : Format A) (find : List ℕ → Option A) : Type 0 where
   pub found : (bytes : List ℕ) (x : A) → find bytes ≡ Some x → Spells bytes x
   pub finds : (bytes : List ℕ) (x : A) → Spells bytes x → find bytes ≡ Some x
 
@@ -40,7 +40,7 @@ read_all_finds Spells read m bytes x s =
     let e : read bytes ≡ Some (x, []) = ap read (sym (append-nil bytes)) ∙ m.again bytes x [] s in
     bind_some (read bytes) _ (x, []) e
 
-pub read_all_meets : {A : Type 0} (Spells : Format A) (read : Read A) → Meets Spells read → Finds Spells (read_all read)
+pub read_all_meets : {A : Type 0} (Spells : Format A) (read : Read A) → Meets Spells read → DecidesSpelling Spells (read_all read)
 read_all_meets Spells read m = record { found = read_all_found Spells read m; finds = read_all_finds Spells read m }
 
 -- what a function over all of some bytes answered, of the relation

@@ -95,23 +95,23 @@ module _ {A : Type 0} (Spells : Format A) (read : Read A) (m : Meets Spells read
 
 nested : (bytes : List ℕ) (ls : List Locals) (rest : List ℕ) → vector_at locals_at bytes ≡ Some (ls, rest) → (is : List InstrValue) → SpellsItems SpellsInstr rest is
     → nat_lt (local_count ls) (2 ^ 32) ≡ true → (b : Bool) → is_closed (steps (false ∷ []) (tokens is)) ≡ b → IsSpelled SpellsBody bytes (option_map (body_of ls) (if b then Some is else None))
-nested bytes ls rest e is s few true h = body_is bytes ls rest e (sym few) is s (sym h)
-nested bytes ls rest e is s few false h = no_nesting bytes ls rest e is s (sym h)
+nested bytes ls rest e is s bounded true h = body_is bytes ls rest e (sym bounded) is s (sym h)
+nested bytes ls rest e is s bounded false h = no_nesting bytes ls rest e is s (sym h)
 
 with_operators : (bytes : List ℕ) (ls : List Locals) (rest : List ℕ) → vector_at locals_at bytes ≡ Some (ls, rest) → nat_lt (local_count ls) (2 ^ 32) ≡ true
     → (o : Option (List InstrValue)) → IsSpelled (SpellsItems SpellsInstr) rest o → IsSpelled SpellsBody bytes (option_map (body_of ls) (o >>= closing (false ∷ [])))
-with_operators bytes ls rest e few None none = no_operators bytes ls rest e none
-with_operators bytes ls rest e few (Some is) s = nested bytes ls rest e is s few (is_closed (steps (false ∷ []) (tokens is))) refl
+with_operators bytes ls rest e bounded None none = no_operators bytes ls rest e none
+with_operators bytes ls rest e bounded (Some is) s = nested bytes ls rest e is s bounded (is_closed (steps (false ∷ []) (tokens is))) refl
 
-few_enough : (bytes : List ℕ) (ls : List Locals) (rest : List ℕ) → vector_at locals_at bytes ≡ Some (ls, rest)
+small_enough : (bytes : List ℕ) (ls : List Locals) (rest : List ℕ) → vector_at locals_at bytes ≡ Some (ls, rest)
     → (b : Bool) → nat_lt (local_count ls) (2 ^ 32) ≡ b → IsSpelled SpellsBody bytes (if b then option_map (body_of ls) (operators_in (false ∷ []) rest) else None)
 unfolding operators_in
-few_enough bytes ls rest e true h = with_operators bytes ls rest e h (to_end_at instr_at (length rest) rest) (spelled_to_end SpellsInstr instr_at instr_meets instr_some (length rest) rest (omega arith))
-few_enough bytes ls rest e false h = too_many bytes ls rest e (sym h)
+small_enough bytes ls rest e true h = with_operators bytes ls rest e h (to_end_at instr_at (length rest) rest) (spelled_to_end SpellsInstr instr_at instr_meets instr_some (length rest) rest (omega arith))
+small_enough bytes ls rest e false h = too_many bytes ls rest e (sym h)
 
 with_locals : (bytes : List ℕ) (o : Option (List Locals × List ℕ)) → vector_at locals_at bytes ≡ o → IsSpelled SpellsBody bytes (o >>= λ locals. body_after locals.0 locals.1)
 with_locals bytes None e = no_locals bytes e
-with_locals bytes (Some (ls, rest)) e = few_enough bytes ls rest e (nat_lt (local_count ls) (2 ^ 32)) refl
+with_locals bytes (Some (ls, rest)) e = small_enough bytes ls rest e (nat_lt (local_count ls) (2 ^ 32)) refl
 
 pub body_spelled : (bytes : List ℕ) → IsSpelled SpellsBody bytes (body_in bytes)
 unfolding body_in
@@ -217,9 +217,9 @@ left_none blocks (b ∷ bytes) t e = ap (λ (o : Option (List InstrValue)). o >>
 pub body_after_locals : (bytes : List ℕ) (ls : List Locals) (rest : List ℕ) → vector_at locals_at bytes ≡ Some (ls, rest) → nat_lt (local_count ls) (2 ^ 32) ≡ true
     → option_map (λ (b : BodyValue). b.operators) (body_in bytes) ≡ operators_in (false ∷ []) rest
 unfolding body_in
-body_after_locals bytes ls rest e few =
+body_after_locals bytes ls rest e bounded =
     ap (λ (o : Option (List Locals × List ℕ)). option_map (λ (b : BodyValue). b.operators) (o >>= λ l. body_after l.0 l.1)) e
-    ∙ (ap (λ (f : Bool). option_map (λ (b : BodyValue). b.operators) (if f then option_map (body_of ls) (operators_in (false ∷ []) rest) else None)) few ∙ same (operators_in (false ∷ []) rest))
+    ∙ (ap (λ (f : Bool). option_map (λ (b : BodyValue). b.operators) (if f then option_map (body_of ls) (operators_in (false ∷ []) rest) else None)) bounded ∙ same (operators_in (false ∷ []) rest))
   where
     same : (o : Option (List InstrValue)) → option_map (λ (b : BodyValue). b.operators) (option_map (body_of ls) o) ≡ o
     same None = refl
@@ -228,8 +228,8 @@ body_after_locals bytes ls rest e few =
 pub body_with_locals : (bytes : List ℕ) (ls : List Locals) (rest : List ℕ) → vector_at locals_at bytes ≡ Some (ls, rest) → nat_lt (local_count ls) (2 ^ 32) ≡ true
     → body_in bytes ≡ option_map (body_of ls) (operators_in (false ∷ []) rest)
 unfolding body_in
-body_with_locals bytes ls rest e few =
-    ap (λ (o : Option (List Locals × List ℕ)). o >>= λ l. body_after l.0 l.1) e ∙ ap (λ (f : Bool). if f then option_map (body_of ls) (operators_in (false ∷ []) rest) else None) few
+body_with_locals bytes ls rest e bounded =
+    ap (λ (o : Option (List Locals × List ℕ)). o >>= λ l. body_after l.0 l.1) e ∙ ap (λ (f : Bool). if f then option_map (body_of ls) (operators_in (false ∷ []) rest) else None) bounded
 
 pub body_no_locals : (bytes : List ℕ) → vector_at locals_at bytes ≡ None → body_in bytes ≡ None
 body_no_locals bytes e = body_missing bytes (no_locals bytes e)

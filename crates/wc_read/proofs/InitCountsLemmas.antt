@@ -69,11 +69,11 @@ module _ (scope : InitScope) (t : ValType) where
   pub record IsCounted (depth counter : ℕ) (rest bytes : List ℕ) : Type 0 where
     pub to_all : LeavesFrom depth rest → LeavesFrom 0 bytes
     pub from_all : LeavesFrom 0 bytes → LeavesFrom depth rest
-    pub few : depth ≤ counter
+    pub bounded : depth ≤ counter
     pub left : length rest + counter ≤ length bytes
 
   pub count_start : (bytes : List ℕ) → IsCounted 0 0 bytes bytes
-  count_start bytes = record { to_all = λ l. l; from_all = λ l. l; few = omega arith; left = omega arith }
+  count_start bytes = record { to_all = λ l. l; from_all = λ l. l; bounded = omega arith; left = omega arith }
 
   record HasInstr (depth : ℕ) (rest : List ℕ) (does : InitStep) (after : List ℕ) : Type 0 where
     instr : InstrValue
@@ -124,7 +124,7 @@ module _ (scope : InitScope) (t : ValType) where
           counts = depth_more scope t depth e h.instr l.front g.1 ∙ l.counts;
         });
         from_all = λ l. let k = c.from_all l in go h.instr h.reads g.0 g.1 k.front k.spelled k.counts;
-        few = omega (arith, c.few, depth_bound scope t depth e h.instr g.1);
+        bounded = omega (arith, c.bounded, depth_bound scope t depth e h.instr g.1);
         left = omega (arith, c.left, to_shorter SpellsInstr instr_at instr_meets instr_some rest h.instr after h.reads);
       }
     where

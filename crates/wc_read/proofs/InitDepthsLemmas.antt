@@ -1,7 +1,8 @@
 -- An initialiser leaves one value exactly where counting its values of that type ends at one.
-use Rattle.std.proofs.Common.{◌≡◌, ℕ, zero, suc, ◌+◌, ◌-◌, ◌≤◌, List, [], ◌∷◌, ◌++◌, Bool, true, false, Option, Some, None, refl, sym, ◌∙◌, ap, subst, append_assoc, append-nil, arith, eqb-true, eq-eqb}
+use Rattle.std.proofs.Common.{◌≡◌, ℕ, zero, suc, ◌+◌, ◌-◌, ◌≤◌, List, [], ◌∷◌, ◌++◌, Bool, true, false, Option, Some, None, refl, sym, ◌∙◌, ap, subst}
+use Rattle.std.proofs.Common.{append_assoc, append-nil, arith, eqb-true, eq-eqb}
 use Rattle.std.specs.Prelude.{◌&&◌, ◌==◌, nat_le, is_some, if◌then◌else◌}
-use Rattle.std.proofs.lemmas.Bool.{leb-true, le-leb}
+use Rattle.std.proofs.lemmas.Bool.{leb-true, le-leb, and_parts}
 use Rattle.wc_read.specs.Options.{◌>>=◌}
 use Rattle.wc_read.specs.Operators.{ImmediatesValue, InstrValue}
 use Rattle.wc_read.specs.Inits.{constant_of, is_constant, AreConstant}
@@ -9,7 +10,8 @@ use Rattle.wc_read.specs.InitTypes.{InitScope, class_of, given_by, constant_clas
 use Rattle.wc_read.specs.Reading.InitTypes.{class_code, is_same, one_more, depth_after_constant, next_depth}
 use Rattle.wc_read.specs.declared.types.ValType.{ValType}
 use Rattle.wc_read.specs.declared.inits.ValueClass.{ValueClass}
-use Rattle.wc_read.specs.declared.inits.ValueClass.TheVariants.{I32 as I32Class, I64 as I64Class, F32 as F32Class, F64 as F64Class, V128 as V128Class, Func as FuncClass, Extern as ExternClass}
+use Rattle.wc_read.specs.declared.inits.ValueClass.TheVariants.{I32 as I32Class, I64 as I64Class, F32 as F32Class, F64 as F64Class, V128 as V128Class}
+use Rattle.wc_read.specs.declared.inits.ValueClass.TheVariants.{Func as FuncClass, Extern as ExternClass}
 use Rattle.wc_read.specs.declared.inits.Constant.{Constant}
 use Rattle.wc_read.specs.declared.inits.Constant.TheVariants.{Value, Null, Func, Global, Integer}
 use Rattle.wc_read.proofs.OptionsLemmas.{some_same, some_none, bind_some, bind_none}
@@ -51,11 +53,6 @@ same_classes a b false equal differ = by (is_same a b) refl
     by true t = absurd (differ refl (same_class a b t))
     by false t = sym t
 
-both : (a b : Bool) → (a && b) ≡ true → (a ≡ true) × (b ≡ true)
-both true true e = (refl, refl)
-both true false e = absurd cc
-both false b e = absurd cc
-
 -- such operators are constant
 
 some_constant : {A : Type 0} (o : Option Constant) (f : Constant → Option A) (x : A) → (o >>= f) ≡ Some x → is_some o ≡ true
@@ -68,7 +65,9 @@ constant_join (x ∷ xs) ys a b = (a.0, constant_join xs ys a.1 b)
 
 pub leaves_constant : {scope : InitScope} {t : ValType} {is : List InstrValue} → LeavesOne scope t is → AreConstant is
 leaves_constant {scope} {t} (alone i e) = (some_constant (constant_of i.opcode) (given_by scope t i.immediates) (class_of t) e, tt)
-leaves_constant {scope} {t} (joined xs ys i e a b) = constant_join xs (ys ++ (i ∷ [])) (leaves_constant a) (constant_join ys (i ∷ []) (leaves_constant b) (some_constant (constant_of i.opcode) integer_class (class_of t) e, tt))
+leaves_constant {scope} {t} (joined xs ys i e a b) =
+    constant_join xs (ys ++ (i ∷ [])) (leaves_constant a)
+    (constant_join ys (i ∷ []) (leaves_constant b) (some_constant (constant_of i.opcode) integer_class (class_of t) e, tt))
 
 module _ (scope : InitScope) (t : ValType) where
   abbrev wanted : ValueClass
@@ -91,7 +90,8 @@ module _ (scope : InitScope) (t : ValType) where
       bind_some (constant_of i.opcode) (depth_after_constant scope t d i.immediates) s.0 s.1 ∙ after_alone d i.immediates s.0 s.2
 
   after_integer : (d : ℕ) (v : ImmediatesValue) (c : Constant) → integer_class c ≡ Some wanted → depth_after_constant scope t (suc (suc d)) v c ≡ Some (suc d)
-  after_integer d v (Integer u) e = rw (some_same (class_of u) wanted e, class_same wanted, le-leb 2 (suc (suc d)) (omega arith)) (let less : suc (suc d) - 1 ≡ suc d = omega arith in ap Some less)
+  after_integer d v (Integer u) e = rw (some_same (class_of u) wanted e, class_same wanted, le-leb 2 (suc (suc d)) (omega arith))
+      (let less : suc (suc d) - 1 ≡ suc d = omega arith in ap Some less)
   after_integer d v (Value u) e = some_none wanted (sym e)
   after_integer d v Null e = some_none wanted (sym e)
   after_integer d v Func e = some_none wanted (sym e)
@@ -103,7 +103,8 @@ module _ (scope : InitScope) (t : ValType) where
       let s = bind_is (constant_of i.opcode) integer_class wanted e in
       bind_some (constant_of i.opcode) (depth_after_constant scope t (suc (suc d)) i.immediates) s.0 s.1 ∙ after_integer d i.immediates s.0 s.2
 
-  pub depth_more : (d e : ℕ) (i : InstrValue) (is : List InstrValue) → next_depth scope t d i ≡ Some e → depth_after scope t d (i ∷ is) ≡ depth_after scope t e is
+  pub depth_more : (d e : ℕ) (i : InstrValue) (is : List InstrValue) → next_depth scope t d i ≡ Some e
+      → depth_after scope t d (i ∷ is) ≡ depth_after scope t e is
   unfolding depth_after
   depth_more d e i is next = bind_some (next_depth scope t d i) (λ next. depth_after scope t next is) e next
 
@@ -141,46 +142,57 @@ module _ (scope : InitScope) (t : ValType) where
   depth_same d = refl
 
   -- one value more before other operators
-  depth_after_leaving : (xs : List InstrValue) → LeavesOne scope t xs → (d : ℕ) (others : List InstrValue) → depth_after scope t d (xs ++ others) ≡ depth_after scope t (suc d) others
+  depth_after_leaving : (xs : List InstrValue) → LeavesOne scope t xs → (d : ℕ) (others : List InstrValue)
+      → depth_after scope t d (xs ++ others) ≡ depth_after scope t (suc d) others
   depth_after_leaving _ (alone i e) d others = let s : d + 1 ≡ suc d = omega arith in depth_more d (suc d) i others (next_alone d i e ∙ ap Some s)
   depth_after_leaving _ (joined xs ys i is a b) d others =
-      let cut : (xs ++ (ys ++ (i ∷ []))) ++ others ≡ xs ++ (ys ++ (i ∷ others)) = append_assoc xs (ys ++ (i ∷ [])) others ∙ ap (λ (r : List InstrValue). xs ++ r) (append_assoc ys (i ∷ []) others) in
-      ap (depth_after scope t d) cut ∙ depth_after_leaving xs a d (ys ++ (i ∷ others)) ∙ depth_after_leaving ys b (suc d) (i ∷ others) ∙ depth_more (suc (suc d)) (suc d) i others (next_integer d i is)
+      let cut : (xs ++ (ys ++ (i ∷ []))) ++ others ≡ xs ++ (ys ++ (i ∷ others)) = append_assoc xs (ys ++ (i ∷ [])) others
+      ∙ ap (λ (r : List InstrValue). xs ++ r) (append_assoc ys (i ∷ []) others) in
+      ap (depth_after scope t d) cut ∙ depth_after_leaving xs a d (ys ++ (i ∷ others)) ∙ depth_after_leaving ys b (suc d) (i ∷ others)
+      ∙ depth_more (suc (suc d)) (suc d) i others (next_integer d i is)
 
   -- so many values, one after another
   abbrev Blocks : ℕ → List InstrValue → Type 0
   Blocks zero front = front ≡ []
   Blocks (suc n) front = (xs ys : List InstrValue) × (front ≡ xs ++ ys) × Blocks n xs × LeavesOne scope t ys
 
-  block_alone : (d e : ℕ) (front : List InstrValue) (i : InstrValue) → Blocks d front → (constant_class scope t i >>= one_more wanted d) ≡ Some e → Blocks e (front ++ (i ∷ []))
+  block_alone : (d e : ℕ) (front : List InstrValue) (i : InstrValue) → Blocks d front → (constant_class scope t i >>= one_more wanted d) ≡ Some e
+      → Blocks e (front ++ (i ∷ []))
   block_alone d e front i b is =
       let g = bind_is (constant_class scope t i) (one_more wanted d) e is in
       let p = if_is (is_same g.0 wanted) (d + 1) e g.2 in
       let s : suc d ≡ e = omega (arith, p.1) in
       subst (λ (n : ℕ). Blocks n (front ++ (i ∷ []))) s (front, i ∷ [], refl, b, alone i (g.1 ∙ ap Some (same_class g.0 wanted p.0)))
 
-  block_integer : (d e : ℕ) (front : List InstrValue) (i : InstrValue) (u : ValueClass) → integers_class i.opcode ≡ Some u → Blocks d front → (if is_same u wanted && nat_le 2 d then Some (d - 1) else None) ≡ Some e → Blocks e (front ++ (i ∷ []))
+  block_integer : (d e : ℕ) (front : List InstrValue) (i : InstrValue) (u : ValueClass) → integers_class i.opcode ≡ Some u → Blocks d front
+      → (if is_same u wanted && nat_le 2 d then Some (d - 1) else None) ≡ Some e → Blocks e (front ++ (i ∷ []))
   block_integer zero e front i u of b is =
       let p = if_is (is_same u wanted && nat_le 2 zero) (zero - 1) e is in
-      absurd (omega (arith, leb-true 2 zero (both _ _ p.0).1))
+      absurd (omega (arith, leb-true 2 zero (and_parts _ _ p.0).1))
   block_integer (suc zero) e front i u of b is =
       let p = if_is (is_same u wanted && nat_le 2 (suc zero)) (suc zero - 1) e is in
-      absurd (omega (arith, leb-true 2 (suc zero) (both _ _ p.0).1))
+      absurd (omega (arith, leb-true 2 (suc zero) (and_parts _ _ p.0).1))
   block_integer (suc (suc n)) e front i u of b is =
       let p = if_is (is_same u wanted && nat_le 2 (suc (suc n))) (suc (suc n) - 1) e is in
       let s : suc n ≡ e = omega (arith, p.1) in
       let c = b.3 in
       let cut : front ++ (i ∷ []) ≡ c.0 ++ (c.1 ++ (b.1 ++ (i ∷ []))) =
-      ap (λ (r : List InstrValue). r ++ (i ∷ [])) b.2 ∙ append_assoc b.0 b.1 (i ∷ []) ∙ ap (λ (r : List InstrValue). r ++ (b.1 ++ (i ∷ []))) c.2 ∙ append_assoc c.0 c.1 (b.1 ++ (i ∷ [])) in
-      let same : u ≡ wanted = same_class u wanted (both (is_same u wanted) (nat_le 2 (suc (suc n))) p.0).0 in
+      ap (λ (r : List InstrValue). r ++ (i ∷ [])) b.2 ∙ append_assoc b.0 b.1 (i ∷ []) ∙ ap (λ (r : List InstrValue). r ++ (b.1 ++ (i ∷ []))) c.2
+      ∙ append_assoc c.0 c.1 (b.1 ++ (i ∷ [])) in
+      let same : u ≡ wanted = same_class u wanted (and_parts (is_same u wanted) (nat_le 2 (suc (suc n))) p.0).0 in
       subst (λ (m : ℕ). Blocks m (front ++ (i ∷ []))) s (c.0, c.1 ++ (b.1 ++ (i ∷ [])), cut, c.3, joined c.1 b.1 i (of ∙ ap Some same) c.4 b.4)
 
-  block_after : (d e : ℕ) (front : List InstrValue) (i : InstrValue) (c : Constant) → constant_of i.opcode ≡ Some c → Blocks d front → depth_after_constant scope t d i.immediates c ≡ Some e → Blocks e (front ++ (i ∷ []))
+  block_after : (d e : ℕ) (front : List InstrValue) (i : InstrValue) (c : Constant) → constant_of i.opcode ≡ Some c → Blocks d front
+      → depth_after_constant scope t d i.immediates c ≡ Some e → Blocks e (front ++ (i ∷ []))
   block_after d e front i (Integer u) of b is = block_integer d e front i (class_of u) (bind_some (constant_of i.opcode) integer_class (Integer u) of) b is
-  block_after d e front i (Value u) of b is = block_alone d e front i b (ap (λ o. o >>= one_more wanted d) (bind_some (constant_of i.opcode) (given_by scope t i.immediates) (Value u) of) ∙ is)
-  block_after d e front i Null of b is = block_alone d e front i b (ap (λ o. o >>= one_more wanted d) (bind_some (constant_of i.opcode) (given_by scope t i.immediates) Null of) ∙ is)
-  block_after d e front i Func of b is = block_alone d e front i b (ap (λ o. o >>= one_more wanted d) (bind_some (constant_of i.opcode) (given_by scope t i.immediates) Func of) ∙ is)
-  block_after d e front i Global of b is = block_alone d e front i b (ap (λ o. o >>= one_more wanted d) (bind_some (constant_of i.opcode) (given_by scope t i.immediates) Global of) ∙ is)
+  block_after d e front i (Value u) of b is =
+      block_alone d e front i b (ap (λ o. o >>= one_more wanted d) (bind_some (constant_of i.opcode) (given_by scope t i.immediates) (Value u) of) ∙ is)
+  block_after d e front i Null of b is =
+      block_alone d e front i b (ap (λ o. o >>= one_more wanted d) (bind_some (constant_of i.opcode) (given_by scope t i.immediates) Null of) ∙ is)
+  block_after d e front i Func of b is =
+      block_alone d e front i b (ap (λ o. o >>= one_more wanted d) (bind_some (constant_of i.opcode) (given_by scope t i.immediates) Func of) ∙ is)
+  block_after d e front i Global of b is =
+      block_alone d e front i b (ap (λ o. o >>= one_more wanted d) (bind_some (constant_of i.opcode) (given_by scope t i.immediates) Global of) ∙ is)
 
   block_step : (d e : ℕ) (front : List InstrValue) (i : InstrValue) → Blocks d front → next_depth scope t d i ≡ Some e → Blocks e (front ++ (i ∷ []))
   unfolding next_depth

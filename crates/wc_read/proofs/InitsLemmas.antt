@@ -1,7 +1,8 @@
 -- Initialisers are read as they are spelled.
-use Rattle.std.proofs.Common.{◌≡◌, ℕ, ◌-◌, ◌<◌, ◌≤◌, List, [], ◌∷◌, ◌++◌, length, take, Bool, true, false, Option, Some, None, refl, sym, ◌∙◌, ap, subst, arith, inl, inr, eqb-true}
+use Rattle.std.proofs.Common.{◌≡◌, ℕ, ◌-◌, ◌<◌, ◌≤◌, List, [], ◌∷◌, ◌++◌, length, take, Bool, true, false, Option, Some, None, refl, sym, ◌∙◌, ap, subst, arith}
+use Rattle.std.proofs.Common.{inl, inr, eqb-true}
 use Rattle.std.specs.Prelude.{◌==◌, ◌||◌, is_some}
-use Rattle.std.proofs.lemmas.Bool.{false≢true}
+use Rattle.std.proofs.lemmas.Bool.{false≢true, or_right}
 use Rattle.std.proofs.Math.ListN.{length-append}
 use Rattle.std.proofs.Math.Seq.{take-append_seam}
 use Rattle.wc_read.specs.Formats.{Format, SpellsItems}
@@ -60,10 +61,6 @@ second_holds : (a b : Bool) → (a || b) ≡ true → a ≡ false → b ≡ true
 second_holds true b e f = absurd (false≢true (sym f))
 second_holds false b e f = e
 
-holds_second : (a b : Bool) → b ≡ true → (a || b) ≡ true
-holds_second true b e = refl
-holds_second false b e = e
-
 -- Operators to the end.
 
 abbrev pub SpellsInitInstr : Format InstrValue
@@ -86,22 +83,30 @@ init_to (x ∷ xs) bytes s stop = elim stop [
       ((s.0, s.1, s.2, s.3.0, items), ([], ap (λ (y : InstrValue). y ∷ xs) is ∙ ap (λ (ys : List InstrValue). end_value ∷ ys) p.1, tt))
   | inr p ↦
       let r = init_to xs s.1 s.4 p.1 in
-      let i = r.1 in
-      ((s.0, s.1, s.2, s.3.0, r.0), (x ∷ i.0, ap (λ (ys : List InstrValue). x ∷ ys) i.1, (second_holds (is_end x.opcode) (is_constant x.opcode) s.3.1 p.0, i.2)))
+      let i = r.1 in (
+        (s.0, s.1, s.2, s.3.0, r.0),
+        (
+          x ∷ i.0,
+          ap (λ (ys : List InstrValue). x ∷ ys) i.1,
+          (second_holds (is_end x.opcode) (is_constant x.opcode) s.3.1 p.0, i.2),
+        ),
+      )
 ]
 
-init_from : (front : List InstrValue) (bytes : List ℕ) → AreConstant front → SpellsItems SpellsInstr bytes (front ++ (end_value ∷ [])) → SpellsUntil SpellsInitInstr ends bytes (front ++ (end_value ∷ []))
+init_from : (front : List InstrValue) (bytes : List ℕ) → AreConstant front → SpellsItems SpellsInstr bytes (front ++ (end_value ∷ []))
+    → SpellsUntil SpellsInitInstr ends bytes (front ++ (end_value ∷ []))
 init_from [] bytes c s = ((s.0, s.1, s.2, (s.3, refl), s.4), inl (refl, refl))
 init_from (x ∷ front) bytes c s =
     let r = init_from front s.1 c.1 s.4 in
-    ((s.0, s.1, s.2, (s.3, holds_second (is_end x.opcode) (is_constant x.opcode) c.0), r.0), inr (constant_goes_on x.opcode c.0, r.1))
+    ((s.0, s.1, s.2, (s.3, or_right (is_end x.opcode) (is_constant x.opcode) c.0), r.0), inr (constant_goes_on x.opcode c.0, r.1))
 
 pub init_meets : Meets SpellsInit init_at
 unfolding init_at
 init_meets =
     same_meets (SpellsUntil SpellsInitInstr ends) SpellsInit init_at (until_meets SpellsInitInstr init_instr_at init_instr_meets init_instr_some ends)
     (λ bytes xs s. init_to xs bytes s.0 s.1)
-    (λ bytes xs s. let i = s.1 in subst (λ (ys : List InstrValue). SpellsUntil SpellsInitInstr ends bytes ys) (sym i.1) (init_from i.0 bytes i.2 (subst (λ (ys : List InstrValue). SpellsItems SpellsInstr bytes ys) i.1 s.0)))
+    (λ bytes xs s. let i = s.1 in subst (λ (ys : List InstrValue). SpellsUntil SpellsInitInstr ends bytes ys) (sym i.1)
+    (init_from i.0 bytes i.2 (subst (λ (ys : List InstrValue). SpellsItems SpellsInstr bytes ys) i.1 s.0)))
 
 pub init_start : (bytes : List ℕ) → IsUntilPart ends init_instr_at [] bytes (init_at bytes)
 unfolding init_at
@@ -131,7 +136,8 @@ init_bytes_meet = record {
       (t.0, t.1 ∙ ap (λ (r : List ℕ). t.0 ++ r) p.1, (front, (s.0.0, subst (λ (b : List ℕ). SpellsInit b s.0.0) front t.2)));
   again = λ text x rest s.
       let i = s.1 in
-      bind_some (init_at (text ++ rest)) (with_front (text ++ rest)) (i.0, rest) (init_meets.again text i.0 rest (subst (λ (b : List ℕ). SpellsInit b i.0) (sym s.0) i.1))
+      bind_some (init_at (text ++ rest)) (with_front (text ++ rest)) (i.0, rest)
+      (init_meets.again text i.0 rest (subst (λ (b : List ℕ). SpellsInit b i.0) (sym s.0) i.1))
       ∙ ap (λ (b : List ℕ). Some (b, rest)) (front_is text rest ∙ s.0);
 }
 
@@ -160,7 +166,8 @@ has_instr rest last after e =
     record { instr = s.0.0; reads = s.1 ∙ ap (λ (r : List ℕ). Some (s.0.0, r)) p.1; ends_so = p.0 }
 
 pub passed_shorter : (rest : List ℕ) (last : Bool) (after : List ℕ) → init_end_at rest ≡ Some (last, after) → length after < length rest
-passed_shorter rest last after e = let h = has_instr rest last after e in to_shorter SpellsInitInstr init_instr_at init_instr_meets init_instr_some rest h.instr after h.reads
+passed_shorter rest last after e = let h = has_instr rest last after e in
+    to_shorter SpellsInitInstr init_instr_at init_instr_meets init_instr_some rest h.instr after h.reads
 
 pub passed_more : (rest bytes after : List ℕ) → IsPassed rest bytes → init_end_at rest ≡ Some (false, after) → IsPassed after bytes
 passed_more rest bytes after p e =
@@ -171,16 +178,19 @@ passed_more rest bytes after p e =
       left = omega (arith, p.left, passed_shorter rest false after e);
     }
 
-pub passed_end : (rest bytes after : List ℕ) → IsPassed rest bytes → init_end_at rest ≡ Some (true, after) → init_bytes_at bytes ≡ Some (bytes_before bytes after, after)
+pub passed_end : (rest bytes after : List ℕ) → IsPassed rest bytes → init_end_at rest ≡ Some (true, after)
+    → init_bytes_at bytes ≡ Some (bytes_before bytes after, after)
 unfolding init_bytes_at
 passed_end rest bytes after p e =
     let h = has_instr rest true after e in
-    bind_some (init_at bytes) (with_front bytes) _ (until_end SpellsInitInstr init_instr_at init_instr_meets init_instr_some ends p.front rest (init_at bytes) h.instr after p.part h.reads h.ends_so)
+    bind_some (init_at bytes) (with_front bytes) _ (until_end SpellsInitInstr init_instr_at init_instr_meets init_instr_some ends p.front rest
+    (init_at bytes) h.instr after p.part h.reads h.ends_so)
 
 pub passed_fails : (rest bytes : List ℕ) → IsPassed rest bytes → init_end_at rest ≡ None → init_bytes_at bytes ≡ None
 unfolding init_bytes_at init_end_at
 passed_fails rest bytes p none =
-    bind_none (init_at bytes) (with_front bytes) (until_fails SpellsInitInstr init_instr_at init_instr_meets init_instr_some ends p.front rest (init_at bytes) p.part (nothing (init_instr_at rest) none))
+    bind_none (init_at bytes) (with_front bytes) (until_fails SpellsInitInstr init_instr_at init_instr_meets init_instr_some ends p.front rest
+    (init_at bytes) p.part (nothing (init_instr_at rest) none))
   where
     nothing : (o : Option (InstrValue × List ℕ)) → (o >>= whether_ends) ≡ None → o ≡ None
     nothing None e = refl

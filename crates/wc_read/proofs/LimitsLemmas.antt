@@ -1,8 +1,9 @@
 -- Limits, table types and memory types are read as they are spelled.
-use Rattle.std.proofs.Common.{◌≡◌, ℕ, zero, suc, ◌*◌, ◌^◌, ◌<◌, ◌≤◌, List, [], ◌∷◌, ◌++◌, Bool, true, false, Option, Some, None, refl, sym, ◌∙◌, ap, arith, inl, inr, ◌⊎◌, ltb-true, eqb-true}
+use Rattle.std.proofs.Common.{◌≡◌, ℕ, zero, suc, ◌*◌, ◌^◌, ◌<◌, ◌≤◌, List, [], ◌∷◌, ◌++◌, Bool, true, false, Option, Some, None, refl, sym, ◌∙◌, ap, arith, inl}
+use Rattle.std.proofs.Common.{inr, ◌⊎◌, ltb-true, eqb-true}
 use Rattle.std.specs.Prelude.{◌==◌, nat_lt, nat_le, not, ◌&&◌, ◌||◌, is_some, IfSome}
 use Rattle.std.specs.Option.{option_map_or}
-use Rattle.std.proofs.lemmas.Bool.{cases_lt, leb-true, le-leb, false≢true}
+use Rattle.std.proofs.lemmas.Bool.{cases_lt, leb-true, le-leb, false≢true, and_parts, and_from}
 use Rattle.wc_read.specs.Formats.{Format, SpellsNumber, Joined}
 use Rattle.wc_read.specs.Types.{SpellsValType, is_reference}
 use Rattle.wc_read.specs.Limits.{flags_code, bound_bits, SpellsBounds, AreOrdered, table_flags, SpellsTable, memory_flags, FitsIn32, IsMemory, SpellsMemory}
@@ -14,16 +15,11 @@ use Rattle.wc_read.specs.declared.limits.Flags.{Flags}
 use Rattle.wc_read.specs.declared.types.ValType.{ValType}
 use Rattle.wc_read.specs.declared.types.TableType.{TableType}
 use Rattle.wc_read.specs.declared.types.MemoryType.{MemoryType}
-use Rattle.wc_read.proofs.MeetsLemmas.{Meets, same_meets, bind_meets, made_meets, where_meets, tested_meets, tested_at, number_meets, optional_meets, byte_meets, IsByte, Where, Made, Tested, IsOptional, Coded}
+use Rattle.wc_read.proofs.MeetsLemmas.{Meets, same_meets, bind_meets, made_meets, where_meets, tested_meets, tested_at, number_meets, optional_meets}
+use Rattle.wc_read.proofs.MeetsLemmas.{byte_meets, IsByte, Where, Made, Tested, IsOptional, Coded}
 use Rattle.wc_read.proofs.TypesLemmas.{val_type_meets}
 
 -- tests of two parts
-both : (a b : Bool) → (a && b) ≡ true → (a ≡ true) × (b ≡ true)
-both true b e = (refl, e)
-both false b e = absurd (false≢true e)
-
-of_both : (a b : Bool) → a ≡ true → b ≡ true → (a && b) ≡ true
-of_both a b p q = rw (p, q) refl
 
 either : (a b : Bool) → (a || b) ≡ true → a ≡ false → b ≡ true
 either a b e f = let g : (false || b) ≡ true = rw f at e in g
@@ -37,7 +33,7 @@ all_below_at : (n : ℕ) (test : ℕ → Bool) → all_below n test ≡ true →
 unfolding all_below
 all_below_at zero test e b lt = absurd (omega (arith, lt))
 all_below_at (suc n) test e b lt =
-    let p = both (test n) (all_below n test) e in
+    let p = and_parts (test n) (all_below n test) e in
     elim (cases_lt b n) [ inl less ↦ all_below_at n test p.1 b less | inr limit ↦ let same : b ≡ n = omega arith in rw same p.0 ]
 
 -- the byte of flags
@@ -99,11 +95,31 @@ bounds_meets is_64 has_maximum =
     let number = number_meets (bound_bits is_64) in
     let After : ℕ → Format (ℕ × Option ℕ) = λ n. Made (Where (IsOptional (SpellsNumber (bound_bits is_64)) has_maximum) (is_at_most n)) (pair n) in
     same_meets (Joined (SpellsNumber (bound_bits is_64)) After) (IsBounds is_64 has_maximum) (bounds_at is_64 has_maximum)
-    (bind_meets (SpellsNumber (bound_bits is_64)) (number_at (bound_bits is_64)) After (λ n bytes. where_at (is_at_most n) (optional_at has_maximum (number_at (bound_bits is_64))) bytes >>= λ m. Some (pair n m.0, m.1)) number
-    (λ n. made_meets (Where (IsOptional (SpellsNumber (bound_bits is_64)) has_maximum) (is_at_most n)) (where_at (is_at_most n) (optional_at has_maximum (number_at (bound_bits is_64)))) (pair n)
-    (where_meets (IsOptional (SpellsNumber (bound_bits is_64)) has_maximum) (optional_at has_maximum (number_at (bound_bits is_64))) (is_at_most n) (optional_meets (SpellsNumber (bound_bits is_64)) (number_at (bound_bits is_64)) number has_maximum))))
-    (λ bytes b j. rw j.5.2 (record { spelled = record { initial_bytes = j.1; maximum_bytes = j.2; cut = j.3; has_initial = j.4; has_maximum = j.5.1.0.0 }; there = j.5.1.0.1; ordered = is_at_most_ordered _ _ j.5.1.1 }))
-    (λ bytes b s. (b.0, s.spelled.initial_bytes, s.spelled.maximum_bytes, s.spelled.cut, s.spelled.has_initial, (b.1, ((s.spelled.has_maximum, s.there), ordered_is_at_most b.0 b.1 s.ordered), refl)))
+    (bind_meets (SpellsNumber (bound_bits is_64)) (number_at (bound_bits is_64)) After
+    (λ n bytes. where_at (is_at_most n) (optional_at has_maximum (number_at (bound_bits is_64))) bytes >>= λ m. Some (pair n m.0, m.1)) number
+    (λ n. made_meets (Where (IsOptional (SpellsNumber (bound_bits is_64)) has_maximum) (is_at_most n))
+    (where_at (is_at_most n) (optional_at has_maximum (number_at (bound_bits is_64)))) (pair n)
+    (where_meets (IsOptional (SpellsNumber (bound_bits is_64)) has_maximum) (optional_at has_maximum (number_at (bound_bits is_64))) (is_at_most n)
+    (optional_meets (SpellsNumber (bound_bits is_64)) (number_at (bound_bits is_64)) number has_maximum))))
+    (λ bytes b j. rw j.5.2 (record {
+      spelled = record {
+        initial_bytes = j.1;
+        maximum_bytes = j.2;
+        cut = j.3;
+        has_initial = j.4;
+        has_maximum = j.5.1.0.0;
+      };
+      there = j.5.1.0.1;
+      ordered = is_at_most_ordered _ _ j.5.1.1;
+    }))
+    (λ bytes b s. (
+      b.0,
+      s.spelled.initial_bytes,
+      s.spelled.maximum_bytes,
+      s.spelled.cut,
+      s.spelled.has_initial,
+      (b.1, ((s.spelled.has_maximum, s.there), ordered_is_at_most b.0 b.1 s.ordered), refl),
+    ))
 
 -- tables
 is_plain : Flags → Bool
@@ -117,12 +133,15 @@ plain_parts true z e = absurd (false≢true e)
 made_table : ValType → Flags → ℕ × Option ℕ → TableType
 made_table t f b = record { element_type = t; table64 = f.is_64; initial = b.0; maximum = b.1 }
 
-table_to : (bytes : List ℕ) (t : TableType) → Joined (Where SpellsValType is_reference) (λ e. Joined (Where (Coded flags_code) is_plain) (λ f. Made (IsBounds f.is_64 f.has_maximum) (made_table e f))) bytes t → SpellsTable bytes t
+table_to : (bytes : List ℕ) (t : TableType)
+    → Joined (Where SpellsValType is_reference)
+    (λ e. Joined (Where (Coded flags_code) is_plain) (λ f. Made (IsBounds f.is_64 f.has_maximum) (made_table e f))) bytes t → SpellsTable bytes t
 unfolding is_plain made_table
 table_to bytes t j =
     let p = plain_parts j.5.0.shared j.5.0.has_page_size j.5.4.1 in
     let b = j.5.5.1 in
-    let flags : flags_code (record { has_maximum = is_some j.5.5.0.1; shared = false; is_64 = j.5.0.is_64; has_page_size = false }) ≡ flags_code j.5.0 = rw (b.there, p.0, p.1) refl in
+    let flags : flags_code (record { has_maximum = is_some j.5.5.0.1; shared = false; is_64 = j.5.0.is_64; has_page_size = false })
+    ≡ flags_code j.5.0 = rw (b.there, p.0, p.1) refl in
     rw j.5.5.2 (record {
       element = j.1;
       bounds = j.5.2;
@@ -133,7 +152,9 @@ table_to bytes t j =
       ordered = b.ordered;
     })
 
-table_from : (bytes : List ℕ) (t : TableType) → SpellsTable bytes t → Joined (Where SpellsValType is_reference) (λ e. Joined (Where (Coded flags_code) is_plain) (λ f. Made (IsBounds f.is_64 f.has_maximum) (made_table e f))) bytes t
+table_from : (bytes : List ℕ) (t : TableType) → SpellsTable bytes t
+    → Joined (Where SpellsValType is_reference)
+    (λ e. Joined (Where (Coded flags_code) is_plain) (λ f. Made (IsBounds f.is_64 f.has_maximum) (made_table e f))) bytes t
 unfolding is_plain made_table
 table_from bytes t s = (
   t.element_type,
@@ -154,11 +175,14 @@ table_from bytes t s = (
 pub table_meets : Meets SpellsTable table_at
 unfolding table_at is_plain made_table
 table_meets =
-    same_meets (Joined (Where SpellsValType is_reference) (λ e. Joined (Where (Coded flags_code) is_plain) (λ f. Made (IsBounds f.is_64 f.has_maximum) (made_table e f)))) SpellsTable table_at
-    (bind_meets (Where SpellsValType is_reference) (where_at is_reference val_type_at) (λ e. Joined (Where (Coded flags_code) is_plain) (λ f. Made (IsBounds f.is_64 f.has_maximum) (made_table e f)))
+    same_meets (Joined (Where SpellsValType is_reference)
+    (λ e. Joined (Where (Coded flags_code) is_plain) (λ f. Made (IsBounds f.is_64 f.has_maximum) (made_table e f)))) SpellsTable table_at
+    (bind_meets (Where SpellsValType is_reference) (where_at is_reference val_type_at)
+    (λ e. Joined (Where (Coded flags_code) is_plain) (λ f. Made (IsBounds f.is_64 f.has_maximum) (made_table e f)))
     (λ e bytes. where_at is_plain flags_at bytes >>= λ f. bounds_at f.0.is_64 f.0.has_maximum f.1 >>= λ b. Some (made_table e f.0 b.0, b.1))
     (where_meets SpellsValType val_type_at is_reference val_type_meets)
-    (λ e. bind_meets (Where (Coded flags_code) is_plain) (where_at is_plain flags_at) (λ f. Made (IsBounds f.is_64 f.has_maximum) (made_table e f)) (λ f bytes. bounds_at f.is_64 f.has_maximum bytes >>= λ b. Some (made_table e f b.0, b.1))
+    (λ e. bind_meets (Where (Coded flags_code) is_plain) (where_at is_plain flags_at) (λ f. Made (IsBounds f.is_64 f.has_maximum) (made_table e f))
+    (λ f bytes. bounds_at f.is_64 f.has_maximum bytes >>= λ b. Some (made_table e f b.0, b.1))
     (where_meets (Coded flags_code) flags_at is_plain flags_meets)
     (λ f. made_meets (IsBounds f.is_64 f.has_maximum) (bounds_at f.is_64 f.has_maximum) (made_table e f) (bounds_meets f.is_64 f.has_maximum))))
     table_to table_from
@@ -215,8 +239,9 @@ maximum_fits_back : (o m : Option ℕ) → IsPageSize o → IfSome m (FitsIn32 o
 maximum_fits_back o None s fit = refl
 maximum_fits_back o (Some n) s fit = pages_fit_back o n s fit
 
-fits_parts : (m : MemoryType) → fits_addresses m ≡ true → m.memory64 ≡ false → (nat_le m.initial (max_pages m.page_size_log2) ≡ true) × (option_map_or (λ limit. nat_le limit (max_pages m.page_size_log2)) m.maximum true ≡ true)
-fits_parts m e narrow = both _ _ (either m.memory64 _ e narrow)
+fits_parts : (m : MemoryType) → fits_addresses m ≡ true → m.memory64 ≡ false → (nat_le m.initial (max_pages m.page_size_log2) ≡ true)
+    × (option_map_or (λ limit. nat_le limit (max_pages m.page_size_log2)) m.maximum true ≡ true)
+fits_parts m e narrow = and_parts _ _ (either m.memory64 _ e narrow)
 
 fits_from : (m : MemoryType) → IsMemory m → fits_addresses m ≡ true
 unfolding IsPageSize
@@ -224,7 +249,8 @@ fits_from m is = by m.memory64 refl
   where
     by : (is_64 : Bool) → m.memory64 ≡ is_64 → fits_addresses m ≡ true
     by true e = rw e refl
-    by false e = rw e (of_both _ _ (pages_fit_back m.page_size_log2 m.initial is.known_page_size (is.initial_fits e)) (maximum_fits_back m.page_size_log2 m.maximum is.known_page_size (is.maximum_fits e)))
+    by false e = rw e (and_from _ _ (pages_fit_back m.page_size_log2 m.initial is.known_page_size (is.initial_fits e))
+        (maximum_fits_back m.page_size_log2 m.maximum is.known_page_size (is.maximum_fits e)))
 
 made_memory : Flags → ℕ × Option ℕ → Option ℕ → MemoryType
 made_memory f b e = record { memory64 = f.is_64; shared = f.shared; initial = b.0; maximum = b.1; page_size_log2 = e }
@@ -233,7 +259,8 @@ abbrev SpellsExponent : Flags → Format (Option ℕ)
 SpellsExponent f = Where (IsOptional (SpellsNumber 32) f.has_page_size) is_page_size
 
 abbrev SpellsParts : Format MemoryType
-SpellsParts = Joined (Where (Coded flags_code) has_maximum_if_shared) (λ f. Joined (IsBounds f.is_64 f.has_maximum) (λ b. Tested (SpellsExponent f) (made_memory f b) fits_addresses))
+SpellsParts = Joined (Where (Coded flags_code) has_maximum_if_shared)
+    (λ f. Joined (IsBounds f.is_64 f.has_maximum) (λ b. Tested (SpellsExponent f) (made_memory f b) fits_addresses))
 
 memory_to : (bytes : List ℕ) (m : MemoryType) → SpellsParts bytes m → SpellsMemory bytes m
 unfolding has_maximum_if_shared made_memory IsPageSize
@@ -243,7 +270,8 @@ memory_to bytes m j =
     let e = k.5 in
     let fits = rw e.2 at e.3 in
     let page = page_size e.0 e.1.1 in
-    let flags : flags_code (record { has_maximum = is_some k.0.1; shared = j.0.shared; is_64 = j.0.is_64; has_page_size = is_some e.0 }) ≡ flags_code j.0 = rw (b.there, e.1.0.1) refl in
+    let flags : flags_code (record { has_maximum = is_some k.0.1; shared = j.0.shared; is_64 = j.0.is_64; has_page_size = is_some e.0 })
+    ≡ flags_code j.0 = rw (b.there, e.1.0.1) refl in
     rw e.2 (record {
       bounds = k.1;
       exponent = k.2;
@@ -281,12 +309,15 @@ pub memory_meets : Meets SpellsMemory memory_at
 unfolding memory_at has_maximum_if_shared made_memory
 memory_meets =
     same_meets SpellsParts SpellsMemory memory_at
-    (bind_meets (Where (Coded flags_code) has_maximum_if_shared) (where_at has_maximum_if_shared flags_at) (λ f. Joined (IsBounds f.is_64 f.has_maximum) (λ b. Tested (SpellsExponent f) (made_memory f b) fits_addresses))
-    (λ f bytes. bounds_at f.is_64 f.has_maximum bytes >>= λ b. where_at is_page_size (optional_at f.has_page_size (number_at 32)) b.1 >>= tested_at (made_memory f b.0) fits_addresses)
+    (bind_meets (Where (Coded flags_code) has_maximum_if_shared) (where_at has_maximum_if_shared flags_at)
+    (λ f. Joined (IsBounds f.is_64 f.has_maximum) (λ b. Tested (SpellsExponent f) (made_memory f b) fits_addresses))
+    (λ f bytes. bounds_at f.is_64 f.has_maximum bytes >>= λ b. where_at is_page_size (optional_at f.has_page_size (number_at 32)) b.1 >>= tested_at
+    (made_memory f b.0) fits_addresses)
     (where_meets (Coded flags_code) flags_at has_maximum_if_shared flags_meets)
     (λ f. bind_meets (IsBounds f.is_64 f.has_maximum) (bounds_at f.is_64 f.has_maximum) (λ b. Tested (SpellsExponent f) (made_memory f b) fits_addresses)
     (λ b bytes. where_at is_page_size (optional_at f.has_page_size (number_at 32)) bytes >>= tested_at (made_memory f b) fits_addresses)
     (bounds_meets f.is_64 f.has_maximum)
     (λ b. tested_meets (SpellsExponent f) (where_at is_page_size (optional_at f.has_page_size (number_at 32))) (made_memory f b) fits_addresses
-    (where_meets (IsOptional (SpellsNumber 32) f.has_page_size) (optional_at f.has_page_size (number_at 32)) is_page_size (optional_meets (SpellsNumber 32) (number_at 32) (number_meets 32) f.has_page_size)))))
+    (where_meets (IsOptional (SpellsNumber 32) f.has_page_size) (optional_at f.has_page_size (number_at 32)) is_page_size
+    (optional_meets (SpellsNumber 32) (number_at 32) (number_meets 32) f.has_page_size)))))
     memory_to memory_from

@@ -56,8 +56,8 @@ vector_prefix bytes ps v = record { count = v.0; items = v.1; cut = v.2 ∙ ap (
 not_missing : (bytes : List ℕ) (n : ℕ) (ps qs : List GlobalNameValue) (rest others : List ℕ) → PairsThenRest bytes (length ps) ps rest → PairsThenRest bytes n qs others → length qs < n → HasNoPrefix SpellsGlobalName others → ⊥
 not_missing bytes n ps qs rest others f g less none =
     let same = (one_count bytes (length ps) n ps qs rest others f g).0 in
-    let few = fewer bytes n (length ps) qs ps others rest g f none in
-    absurd (omega (arith, same, few, less))
+    let bounded = fewer bytes n (length ps) qs ps others rest g f none in
+    absurd (omega (arith, same, bounded, less))
 
 pairs_one : (bytes : List ℕ) (ps qs : List GlobalNameValue) → PairsBeforeFault bytes ps → PairsBeforeFault bytes qs → ps ≡ qs
 pairs_one bytes ps qs (no_count none) (no_count other) = refl

@@ -1,15 +1,10 @@
 -- Options, and one step after another.
 use Rattle.std.proofs.Common.{◌≡◌, Option, Some, None, refl, ap}
 use Rattle.wc_read.specs.Options.{◌>>=◌}
-
-pub some_same : {A : Type 0} (x y : A) → ◌≡◌ {A = Option A} (Some x) (Some y) → x ≡ y
-some_same x y e = cc
+pub use Rattle.std.proofs.lemmas.Option.{same_Some as some_same, some_pair_parts as some_pair}
 
 pub some_none : {A : Type 0} {P : Type 0} (x : A) → ◌≡◌ {A = Option A} (Some x) None → P
 some_none x e = absurd cc
-
-pub some_pair : {A B : Type 0} (a c : A) (b d : B) → ◌≡◌ {A = Option (A × B)} (Some (a, b)) (Some (c, d)) → (a ≡ c) × (b ≡ d)
-some_pair a c b d e = let p = some_same (a, b) (c, d) e in (ap (λ q. q.0) p, ap (λ q. q.1) p)
 
 -- a step whose front gives nothing, or something
 pub bind_none : {A B : Type 0} (o : Option A) (f : A → Option B) → o ≡ None → (o >>= f) ≡ None

@@ -17,7 +17,7 @@ use Rattle.wc_read.specs.Reading.Signed.{signed_at}
 use Rattle.wc_read.specs.Reading.Operators.{immediates_at, instr_of, instr_at}
 use Rattle.wc_read.specs.Reading.Nesting.{step}
 use Rattle.wc_read.specs.PassKinds.{pass_kind}
-use Rattle.wc_read.specs.TextSizes.{IsTextSize, SizesMemArg, SizesMemoryIndex}
+use Rattle.wc_read.specs.Private.TextSizes.{IsTextSize, SizesMemArg, SizesMemoryIndex}
 use Rattle.wc_read.specs.Passing.{ArePassable, IsPassable, IsPassableCode, run_and_left, PassesBlockStart, IsOperatorPassed, PassesOperator, AreOperatorsPassed}
 use Rattle.wc_read.specs.Blocks.{BeginsElse, Closes, Pops}
 use Rattle.wc_read.specs.declared.operators.Opcode.TheVariants.{Byte}

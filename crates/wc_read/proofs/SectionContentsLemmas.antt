@@ -24,10 +24,10 @@ use Rattle.wc_read.specs.Globals.{SpellsLocalGlobal}
 use Rattle.wc_read.specs.Reading.Globals.{local_global_at}
 use Rattle.wc_read.proofs.GlobalsLemmas.{local_global_meets}
 use Rattle.wc_read.proofs.ExportsLemmas.{export_meets}
-use Rattle.wc_read.proofs.ContentsLemmas.{Finds, read_all_meets, func_type_meets, size_prefixed_meets}
+use Rattle.wc_read.proofs.ContentsLemmas.{DecidesSpelling, read_all_meets, func_type_meets, size_prefixed_meets}
 
 module _ {A : Type 0} (Spells : Format A) (read : Read A) (m : Meets Spells read) where
-  items : Finds (SpellsVector Spells) (read_all (vector_at read))
+  items : DecidesSpelling (SpellsVector Spells) (read_all (vector_at read))
   items = read_all_meets (SpellsVector Spells) (vector_at read) (vector_meets Spells read m)
 
   found_in : (o : Option (List ℕ)) (xs : List A) → option_map_or (λ content. read_all (vector_at read) content) o (Some []) ≡ Some xs → MatchOption o (xs ≡ []) (λ content. SpellsVector Spells content xs)
@@ -46,7 +46,7 @@ module _ {A : Type 0} (Spells : Format A) (read : Read A) (m : Meets Spells read
   unfolding items_in
   items_there id sections xs h = finds_in (content_of id sections) xs h
 
-  one : Finds Spells (read_all read)
+  one : DecidesSpelling Spells (read_all read)
   one = read_all_meets Spells read m
 
   found_one : (o : Option (List ℕ)) (x : Option A) → option_map_or (λ content. read_all read content >>= λ y. Some (Some y)) o (Some None) ≡ Some x → MatchOption o (x ≡ None) (λ content. (y : A) × (x ≡ Some y) × Spells content y)

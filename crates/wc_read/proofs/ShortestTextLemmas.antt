@@ -13,7 +13,7 @@ use Rattle.wc_read.specs.Text.{digits, number_text, signed_digit, signed_digits,
 use Rattle.wc_read.specs.Reading.Bytes.{number_at, bytes_at}
 use Rattle.wc_read.specs.Reading.Signed.{last_of, signed_at}
 use Rattle.std.specs.Prelude.{nat_lt, nat_le}
-use Rattle.wc_read.specs.TextSizes.{IsTextSize, SizesMemArg, IsShortest, IsShortestSigned, without_sign}
+use Rattle.wc_read.specs.Private.TextSizes.{IsTextSize, SizesMemArg, IsShortest, IsShortestSigned, without_sign}
 use Rattle.wc_read.specs.Reading.Bytes.{where_at}
 use Rattle.wc_read.specs.Reading.Operators.{are_flags, mem_arg_at}
 use Rattle.wc_read.proofs.MeetsLemmas.{number_meets}

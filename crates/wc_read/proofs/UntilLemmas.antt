@@ -79,12 +79,12 @@ module _ {A : Type 0} (Spells : Format A) (read : Read A) (m : Meets Spells read
 
   again : (xs : List A) (steps : ℕ) (text rest : List ℕ) → length text ≤ steps → SpellsItems Spells text xs → StopsAt last xs → until_at last read steps (text ++ rest) ≡ Some (xs, rest)
   unfolding until_at
-  again [] steps text rest few s stop = absurd stop
-  again (x ∷ xs) zero text rest few s stop = absurd (omega (arith, few, ap length s.2, length-append s.0 s.1, has_bytes s.0 x s.3))
-  again (x ∷ xs) (suc steps) text rest few s stop =
+  again [] steps text rest bounded s stop = absurd stop
+  again (x ∷ xs) zero text rest bounded s stop = absurd (omega (arith, bounded, ap length s.2, length-append s.0 s.1, has_bytes s.0 x s.3))
+  again (x ∷ xs) (suc steps) text rest bounded s stop =
       let cut : text ++ rest ≡ s.0 ++ (s.1 ++ rest) = ap (λ (r : List ℕ). r ++ rest) s.2 ∙ append_assoc s.0 s.1 rest in
       let here = ap (λ (r : List ℕ). read r >>= next_item last read steps) cut ∙ bind_some (read (s.0 ++ (s.1 ++ rest))) (next_item last read steps) (x, s.1 ++ rest) (m.again s.0 x (s.1 ++ rest) s.3) in
-      let left : length s.1 ≤ steps = omega (arith, few, ap length s.2, length-append s.0 s.1, has_bytes s.0 x s.3) in
+      let left : length s.1 ≤ steps = omega (arith, bounded, ap length s.2, length-append s.0 s.1, has_bytes s.0 x s.3) in
       elim stop [
         | inl p ↦
             let none : s.1 ≡ [] = subst (λ (ys : List A). SpellsItems Spells s.1 ys) p.1 s.4 in

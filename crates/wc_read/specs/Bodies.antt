@@ -34,6 +34,6 @@ pub record SpellsBody (bytes : List ℕ) (b : BodyValue) : Type 0 where
   pub code : List ℕ
   pub cut : bytes ≡ runs ++ code
   pub has_locals : SpellsVector SpellsLocals runs b.locals
-  pub few_locals : local_count b.locals < 2 ^ 32
+  pub locals_fit_u32 : local_count b.locals < 2 ^ 32
   pub has_operators : SpellsItems SpellsInstr code b.operators
   pub nests : IsExpression (tokens b.operators)

@@ -101,7 +101,7 @@ IsTypedDef scope t (imported m n) = Unit
 abbrev pub IsTypedGlobal : InitScope → GlobalValue → Type 0
 IsTypedGlobal scope g = IsTypedDef scope g.ty.content_type g.def
 
--- so many types and functions, and the globals before one
+-- what an initialiser may name: so many types and functions, and the globals before one
 abbrev pub scope_of : ℕ → ℕ → List GlobalValue → InitScope
 scope_of types functions front = record { types = types; functions = functions; globals = types_of front }
 

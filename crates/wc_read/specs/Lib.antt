@@ -24,9 +24,7 @@ pub mod Text
 pub mod OperatorText
 pub mod Blocks
 pub mod PassKinds
-pub mod TextSizes
 pub mod Passing
-pub mod LocalRuns
 pub mod Refs
 pub mod Renumbering
 pub mod Nesting
@@ -34,3 +32,4 @@ pub mod Bodies
 pub mod Decoding
 pub mod Laws
 pub mod Reading
+pub mod Private

@@ -77,7 +77,7 @@ pub record IsStart (m : ModuleValue) (index : ℕ) : Type 0 where
   pub no_results : ty.results ≡ []
 
 -- no space has 2 ^ 32 items
-pub record AreFew (m : ModuleValue) : Type 0 where
+pub record CountsFitU32 (m : ModuleValue) : Type 0 where
   pub funcs : length m.funcs < 2 ^ 32
   pub tables : length m.tables < 2 ^ 32
   pub memories : length m.memories < 2 ^ 32
@@ -92,7 +92,7 @@ pub record IsModule (m : ModuleValue) : Type 0 where
   pub distinct : AllPairs (λ x y. x ≢ y) (map (λ e. e.name) m.exports)
   pub started : IfSome m.start (IsStart m)
   pub initialised : AreTyped (length m.types) (length m.funcs) m.globals
-  pub few : AreFew m
+  pub bounded : CountsFitU32 m
 
 -- the sections whose contents are not read
 abbrev pub is_segments : ℕ → Bool

@@ -163,7 +163,7 @@ instr_value i = record { opcode = i.opcode; immediates = immediates_value i.imme
 abbrev pub instr_values : List Instr → List InstrValue
 instr_values is = map instr_value is
 
--- how bytes spell them
+-- how bytes spell what is after an operator's code
 
 abbrev pub is_prefix : ℕ → Bool
 is_prefix b = b == 0xfc || b == 0xfd || b == 0xfe

@@ -21,3 +21,4 @@ pub mod InitTypes
 pub mod Nesting
 pub mod Frequent
 pub mod Bodies
+pub mod Modules

@@ -31,7 +31,7 @@ type_reference t = option_map (λ n. (Types, n)) (type_index t)
 abbrev pub one_ref : Option (Space × ℕ) → Refs
 one_ref o = record { first = o; second = None }
 
--- those that there are, without a gap
+-- of two references those that there are, without a gap
 abbrev pub two_refs : Option (Space × ℕ) → Option (Space × ℕ) → Refs
 two_refs None second = one_ref second
 two_refs (Some first) second = record { first = Some first; second = second }
@@ -58,11 +58,11 @@ abbrev pub type_refs_of : ImmediatesValue → List ℕ
 type_refs_of (WithValTypes ts) = type_indices ts
 type_refs_of _ = []
 
--- those that an iterator has yet to yield
+-- the types that an iterator over the types of a `select` has yet to yield
 abbrev pub type_refs_left : TypeRefs → List ℕ
 type_refs_left s = type_indices s.types.now
 
--- whether it names a segment
+-- whether an operator names a segment
 
 abbrev pub is_segment : IndexKind → Bool
 is_segment (In space) = false

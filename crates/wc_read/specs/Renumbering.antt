@@ -84,10 +84,10 @@ renumber_refs new r = record { first = option_map (renumber_item new) r.first; s
 abbrev pub KeepsRefs : Type 0
 KeepsRefs = (new : Renumbering) (v : ImmediatesValue) → refs_of (renumber_immediates new v) ≡ renumber_refs new (refs_of v)
 
--- and so with the types that a `select` names
+-- a `select` under new indices names the types that it named, under these indices
 abbrev pub KeepsTypeRefs : Type 0
 KeepsTypeRefs = (new : Renumbering) (v : ImmediatesValue) → type_refs_of (renumber_immediates new v) ≡ map (new Types) (type_refs_of v)
 
--- it names a segment where it named one
+-- an operator under new indices names a segment where it named one
 abbrev pub KeepsSegments : Type 0
 KeepsSegments = (new : Renumbering) (v : ImmediatesValue) → names_segment (renumber_immediates new v) ≡ names_segment v

@@ -75,7 +75,7 @@ type_index _ = None
 abbrev pub names_type : ValType → Bool
 names_type t = is_some (type_index t)
 
--- such an index, if there is one, is below a number
+-- the type index in a value type, if there is one, is below a number
 abbrev pub has_type_index : ℕ → ValType → Bool
 has_type_index types t = option_map_or (λ index. nat_lt index types) (type_index t) true
 

@@ -71,7 +71,7 @@ pub fn read_body(alloc: Global, slice: &[u8]) -> Result<Body<'_>, ReadFault>
 {
     let mut reader = Reader::new(slice);
     let locals = reader.vector::<Locals>(alloc)?;
-    if !are_few(&locals) {
+    if !counts_fit_u32(&locals) {
         return Err(ReadFault::TooLarge);
     }
     let operators = operators(alloc, reader.rest)?;
@@ -82,7 +82,7 @@ pub fn read_body(alloc: Global, slice: &[u8]) -> Result<Body<'_>, ReadFault>
 }
 
 /// Whether there are less than 2^32 locals.
-pub fn are_few(locals: &[Locals]) -> bool
+pub fn counts_fit_u32(locals: &[Locals]) -> bool
     ensures { result ≡ nat_lt (local_count locals.now) (2 ^ 32) }
 {
     let mut total: u32 = 0;

@@ -73,8 +73,10 @@ impl<'a> Operators<'a> {
     /// asked before its operators are read.
     pub fn shortest_locals(&self) -> Option<&'a [u8]>
         requires { KeepsLocals self.now }
-        ensures text { IfSome result (λ b. b.now ≡ vector_text locals_text (locals_read self.now)) }
-        ensures no_types { IfSome result (λ _. type_indices (local_types (locals_read self.now)) ≡ []) }
+        ensures text { IfSome result (λ b.
+            b.now ≡ vector_text locals_text (locals_read self.now)) }
+        ensures no_types { IfSome result (λ _.
+            type_indices (local_types (locals_read self.now)) ≡ []) }
     {
         if self.is_shortest {
             Some(self.locals)

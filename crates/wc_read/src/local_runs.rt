@@ -1,7 +1,7 @@
 //! The locals of a body, passed over in runs.
 
 ghost use Rattle.std.specs.Prelude.{◌≡◌, ◌&&◌};
-ghost use Rattle.wc_read.specs.LocalRuns.{ReadsNumber, ReadsLocals, PassesLocals};
+ghost use Rattle.wc_read.specs.Private.LocalRuns.{ReadsNumber, ReadsLocals, PassesLocals};
 
 use crate::fault::ReadFault;
 use crate::reader::Reader;

@@ -1,7 +1,7 @@
 //! A reader that moves along the bytes: bytes, unsigned numbers, names, vectors.
 
 ghost use Rattle.std.specs.Prelude.{◌≡◌, ◌<◌, ◌≤◌, ◌^◌, ℕ, List, Option, map, IfOk};
-ghost use Rattle.wc_read.specs.Reading.Bytes.{Gives, GivesWithoutMemory, Finds, byte_at, bytes_at, number_at, name_at, vector_at};
+ghost use Rattle.wc_read.specs.Reading.Bytes.{Gives, GivesWithoutMemory, ReadsOption, byte_at, bytes_at, number_at, name_at, vector_at};
 
 use crate::codes::{GROUP_BITS, MORE_BYTES};
 use crate::fault::ReadFault;
@@ -144,7 +144,7 @@ impl<'a> Reader<'a> {
 
     /// An item, or None where there is none at the front.
     pub fn find<T: Spelled<'a>>(&mut self, alloc: Global) -> Result<Option<T>, ReadFault>
-        ensures { Finds T.view result self.new.rest.now (T.read self.old.rest.now) }
+        ensures { ReadsOption T.view result self.new.rest.now (T.read self.old.rest.now) }
     {
         match T::read_from(alloc, self) {
             Ok(item) => Ok(Some(item)),

@@ -4,7 +4,7 @@ ghost use Rattle.std.specs.Prelude.{◌≡◌, ◌<◌, ◌≤◌, true, All};
 ghost use Rattle.wc_read.specs.Reading.Bytes.{number_at, bytes_at};
 ghost use Rattle.wc_read.specs.Reading.Signed.{signed_at};
 ghost use Rattle.wc_read.specs.Text.{number_text, signed_text};
-ghost use Rattle.wc_read.specs.TextSizes.{SizesText, SizesMemArg, SizesMemoryIndex, IsShortest, IsShortestSigned, without_sign};
+ghost use Rattle.wc_read.specs.Private.TextSizes.{SizesText, SizesMemArg, SizesMemoryIndex, IsShortest, IsShortestSigned, without_sign};
 
 use crate::codes::{GROUP_BITS, MORE_BYTES};
 use crate::reader::Reader;

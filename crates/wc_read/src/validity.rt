@@ -4,8 +4,9 @@ ghost use Rattle.std.specs.Prelude.{◌≡◌, ◌≢◌, ◌<◌, ◌^◌, ◌�
 ghost use Rattle.std.specs.List.{list_all, slice_get};
 ghost use Rattle.wc_read.specs.Faults.{IfRefused};
 ghost use Rattle.wc_read.specs.Types.{func_type_value, has_type_index};
+ghost use Rattle.wc_read.specs.Reading.Modules.{name_types};
 ghost use Rattle.wc_read.specs.Reading.Types.{have_type_indices, is_nullary};
-ghost use Rattle.wc_read.specs.Modules.{module_value, count_of, HaveTypes, IsStart, IsModule, AreFew};
+ghost use Rattle.wc_read.specs.Modules.{module_value, count_of, HaveTypes, IsStart, IsModule, CountsFitU32};
 
 use crate::core_module::Module;
 use crate::distinct::have_distinct_names;
@@ -23,7 +24,7 @@ pub fn check_module(alloc: Global, module: &Module) -> Result<(), ReadFault>
     ensures refused { IfRefused result (¬ (IsModule (module_value «module».now))) }
     ensures no_component { IfErr result (λ f. f ≢ ReadFault.Component) }
 {
-    if !are_few(module) {
+    if !counts_fit_u32(module) {
         return Err(ReadFault::TooLarge);
     }
     if !have_types(&module.funcs, &module.types) {
@@ -54,8 +55,8 @@ pub fn check_module(alloc: Global, module: &Module) -> Result<(), ReadFault>
 }
 
 /// Whether no space has 2^32 items.
-fn are_few(module: &Module) -> bool
-    ensures { IsTrue result ↔ AreFew (module_value «module».now) }
+fn counts_fit_u32(module: &Module) -> bool
+    ensures { IsTrue result ↔ CountsFitU32 (module_value «module».now) }
 {
     let limit = u32::MAX as usize;
     module.funcs.len() <= limit
@@ -73,12 +74,7 @@ fn have_types(funcs: &[Func], types: &[FuncType]) -> bool
 
 /// Whether the indices of types in types, tables and globals are those of types of the module.
 fn name_types(module: &Module) -> bool
-    ensures { result ≡ (list_all (λ t. have_type_indices (length «module».now.types.items)
-        (func_type_value t)) «module».now.types.items
-        && (list_all (λ t. has_type_index (length «module».now.types.items) t.ty.element_type)
-        «module».now.tables.items
-        && list_all (λ g. has_type_index (length «module».now.types.items) g.ty.content_type)
-        «module».now.globals.items)) }
+    ensures { result ≡ name_types (length «module».now.types.items) «module».now }
 {
     let types = module.types.len();
     types_name_types(&module.types, types)

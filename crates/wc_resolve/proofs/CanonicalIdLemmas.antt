@@ -34,17 +34,17 @@ refused P none = ((λ t. absurd (let e : false ≡ true = t in let bad : ⊥ = c
 pub text_front : (a : List ℕ) → IsFront (λ x. a ++ x)
 text_front a x y e = append_cancel_left a x y e
 
-pub mark_front : (a : List ℕ) (c : ℕ) → IsFront (λ x. a ++ (c ∷ x))
-mark_front a c x y e = let same : c ∷ x ≡ c ∷ y = append_cancel_left a (c ∷ x) (c ∷ y) e in cc same
+pub separator_front : (a : List ℕ) (c : ℕ) → IsFront (λ x. a ++ (c ∷ x))
+separator_front a c x y e = let same : c ∷ x ≡ c ∷ y = append_cancel_left a (c ∷ x) (c ∷ y) e in cc same
 
-pub two_marks_front : (a b : List ℕ) (c d : ℕ) → IsFront (λ x. a ++ (c ∷ (b ++ (d ∷ x))))
-two_marks_front a b c d x y e = mark_front b d x y (mark_front a c (b ++ (d ∷ x)) (b ++ (d ∷ y)) e)
+pub two_separators_front : (a b : List ℕ) (c d : ℕ) → IsFront (λ x. a ++ (c ∷ (b ++ (d ∷ x))))
+two_separators_front a b c d x y e = separator_front b d x y (separator_front a c (b ++ (d ∷ x)) (b ++ (d ∷ y)) e)
 
 pub version_front : (a b name : List ℕ) → IsFront (λ x. joined_id a b (name ++ (at_sign ∷ x)))
-version_front a b name x y e = mark_front name at_sign x y (two_marks_front a b colon slash (name ++ (at_sign ∷ x)) (name ++ (at_sign ∷ y)) e)
+version_front a b name x y e = separator_front name at_sign x y (two_separators_front a b colon slash (name ++ (at_sign ∷ x)) (name ++ (at_sign ∷ y)) e)
 
-pub three_marks_front : (a b p : List ℕ) (c d m : ℕ) → IsFront (λ x. a ++ (c ∷ (b ++ (d ∷ (p ++ (m ∷ x))))))
-three_marks_front a b p c d m x y e = mark_front p m x y (two_marks_front a b c d (p ++ (m ∷ x)) (p ++ (m ∷ y)) e)
+pub three_separators_front : (a b p : List ℕ) (c d m : ℕ) → IsFront (λ x. a ++ (c ∷ (b ++ (d ∷ (p ++ (m ∷ x))))))
+three_separators_front a b p c d m x y e = separator_front p m x y (two_separators_front a b c d (p ++ (m ∷ x)) (p ++ (m ∷ y)) e)
 
 -- whether texts are equal
 pub texts_equal : (a b goal : List ℕ) (t : Bool) → t ≡ bytes_eq a b → b ≡ goal → IsTrue t ↔ (a ≡ goal)

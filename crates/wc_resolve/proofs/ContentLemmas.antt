@@ -17,7 +17,7 @@ use Rattle.wc_resolve.specs.World.{children, kind_at, referenced_indices, type_i
 use Rattle.wc_resolve.proofs.FuturesEntryLemmas.{carried_referenced}
 use Rattle.wc_resolve.proofs.ResourcesByValueLemmas.{kind_none}
 use Rattle.wc_resolve.proofs.SearchLemmas.{contains_head, contains_tail}
-use Rattle.wc_resolve.proofs.TableEntryLemmas.{AreEntries, table_start, table_turn, table_end}
+use Rattle.wc_resolve.proofs.TableEntryLemmas.{AreEntries, table_start, table_step, table_end}
 use Rattle.wc_resolve.proofs.TypeRuleLemmas.{LooksDown, value_by_rule_follows}
 
 -- tests that agree on the types in a type agree on it
@@ -48,15 +48,15 @@ pub record TextFlagsOf (lists : Bool) (types : List TypeView) (flags : List Bool
 pub texts_start : (lists : Bool) (types : List TypeView) (n : ℕ) → n ≡ length types → TextFlagsOf lists types (replicate n false) []
 texts_start lists types n e = record { same_length = length-replicate n false ∙ e; each = table_start (IsTextFlag lists types) false (replicate n false) }
 
-pub texts_turn : (lists : Bool) (types : List TypeView) (order : List ℕ) (flags : List Bool) (i x : ℕ) (b : Bool) → IsOrder types order → i < length order → x ≡ get_or order i 0 → x < length types
+pub texts_step : (lists : Bool) (types : List TypeView) (order : List ℕ) (flags : List Bool) (i x : ℕ) (b : Bool) → IsOrder types order → i < length order → x ≡ get_or order i 0 → x < length types
     → b ≡ text_rule lists (text_flag flags) x (kind_at types x) → TextFlagsOf lists types flags (take i order) → TextFlagsOf lists types (set flags x b) (take (i + 1) order)
-texts_turn lists types order flags i x b o small x_at bound made m =
+texts_step lists types order flags i x b o small x_at bound made m =
     let below : (c : ℕ) → Contains (children types x) c → text_flag flags c ≡ text_of lists types c =
     λ c k. m.each.each c (o.first i c small (subst (λ (z : ℕ). Contains (children types z) c) x_at k)) in
     let follows : Follows (text_rule lists) types (text_of lists types) = value_by_rule_follows (text_rule lists) false types order o (text_looks_down lists types) in
     let right : IsTextFlag lists types x b = made ∙ (text_looks_down lists types (text_flag flags) (text_of lists types) x below ∙ sym (follows x bound)) in
     let within : x < length flags = rw m.same_length bound in
-    record { same_length = length-set flags x b ∙ m.same_length; each = table_turn (IsTextFlag lists types) false flags order i x b small x_at within right m.each }
+    record { same_length = length-set flags x b ∙ m.same_length; each = table_step (IsTextFlag lists types) false flags order i x b small x_at within right m.each }
 
 pub texts_end : (lists : Bool) (types : List TypeView) (order : List ℕ) (flags : List Bool) (i : ℕ) → IsOrder types order → length order ≤ i → TextFlagsOf lists types flags (take i order) → AreTextFlags lists types flags
 texts_end lists types order flags i o past m = record { same_length = m.same_length; each = λ x h. table_end (IsTextFlag lists types) false flags order i past m.each x (o.all x h) }

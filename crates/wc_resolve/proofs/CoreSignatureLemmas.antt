@@ -20,26 +20,26 @@ use Rattle.wc_resolve.specs.Ranges.{IsFunctionIn, IsTypeIn}
 use Rattle.wc_resolve.specs.Signatures.{SignatureView, flatten_functype, core_of, has_indirect_result, max_flat_params_of, passed_types, result_pointer, returned_types, is_exported_method, first_as_pointer}
 use Rattle.wc_resolve.specs.Views.{FunctionView, TypeView, function_view, named_view}
 use Rattle.wc_resolve.specs.World.{SignatureHasOnly}
-use Rattle.wc_resolve.proofs.AlikeLemmas.{Alike, alike_cut}
-use Rattle.wc_resolve.proofs.AlikeFlatteningLemmas.{AlikeType, alike_types, alike_payload}
+use Rattle.wc_resolve.proofs.FrontAgreementLemmas.{AgreeAtFront, agree_cut}
+use Rattle.wc_resolve.proofs.FlatteningAgreementLemmas.{AgreeAtFrontOfType, agree_types, agree_payload}
 use Rattle.wc_resolve.proofs.NamedListLemmas.{named_values}
 
 -- lists that agree in their first n elements are equally more than fewer elements long
-over_alike : {X : Type 0} (m n : ℕ) (xs ys : List X) → m < n → Alike n xs ys → nat_lt m (length xs) ≡ nat_lt m (length ys)
-over_alike m n xs ys h e =
+over_agree : {X : Type 0} (m n : ℕ) (xs ys : List X) → m < n → AgreeAtFront n xs ys → nat_lt m (length xs) ≡ nat_lt m (length ys)
+over_agree m n xs ys h e =
     let same : min n (length xs) ≡ min n (length ys) = sym (length-take n xs) ∙ ap (λ z. length z) e ∙ length-take n ys in
     elim (cases_lt m (length xs)) [
       | inl more ↦ (let more2 : m < length ys = omega (arith, h, same, more) in lt-ltb m (length xs) more ∙ sym (lt-ltb m (length ys) more2))
-      | inr few ↦ (let few2 : length ys ≤ m = omega (arith, h, same, few) in le-ltb m (length xs) few ∙ sym (le-ltb m (length ys) few2))
+      | inr bounded ↦ (let bounded2 : length ys ≤ m = omega (arith, h, same, bounded) in le-ltb m (length xs) bounded ∙ sym (le-ltb m (length ys) bounded2))
     ]
 
 -- and are equal where they are no longer
-equal_from_alike : {X : Type 0} (m n : ℕ) (xs ys : List X) → m < n → Alike n xs ys → nat_lt m (length xs) ≡ false → xs ≡ ys
-equal_from_alike m n xs ys h e short =
-    let few : length xs ≤ m = ltb-false m (length xs) short in
-    let few2 : length ys ≤ m = ltb-false m (length ys) (sym (over_alike m n xs ys h e) ∙ short) in
-    let fits : length xs ≤ n = omega (arith, h, few) in
-    let fits2 : length ys ≤ n = omega (arith, h, few2) in
+equal_from_agree : {X : Type 0} (m n : ℕ) (xs ys : List X) → m < n → AgreeAtFront n xs ys → nat_lt m (length xs) ≡ false → xs ≡ ys
+equal_from_agree m n xs ys h e short =
+    let bounded : length xs ≤ m = ltb-false m (length xs) short in
+    let bounded2 : length ys ≤ m = ltb-false m (length ys) (sym (over_agree m n xs ys h e) ∙ short) in
+    let fits : length xs ≤ n = omega (arith, h, bounded) in
+    let fits2 : length ys ≤ n = omega (arith, h, bounded2) in
     sym (take_all n xs fits) ∙ e ∙ take_all n ys fits2
 
 max_flat_params_small : (abi : AbiVariant) → max_flat_params_of abi < flat_types_kept
@@ -52,20 +52,20 @@ max_flat_params_small GuestExportAsyncStackful = lit< tt
 over_passed : (abi : AbiVariant) (kind : FunctionKind) (ps : List WasmType) → nat_lt (max_flat_params_of abi) (length ps) ≡ true → passed_types abi kind ps ≡ Pointer ∷ []
 over_passed abi kind ps over = ap (λ b. cond b (Pointer ∷ []) (cond (is_exported_method kind abi) (first_as_pointer ps) ps)) over
 
-passed_alike : (abi : AbiVariant) (kind : FunctionKind) (ps qs : List WasmType) → Alike flat_types_kept ps qs → passed_types abi kind ps ≡ passed_types abi kind qs
-passed_alike abi kind ps qs e =
-    let test : nat_lt (max_flat_params_of abi) (length ps) ≡ nat_lt (max_flat_params_of abi) (length qs) = over_alike (max_flat_params_of abi) flat_types_kept ps qs (max_flat_params_small abi) e in
+passed_agree : (abi : AbiVariant) (kind : FunctionKind) (ps qs : List WasmType) → AgreeAtFront flat_types_kept ps qs → passed_types abi kind ps ≡ passed_types abi kind qs
+passed_agree abi kind ps qs e =
+    let test : nat_lt (max_flat_params_of abi) (length ps) ≡ nat_lt (max_flat_params_of abi) (length qs) = over_agree (max_flat_params_of abi) flat_types_kept ps qs (max_flat_params_small abi) e in
     elim (cases_Bool (nat_lt (max_flat_params_of abi) (length ps))) [
       | inl over ↦ (let over2 : nat_lt (max_flat_params_of abi) (length qs) ≡ true = sym test ∙ over in over_passed abi kind ps over ∙ sym (over_passed abi kind qs over2))
-      | inr fits ↦ ap (λ z. passed_types abi kind z) (equal_from_alike (max_flat_params_of abi) flat_types_kept ps qs (max_flat_params_small abi) e fits)
+      | inr fits ↦ ap (λ z. passed_types abi kind z) (equal_from_agree (max_flat_params_of abi) flat_types_kept ps qs (max_flat_params_small abi) e fits)
     ]
 
-indirect_result_alike : (abi : AbiVariant) (rs ss : List WasmType) (has_result : Bool) → Alike flat_types_kept rs ss → has_indirect_result abi rs has_result ≡ has_indirect_result abi ss has_result
-indirect_result_alike GuestImport rs ss has_result e = over_alike 1 flat_types_kept rs ss (lit< tt) e
-indirect_result_alike GuestExport rs ss has_result e = over_alike 1 flat_types_kept rs ss (lit< tt) e
-indirect_result_alike GuestImportAsync rs ss has_result e = refl
-indirect_result_alike GuestExportAsync rs ss has_result e = refl
-indirect_result_alike GuestExportAsyncStackful rs ss has_result e = refl
+indirect_result_agree : (abi : AbiVariant) (rs ss : List WasmType) (has_result : Bool) → AgreeAtFront flat_types_kept rs ss → has_indirect_result abi rs has_result ≡ has_indirect_result abi ss has_result
+indirect_result_agree GuestImport rs ss has_result e = over_agree 1 flat_types_kept rs ss (lit< tt) e
+indirect_result_agree GuestExport rs ss has_result e = over_agree 1 flat_types_kept rs ss (lit< tt) e
+indirect_result_agree GuestImportAsync rs ss has_result e = refl
+indirect_result_agree GuestExportAsync rs ss has_result e = refl
+indirect_result_agree GuestExportAsyncStackful rs ss has_result e = refl
 
 returned_import : (b : Bool) (rs ss : List WasmType) → (b ≡ false → rs ≡ ss) → returned_types GuestImport b rs ≡ returned_types GuestImport b ss
 returned_import true rs ss h = refl
@@ -75,27 +75,27 @@ returned_export : (b : Bool) (rs ss : List WasmType) → (b ≡ false → rs ≡
 returned_export true rs ss h = refl
 returned_export false rs ss h = h refl
 
-returned_alike : (abi : AbiVariant) (rs ss : List WasmType) (has_result : Bool) → Alike flat_types_kept rs ss
+returned_agree : (abi : AbiVariant) (rs ss : List WasmType) (has_result : Bool) → AgreeAtFront flat_types_kept rs ss
     → returned_types abi (has_indirect_result abi rs has_result) rs ≡ returned_types abi (has_indirect_result abi rs has_result) ss
-returned_alike GuestImport rs ss has_result e = returned_import (nat_lt 1 (length rs)) rs ss (λ short. equal_from_alike 1 flat_types_kept rs ss (lit< tt) e short)
-returned_alike GuestExport rs ss has_result e = returned_export (nat_lt 1 (length rs)) rs ss (λ short. equal_from_alike 1 flat_types_kept rs ss (lit< tt) e short)
-returned_alike GuestImportAsync rs ss has_result e = refl
-returned_alike GuestExportAsync rs ss has_result e = refl
-returned_alike GuestExportAsyncStackful rs ss has_result e = refl
+returned_agree GuestImport rs ss has_result e = returned_import (nat_lt 1 (length rs)) rs ss (λ short. equal_from_agree 1 flat_types_kept rs ss (lit< tt) e short)
+returned_agree GuestExport rs ss has_result e = returned_export (nat_lt 1 (length rs)) rs ss (λ short. equal_from_agree 1 flat_types_kept rs ss (lit< tt) e short)
+returned_agree GuestImportAsync rs ss has_result e = refl
+returned_agree GuestExportAsync rs ss has_result e = refl
+returned_agree GuestExportAsyncStackful rs ss has_result e = refl
 
 -- a signature, by its parts
 parts_of_core : (abi : AbiVariant) → List WasmType → List WasmType → Bool → Bool → SignatureView
 parts_of_core abi params results over indirect_result = record { params = params ++ result_pointer abi indirect_result; results = results; indirect_params = over; retptr = indirect_result }
 
-pub core_alike : (abi : AbiVariant) (kind : FunctionKind) (ps qs rs ss : List WasmType) (has_result : Bool) → Alike flat_types_kept ps qs → Alike flat_types_kept rs ss
+pub core_agree : (abi : AbiVariant) (kind : FunctionKind) (ps qs rs ss : List WasmType) (has_result : Bool) → AgreeAtFront flat_types_kept ps qs → AgreeAtFront flat_types_kept rs ss
     → core_of abi kind ps rs has_result ≡ core_of abi kind qs ss has_result
 unfolding parts_of_core
-core_alike abi kind ps qs rs ss has_result e f =
-    let indirect_result : has_indirect_result abi rs has_result ≡ has_indirect_result abi ss has_result = indirect_result_alike abi rs ss has_result f in
-    let over : nat_lt (max_flat_params_of abi) (length ps) ≡ nat_lt (max_flat_params_of abi) (length qs) = over_alike (max_flat_params_of abi) flat_types_kept ps qs (max_flat_params_small abi) e in
-    let passed : passed_types abi kind ps ≡ passed_types abi kind qs = passed_alike abi kind ps qs e in
+core_agree abi kind ps qs rs ss has_result e f =
+    let indirect_result : has_indirect_result abi rs has_result ≡ has_indirect_result abi ss has_result = indirect_result_agree abi rs ss has_result f in
+    let over : nat_lt (max_flat_params_of abi) (length ps) ≡ nat_lt (max_flat_params_of abi) (length qs) = over_agree (max_flat_params_of abi) flat_types_kept ps qs (max_flat_params_small abi) e in
+    let passed : passed_types abi kind ps ≡ passed_types abi kind qs = passed_agree abi kind ps qs e in
     let returned : returned_types abi (has_indirect_result abi rs has_result) rs ≡ returned_types abi (has_indirect_result abi ss has_result) ss =
-    returned_alike abi rs ss has_result f ∙ ap (λ b. returned_types abi b ss) indirect_result in
+    returned_agree abi rs ss has_result f ∙ ap (λ b. returned_types abi b ss) indirect_result in
     let b : Bool = has_indirect_result abi rs has_result in
     let o : Bool = nat_lt (max_flat_params_of abi) (length ps) in
     ap (λ z. parts_of_core abi z (returned_types abi b rs) o b) passed
@@ -104,9 +104,9 @@ core_alike abi kind ps qs rs ss has_result e f =
     ∙ ap (λ z. parts_of_core abi (passed_types abi kind qs) (returned_types abi (has_indirect_result abi ss has_result) ss) (nat_lt (max_flat_params_of abi) (length qs)) z) indirect_result
 
 -- what is kept determines the flat types of a type that is in range, as many as are kept
-table_alike : (types : List TypeView) (flats : List (List WasmType)) → AreFlattened types flats → (t : WitType) → IsTypeIn (length types) t → AlikeType flat_types_kept (flat_entry flats) (flat_of types) t
-table_alike types flats made (Id i) h = ap (λ z. take flat_types_kept z) (made.each i.0 h) ∙ alike_cut flat_types_kept (flat_of types i.0)
-table_alike types flats made t h = refl
+table_agree : (types : List TypeView) (flats : List (List WasmType)) → AreFlattened types flats → (t : WitType) → IsTypeIn (length types) t → AgreeAtFrontOfType flat_types_kept (flat_entry flats) (flat_of types) t
+table_agree types flats made (Id i) h = ap (λ z. take flat_types_kept z) (made.each i.0 h) ∙ agree_cut flat_types_kept (flat_of types i.0)
+table_agree types flats made t h = refl
 
 answer_in : (n : ℕ) (o : Option WitType) → IfSome o (IsTypeIn n) → (s : WitType) → o ≡ Some s → IsTypeIn n s
 answer_in n None h s e = absurd (let bad : ⊥ = cc e in bad)
@@ -122,9 +122,9 @@ pub core_settled : (types : List TypeView) (flats : List (List WasmType)) (abi :
 core_settled types flats abi v made there =
     let in_signature : SignatureHasOnly (IsTypeIn (length types)) v = function_in (length types) v there in
     let all : All (IsTypeIn (length types)) (map (λ p. p.1) v.params) = All-map (IsTypeIn (length types)) (λ p. p.1) v.params in_signature.0 in
-    core_alike abi v.kind (flatten_types (flat_entry flats) (map (λ p. p.1) v.params)) (flatten_types (flat_of types) (map (λ p. p.1) v.params)) (flat_payload (flat_entry flats) v.outcome) (flat_payload (flat_of types) v.outcome) (is_some v.outcome)
-    (alike_types flat_types_kept (flat_entry flats) (flat_of types) (map (λ p. p.1) v.params) (λ t k. table_alike types flats made t (All-contains (IsTypeIn (length types)) (map (λ p. p.1) v.params) t all k)))
-    (alike_payload flat_types_kept (flat_entry flats) (flat_of types) v.outcome (λ s e. table_alike types flats made s (answer_in (length types) v.outcome in_signature.1 s e)))
+    core_agree abi v.kind (flatten_types (flat_entry flats) (map (λ p. p.1) v.params)) (flatten_types (flat_of types) (map (λ p. p.1) v.params)) (flat_payload (flat_entry flats) v.outcome) (flat_payload (flat_of types) v.outcome) (is_some v.outcome)
+    (agree_types flat_types_kept (flat_entry flats) (flat_of types) (map (λ p. p.1) v.params) (λ t k. table_agree types flats made t (All-contains (IsTypeIn (length types)) (map (λ p. p.1) v.params) t all k)))
+    (agree_payload flat_types_kept (flat_entry flats) (flat_of types) v.outcome (λ s e. table_agree types flats made s (answer_in (length types) v.outcome in_signature.1 s e)))
 
 -- the signature of a function, from the flat types of its parameters and its result
 pub core_made : (flat : ℕ → List WasmType) (abi : AbiVariant) (f : Function) (params results : List WasmType) (has_result : Bool) (named : List (String Global × WitType)) → named ≡ f.params.items
@@ -133,6 +133,6 @@ pub core_made : (flat : ℕ → List WasmType) (abi : AbiVariant) (f : Function)
 core_made flat abi f params results has_result named same made given each =
     let full : List WasmType = flatten_types flat (map (λ p. p.1) (map named_view f.params.items)) in
     let read : flatten_types flat (map (λ p. p.1) named) ≡ full = ap (λ z. flatten_types flat (map (λ p. p.1) z)) same ∙ ap (flatten_types flat) (sym (named_values f.params.items)) in
-    let alike : Alike flat_types_kept params full = ap (λ z. take flat_types_kept z) (made ∙ ap (λ z. take flat_types_kept z) read) ∙ alike_cut flat_types_kept full in
-    core_alike abi f.kind params full results (flat_payload flat f.result) has_result alike (ap (λ z. take flat_types_kept z) given)
+    let agree : AgreeAtFront flat_types_kept params full = ap (λ z. take flat_types_kept z) (made ∙ ap (λ z. take flat_types_kept z) read) ∙ agree_cut flat_types_kept full in
+    core_agree abi f.kind params full results (flat_payload flat f.result) has_result agree (ap (λ z. take flat_types_kept z) given)
     ∙ ap (λ z. core_of abi f.kind full (flat_payload flat f.result) z) each

@@ -9,7 +9,7 @@ use Rattle.std.proofs.Math.Seq.{take-append-add}
 use Rattle.wc_resolve.specs.declared.flat.WasmType.{WasmType}
 use Rattle.wc_resolve.specs.declared.types.WitType.{WitType}
 use Rattle.wc_resolve.specs.Flat.{flat_payload, flat_types_kept, flatten_type, flatten_types, join, join_flats}
-use Rattle.wc_resolve.proofs.AlikeLemmas.{Alike, alike_append, alike_cut}
+use Rattle.wc_resolve.proofs.FrontAgreementLemmas.{AgreeAtFront, agree_append, agree_cut}
 
 -- what fits after others
 pub put_room : {X : Type 0} (n room : ℕ) (xs ys : List X) → length xs ≤ n → room ≡ n - length xs → xs ++ take (min room (length ys)) ys ≡ take n (xs ++ ys)
@@ -24,8 +24,8 @@ types_more flat types i d old new more small was read made =
     let next : flatten_types flat (take (i + 1) types) ≡ front ++ (flatten_type flat (get_or types i d) ++ []) =
     ap (flatten_types flat) (take_more types i d small) ∙ flat_map-append (flatten_type flat) (take i types) (get_or types i d ∷ []) in
     let plain : flatten_types flat (take (i + 1) types) ≡ front ++ more = next ∙ ap (λ z. front ++ z) (append-nil (flatten_type flat (get_or types i d)) ∙ sym read) in
-    let alike : Alike flat_types_kept (old ++ more) (front ++ more) = alike_append flat_types_kept old front more more (ap (λ z. take flat_types_kept z) was ∙ alike_cut flat_types_kept front) refl in
-    made ∙ alike ∙ ap (λ z. take flat_types_kept z) (sym plain)
+    let agree : AgreeAtFront flat_types_kept (old ++ more) (front ++ more) = agree_append flat_types_kept old front more more (ap (λ z. take flat_types_kept z) was ∙ agree_cut flat_types_kept front) refl in
+    made ∙ agree ∙ ap (λ z. take flat_types_kept z) (sym plain)
 
 pub shared_more : (flat : ℕ → List WasmType) (payloads : List (Option WitType)) (i : ℕ) (d : Option WitType) (old new more : List WasmType) → i < length payloads
     → old ≡ fold (λ shared t. join_flats shared (flat_payload flat t)) [] (take i payloads) → more ≡ flat_payload flat (get_or payloads i d) → new ≡ join_flats old more
@@ -81,9 +81,9 @@ joined_end (suc n) [] ys h = absurd (let bad : ⊥ = omega (arith, h) in bad)
 joined_end (suc n) (x ∷ xs) [] h = absurd (let bad : ⊥ = omega (arith, h) in bad)
 joined_end (suc n) (x ∷ xs) (y ∷ ys) h = let less : n ≡ min (length xs) (length ys) = omega (arith, h) in ap (λ z. join x y ∷ z) (joined_end n xs ys less)
 
-pub joined_turn : (i shared : ℕ) (xs ys flat : List WasmType) (d e made : WasmType) → shared ≡ min (length xs) (length ys) → i < shared → flat ≡ joined_first i xs ys
+pub joined_walk_step : (i shared : ℕ) (xs ys flat : List WasmType) (d e made : WasmType) → shared ≡ min (length xs) (length ys) → i < shared → flat ≡ joined_first i xs ys
     → d ≡ get_or flat i d → made ≡ join d (get_or ys i e) → set flat i made ≡ joined_first (i + 1) xs ys
-joined_turn i shared xs ys flat d e made h small was read join_is =
+joined_walk_step i shared xs ys flat d e made h small was read join_is =
     let low : i < length xs = omega (arith, h, small) in
     let high : i < length ys = omega (arith, h, small) in
     let same : made ≡ join (get_or (joined_first i xs ys) i d) (get_or ys i e) = join_is ∙ ap (λ z. join z (get_or ys i e)) (read ∙ ap (λ z. get_or z i d) was) in

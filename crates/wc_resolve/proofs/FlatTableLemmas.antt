@@ -10,10 +10,10 @@ use Rattle.wc_resolve.specs.TypeRules.{Follows}
 use Rattle.wc_resolve.specs.Tables.{IsOrder}
 use Rattle.wc_resolve.specs.Views.{TypeView}
 use Rattle.wc_resolve.specs.World.{children, kind_at}
-use Rattle.wc_resolve.proofs.AlikeLemmas.{Alike, alike_cut}
-use Rattle.wc_resolve.proofs.AlikeFlatteningLemmas.{alike_rule, flat_looks_down}
+use Rattle.wc_resolve.proofs.FrontAgreementLemmas.{AgreeAtFront, agree_cut}
+use Rattle.wc_resolve.proofs.FlatteningAgreementLemmas.{agree_rule, flat_looks_down}
 use Rattle.wc_resolve.proofs.TypeRuleLemmas.{value_by_rule_follows}
-use Rattle.wc_resolve.proofs.TableEntryLemmas.{AreEntries, table_start, table_turn, table_end}
+use Rattle.wc_resolve.proofs.TableEntryLemmas.{AreEntries, table_start, table_step, table_end}
 
 pub flats_follow : (types : List TypeView) (order : List ℕ) → IsOrder types order → Follows flat_rule types (flat_of types)
 flats_follow types order o = value_by_rule_follows flat_rule [] types order o (flat_looks_down types)
@@ -36,20 +36,20 @@ flats_start types n flats made e = record {
 flattening_right : (types : List TypeView) (order : List ℕ) (flats : List (List WasmType)) (x : ℕ) (flat : List WasmType) → IsOrder types order → x < length types
     → flat ≡ take flat_types_kept (flat_rule (flat_entry flats) x (kind_at types x)) → ((c : ℕ) → Contains (children types x) c → flat_entry flats c ≡ take flat_types_kept (flat_of types c)) → IsFlattening types x flat
 flattening_right types order flats x flat o small made below =
-    let alike : Alike flat_types_kept (flat_rule (flat_entry flats) x (kind_at types x)) (flat_rule (flat_of types) x (kind_at types x)) =
-    alike_rule flat_types_kept (flat_entry flats) (flat_of types) types x (λ c h. ap (λ z. take flat_types_kept z) (below c h) ∙ alike_cut flat_types_kept (flat_of types c)) in
-    made ∙ alike ∙ ap (λ z. take flat_types_kept z) (sym (flats_follow types order o x small))
+    let agree : AgreeAtFront flat_types_kept (flat_rule (flat_entry flats) x (kind_at types x)) (flat_rule (flat_of types) x (kind_at types x)) =
+    agree_rule flat_types_kept (flat_entry flats) (flat_of types) types x (λ c h. ap (λ z. take flat_types_kept z) (below c h) ∙ agree_cut flat_types_kept (flat_of types c)) in
+    made ∙ agree ∙ ap (λ z. take flat_types_kept z) (sym (flats_follow types order o x small))
 
-pub flats_turn : (types : List TypeView) (order : List ℕ) (flats : List (List WasmType)) (i x : ℕ) (flat : List WasmType) → IsOrder types order → i < length order
+pub flats_step : (types : List TypeView) (order : List ℕ) (flats : List (List WasmType)) (i x : ℕ) (flat : List WasmType) → IsOrder types order → i < length order
     → x ≡ get_or order i 0 → x < length types → flat ≡ take flat_types_kept (flat_rule (flat_entry flats) x (kind_at types x)) → FlatsOf types flats (take i order)
     → FlatsOf types (set flats x flat) (take (i + 1) order)
-flats_turn types order flats i x flat o small x_at bound made m =
+flats_step types order flats i x flat o small x_at bound made m =
     let below : (c : ℕ) → Contains (children types x) c → flat_entry flats c ≡ take flat_types_kept (flat_of types c) =
     λ c h. m.each.each c (o.first i c small (subst (λ (z : ℕ). Contains (children types z) c) x_at h)) in
     let within : x < length flats = rw m.same_length bound in
     record {
       same_length = length-set flats x flat ∙ m.same_length;
-      each = table_turn (IsFlattening types) [] flats order i x flat small x_at within (flattening_right types order flats x flat o bound made below) m.each;
+      each = table_step (IsFlattening types) [] flats order i x flat small x_at within (flattening_right types order flats x flat o bound made below) m.each;
     }
 
 pub flats_end : (types : List TypeView) (order : List ℕ) (flats : List (List WasmType)) (i : ℕ) → IsOrder types order → length order ≤ i → FlatsOf types flats (take i order)

@@ -1,4 +1,4 @@
--- The loop that lists futures and streams: its state, and its turns.
+-- The loop that lists futures and streams: its state, and its length.
 use Rattle.std.proofs.Common.{◌≡◌, ℕ, ◌+◌, ◌*◌, ◌<◌, ◌≤◌, Bool, true, false, List, [], ◌∷◌, ◌++◌, map, reverse, length, refl, sym, ap, ◌∙◌, subst, inl, inr, arith, append_assoc, append-nil}
 use Rattle.std.specs.Prelude.{if◌then◌else◌}
 use Rattle.std.specs.List.{flat_map, Contains}
@@ -13,7 +13,7 @@ use Rattle.wc_resolve.specs.Roots.{id_index}
 use Rattle.wc_resolve.specs.Live.{listing_of}
 use Rattle.wc_resolve.specs.Futures.{EntryView, IsFuturesEntry, futures_of, itself}
 use Rattle.wc_resolve.proofs.SearchLemmas.{contains_none}
-use Rattle.wc_resolve.proofs.ListingLemmas.{step_index, turns, turns_append, turns_reverse}
+use Rattle.wc_resolve.proofs.ListingLemmas.{step_index, walk_length, walk_length_append, walk_length_reverse}
 use Rattle.wc_resolve.proofs.WalkLemmas.{contains_reverse, ids_within}
 
 -- what steps are going to list, the next one first
@@ -111,20 +111,22 @@ future_enter types goal found steps rest id entry kept w e =
 pub future_end : (types : List TypeView) (goal found : List ℕ) (steps : List TypeStep) → IsFutureWalk types goal found steps → steps ≡ [] → found ≡ goal
 future_end types goal found steps w none = sym (w.each ∙ ap (λ z. found ++ remaining (futures_of types) (reverse z)) none ∙ append-nil found)
 
--- turns
+-- the length of a walk
 
-self_turns : (listed : ℕ → List ℕ) (carrier : Bool) (id : TypeId) → turns listed (self_steps carrier id) ≤ 1
-self_turns listed true id = omega arith
-self_turns listed false id = omega arith
+self_walk_length : (listed : ℕ → List ℕ) (carrier : Bool) (id : TypeId) → walk_length listed (self_steps carrier id) ≤ 1
+self_walk_length listed true id = omega arith
+self_walk_length listed false id = omega arith
 
-pub future_turns : (types : List TypeView) (steps rest : List TypeStep) (id : TypeId) (entry : EntryView) → IsFuturesEntry types id.0 entry → steps ≡ rest ++ Enter id ∷ []
-    → turns (listing_of types) ((rest ++ self_steps entry.is_carrier id) ++ map Enter (reverse entry.parts)) < turns (listing_of types) steps
-future_turns types steps rest id entry kept e =
+pub future_walk_length : (types : List TypeView) (steps rest : List TypeStep) (id : TypeId) (entry : EntryView) → IsFuturesEntry types id.0 entry → steps ≡ rest ++ Enter id ∷ []
+    → walk_length (listing_of types) ((rest ++ self_steps entry.is_carrier id) ++ map Enter (reverse entry.parts)) < walk_length (listing_of types) steps
+future_walk_length types steps rest id entry kept e =
     let listed : ℕ → List ℕ = listing_of types in
-    let sum : turns listed steps ≡ turns listed rest + turns listed (Enter id ∷ []) = ap (turns listed) e ∙ turns_append listed rest (Enter id ∷ []) in
+    let sum : walk_length listed steps ≡ walk_length listed rest + walk_length listed (Enter id ∷ []) = ap (walk_length listed) e
+    ∙ walk_length_append listed rest (Enter id ∷ []) in
     let less : length (flat_map listed (map id_index entry.parts)) < length (listed id.0) = kept.shorter in
-    let front : turns listed (rest ++ self_steps entry.is_carrier id) ≡ turns listed rest + turns listed (self_steps entry.is_carrier id) = turns_append listed rest (self_steps entry.is_carrier id) in
-    let full = turns_append listed (rest ++ self_steps entry.is_carrier id) (map Enter (reverse entry.parts)) in
-    let below : turns listed (map Enter (reverse entry.parts)) ≡ 2 * length (flat_map listed (map id_index entry.parts)) = turns_reverse listed entry.parts in
-    let own = self_turns listed entry.is_carrier id in
+    let front : walk_length listed (rest ++ self_steps entry.is_carrier id) ≡ walk_length listed rest + walk_length listed (self_steps entry.is_carrier id) = walk_length_append listed rest (self_steps entry.is_carrier id) in
+    let full = walk_length_append listed (rest ++ self_steps entry.is_carrier id) (map Enter (reverse entry.parts)) in
+    let below : walk_length listed (map Enter (reverse entry.parts)) ≡ 2 * length (flat_map listed (map id_index entry.parts)) = walk_length_reverse listed
+    entry.parts in
+    let own = self_walk_length listed entry.is_carrier id in
     omega (arith, sum, less, front, full, below, own)

@@ -1,7 +1,7 @@
 pub mod AcyclicLemmas
 pub mod AliasLemmas
-pub mod AlikeLemmas
-pub mod AlikeFlatteningLemmas
+pub mod FrontAgreementLemmas
+pub mod FlatteningAgreementLemmas
 pub mod FuturesEntryLemmas
 pub mod CanonicalIdLemmas
 pub mod ChildLemmas

@@ -137,24 +137,26 @@ adding_enter types goal live id ids steps follows small within same a =
           ∙ ap (λ z. finished (listing_of types) z steps) (sym first) ∙ a.ends;
     }
 
--- turns that are left at most
-abbrev pub step_turns : (ℕ → List ℕ) → TypeStep → ℕ
-step_turns listed (Enter id) = 2 * length (listed id.0)
-step_turns listed (Leave id) = 1
+-- how many steps are left at most
+abbrev pub step_length : (ℕ → List ℕ) → TypeStep → ℕ
+step_length listed (Enter id) = 2 * length (listed id.0)
+step_length listed (Leave id) = 1
 
-abbrev pub turns : (ℕ → List ℕ) → List TypeStep → ℕ
-turns listed [] = 0
-turns listed (s ∷ steps) = step_turns listed s + turns listed steps
+abbrev pub walk_length : (ℕ → List ℕ) → List TypeStep → ℕ
+walk_length listed [] = 0
+walk_length listed (s ∷ steps) = step_length listed s + walk_length listed steps
 
-pub turns_append : (listed : ℕ → List ℕ) (xs ys : List TypeStep) → turns listed (xs ++ ys) ≡ turns listed xs + turns listed ys
-turns_append listed [] ys = omega arith
-turns_append listed (s ∷ xs) ys = let rest : turns listed (xs ++ ys) ≡ turns listed xs + turns listed ys = turns_append listed xs ys in omega (arith, rest)
+pub walk_length_append : (listed : ℕ → List ℕ) (xs ys : List TypeStep) → walk_length listed (xs ++ ys) ≡ walk_length listed xs + walk_length listed ys
+walk_length_append listed [] ys = omega arith
+walk_length_append listed (s ∷ xs) ys =
+    let rest : walk_length listed (xs ++ ys) ≡ walk_length listed xs + walk_length listed ys = walk_length_append listed xs ys in omega (arith, rest)
 
-pub turns_reverse : (listed : ℕ → List ℕ) (ids : List TypeId) → turns listed (map Enter (reverse ids)) ≡ 2 * length (flat_map listed (map id_index ids))
-turns_reverse listed [] = refl
-turns_reverse listed (id ∷ ids) =
+pub walk_length_reverse : (listed : ℕ → List ℕ) (ids : List TypeId)
+    → walk_length listed (map Enter (reverse ids)) ≡ 2 * length (flat_map listed (map id_index ids))
+walk_length_reverse listed [] = refl
+walk_length_reverse listed (id ∷ ids) =
     let split : map Enter (reverse (id ∷ ids)) ≡ map Enter (reverse ids) ++ Enter id ∷ [] = ap (map Enter) (reverse-append (id ∷ []) ids) ∙ map-append Enter (reverse ids) (id ∷ []) in
-    let sum : turns listed (map Enter (reverse (id ∷ ids))) ≡ turns listed (map Enter (reverse ids)) + turns listed (Enter id ∷ []) = ap (turns listed) split ∙ turns_append listed (map Enter (reverse ids)) (Enter id ∷ []) in
-    let rest : turns listed (map Enter (reverse ids)) ≡ 2 * length (flat_map listed (map id_index ids)) = turns_reverse listed ids in
+    let sum : walk_length listed (map Enter (reverse (id ∷ ids))) ≡ walk_length listed (map Enter (reverse ids)) + walk_length listed (Enter id ∷ []) = ap (walk_length listed) split ∙ walk_length_append listed (map Enter (reverse ids)) (Enter id ∷ []) in
+    let rest : walk_length listed (map Enter (reverse ids)) ≡ 2 * length (flat_map listed (map id_index ids)) = walk_length_reverse listed ids in
     let full : length (listed id.0 ++ flat_map listed (map id_index ids)) ≡ length (listed id.0) + length (flat_map listed (map id_index ids)) = length-append (listed id.0) (flat_map listed (map id_index ids)) in
     omega (arith, sum, rest, full)

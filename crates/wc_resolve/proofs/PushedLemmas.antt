@@ -19,8 +19,8 @@ pub record IsPushed {E : Type 0} (f : E → List ℕ) (full left : List E) (old 
 pub push_start : {E : Type 0} (f : E → List ℕ) (full : List E) (old : List ℕ) → IsPushed f full full old old
 push_start f full old = record { front = []; split = refl; pushed = sym (append-nil old) }
 
-pub push_turn : {E : Type 0} (f : E → List ℕ) (full left rest : List E) (e : E) (old mid new : List ℕ) → IsPushed f full left old mid → left ≡ e ∷ rest → new ≡ mid ++ f e → IsPushed f full rest old new
-push_turn f full left rest e old mid new p at more = record {
+pub push_step : {E : Type 0} (f : E → List ℕ) (full left rest : List E) (e : E) (old mid new : List ℕ) → IsPushed f full left old mid → left ≡ e ∷ rest → new ≡ mid ++ f e → IsPushed f full rest old new
+push_step f full left rest e old mid new p at more = record {
   front = p.front ++ e ∷ [];
   split = p.split ∙ ap (λ z. p.front ++ z) at ∙ sym (append_assoc p.front (e ∷ []) rest);
   pushed = more ∙ ap (λ z. z ++ f e) p.pushed ∙ append_assoc old (flat_map f p.front) (f e) ∙ ap (λ z. old ++ z) (sym (flat_map-append f p.front (e ∷ []) ∙ ap (λ z. flat_map f p.front ++ z) (append-nil (f e))));

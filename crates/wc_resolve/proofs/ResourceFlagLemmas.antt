@@ -9,7 +9,7 @@ use Rattle.wc_resolve.specs.declared.types.WitType.TheVariants.{Id}
 use Rattle.wc_resolve.specs.Views.{KindView, resource_kind, alias_kind, TypeView}
 use Rattle.wc_resolve.specs.World.{IsResource, defined, aliased, IsChildrenFirst, children, kind_at, referenced_indices}
 use Rattle.wc_resolve.specs.Resources.{AreResourceFlags, is_resource_kind}
-use Rattle.wc_resolve.proofs.TableEntryLemmas.{AreEntries, table_start, table_turn, table_end}
+use Rattle.wc_resolve.proofs.TableEntryLemmas.{AreEntries, table_start, table_step, table_end}
 
 abbrev pub AliasOf : List TypeView → ℕ → Type 0
 AliasOf types x = (i : TypeId) × (kind_at types x ≡ Some (alias_kind (Id i))) × IsResource types i.0
@@ -53,14 +53,14 @@ resource_flag_right types resource_flags x each = (
 pub resource_flags_start : (types : List TypeView) (n : ℕ) → n ≡ length types → ResourceFlagsOf types (replicate n false) []
 resource_flags_start types n e = record { same_length = length-replicate n false ∙ e; each = table_start (IsResourceFlag types) false (replicate n false) }
 
-pub resource_flags_turn : (types : List TypeView) (order : List ℕ) (resource_flags : List Bool) (i x : ℕ) (b : Bool) → IsChildrenFirst (children types) order → i < length order
+pub resource_flags_step : (types : List TypeView) (order : List ℕ) (resource_flags : List Bool) (i x : ℕ) (b : Bool) → IsChildrenFirst (children types) order → i < length order
     → x ≡ get_or order i 0 → x < length types → b ≡ is_resource_kind resource_flags (kind_at types x) → ResourceFlagsOf types resource_flags (take i order) → ResourceFlagsOf types (set resource_flags x b) (take (i + 1) order)
-resource_flags_turn types order resource_flags i x b first small x_at bound made m =
+resource_flags_step types order resource_flags i x b first small x_at bound made m =
     let below : (c : ℕ) → Contains (children types x) c → IsResourceFlag types c (get_or resource_flags c false) =
     λ c k. m.each.each c (first i c small (subst (λ (z : ℕ). Contains (children types z) c) x_at k)) in
     let right : IsResourceFlag types x b = subst (λ (z : Bool). IsResourceFlag types x z) (sym made) (resource_flag_right types resource_flags x below) in
     let within : x < length resource_flags = rw m.same_length bound in
-    record { same_length = length-set resource_flags x b ∙ m.same_length; each = table_turn (IsResourceFlag types) false resource_flags order i x b small x_at within right m.each }
+    record { same_length = length-set resource_flags x b ∙ m.same_length; each = table_step (IsResourceFlag types) false resource_flags order i x b small x_at within right m.each }
 
 pub resource_flags_end : (types : List TypeView) (order : List ℕ) (resource_flags : List Bool) (i : ℕ) → length order ≤ i → ((x : ℕ) → x < length types → Contains order x)
     → ResourceFlagsOf types resource_flags (take i order) → AreResourceFlags types resource_flags

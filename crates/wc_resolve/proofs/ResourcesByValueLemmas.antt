@@ -1,13 +1,15 @@
 -- Flags of resources and the types that are free of them.
-use Rattle.std.proofs.Common.{◌≡◌, ◌↔◌, ℕ, zero, suc, ◌<◌, ◌≤◌, Bool, true, false, List, [], ◌∷◌, length, get_or, Option, Some, None, refl, sym, ◌∙◌, inl, inr, arith}
+use Rattle.std.proofs.Common.{◌≡◌, ◌↔◌, ℕ, zero, suc, ◌<◌, ◌≤◌, Bool, true, false, List, [], ◌∷◌, length, get_or, Option, Some, None, refl, sym, ◌∙◌, inl, inr}
+use Rattle.std.proofs.Common.{arith}
 use Rattle.std.specs.Option.{IfSome}
-use Rattle.std.proofs.lemmas.Bool.{cases_lt}
+use Rattle.std.proofs.lemmas.Bool.{cases_lt, false_from_ne_true}
 use Rattle.std.proofs.lemmas.List.Elements.{All-weaker}
 use Rattle.wc_resolve.specs.declared.types.WitType.{WitType}
 use Rattle.wc_resolve.specs.declared.types.WitType.TheVariants.{Id}
 use Rattle.wc_resolve.specs.Views.{KindView, TypeView, FunctionView, ItemView, interface_item, function_item, type_item, WorldView, InterfaceView}
 use Rattle.wc_resolve.specs.Resources.{AreResourceFlags, IsNotResource}
-use Rattle.wc_resolve.specs.World.{ResolveView, IsResource, defined, aliased, kind_at, SignatureHasOnly, DoesItemPass, DoesWorldPass, DoesInterfacePass, DoesTypePass, DoAllTypesPass, contained_types}
+use Rattle.wc_resolve.specs.World.{ResolveView, IsResource, defined, aliased, kind_at, SignatureHasOnly, DoesItemPass, DoesWorldPass, DoesInterfacePass}
+use Rattle.wc_resolve.specs.World.{DoesTypePass, DoAllTypesPass, contained_types}
 use Rattle.wc_resolve.specs.WellFormed.{IsFree}
 
 pub kind_none : (types : List TypeView) (x : ℕ) → length types ≤ x → kind_at types x ≡ None
@@ -26,33 +28,33 @@ resource_in : (types : List TypeView) {x : ℕ} → IsResource types x → x < l
 resource_in types (defined x e) = kind_in types x _ e
 resource_in types (aliased x i e h) = kind_in types x _ e
 
-not_true : (b : Bool) → (b ≡ true → ⊥) → b ≡ false
-not_true true h = absurd (h refl)
-not_true false h = refl
-
 past_end : (resource_flags : List Bool) (x : ℕ) → length resource_flags ≤ x → get_or resource_flags x false ≡ false
 past_end [] x h = refl
 past_end (m ∷ resource_flags) zero h = absurd (omega (arith, h))
 past_end (m ∷ resource_flags) (suc x) h = past_end resource_flags x (omega (arith, h))
 
-not_resource_is_free : (types : List TypeView) (resource_flags : List Bool) → AreResourceFlags types resource_flags → (x : ℕ) → get_or resource_flags x false ≡ false → IsResource types x → ⊥
+not_resource_is_free : (types : List TypeView) (resource_flags : List Bool) → AreResourceFlags types resource_flags → (x : ℕ)
+    → get_or resource_flags x false ≡ false → IsResource types x → ⊥
 not_resource_is_free types resource_flags m x e h =
     let each : get_or resource_flags x false ≡ true = (m.each x (resource_in types h)).1 h in
     let t : true ≡ false = sym each ∙ e in
     let bad : ⊥ = cc t in bad
 
-free_is_not_resource : (types : List TypeView) (resource_flags : List Bool) → AreResourceFlags types resource_flags → (x : ℕ) → (IsResource types x → ⊥) → get_or resource_flags x false ≡ false
+free_is_not_resource : (types : List TypeView) (resource_flags : List Bool) → AreResourceFlags types resource_flags → (x : ℕ)
+    → (IsResource types x → ⊥) → get_or resource_flags x false ≡ false
 free_is_not_resource types resource_flags m x free =
     elim (cases_lt x (length types)) [
-      | inl small ↦ not_true (get_or resource_flags x false) (λ t. free ((m.each x small).0 t))
+      | inl small ↦ false_from_ne_true (get_or resource_flags x false) (λ t. free ((m.each x small).0 t))
       | inr past ↦ past_end resource_flags x (rw m.same_length past)
     ]
 
-not_resource_free : (types : List TypeView) (resource_flags : List Bool) → AreResourceFlags types resource_flags → (t : WitType) → IsNotResource resource_flags t → IsFree types t
+not_resource_free : (types : List TypeView) (resource_flags : List Bool) → AreResourceFlags types resource_flags → (t : WitType)
+    → IsNotResource resource_flags t → IsFree types t
 not_resource_free types resource_flags m (Id i) u = not_resource_is_free types resource_flags m i.0 u
 not_resource_free types resource_flags m t u = tt
 
-free_not_resource : (types : List TypeView) (resource_flags : List Bool) → AreResourceFlags types resource_flags → (t : WitType) → IsFree types t → IsNotResource resource_flags t
+free_not_resource : (types : List TypeView) (resource_flags : List Bool) → AreResourceFlags types resource_flags → (t : WitType) → IsFree types t
+    → IsNotResource resource_flags t
 free_not_resource types resource_flags m (Id i) f = free_is_not_resource types resource_flags m i.0 f
 free_not_resource types resource_flags m t f = tt
 
@@ -91,13 +93,15 @@ all_weaker P Q h r x = (
   All-weaker (DoesTypePass P) (DoesTypePass Q) (type_weaker P Q h) r.types x.2,
 )
 
-pub all_free : (r : ResolveView) (resource_flags : List Bool) → AreResourceFlags r.types resource_flags → DoAllTypesPass (IsNotResource resource_flags) r ↔ DoAllTypesPass (IsFree r.types) r
+pub all_free : (r : ResolveView) (resource_flags : List Bool) → AreResourceFlags r.types resource_flags
+    → DoAllTypesPass (IsNotResource resource_flags) r ↔ DoAllTypesPass (IsFree r.types) r
 all_free r resource_flags m = (
   all_weaker (IsNotResource resource_flags) (IsFree r.types) (not_resource_free r.types resource_flags m) r,
   all_weaker (IsFree r.types) (IsNotResource resource_flags) (free_not_resource r.types resource_flags m) r,
 )
 
-pub function_free : (types : List TypeView) (resource_flags : List Bool) (f : FunctionView) → AreResourceFlags types resource_flags → SignatureHasOnly (IsNotResource resource_flags) f ↔ SignatureHasOnly (IsFree types) f
+pub function_free : (types : List TypeView) (resource_flags : List Bool) (f : FunctionView) → AreResourceFlags types resource_flags
+    → SignatureHasOnly (IsNotResource resource_flags) f ↔ SignatureHasOnly (IsFree types) f
 function_free types resource_flags f m = (
   signature_weaker (IsNotResource resource_flags) (IsFree types) (not_resource_free types resource_flags m) f,
   signature_weaker (IsFree types) (IsNotResource resource_flags) (free_not_resource types resource_flags m) f,

@@ -12,9 +12,9 @@ pub record AreEntries {Y : Type 0} (P : ℕ → Y → Type 0) (d : Y) (table : L
 pub table_start : {Y : Type 0} (P : ℕ → Y → Type 0) (d : Y) (table : List Y) → AreEntries P d table []
 table_start P d table = record { each = λ x h. absurd (let e : ⊥ = omega (arith, h.1) in e) }
 
-pub table_turn : {Y : Type 0} (P : ℕ → Y → Type 0) (d : Y) (table : List Y) (order : List ℕ) (i x : ℕ) (b : Y) → i < length order → x ≡ get_or order i 0 → x < length table → P x b
+pub table_step : {Y : Type 0} (P : ℕ → Y → Type 0) (d : Y) (table : List Y) (order : List ℕ) (i x : ℕ) (b : Y) → i < length order → x ≡ get_or order i 0 → x < length table → P x b
     → AreEntries P d table (take i order) → AreEntries P d (set table x b) (take (i + 1) order)
-table_turn P d table order i x b small x_at within holds m = record {
+table_step P d table order i x b small x_at within holds m = record {
   each = λ y h.
       elim (cases_eq y x) [
         | inl same ↦

@@ -1,5 +1,6 @@
--- The loop that adds live types: its state, and its turns.
-use Rattle.std.proofs.Common.{◌≡◌, ◌↔◌, Some, Result, Ok, Err, Bool, true, false, IsTrue, ℕ, ◌+◌, ◌*◌, ◌<◌, List, [], ◌∷◌, ◌++◌, map, reverse, length, refl, sym, ap, ◌∙◌, subst, inl, inr, arith, length-append, append-nil}
+-- The loop that adds live types: its state, and its length.
+use Rattle.std.proofs.Common.{◌≡◌, ◌↔◌, Some, Result, Ok, Err, Bool, true, false, IsTrue, ℕ, ◌+◌, ◌*◌, ◌<◌, List, [], ◌∷◌, ◌++◌, map, reverse, length, refl}
+use Rattle.std.proofs.Common.{sym, ap, ◌∙◌, subst, inl, inr, arith, length-append, append-nil}
 use Rattle.std.specs.List.{flat_map, slice_get, Contains, list_any}
 use Rattle.std.specs.Prelude.{◌==◌, ◌||◌}
 use Rattle.std.proofs.lemmas.Bool.{cases_Bool, eqb-true}
@@ -21,7 +22,8 @@ use Rattle.wc_resolve.specs.Roots.{id_index}
 use Rattle.wc_resolve.specs.Live.{listing_rule, listing_of, listing_from, with_live, list_union, IsComplete, AddsAll, AddsSome, Keeps}
 use Rattle.wc_resolve.proofs.SearchLemmas.{contains_none}
 use Rattle.wc_resolve.proofs.ListUnionLemmas.{keeps_same, keeps_more, with_extends, list_union_extends}
-use Rattle.wc_resolve.proofs.ListingLemmas.{step_index, finished, finished_extends, IsAdding, finished_enters, ready_enters, adding_skip, adding_leave, adding_enter, turns, turns_append, turns_reverse}
+use Rattle.wc_resolve.proofs.ListingLemmas.{step_index, finished, finished_extends, IsAdding, finished_enters, ready_enters, adding_skip, adding_leave}
+use Rattle.wc_resolve.proofs.ListingLemmas.{adding_enter, walk_length, walk_length_append, walk_length_reverse}
 
 -- steps are stored with the next one last
 pub record IsLiveWalk (types : List TypeView) (old goal live : List ℕ) (steps : List TypeStep) : Type 0 where
@@ -33,19 +35,23 @@ pub record IsLiveWalk (types : List TypeView) (old goal live : List ℕ) (steps 
 next_first : (rest : List TypeStep) (s : TypeStep) → reverse (rest ++ s ∷ []) ≡ s ∷ reverse rest
 next_first rest s = reverse-append rest (s ∷ [])
 
-pub step_within : (types : List TypeView) (old goal live : List ℕ) (steps rest : List TypeStep) (s : TypeStep) → IsLiveWalk types old goal live steps → steps ≡ rest ++ s ∷ [] → step_index s < length types
+pub step_within : (types : List TypeView) (old goal live : List ℕ) (steps rest : List TypeStep) (s : TypeStep) → IsLiveWalk types old goal live steps
+    → steps ≡ rest ++ s ∷ [] → step_index s < length types
 step_within types old goal live steps rest s w e = w.within s (subst (λ (z : List TypeStep). Contains z s) (sym e) (Contains-push rest s))
 
-rest_within : (types : List TypeView) (old goal live : List ℕ) (steps rest : List TypeStep) (s : TypeStep) → IsLiveWalk types old goal live steps → steps ≡ rest ++ s ∷ []
+rest_within : (types : List TypeView) (old goal live : List ℕ) (steps rest : List TypeStep) (s : TypeStep) → IsLiveWalk types old goal live steps
+    → steps ≡ rest ++ s ∷ []
     → (t : TypeStep) → Contains rest t → step_index t < length types
 rest_within types old goal live steps rest s w e t h = w.within t (subst (λ (z : List TypeStep). Contains z t) (sym e) (Contains-append_left rest (s ∷ []) t h))
 
-facing : (types : List TypeView) (old goal live : List ℕ) (steps rest : List TypeStep) (s : TypeStep) → IsLiveWalk types old goal live steps → steps ≡ rest ++ s ∷ []
+facing : (types : List TypeView) (old goal live : List ℕ) (steps rest : List TypeStep) (s : TypeStep) → IsLiveWalk types old goal live steps
+    → steps ≡ rest ++ s ∷ []
     → IsComplete types old → IsAdding types goal live (s ∷ reverse rest)
 facing types old goal live steps rest s w e complete =
     subst (IsAdding types goal live) (ap reverse e ∙ next_first rest s) (w.adding complete)
 
-pub walk_skip : (types : List TypeView) (old goal live : List ℕ) (steps rest : List TypeStep) (id : TypeId) → IsLiveWalk types old goal live steps → steps ≡ rest ++ Enter id ∷ []
+pub walk_skip : (types : List TypeView) (old goal live : List ℕ) (steps rest : List TypeStep) (id : TypeId) → IsLiveWalk types old goal live steps
+    → steps ≡ rest ++ Enter id ∷ []
     → Contains live id.0 → IsLiveWalk types old goal live rest
 walk_skip types old goal live steps rest id w e h = record {
   within = rest_within types old goal live steps rest (Enter id) w e;
@@ -53,7 +59,8 @@ walk_skip types old goal live steps rest id w e h = record {
   adding = λ complete. adding_skip types goal live id (reverse rest) (facing types old goal live steps rest (Enter id) w e complete) h;
 }
 
-pub walk_leave : (types : List TypeView) (old goal live : List ℕ) (steps rest : List TypeStep) (id : TypeId) → IsLiveWalk types old goal live steps → steps ≡ rest ++ Leave id ∷ []
+pub walk_leave : (types : List TypeView) (old goal live : List ℕ) (steps rest : List TypeStep) (id : TypeId) → IsLiveWalk types old goal live steps
+    → steps ≡ rest ++ Leave id ∷ []
     → IsLiveWalk types old goal (with_live live id.0) rest
 walk_leave types old goal live steps rest id w e = record {
   within = rest_within types old goal live steps rest (Leave id) w e;
@@ -61,20 +68,26 @@ walk_leave types old goal live steps rest id w e = record {
   adding = λ complete. adding_leave types goal live id (reverse rest) (facing types old goal live steps rest (Leave id) w e complete);
 }
 
-entered_first : (rest : List TypeStep) (id : TypeId) (ids : List TypeId) → reverse ((rest ++ Leave id ∷ []) ++ map Enter (reverse ids)) ≡ map Enter ids ++ Leave id ∷ reverse rest
+entered_first : (rest : List TypeStep) (id : TypeId) (ids : List TypeId) → reverse ((rest ++ Leave id ∷ []) ++ map Enter (reverse ids)) ≡ map Enter ids
+    ++ Leave id ∷ reverse rest
 entered_first rest id ids =
-    let full : reverse ((rest ++ Leave id ∷ []) ++ map Enter (reverse ids)) ≡ reverse (map Enter (reverse ids)) ++ reverse (rest ++ Leave id ∷ []) = reverse-append (rest ++ Leave id ∷ []) (map Enter (reverse ids)) in
+    let full : reverse ((rest ++ Leave id ∷ []) ++ map Enter (reverse ids)) ≡ reverse (map Enter (reverse ids)) ++ reverse (rest ++ Leave id ∷ []) =
+    reverse-append (rest ++ Leave id ∷ []) (map Enter (reverse ids)) in
     let front : reverse (map Enter (reverse ids)) ≡ map Enter ids = ap reverse (map-reverse Enter ids) ∙ reverse-reverse (map Enter ids) in
     let back : reverse (rest ++ Leave id ∷ []) ≡ Leave id ∷ reverse rest = next_first rest (Leave id) in
     rw (full, front, back) refl
 
-pub ids_within : (types : List TypeView) (ids : List TypeId) → ((c : ℕ) → Contains (map id_index ids) c → c < length types) → (s : TypeStep) → Contains (map Enter ids) s → step_index s < length types
+pub ids_within : (types : List TypeView) (ids : List TypeId) → ((c : ℕ) → Contains (map id_index ids) c → c < length types) → (s : TypeStep)
+    → Contains (map Enter ids) s → step_index s < length types
 ids_within types [] h s k = absurd (contains_none s k)
 ids_within types (id ∷ ids) h s k =
     elim (Contains-append_cases (Enter id ∷ []) (map Enter ids) s k) [
       | inl front ↦
           (let small : id.0 < length types = h id.0 (Contains-append_left (id.0 ∷ []) (map id_index ids) id.0 (Contains-push [] id.0)) in
-          elim (Contains-push_cases [] (Enter id) s front) [ inl none ↦ absurd (contains_none s none) | inr same ↦ subst (λ (z : TypeStep). step_index z < length types) same small ])
+          elim (Contains-push_cases [] (Enter id) s front) [
+            | inl none ↦ absurd (contains_none s none)
+            | inr same ↦ subst (λ (z : TypeStep). step_index z < length types) same small
+          ])
       | inr back ↦ ids_within types ids (λ c m. h c (Contains-append_right (id.0 ∷ []) (map id_index ids) c m)) s back
     ]
 
@@ -92,7 +105,8 @@ pub walk_start : (types : List TypeView) (old : List ℕ) (ids : List TypeId) �
 walk_start types old ids within =
     let below : (c : ℕ) → Contains (map id_index (reverse ids)) c → c < length types =
     λ c h. within c (contains_reverse (map id_index ids) c (subst (λ (z : List ℕ). Contains z c) (map-reverse id_index ids) h)) in
-    let turned : reverse (map Enter (reverse ids)) ≡ map Enter ids ++ [] = ap reverse (map-reverse Enter ids) ∙ reverse-reverse (map Enter ids) ∙ sym (append-nil (map Enter ids)) in
+    let turned : reverse (map Enter (reverse ids)) ≡ map Enter ids ++ [] = ap reverse (map-reverse Enter ids) ∙ reverse-reverse (map Enter ids)
+    ∙ sym (append-nil (map Enter ids)) in
     record {
       within = ids_within types (reverse ids) below;
       kept = keeps_same old;
@@ -103,13 +117,15 @@ walk_start types old ids within =
       });
     }
 
-pub walk_enter : (types : List TypeView) (old goal live : List ℕ) (steps rest : List TypeStep) (id : TypeId) (ids : List TypeId) → Follows listing_rule types (listing_of types)
+pub walk_enter : (types : List TypeView) (old goal live : List ℕ) (steps rest : List TypeStep) (id : TypeId) (ids : List TypeId)
+    → Follows listing_rule types (listing_of types)
     → ((x c : ℕ) → Contains (children types x) c → c < length types) → map id_index ids ≡ children types id.0
     → IsLiveWalk types old goal live steps → steps ≡ rest ++ Enter id ∷ [] → IsLiveWalk types old goal live ((rest ++ Leave id ∷ []) ++ map Enter (reverse ids))
 walk_enter types old goal live steps rest id ids follows inside same w e =
     let small : id.0 < length types = step_within types old goal live steps rest (Enter id) w e in
     let below : (c : ℕ) → Contains (map id_index (reverse ids)) c → c < length types =
-    λ c h. inside id.0 c (subst (λ (z : List ℕ). Contains z c) same (contains_reverse (map id_index ids) c (subst (λ (z : List ℕ). Contains z c) (map-reverse id_index ids) h))) in
+    λ c h. inside id.0 c (subst (λ (z : List ℕ). Contains z c) same
+    (contains_reverse (map id_index ids) c (subst (λ (z : List ℕ). Contains z c) (map-reverse id_index ids) h))) in
     record {
       within = λ s h. elim (Contains-append_cases (rest ++ Leave id ∷ []) (map Enter (reverse ids)) s h) [
         | inl front ↦ elim (Contains-push_cases rest (Leave id) s front) [
@@ -125,44 +141,56 @@ walk_enter types old goal live steps rest id ids follows inside same w e =
 
 -- what a call has added when the walk ends, and where memory ran out
 
-pub walk_end : (types : List TypeView) (old live listing : List ℕ) (steps : List TypeStep) → IsLiveWalk types old (list_union old listing) live steps → steps ≡ [] → AddsAll types old live listing
+pub walk_end : (types : List TypeView) (old live listing : List ℕ) (steps : List TypeStep) → IsLiveWalk types old (list_union old listing) live steps
+    → steps ≡ [] → AddsAll types old live listing
 walk_end types old live listing steps w e complete =
     let a : IsAdding types (list_union old listing) live [] = subst (IsAdding types (list_union old listing) live) (ap reverse e) (w.adding complete) in
     (a.complete, a.ends)
 
-pub walk_stop : (types : List TypeView) (old live listing : List ℕ) (steps : List TypeStep) → IsLiveWalk types old (list_union old listing) live steps → AddsSome types old live listing
+pub walk_stop : (types : List TypeView) (old live listing : List ℕ) (steps : List TypeStep) → IsLiveWalk types old (list_union old listing) live steps
+    → AddsSome types old live listing
 walk_stop types old live listing steps w complete =
     let a : IsAdding types (list_union old listing) live (reverse steps) = w.adding complete in
     let more : Keeps live (finished (listing_of types) live (reverse steps)) = finished_extends (listing_of types) live (reverse steps) in
     (a.complete, more.0, sym a.ends ∙ more.1)
 
--- turns
+-- the length of a walk
 
 pub one_listed : (types : List TypeView) (x : ℕ) → Follows listing_rule types (listing_of types) → x < length types
     → length (listing_of types x) ≡ length (flat_map (listing_of types) (children types x)) + 1
 one_listed types x follows small = ap length (follows x small) ∙ length-append (flat_map (listing_of types) (children types x)) (x ∷ [])
 
-pub turns_leave : (types : List TypeView) (steps rest : List TypeStep) (id : TypeId) → steps ≡ rest ++ Leave id ∷ [] → turns (listing_of types) rest < turns (listing_of types) steps
-turns_leave types steps rest id e =
-    let sum : turns (listing_of types) steps ≡ turns (listing_of types) rest + turns (listing_of types) (Leave id ∷ []) = ap (turns (listing_of types)) e ∙ turns_append (listing_of types) rest (Leave id ∷ []) in
+pub walk_length_leave : (types : List TypeView) (steps rest : List TypeStep) (id : TypeId) → steps ≡ rest ++ Leave id ∷ []
+    → walk_length (listing_of types) rest < walk_length (listing_of types) steps
+walk_length_leave types steps rest id e =
+    let sum : walk_length (listing_of types) steps ≡ walk_length (listing_of types) rest + walk_length (listing_of types) (Leave id ∷ []) =
+    ap (walk_length (listing_of types)) e ∙ walk_length_append (listing_of types) rest (Leave id ∷ []) in
     omega (arith, sum)
 
-pub turns_skip : (types : List TypeView) (steps rest : List TypeStep) (id : TypeId) → Follows listing_rule types (listing_of types) → id.0 < length types → steps ≡ rest ++ Enter id ∷ []
-    → turns (listing_of types) rest < turns (listing_of types) steps
-turns_skip types steps rest id follows small e =
-    let sum : turns (listing_of types) steps ≡ turns (listing_of types) rest + turns (listing_of types) (Enter id ∷ []) = ap (turns (listing_of types)) e ∙ turns_append (listing_of types) rest (Enter id ∷ []) in
+pub walk_length_skip : (types : List TypeView) (steps rest : List TypeStep) (id : TypeId) → Follows listing_rule types (listing_of types)
+    → id.0 < length types → steps ≡ rest ++ Enter id ∷ []
+    → walk_length (listing_of types) rest < walk_length (listing_of types) steps
+walk_length_skip types steps rest id follows small e =
+    let sum : walk_length (listing_of types) steps ≡ walk_length (listing_of types) rest + walk_length (listing_of types) (Enter id ∷ []) =
+    ap (walk_length (listing_of types)) e ∙ walk_length_append (listing_of types) rest (Enter id ∷ []) in
     let one = one_listed types id.0 follows small in
     omega (arith, sum, one)
 
-pub turns_enter : (types : List TypeView) (steps rest : List TypeStep) (id : TypeId) (ids : List TypeId) → Follows listing_rule types (listing_of types) → id.0 < length types
-    → map id_index ids ≡ children types id.0 → steps ≡ rest ++ Enter id ∷ [] → turns (listing_of types) ((rest ++ Leave id ∷ []) ++ map Enter (reverse ids)) < turns (listing_of types) steps
-turns_enter types steps rest id ids follows small same e =
+pub walk_length_enter : (types : List TypeView) (steps rest : List TypeStep) (id : TypeId) (ids : List TypeId)
+    → Follows listing_rule types (listing_of types) → id.0 < length types
+    → map id_index ids ≡ children types id.0 → steps ≡ rest ++ Enter id ∷ []
+    → walk_length (listing_of types) ((rest ++ Leave id ∷ []) ++ map Enter (reverse ids)) < walk_length (listing_of types) steps
+walk_length_enter types steps rest id ids follows small same e =
     let listed : ℕ → List ℕ = listing_of types in
-    let sum : turns listed steps ≡ turns listed rest + turns listed (Enter id ∷ []) = ap (turns listed) e ∙ turns_append listed rest (Enter id ∷ []) in
+    let sum : walk_length listed steps ≡ walk_length listed rest + walk_length listed (Enter id ∷ []) = ap (walk_length listed) e
+    ∙ walk_length_append listed rest (Enter id ∷ []) in
     let one : length (listed id.0) ≡ length (flat_map listed (children types id.0)) + 1 = one_listed types id.0 follows small in
-    let front : turns listed (rest ++ Leave id ∷ []) ≡ turns listed rest + turns listed (Leave id ∷ []) = turns_append listed rest (Leave id ∷ []) in
-    let full : turns listed ((rest ++ Leave id ∷ []) ++ map Enter (reverse ids)) ≡ turns listed (rest ++ Leave id ∷ []) + turns listed (map Enter (reverse ids)) = turns_append listed (rest ++ Leave id ∷ []) (map Enter (reverse ids)) in
-    let below : turns listed (map Enter (reverse ids)) ≡ 2 * length (flat_map listed (children types id.0)) = turns_reverse listed ids ∙ ap (λ z. 2 * length (flat_map listed z)) same in
+    let front : walk_length listed (rest ++ Leave id ∷ []) ≡ walk_length listed rest + walk_length listed (Leave id ∷ []) = walk_length_append listed rest
+    (Leave id ∷ []) in
+    let full : walk_length listed ((rest ++ Leave id ∷ []) ++ map Enter (reverse ids)) ≡ walk_length listed (rest ++ Leave id ∷ []) + walk_length listed
+    (map Enter (reverse ids)) = walk_length_append listed (rest ++ Leave id ∷ []) (map Enter (reverse ids)) in
+    let below : walk_length listed (map Enter (reverse ids)) ≡ 2 * length (flat_map listed (children types id.0)) = walk_length_reverse listed ids
+    ∙ ap (λ z. 2 * length (flat_map listed z)) same in
     omega (arith, sum, one, front, full, below)
 
 -- the set of ids, seen as a list of indices
@@ -191,16 +219,13 @@ found keys id = (
   (λ h. sym (any_index keys id.0) ∙ list_any-from_Contains nat_eq_equiv id.0 (map id_index keys) h),
 )
 
-pub children_are : (types : List TypeView) (x : ℕ) (t : TypeView) (xs : List ℕ) → slice_get types x ≡ Some t → xs ≡ referenced_indices t.kind → xs ≡ children types x
+pub children_are : (types : List TypeView) (x : ℕ) (t : TypeView) (xs : List ℕ) → slice_get types x ≡ Some t → xs ≡ referenced_indices t.kind
+    → xs ≡ children types x
 children_are types x t xs at e = e ∙ sym (ap (λ o. option_map_or referenced_indices (option_map (λ (v : TypeView). v.kind) o) []) at)
 
 pub stopped : {X : Type 0} (r : Result Unit X) (P : Type 0) → P → OnErr r P
 stopped (Ok u) P p = tt
 stopped (Err e) P p = p
-
-pub none_left : (steps : List TypeStep) → length steps ≡ 0 → steps ≡ []
-none_left [] h = refl
-none_left (s ∷ steps) h = absurd (omega (arith, h))
 
 -- nothing was added yet
 pub stopped_first : (types : List TypeView) (old listing : List ℕ) → AddsSome types old old listing

@@ -139,7 +139,7 @@ module _ (r : ResolveView) (w : IsWellFormed r) (i : ℕ) (v : InterfaceView) (a
     functions_free r v (all_get (DoesInterfacePass (IsFree r.types)) r.interfaces i v (interfaces_free r w.no_resource_by_value) at) k d small,
   )
 
-  -- its package, and the interface that it is a copy of
+  -- its package, and the interface that it is a clone of
   pub package_in_range : (p : ℕ) → v.in_package ≡ Some p → p < length r.packages
   package_in_range p is = subst (λ (o : Option ℕ). IfSome o (λ q. q < length r.packages)) is (package_link r v (links_in r v (interface_in r i v w.in_range at)))
 

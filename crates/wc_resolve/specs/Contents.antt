@@ -24,7 +24,7 @@ is_list k = false
 abbrev pub text_rule : Bool → Rule Bool
 text_rule lists defined x kind = option_map_or (λ (k : KindView). (lists && is_list k) || list_any (has_text defined) (carried_types k)) kind false
 
--- by the index of a defined type
+-- whether a defined type has text, by its index
 abbrev pub text_of : Bool → List TypeView → ℕ → Bool
 text_of lists types = value_by_rule (text_rule lists) false types
 

@@ -31,7 +31,7 @@ owner_interface o = None
 abbrev pub interface_owning : ResolveView → ℕ → Option ℕ
 interface_owning r t = option_and_then (λ (v : TypeView). owner_interface v.owner) (slice_get r.types t)
 
--- another than this one
+-- an interface, if it is another than this one
 abbrev pub another_than : ℕ → ℕ → Option ℕ
 another_than i k = if k == i then None else Some k
 
@@ -39,11 +39,11 @@ another_than i k = if k == i then None else Some k
 abbrev pub other_owner : ResolveView → ℕ → ℕ → Option ℕ
 other_owner r i t = option_and_then (another_than i) (interface_owning r t)
 
--- the other interface that owns the type of which a type is an alias
+-- the other interface that owns the type of which the type at an index is an alias
 abbrev pub dependency : ResolveView → ℕ → ℕ → Option ℕ
 dependency r i t = option_and_then (another_than i) (option_and_then (interface_owning r) (aliased_at r t))
 
--- of each type of an interface, in order
+-- the dependencies of the types of an interface, in order
 abbrev pub dependencies_in : ResolveView → ℕ → InterfaceView → List ℕ
 dependencies_in r i v = filter_map (dependency r i) (map (λ e. e.1) v.types)
 
@@ -51,6 +51,6 @@ dependencies_in r i v = filter_map (dependency r i) (map (λ e. e.1) v.types)
 abbrev pub AddsDependencies : ResolveView → ℕ → InterfaceView → List InterfaceId → List InterfaceId → Type 0
 AddsDependencies r i v old new = interface_ids new ≡ interface_ids old ++ dependencies_in r i v
 
--- of the interface at an index
+-- the dependencies of the interface at an index
 abbrev pub direct_dependencies : ResolveView → ℕ → List ℕ
 direct_dependencies r i = option_map_or (λ (v : InterfaceView). dependencies_in r i v) (slice_get r.interfaces i) []

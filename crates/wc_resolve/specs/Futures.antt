@@ -1,6 +1,7 @@
 -- The futures and streams that types contain.
-use Rattle.std.specs.Prelude.{◌≡◌, ℕ, ◌<◌, ◌+◌, ◌-◌, ◌^◌, min, nat_eq, List, [], ◌∷◌, ◌++◌, Bool, true, false, if◌then◌else◌, length, slice_index_or, Contains, Option, Some, None}
-use Rattle.std.specs.List.{filter_map, flat_map, sum_by}
+use Rattle.std.specs.Prelude.{◌≡◌, ℕ, ◌<◌, ◌≤◌, ◌+◌, ◌-◌, ◌^◌, min, nat_eq, List, [], ◌∷◌, ◌++◌, Bool, true, false, if◌then◌else◌, length, slice_index_or}
+use Rattle.std.specs.Prelude.{Contains, Option, Some, None}
+use Rattle.std.specs.List.{filter_map, flat_map, slice_get, sum_by}
 use Rattle.std.specs.Option.{option_map_or}
 use Rattle.wc_resolve.specs.declared.futures.FuturesEntry.{FuturesEntry}
 use Rattle.wc_resolve.specs.declared.ids.TypeId.{TypeId}
@@ -33,11 +34,17 @@ futures_rule listed x kind =
 abbrev pub futures_of : List TypeView → ℕ → List ℕ
 futures_of types = value_by_rule futures_rule [] types
 
--- of some types, one after another
+-- the futures and streams of some types, one after another
 abbrev pub futures_from : List TypeView → List ℕ → List ℕ
 futures_from types roots = flat_map (futures_of types) roots
 
--- of a function's parameters and result
+-- the one at index `n` among those of all roots is that of this root at index `left`
+abbrev pub IsFutureOf : List TypeView → List ℕ → ℕ → ℕ → ℕ → Type 0
+IsFutureOf types roots n root left =
+    Contains roots root × (left ≤ n) × (left < length (futures_of types root))
+    × (slice_get (futures_from types roots) n ≡ slice_get (futures_of types root) left)
+
+-- the futures and streams of a function's parameters and result
 abbrev pub function_futures : ResolveView → FunctionView → List ℕ
 function_futures r f = futures_from r.types (passed_roots f)
 
@@ -51,7 +58,7 @@ pub record EntryView : Type 0 where
 abbrev pub entry_view : FuturesEntry → EntryView
 entry_view e = record { parts = e.parts.items; is_carrier = e.is_carrier; count = e.count }
 
--- of a type that has none
+-- what is kept of a type that has no futures and streams
 abbrev pub no_futures : EntryView
 no_futures = record { parts = []; is_carrier = false; count = 0 }
 
@@ -90,7 +97,7 @@ abbrev pub part_for : List EntryView → TypeId → Option TypeId
 part_for entries id =
     if nat_eq (entry_at entries id.0).count 0 then None else Some (only_part (entry_at entries id.0).parts (entry_at entries id.0).is_carrier id)
 
--- how many there are in types, by their entries, counted up to the limit
+-- how many futures and streams there are in types, by their entries, counted up to the limit
 abbrev pub count_of : List EntryView → List TypeId → ℕ
 count_of entries ids = min (sum_by (λ (id : TypeId). (entry_at entries id.0).count) ids) max_count
 
@@ -108,4 +115,5 @@ entry_from entries ids carrier = record {
 -- the entry of the type at an index, by those of the types that it contains by value
 abbrev pub IsEntryFor : List EntryView → List TypeView → ℕ → EntryView → Type 0
 IsEntryFor entries types x entry =
-    (ids : List TypeId) × (indices ids ≡ option_map_or carried_indices (kind_at types x) []) × (entry ≡ entry_from entries ids (option_map_or is_carrier (kind_at types x) false))
+    (ids : List TypeId) × (indices ids ≡ option_map_or carried_indices (kind_at types x) [])
+    × (entry ≡ entry_from entries ids (option_map_or is_carrier (kind_at types x) false))

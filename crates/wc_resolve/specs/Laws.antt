@@ -19,7 +19,7 @@ FuturesUnique types = IsOnlyFollowing futures_rule types (futures_of types)
 abbrev pub FlatTypesUnique : List TypeView → Type 0
 FlatTypesUnique types = IsOnlyFollowing flat_rule types (flat_of types)
 
--- of the types that hold strings, and those that hold strings or lists
+-- the types that hold strings, and those that hold strings or lists, follow the types that they contain
 abbrev pub TextsFollow : List TypeView → Type 0
 TextsFollow types = (lists : Bool) → Follows (text_rule lists) types (text_of lists types)
 

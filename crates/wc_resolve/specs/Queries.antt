@@ -38,7 +38,7 @@ qualified_name r index =
 abbrev pub interface_id : (VersionView → List ℕ) → ResolveView → ℕ → Option (List ℕ)
 interface_id show r index = option_map (λ (m : PackageNameView × List ℕ). member_text show m.0 m.1) (qualified_name r index)
 
--- with the version, and with its track
+-- the id of the interface at an index with its package's version, and with the version's track
 abbrev pub full_id : ResolveView → ℕ → Option (List ℕ)
 full_id = interface_id parts_text
 

@@ -46,7 +46,7 @@ IsWorldIn r w = All (IsEntryIn r) w.imports × All (IsEntryIn r) w.exports
 unfoldable pub AreNamesIn : ResolveView → InterfaceView → Type 0
 AreNamesIn r i = All (λ e. e.1 < length r.types) i.types × All (λ e. IsFunctionIn (length r.types) e.1) i.functions
 
--- its package, and the interface that it is a copy of
+-- the package of an interface, and the interface that it is a clone of
 unfoldable pub AreLinksIn : ResolveView → InterfaceView → Type 0
 AreLinksIn r i = IfSome i.in_package (λ p. p < length r.packages) × IfSome i.clone_of (λ c. c < length r.interfaces)
 

@@ -5,7 +5,7 @@ use Rattle.wc_resolve.specs.declared.types.WitType.TheVariants.{Id}
 use Rattle.wc_resolve.specs.Views.{KindView, resource_kind, alias_kind, TypeView}
 use Rattle.wc_resolve.specs.World.{IsResource}
 
--- by the flags of others: a resource, or an alias of a type that is flagged
+-- whether a type is a resource, by the flags of others: it is one, or an alias of a type that is flagged
 abbrev pub is_resource_kind : List Bool → Option KindView → Bool
 is_resource_kind resource_flags (Some resource_kind) = true
 is_resource_kind resource_flags (Some (alias_kind (Id i))) = slice_index_or resource_flags i.0 false
@@ -16,7 +16,7 @@ pub record AreResourceFlags (types : List TypeView) (resource_flags : List Bool)
   pub same_length : length resource_flags ≡ length types
   pub each : (x : ℕ) → x < length types → IsTrue (slice_index_or resource_flags x false) ↔ IsResource types x
 
--- not a type that is flagged
+-- a type is none that is flagged
 abbrev pub IsNotResource : List Bool → WitType → Type 0
 IsNotResource resource_flags (Id i) = slice_index_or resource_flags i.0 false ≡ false
 IsNotResource resource_flags t = Unit {0}

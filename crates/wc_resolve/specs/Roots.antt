@@ -18,7 +18,7 @@ id_index id = id.0
 abbrev pub indices : List TypeId → List ℕ
 indices ids = map id_index ids
 
--- more were added
+-- types were added to a list
 abbrev pub AddsRoots : List TypeId → List TypeId → List ℕ → Type 0
 AddsRoots old new more = indices new ≡ indices old ++ more
 

@@ -72,7 +72,7 @@ returned_types GuestImportAsync indirect_result results = I32 ∷ []
 returned_types GuestExportAsync indirect_result results = I32 ∷ []
 returned_types GuestExportAsyncStackful indirect_result results = []
 
--- by the flat types of the parameters and of the result, and by whether there is a result
+-- a core signature by the flat types of the parameters and of the result, and by whether there is a result
 abbrev pub core_of : AbiVariant → FunctionKind → List WasmType → List WasmType → Bool → SignatureView
 core_of abi kind params results has_result = record {
   params = passed_types abi kind params ++ result_pointer abi (has_indirect_result abi results has_result);
@@ -81,6 +81,6 @@ core_of abi kind params results has_result = record {
   retptr = has_indirect_result abi results has_result;
 }
 
--- by the flat types of the defined types
+-- the core signature of a function by the flat types of the defined types
 abbrev pub flatten_functype : (ℕ → List WasmType) → AbiVariant → FunctionView → SignatureView
 flatten_functype flat abi f = core_of abi f.kind (flatten_types flat (map (λ p. p.1) f.params)) (flat_payload flat f.outcome) (is_some f.outcome)

@@ -96,7 +96,7 @@ IsPackageSpelled p = IsName p.name.namespace × IsName p.name.name
 unfoldable pub AreNamesSpelled : ResolveView → Type 0
 AreNamesSpelled r = All IsWorldSpelled r.worlds × All IsInterfaceSpelled r.interfaces × All IsTypeSpelled r.types × All IsPackageSpelled r.packages
 
--- not a resource, nor an alias of one
+-- a type is not a resource, nor an alias of one
 abbrev pub IsFree : List TypeView → WitType → Type 0
 IsFree types (Id i) = ¬ IsResource types i.0
 IsFree types t = Unit {0}

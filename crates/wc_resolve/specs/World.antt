@@ -57,7 +57,7 @@ kind_at types index = option_map (λ (t : TypeView). t.kind) (slice_get types in
 abbrev pub children : List TypeView → ℕ → List ℕ
 children types index = option_map_or referenced_indices (kind_at types index) []
 
--- from one type to another by one reference or more
+-- one type leads to another by one reference or more
 pub data Leads (next : ℕ → List ℕ) : ℕ → ℕ → Type 0 where
   refers : (x y : ℕ) → Contains (next x) y → Leads next x y
   further : (x y z : ℕ) → Contains (next x) y → Leads next y z → Leads next x z
@@ -75,7 +75,7 @@ pub data IsResource (types : List TypeView) : ℕ → Type 0 where
 abbrev pub LeadWithin : List TypeView → ℕ → Type 0
 LeadWithin types count = (x c : ℕ) → Contains (children types x) c → c < count
 
--- each is after all that it refers to
+-- in a list of types each is after all that it refers to
 abbrev pub IsChildrenFirst : (ℕ → List ℕ) → List ℕ → Type 0
 IsChildrenFirst next order = (i c : ℕ) → i < length order → Contains (next (slice_index order i)) c → Contains (take i order) c
 

@@ -1,10 +1,10 @@
 //! Whether a text is the id of an interface with the track of its version, compared piece by piece.
 
-ghost use Rattle.std.specs.Prelude.{◌≡◌, ◌↔◌, ◌++◌, ◌∷◌, IsTrue, List, MatchOption, ℕ};
+ghost use Rattle.std.specs.Prelude.{◌≡◌, ◌↔◌, ◌++◌, ◌∷◌, IsTrue};
 ghost use Rattle.std.specs.Fmt.{decimal};
 ghost use Rattle.semver.specs.Identifiers.{parts_of, pre_text};
 ghost use Rattle.wc_resolve.specs.Characters.{full_stop, hyphen};
-ghost use Rattle.wc_resolve.specs.Names.{release_track, track};
+ghost use Rattle.wc_resolve.specs.Names.{IsLeftAfter, release_track, track};
 ghost use Rattle.wc_resolve.specs.Queries.{joined_id, member_text};
 ghost use Rattle.wc_resolve.specs.Views.{package_name_view};
 
@@ -14,17 +14,14 @@ use semver::Version;
 
 /// What is after a text at the front.
 fn after<'a>(text: &'a str, front: &str) -> Option<&'a str>
-    ensures { MatchOption result ((rest : List ℕ) → ¬ (text.now ≡ front.now ++ rest))
-        (λ rest. text.now ≡ front.now ++ rest.now) }
+    ensures { IsLeftAfter text.now (λ rest. front.now ++ rest) result }
 {
     text.strip_prefix(front)
 }
 
 /// What is after two texts at the front.
 fn after_both<'a>(text: &'a str, first: &str, second: &str) -> Option<&'a str>
-    ensures { MatchOption result
-        ((rest : List ℕ) → ¬ (text.now ≡ first.now ++ (second.now ++ rest)))
-        (λ rest. text.now ≡ first.now ++ (second.now ++ rest.now)) }
+    ensures { IsLeftAfter text.now (λ rest. first.now ++ (second.now ++ rest)) result }
 {
     match after(text, first) {
         Some(rest) => after(rest, second),
@@ -33,13 +30,11 @@ fn after_both<'a>(text: &'a str, first: &str, second: &str) -> Option<&'a str>
 }
 
 /// What is after a number in decimal and a text.
-fn after_number<'a>(text: &'a str, number: u64, mark: &str) -> Option<&'a str>
-    ensures { MatchOption result
-        ((rest : List ℕ) → ¬ (text.now ≡ decimal number ++ (mark.now ++ rest)))
-        (λ rest. text.now ≡ decimal number ++ (mark.now ++ rest.now)) }
+fn after_number<'a>(text: &'a str, number: u64, separator: &str) -> Option<&'a str>
+    ensures { IsLeftAfter text.now (λ rest. decimal number ++ (separator.now ++ rest)) result }
 {
     let mut digits = Buffer::new();
-    after_both(text, digits.format(number), mark)
+    after_both(text, digits.format(number), separator)
 }
 
 /// Whether a text is a number in decimal.
@@ -52,11 +47,8 @@ fn is_number(text: &str, number: u64) -> bool
 
 /// What is after two numbers, each with a full stop after it.
 fn after_two_numbers(text: &str, major: u64, minor: u64) -> Option<&str>
-    ensures { MatchOption result
-        ((rest : List ℕ) → ¬ (text.now ≡
-        decimal major ++ (full_stop ∷ (decimal minor ++ (full_stop ∷ rest)))))
-        (λ rest. text.now ≡
-        decimal major ++ (full_stop ∷ (decimal minor ++ (full_stop ∷ rest.now)))) }
+    ensures { IsLeftAfter text.now
+        (λ rest. decimal major ++ (full_stop ∷ (decimal minor ++ (full_stop ∷ rest)))) result }
 {
     match after_number(text, major, ".") {
         Some(rest) => after_number(rest, minor, "."),
@@ -111,10 +103,8 @@ pub(crate) fn is_track(text: &str, version: &Version) -> bool
 
 /// What is after `namespace:package/name`.
 fn after_member<'a>(text: &'a str, package: &PackageName, name: &str) -> Option<&'a str>
-    ensures { let view = package_name_view «package».now in MatchOption result
-        ((rest : List ℕ) → ¬ (text.now ≡
-        joined_id view.namespace view.name (name.now ++ rest)))
-        (λ rest. text.now ≡ joined_id view.namespace view.name (name.now ++ rest.now)) }
+    ensures { let view = package_name_view «package».now in IsLeftAfter text.now
+        (λ rest. joined_id view.namespace view.name (name.now ++ rest)) result }
 {
     match after_both(text, package.namespace.as_str(), ":") {
         Some(member) => match after_both(member, package.name.as_str(), "/") {

@@ -4,7 +4,7 @@ ghost use Rattle.std.specs.Prelude.{◌≡◌, ◌<◌, ◌≤◌, ◌^◌, ◌+
 ghost use Rattle.std.specs.Option.{option_map, option_map_or};
 ghost use Rattle.std.specs.declared.alloc.Global.{Global};
 ghost use Rattle.wc_resolve.specs.declared.types.WitType.{WitType};
-ghost use Rattle.wc_resolve.specs.Futures.{AreFuturesEntries, IsEntryFor, carried_indices, count_of, entry_at, entry_from, entry_view, function_futures, futures_from, futures_of, is_carrier, max_count, no_futures, only_part, part_for, with_itself};
+ghost use Rattle.wc_resolve.specs.Futures.{AreFuturesEntries, IsEntryFor, IsFutureOf, carried_indices, count_of, entry_at, entry_from, entry_view, function_futures, futures_from, futures_of, is_carrier, max_count, no_futures, only_part, part_for, with_itself};
 ghost use Rattle.wc_resolve.specs.Tables.{IsOrder};
 ghost use Rattle.wc_resolve.specs.Ranges.{IsFunctionIn, IsTypeIn};
 ghost use Rattle.wc_resolve.specs.Roots.{id_index, indices, param_roots, type_roots};
@@ -227,10 +227,8 @@ fn part_with(resolve: &Resolve, parts: &[TypeId], n: u64) -> Option<(TypeId, u64
     requires within { (x : ℕ) → Contains (indices parts.now) x →
         x < length resolve.now.types }
     requires small { n < 2 ^ 32 }
-    ensures found { IfSome result (λ p. Contains (indices parts.now) p.0.0
-        × (p.1 ≤ n) × (p.1 < length (futures_of resolve.now.types p.0.0))
-        × (slice_get (futures_from resolve.now.types (indices parts.now)) n
-        ≡ slice_get (futures_of resolve.now.types p.0.0) p.1)) }
+    ensures found { IfSome result (λ p. IsFutureOf resolve.now.types (indices parts.now) n
+        p.0.0 p.1) }
     ensures past { IfNone result
         (length (futures_from resolve.now.types (indices parts.now)) ≤ n) }
 {

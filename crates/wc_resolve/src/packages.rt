@@ -49,7 +49,8 @@ impl PackageName {
 /// The index of a name, if it is below 2^32.
 pub(crate) fn name_index(names: &IndexSet<PackageName>, name: &PackageName) -> Option<u32>
     ensures found { IfSome result (λ index.
-        slice_get (map package_name_view names.now.keys) index ≡ Some (package_name_view name.now)) }
+        slice_get (map package_name_view names.now.keys) index
+        ≡ Some (package_name_view name.now)) }
     ensures none { IfNone result ((index : ℕ) → index < 2 ^ 32 →
         slice_get (map package_name_view names.now.keys) index
         ≢ Some (package_name_view name.now)) }

@@ -54,7 +54,7 @@ pub struct World {
 }
 
 /// An interface: its name, if it has one, and its types and functions by their names, in order. `package` is where it
-/// is defined, `clone_of` the interface that it is a copy of, if it is one.
+/// is defined, `clone_of` the interface that it is a clone of, if it is one.
 #[derive(Drop)]
 pub struct Interface {
     pub name: Option<String>,

@@ -5,7 +5,7 @@ use Rattle.wc_dedupe.specs.Renaming.{RenameValue}
 use Rattle.wc_gc.specs.Parts.{SettingsValue}
 use Rattle.wc_gc.specs.Trimming.{IsTrimmed, IsTrimCause}
 use Rattle.wc_gc.specs.declared.fault.GcFault.{GcFault}
-use Rattle.wc_tool.specs.Exports.{first_occurrences, wanted_of}
+use Rattle.wc_tool.specs.Exports.{first_occurrences, trim_input_of}
 use Rattle.wc_tool.specs.Execution.{IsTrim}
 use Rattle.wc_dedupe.specs.Dedupe.{IsDeduped, renames_in}
 
@@ -18,7 +18,7 @@ appends_nothing None = search rules
 appends_nothing (Some xs) = search rules
 
 -- what was trimmed, with the exports counted once
-pub trim_along : (s : SettingsValue) (input bytes : List ℕ) (names exports : List (List ℕ)) → names ≡ first_occurrences exports → IsTrimmed s (record { bytes = input; required = names }) bytes → ((f : GcFault) → ¬ (IsTrimCause s (record { bytes = input; required = names }) f)) → IsTrim s (wanted_of input exports) bytes
+pub trim_along : (s : SettingsValue) (input bytes : List ℕ) (names exports : List (List ℕ)) → names ≡ first_occurrences exports → IsTrimmed s (record { bytes = input; required = names }) bytes → ((f : GcFault) → ¬ (IsTrimCause s (record { bytes = input; required = names }) f)) → IsTrim s (trim_input_of input exports) bytes
 trim_along s input bytes names exports same done none = record {
   trimmed = subst (λ (ns : List (List ℕ)). IsTrimmed s (record { bytes = input; required = ns }) bytes) same done;
   no_cause = subst (λ (ns : List (List ℕ)). (f : GcFault) → ¬ (IsTrimCause s (record { bytes = input; required = ns }) f)) same none;

@@ -1,13 +1,13 @@
 -- A set of names, when one more is put into it.
 use Rattle.std.proofs.Common.{◌≡◌, ℕ, Bool, true, false, not, ◌||◌, List, [], ◌∷◌, ◌++◌, map, refl, sym, ◌∙◌, ap, String, Global, inl, inr, append-nil}
 use Rattle.std.proofs.lemmas.Bool.{cases_Bool}
-use Rattle.std.proofs.lemmas.List.{map-append}
 use Rattle.std.specs.Prelude.{string_bytes}
 use Rattle.std.specs.List.{list_any, filter}
 use Rattle.std.specs.Str.{bytes_eq}
 use Rattle.std.proofs.lemmas.Slice.Eq.{bytes_eq-Decides}
 use Rattle.std.proofs.lemmas.List.Elements.{filter-append}
 use Rattle.indexmap.specs.IndexSet.{insert_key}
+use Rattle.wc_gc.proofs.NameSetLemmas.{same_text, text_more}
 use Rattle.wc_tool.specs.Exports.{first_occurrences}
 
 bytes_eq-sym : (a b : List ℕ) (v : Bool) → bytes_eq a b ≡ v → bytes_eq b a ≡ v
@@ -22,7 +22,8 @@ abbrev differs : List ℕ → List ℕ → Bool
 differs name other = not (bytes_eq name other)
 
 -- whether another name is among names does not depend on this one
-any_other : (name other : List ℕ) (names : List (List ℕ)) → bytes_eq other name ≡ false → list_any (bytes_eq other) (filter (differs name) names) ≡ list_any (bytes_eq other) names
+any_other : (name other : List ℕ) (names : List (List ℕ)) → bytes_eq other name ≡ false → list_any (bytes_eq other) (filter (differs name) names)
+    ≡ list_any (bytes_eq other) names
 any_other name other [] unequal = refl
 any_other name other (x ∷ names) unequal =
     elim (cases_Bool (bytes_eq name x)) [
@@ -34,19 +35,22 @@ any_other name other (x ∷ names) unequal =
     ]
 
 -- a name put after a first one and the others
-insert_after : (name other : List ℕ) (names : List (List ℕ)) → insert_key bytes_eq (name ∷ filter (differs name) names) other ≡ name ∷ filter (differs name) (insert_key bytes_eq names other)
+insert_after : (name other : List ℕ) (names : List (List ℕ)) → insert_key bytes_eq (name ∷ filter (differs name) names) other ≡ name ∷ filter
+    (differs name) (insert_key bytes_eq names other)
 insert_after name other names =
     elim (cases_Bool (bytes_eq other name)) [
       | inl same ↦
           (let turned : bytes_eq name other ≡ true = bytes_eq-sym other name true same in
-          let skipped : filter (differs name) (names ++ other ∷ []) ≡ filter (differs name) names = filter-append (differs name) names (other ∷ []) ∙ rw turned (append-nil _) in
+          let skipped : filter (differs name) (names ++ other ∷ []) ≡ filter (differs name) names = filter-append (differs name) names (other ∷ [])
+          ∙ rw turned (append-nil _) in
           elim (cases_Bool (list_any (bytes_eq other) names)) [
             | inl there ↦ rw (same, there) refl
             | inr new ↦ rw (same, new) (ap (λ l. name ∷ l) (sym skipped))
           ])
       | inr unequal ↦
           (let turned : bytes_eq name other ≡ false = bytes_eq-sym other name false unequal in
-          let kept : filter (differs name) (names ++ other ∷ []) ≡ filter (differs name) names ++ other ∷ [] = filter-append (differs name) names (other ∷ []) ∙ rw turned refl in
+          let kept : filter (differs name) (names ++ other ∷ []) ≡ filter (differs name) names ++ other ∷ [] = filter-append (differs name) names
+          (other ∷ []) ∙ rw turned refl in
           let any = any_other name other names unequal in
           elim (cases_Bool (list_any (bytes_eq other) names)) [
             | inl there ↦ rw (unequal, any, there) refl
@@ -59,21 +63,10 @@ first_more : (names : List (List ℕ)) (name : List ℕ) → first_occurrences (
 first_more [] name = refl
 first_more (x ∷ names) name = ap (λ l. x ∷ filter (differs x) l) (first_more names name) ∙ sym (insert_after x name (first_occurrences names))
 
-abbrev same_text : String Global → String Global → Bool
-same_text a b = bytes_eq (string_bytes a) (string_bytes b)
-
-any_text : (keys : List (String Global)) (name : String Global) → list_any (same_text name) keys ≡ list_any (bytes_eq (string_bytes name)) (map string_bytes keys)
-any_text [] name = refl
-any_text (k ∷ keys) name = ap (λ b. same_text name k || b) (any_text keys name)
-
-text_more : (keys : List (String Global)) (name : String Global) → map string_bytes (insert_key same_text keys name) ≡ insert_key bytes_eq (map string_bytes keys) (string_bytes name)
-text_more keys name =
-    elim (cases_Bool (list_any (same_text name) keys)) [
-      | inl there ↦ rw (sym (any_text keys name), there) refl
-      | inr new ↦ rw (sym (any_text keys name), new) (map-append string_bytes keys (name ∷ []))
-    ]
-
 -- the set after its name for one more text
-pub set_more : (keys : List (String Global)) (names : List (List ℕ)) (name : String Global) (text : List ℕ) → map string_bytes keys ≡ first_occurrences names → string_bytes name ≡ text → map string_bytes (insert_key same_text keys name) ≡ first_occurrences (names ++ text ∷ [])
+pub set_more : (keys : List (String Global)) (names : List (List ℕ)) (name : String Global) (text : List ℕ)
+    → map string_bytes keys ≡ first_occurrences names → string_bytes name ≡ text → map string_bytes (insert_key same_text keys name)
+    ≡ first_occurrences (names ++ text ∷ [])
 set_more keys names name text known same =
-    text_more keys name ∙ (ap (λ l. insert_key bytes_eq l (string_bytes name)) known ∙ (ap (insert_key bytes_eq (first_occurrences names)) same ∙ sym (first_more names text)))
+    text_more keys name ∙ (ap (λ l. insert_key bytes_eq l (string_bytes name)) known
+    ∙ (ap (insert_key bytes_eq (first_occurrences names)) same ∙ sym (first_more names text)))

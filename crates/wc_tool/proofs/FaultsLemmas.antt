@@ -11,7 +11,7 @@ use Rattle.wc_gc.specs.declared.fault.GcFault.{GcFault}
 use Rattle.wc_gc.specs.declared.fault.GcFault.TheVariants.{Memory as gc_memory}
 use Rattle.wc_tool.specs.declared.fault.ToolFault.{ToolFault}
 use Rattle.wc_tool.specs.declared.fault.ToolFault.TheVariants.{Memory, Dedupe, Trim, Read, Output}
-use Rattle.wc_tool.specs.Exports.{first_occurrences, wanted_of}
+use Rattle.wc_tool.specs.Exports.{first_occurrences, trim_input_of}
 use Rattle.wc_tool.specs.Command.{scan, trim}
 use Rattle.wc_tool.specs.Faults.{of_read, of_trim}
 use Rattle.wc_tool.specs.Execution.{IsCause, IsTrimsCause, settings_of}
@@ -23,11 +23,11 @@ cause_of_read input f refused component source =
     (λ e. cc, (λ e. component.0 (ap Err e), λ h. let is = component.1 h in cc), refused (λ e. cc))
 
 -- a fault of trimming is the cause of a trim's, whose exports are counted once
-pub cause_of_trim : (s : SettingsValue) (input : List ℕ) (names exports : List (List ℕ)) (f : GcFault) → names ≡ first_occurrences exports → IsTrimFault s (record { bytes = input; required = names }) f → IsTrimsCause s (wanted_of input exports) (of_trim f)
+pub cause_of_trim : (s : SettingsValue) (input : List ℕ) (names exports : List (List ℕ)) (f : GcFault) → names ≡ first_occurrences exports → IsTrimFault s (record { bytes = input; required = names }) f → IsTrimsCause s (trim_input_of input exports) (of_trim f)
 cause_of_trim s input names exports gc_memory same h = tt
 cause_of_trim s input names exports f same h = (λ e. cc, subst (λ (ns : List (List ℕ)). IsTrimFault s (record { bytes = input; required = ns }) f) same h)
 
-pub cause_of_command : (input source target : List ℕ) (realloc : Option (List ℕ)) (page : ℕ) (exports : List (List ℕ)) (e : ToolFault) → IsTrimsCause (settings_of realloc page) (wanted_of input exports) e → IsCause (trim source target realloc page exports) input e
+pub cause_of_command : (input source target : List ℕ) (realloc : Option (List ℕ)) (page : ℕ) (exports : List (List ℕ)) (e : ToolFault) → IsTrimsCause (settings_of realloc page) (trim_input_of input exports) e → IsCause (trim source target realloc page exports) input e
 cause_of_command input source target realloc page exports Memory h = tt
 cause_of_command input source target realloc page exports (Dedupe f) h = h
 cause_of_command input source target realloc page exports (Trim f) h = h

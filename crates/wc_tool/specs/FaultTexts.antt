@@ -16,7 +16,7 @@ use Rattle.wc_tool.specs.declared.fault.ToolFault.TheVariants.{Memory, Dedupe, T
 abbrev pub memory_text : List ℕ
 memory_text = codes "out of memory"
 
--- an export that is wanted is missing
+-- an export that is required is missing
 abbrev pub missing_text : List ℕ → List ℕ
 missing_text name = (codes "adapter module does not have export `" ++ name) ++ codes "`"
 

@@ -16,7 +16,7 @@ Writes None after path bytes = Unit {0}
 Writes (Some f) None path bytes = ⊥
 Writes (Some f) (Some g) path bytes = (q : List ℕ) → g q ≡ cond (bytes_eq path q) (Some bytes) (f q)
 
--- each other file has the bytes that it had
+-- all files but one have the bytes that they had
 abbrev pub KeepsOthers : Option Held → Option Held → List ℕ → Type 0
 KeepsOthers None after path = Unit {0}
 KeepsOthers (Some f) None path = ⊥

@@ -1,5 +1,4 @@
 pub mod Command
-pub mod TrimArguments
 pub mod Exports
 pub mod Lines
 pub mod Scan
@@ -9,3 +8,4 @@ pub mod Execution
 pub mod Files
 pub mod Output
 pub mod Program
+pub mod Private

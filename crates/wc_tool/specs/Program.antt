@@ -81,6 +81,11 @@ abbrev pub HasPut : (List ℕ → Type 0) → Bool → List ℕ → RunFault →
 HasPut puts failed lines (Tool Output) = failed ≡ true
 HasPut puts failed lines f = puts lines
 
+-- a command that was run on its files has this fault, after the lines that it put
+abbrev pub IsRunFault : CommandValue → Option Held → Option Held → (List ℕ → Type 0) → Bool → RunFault → Type 0
+IsRunFault c before after puts failed f =
+    (lines : List ℕ) × IsRunCause c before after lines f × HasPut puts failed lines f
+
 -- the text of a fault
 abbrev pub run_fault_text : RunFault → List ℕ
 run_fault_text (CannotRead path) = unread_text path.now

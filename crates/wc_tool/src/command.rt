@@ -2,7 +2,7 @@
 
 ghost use Rattle.std.specs.Prelude.{◌≡◌, IfOk, IfErr, IsErr, None, map, string_bytes};
 ghost use Rattle.wc_tool.specs.Command.{CommandValue, command_value, IsCommandLine, IsExecutable};
-ghost use Rattle.wc_tool.specs.TrimArguments.{trim_parts, IsTrimOf};
+ghost use Rattle.wc_tool.specs.Private.TrimArguments.{trim_parts, IsTrimOf};
 
 use crate::trim_arguments::trim_arguments;
 

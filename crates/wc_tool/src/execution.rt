@@ -11,7 +11,7 @@ ghost use Rattle.wc_gc.specs.Liveness.{names_of};
 ghost use Rattle.wc_gc.specs.declared.fault.GcFault.TheVariants.{Memory as gc_memory};
 ghost use Rattle.wc_tool.specs.Command.{dedupe, scan, command_value, IsExecutable};
 ghost use Rattle.wc_gc.specs.Parts.{settings};
-ghost use Rattle.wc_tool.specs.Exports.{first_occurrences, wanted_of};
+ghost use Rattle.wc_tool.specs.Exports.{first_occurrences, trim_input_of};
 ghost use Rattle.wc_tool.specs.Lines.{lines_of};
 ghost use Rattle.wc_tool.specs.Scan.{scan_lines};
 ghost use Rattle.wc_tool.specs.Execution.{Runs, IsCause, IsTrim, IsTrimsCause};
@@ -129,9 +129,9 @@ fn trim(
     requires some { exports.now ≢ [] }
     requires paged { page ≤ 16 }
     ensures done { IfOk result (λ v. IsTrim (settings realloc.entry page)
-        (wanted_of input.now (map string_bytes exports.now)) v.items) }
+        (trim_input_of input.now (map string_bytes exports.now)) v.items) }
     ensures fault { IfErr result (IsTrimsCause (settings realloc.entry page)
-        (wanted_of input.now (map string_bytes exports.now))) }
+        (trim_input_of input.now (map string_bytes exports.now))) }
 {
     let required = required_exports(alloc, exports)?;
     let bytes = run(alloc, input, &required, realloc, page)?;

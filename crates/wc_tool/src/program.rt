@@ -6,7 +6,7 @@ ghost use Rattle.std.specs.Io.KnownBytes.{Appends};
 ghost use Rattle.std.specs.IoError.{error_kind};
 ghost use Rattle.wc_tool.specs.Command.{command_value, IsExecutable};
 ghost use Rattle.wc_tool.specs.Execution.{Runs, IsCause};
-ghost use Rattle.wc_tool.specs.Program.{HandsOn, EndsWell, IsRunCause, HasPut, Prints, CommandEnds, ProgramEnds, EndsWithoutArguments, fault_line, run_fault_text, usage_text, failure};
+ghost use Rattle.wc_tool.specs.Program.{HandsOn, EndsWell, IsRunFault, Prints, CommandEnds, ProgramEnds, EndsWithoutArguments, fault_line, run_fault_text, usage_text, failure};
 
 use crate::command::{Command, Usage, parse};
 use crate::execution::execute;
@@ -156,9 +156,9 @@ pub fn run_command<'a, F: FileStore, O: Output>(
     ensures done { OnOk result (EndsWell
         (command_value command.now) (F.held files.old) (F.held files.new)
         (HandsOn (O.written out.old) (O.written out.new) (O.sent out.new)) (O.is_failed out.new)) }
-    ensures fault { IfErr result (λ f. (lines : List ℕ)
-        × IsRunCause (command_value command.now) (F.held files.old) (F.held files.new) lines f
-        × HasPut (Appends (O.written out.old) (O.written out.new)) (O.is_failed out.new) lines f) }
+    ensures fault { IfErr result (IsRunFault
+        (command_value command.now) (F.held files.old) (F.held files.new)
+        (Appends (O.written out.old) (O.written out.new)) (O.is_failed out.new)) }
 {
     let source = command.source();
     let Ok(input) = files.read(source) else {

@@ -2,7 +2,7 @@
 
 ghost use Rattle.std.specs.Prelude.{◌≡◌, map, string_bytes, IfOk, IsErr, Some, None};
 ghost use Rattle.std.specs.Option.{option_map};
-ghost use Rattle.wc_tool.specs.TrimArguments.{realloc_parts, page_of, page_parts, either_realloc, trim_parts, are_exports as are_exports_in};
+ghost use Rattle.wc_tool.specs.Private.TrimArguments.{realloc_parts, page_of, page_parts, either_realloc, trim_parts, are_exports as are_exports_in};
 
 use crate::command::Usage;
 

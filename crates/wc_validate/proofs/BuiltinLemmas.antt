@@ -1,4 +1,4 @@
--- Built-ins of no interface: where none of the first group is named, the verdict on the others is that on all.
+-- Built-ins of no interface: where none of the first group is named, the classification of the others is that on all.
 use Rattle.std.proofs.Common.{◌≡◌, ◌↔◌, ℕ, Bool, true, false, not, List, Option, Some, Result, IsTrue, sym, refl, ap, ◌∙◌}
 use Rattle.std.specs.Str.{bytes_eq}
 use Rattle.std.proofs.lemmas.Slice.Eq.{bytes_eq-Decides}
@@ -8,10 +8,10 @@ use Rattle.wc_read.specs.Types.{FuncTypeValue}
 use Rattle.wc_names.specs.declared.imports.Import.{Import}
 use Rattle.wc_names.specs.Builtins.{NamesBuiltin, IsThreadBuiltin, builtin_import, builtin_type}
 use Rattle.wc_names.specs.Schemes.{Scheme}
-use Rattle.wc_names.specs.Verdicts.{FaultKind, IsVerdict}
+use Rattle.wc_names.specs.Classifications.{FaultKind, IsImportClassification, of_imports}
 use Rattle.wc_names.specs.Views.{Builtin, error_context_drop, backpressure_inc, backpressure_dec, waitable_set_new, waitable_set_wait, waitable_set_poll, waitable_set_drop, waitable_join, subtask_drop, subtask_cancel, error_context_new, error_context_debug_message, context_get, context_set, thread_index, thread_new_indirect, thread_resume_later, thread_suspend, thread_yield, thread_suspend_then_resume, thread_yield_then_resume, thread_suspend_then_promote, thread_yield_then_promote}
-use Rattle.wc_validate.specs.BuiltinTypes.{IsAnyBuiltin, IsLaterBuiltin, MeansBuiltin, thread_type}
-use Rattle.wc_names.proofs.VerdictLemmas.{verdict_as}
+use Rattle.wc_validate.specs.Private.Imports.Builtins.{IsAnyBuiltin, IsLaterBuiltin, MeansBuiltin, thread_type}
+use Rattle.wc_names.proofs.ClassificationLemmas.{classified_as}
 
 pub not_so : (b : Bool) (P : Type 0) → IsTrue b ↔ P → b ≡ false → ¬ P
 not_so b P h f p = let t : true ≡ false = sym (h.1 p) ∙ f in let bad : ⊥ = cc t in bad
@@ -42,22 +42,26 @@ thread_is_later thread_yield_then_promote h = tt
 thread_is_later b h = absurd h
 
 module _ {F : Type 0} (kind : F → FaultKind) (s : Scheme) (name : List ℕ) (ty : FuncTypeValue) (r : Result (Option Import) F) where
-  pub later_of_threads : ((e : StringEncoding) → ¬ NamesBuiltin s (error_context_new e) name) → ((e : StringEncoding) → ¬ NamesBuiltin s (error_context_debug_message e) name)
+  pub later_of_threads : ((e : StringEncoding) → ¬ NamesBuiltin s (error_context_new e) name)
+      → ((e : StringEncoding) → ¬ NamesBuiltin s (error_context_debug_message e) name)
       → ((x : ValType × ℕ) → ¬ NamesBuiltin s (context_get x.0 x.1) name) → ((x : ValType × ℕ) → ¬ NamesBuiltin s (context_set x.0 x.1) name)
-      → IsVerdict kind (MeansBuiltin IsThreadBuiltin s name) ty r → IsVerdict kind (MeansBuiltin IsLaterBuiltin s name) ty r
-  later_of_threads a b c d v = verdict_as kind _ _ ty r (λ m h. (h.0, thread_is_later h.0 h.1, h.2, h.3)) (λ m h. (h.0, at h.0 h.1 h.2, h.2, h.3)) v where
-    at : (k : Builtin) → IsLaterBuiltin k → NamesBuiltin s k name → IsThreadBuiltin k
-    at (error_context_new e) l n = absurd (a e n)
-    at (error_context_debug_message e) l n = absurd (b e n)
-    at (context_get t k) l n = absurd (c (t, k) n)
-    at (context_set t k) l n = absurd (d (t, k) n)
-    at k l n = l
+      → IsImportClassification kind (MeansBuiltin IsThreadBuiltin s name) ty r → IsImportClassification kind (MeansBuiltin IsLaterBuiltin s name) ty r
+  later_of_threads a b c d v =
+      classified_as of_imports kind _ _ ty r (λ m h. (h.0, thread_is_later h.0 h.1, h.2, h.3)) (λ m h. (h.0, at h.0 h.1 h.2, h.2, h.3)) v where
+        at : (k : Builtin) → IsLaterBuiltin k → NamesBuiltin s k name → IsThreadBuiltin k
+        at (error_context_new e) l n = absurd (a e n)
+        at (error_context_debug_message e) l n = absurd (b e n)
+        at (context_get t k) l n = absurd (c (t, k) n)
+        at (context_set t k) l n = absurd (d (t, k) n)
+        at k l n = l
 
-  pub any_of_later : ¬ NamesBuiltin s error_context_drop name → ¬ NamesBuiltin s backpressure_inc name → ¬ NamesBuiltin s backpressure_dec name → ¬ NamesBuiltin s waitable_set_new name
+  pub any_of_later : ¬ NamesBuiltin s error_context_drop name → ¬ NamesBuiltin s backpressure_inc name → ¬ NamesBuiltin s backpressure_dec name
+      → ¬ NamesBuiltin s waitable_set_new name
       → ¬ NamesBuiltin s waitable_set_drop name → ¬ NamesBuiltin s waitable_join name → ¬ NamesBuiltin s subtask_drop name
-      → ((t : ValType) → ¬ NamesBuiltin s (waitable_set_wait t) name) → ((t : ValType) → ¬ NamesBuiltin s (waitable_set_poll t) name) → ((a : Bool) → ¬ NamesBuiltin s (subtask_cancel a) name)
-      → IsVerdict kind (MeansBuiltin IsLaterBuiltin s name) ty r → IsVerdict kind (MeansBuiltin IsAnyBuiltin s name) ty r
-  any_of_later a b c d e f g w p x v = verdict_as kind _ _ ty r (λ m h. (h.0, tt, h.2, h.3)) (λ m h. (h.0, at h.0 h.2, h.2, h.3)) v where
+      → ((t : ValType) → ¬ NamesBuiltin s (waitable_set_wait t) name) → ((t : ValType) → ¬ NamesBuiltin s (waitable_set_poll t) name)
+      → ((a : Bool) → ¬ NamesBuiltin s (subtask_cancel a) name)
+      → IsImportClassification kind (MeansBuiltin IsLaterBuiltin s name) ty r → IsImportClassification kind (MeansBuiltin IsAnyBuiltin s name) ty r
+  any_of_later a b c d e f g w p x v = classified_as of_imports kind _ _ ty r (λ m h. (h.0, tt, h.2, h.3)) (λ m h. (h.0, at h.0 h.2, h.2, h.3)) v where
     at : (k : Builtin) → NamesBuiltin s k name → IsLaterBuiltin k
     at error_context_drop n = absurd (a n)
     at backpressure_inc n = absurd (b n)

@@ -33,7 +33,8 @@ module _ {X : Type 0} (R : X → X → Type 0) where
   pub pairs_before : (xs : List X) (y : X) (ys : List X) → AllPairs R (xs ++ y ∷ ys) → All (λ x. R x y) xs
   pairs_before [] y ys h = All-nil (λ x. R x y)
   pairs_before (x ∷ xs) y ys h =
-      All-cons (λ x. R x y) x xs (All-contains (R x) (xs ++ y ∷ ys) y (pairs_head R x (xs ++ y ∷ ys) h) (Contains-append_right xs (y ∷ ys) y (contains_head ys y)))
+      All-cons (λ x. R x y) x xs (All-contains (R x) (xs ++ y ∷ ys) y (pairs_head R x (xs ++ y ∷ ys) h)
+      (Contains-append_right xs (y ∷ ys) y (contains_head ys y)))
       (pairs_before xs y ys (pairs_tail R x (xs ++ y ∷ ys) h))
 
 abbrev pub HaveDistinctNames : {X : Type 0} → (X → List ℕ) → List X → Type 0
@@ -43,7 +44,8 @@ module _ {X : Type 0} (name : X → List ℕ) where
   abbrev HasOther : X → X → Type 0
   HasOther a b = name a ≢ name b
 
-  one_at : (x : X) (xs : List X) (a b : X) → All (HasOther x) xs → (x ≡ a) ⊎ Contains xs a → (x ≡ b) ⊎ Contains xs b → name a ≡ name b → (Contains xs a → Contains xs b → a ≡ b) → a ≡ b
+  one_at : (x : X) (xs : List X) (a b : X) → All (HasOther x) xs → (x ≡ a) ⊎ Contains xs a → (x ≡ b) ⊎ Contains xs b → name a ≡ name b
+      → (Contains xs a → Contains xs b → a ≡ b) → a ≡ b
   one_at x xs a b first (inl p) (inl q) e rest = sym p ∙ q
   one_at x xs a b first (inl p) (inr q) e rest = absurd (All-contains (HasOther x) xs b first q (ap name p ∙ e))
   one_at x xs a b first (inr p) (inl q) e rest = absurd (All-contains (HasOther x) xs a first p (ap name q ∙ sym e))
@@ -53,13 +55,15 @@ module _ {X : Type 0} (name : X → List ℕ) where
   pub one_named : (xs : List X) (a b : X) → HaveDistinctNames name xs → Contains xs a → Contains xs b → name a ≡ name b → a ≡ b
   one_named [] a b distinct h k e = absurd (contains_none a h)
   one_named (x ∷ xs) a b distinct h k e =
-      one_at x xs a b (pairs_head HasOther x xs distinct) (contains_cons x xs a h) (contains_cons x xs b k) e (λ p q. one_named xs a b (pairs_tail HasOther x xs distinct) p q e)
+      one_at x xs a b (pairs_head HasOther x xs distinct) (contains_cons x xs a h) (contains_cons x xs b k) e
+      (λ p q. one_named xs a b (pairs_tail HasOther x xs distinct) p q e)
 
   -- the names themselves
   pub distinct_unmapped : (xs : List X) → AllPairs (λ a b. a ≢ b) (map name xs) → HaveDistinctNames name xs
   distinct_unmapped [] h = pairs_none HasOther
   distinct_unmapped (x ∷ xs) h =
-      AllPairs-cons HasOther x xs (unmapped (λ n. name x ≢ n) xs (pairs_head (λ a b. a ≢ b) (name x) (map name xs) h)) (distinct_unmapped xs (pairs_tail (λ a b. a ≢ b) (name x) (map name xs) h)) where
+      AllPairs-cons HasOther x xs (unmapped (λ n. name x ≢ n) xs (pairs_head (λ a b. a ≢ b) (name x) (map name xs) h))
+      (distinct_unmapped xs (pairs_tail (λ a b. a ≢ b) (name x) (map name xs) h)) where
         unmapped : (P : List ℕ → Type 0) (ys : List X) → All P (map name ys) → All (λ y. P (name y)) ys
         unmapped P [] k = All-nil (λ y. P (name y))
         unmapped P (y ∷ ys) k = All-cons (λ y. P (name y)) y ys (All-head P (name y) (map name ys) k) (unmapped P ys (All-tail P (name y) (map name ys) k))
@@ -67,7 +71,9 @@ module _ {X : Type 0} (name : X → List ℕ) where
 -- what is kept of a list has its names
 module _ {X Y : Type 0} (f : X → Option Y) (name : X → List ℕ) (own : Y → List ℕ) (keeps : (x : X) (y : Y) → f x ≡ Some y → own y ≡ name x) where
   all_kept : (P : List ℕ → Type 0) (xs : List X) → All (λ x. P (name x)) xs → All (λ y. P (own y)) (filter_map f xs)
-  all_kept P xs h = all_by (λ y. P (own y)) (filter_map f xs) (λ y there. let from = kept_from f xs y there in subst P (sym (keeps from.0 y from.2)) (All-contains (λ x. P (name x)) xs from.0 h from.1))
+  all_kept P xs h =
+      all_by (λ y. P (own y)) (filter_map f xs) (λ y there. let from = kept_from f xs y there in
+      subst P (sym (keeps from.0 y from.2)) (All-contains (λ x. P (name x)) xs from.0 h from.1))
 
   kept_at : (x : X) (o : Option Y) (ys : List Y) → f x ≡ o → All (λ y. name x ≢ own y) ys → HaveDistinctNames own ys → HaveDistinctNames own (cons_option o ys)
   kept_at x None ys is first rest = rest
@@ -76,21 +82,23 @@ module _ {X Y : Type 0} (f : X → Option Y) (name : X → List ℕ) (own : Y �
   pub distinct_kept : (xs : List X) → HaveDistinctNames name xs → HaveDistinctNames own (filter_map f xs)
   distinct_kept [] h = pairs_none (λ a b. own a ≢ own b)
   distinct_kept (x ∷ xs) h =
-      kept_at x (f x) (filter_map f xs) refl (all_kept (λ n. name x ≢ n) xs (pairs_head (λ a b. name a ≢ name b) x xs h)) (distinct_kept xs (pairs_tail (λ a b. name a ≢ name b) x xs h))
+      kept_at x (f x) (filter_map f xs) refl (all_kept (λ n. name x ≢ n) xs (pairs_head (λ a b. name a ≢ name b) x xs h))
+      (distinct_kept xs (pairs_tail (λ a b. name a ≢ name b) x xs h))
 
 module _ {V : Type 0} (q : List (List ℕ × V)) (distinct : HaveDistinctNames (λ x. x.0) q) where
   pub lookup_one : (name : List ℕ) (v : V) → Contains q (name, v) → lookup (bytes_eq name) q ≡ Some v
   lookup_one name v there =
       let looked = looked_up name q v there in
-      looked.1 ∙ ap (λ (x : List ℕ × V). Some x.1) (one_named (λ x. x.0) q (name, looked.0) (name, v) distinct (found_there name q looked.0 looked.1) there refl)
+      looked.1 ∙ ap (λ (x : List ℕ × V). Some x.1) (one_named (λ x. x.0) q (name, looked.0) (name, v) distinct (found_there name q looked.0 looked.1)
+      there refl)
 
   -- two lists of the same entries
   module _ (p : List (List ℕ × V)) (back : (x : List ℕ × V) → Contains q x → Contains p x) (forth : (x : List ℕ × V) → Contains p x → Contains q x) where
-    alike_at : (name : List ℕ) (o r : Option V) → lookup (bytes_eq name) p ≡ o → lookup (bytes_eq name) q ≡ r → r ≡ o
-    alike_at name None None is_o is_r = refl
-    alike_at name None (Some w) is_o is_r =
+    same_lookup : (name : List ℕ) (o r : Option V) → lookup (bytes_eq name) p ≡ o → lookup (bytes_eq name) q ≡ r → r ≡ o
+    same_lookup name None None is_o is_r = refl
+    same_lookup name None (Some w) is_o is_r =
         absurd (let looked = looked_up name p w (back (name, w) (found_there name q w is_r)) in none_some looked.0 (sym is_o ∙ looked.1))
-    alike_at name (Some v) r is_o is_r = sym is_r ∙ lookup_one name v (forth (name, v) (found_there name p v is_o))
+    same_lookup name (Some v) r is_o is_r = sym is_r ∙ lookup_one name v (forth (name, v) (found_there name p v is_o))
 
-    pub lookups_alike : (name : List ℕ) → lookup (bytes_eq name) q ≡ lookup (bytes_eq name) p
-    lookups_alike name = alike_at name (lookup (bytes_eq name) p) (lookup (bytes_eq name) q) refl refl
+    pub same_lookups : (name : List ℕ) → lookup (bytes_eq name) q ≡ lookup (bytes_eq name) p
+    same_lookups name = same_lookup name (lookup (bytes_eq name) p) (lookup (bytes_eq name) q) refl refl

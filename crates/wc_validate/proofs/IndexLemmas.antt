@@ -4,10 +4,10 @@ use Rattle.std.specs.Map.{lookup}
 use Rattle.std.specs.Str.{bytes_eq}
 use Rattle.std.proofs.lemmas.Slice.Eq.{bytes_eq-Decides}
 use Rattle.wc_encoder.specs.Adapters.{InstanceView}
-use Rattle.wc_validate.specs.AdapterTypes.{first_some}
-use Rattle.wc_validate.specs.Arguments.{AreMatched, IsArgumentOf, IsIndexOf, Matches}
-use Rattle.wc_validate.specs.Entries.{first_by}
-use Rattle.wc_validate.specs.declared.arguments.Argument.{Argument}
+use Rattle.wc_validate.specs.Imports.AdapterTypes.{first_some}
+use Rattle.wc_validate.specs.Private.Imports.Arguments.{AreMatched, IsArgumentOf, IsIndexOf, Matches}
+use Rattle.wc_validate.specs.Imports.Entries.{first_by}
+use Rattle.wc_validate.specs.declared.imports.arguments.Argument.{Argument}
 
 pub first_some_none : {X : Type 0} (o : Option X) → first_some o None ≡ o
 first_some_none None = refl
@@ -29,16 +29,21 @@ lookup_at : {X : Type 0} (b : Bool) (x : X) (p q r : Option X) → p ≡ first_s
 lookup_at true x p q r h = refl
 lookup_at false x p q r h = h
 
-pub lookup_push : {K X : Type 0} (test : K → Bool) (es : List (K × X)) (k : K) (v : X) → lookup test (es ++ (k, v) ∷ []) ≡ first_some (lookup test es) (cond (test k) (Some v) None)
+pub lookup_push : {K X : Type 0} (test : K → Bool) (es : List (K × X)) (k : K) (v : X)
+    → lookup test (es ++ (k, v) ∷ []) ≡ first_some (lookup test es) (cond (test k) (Some v) None)
 lookup_push test [] k v = refl
-lookup_push test (e ∷ es) k v = lookup_at (test e.0) e.1 (lookup test (es ++ (k, v) ∷ [])) (lookup test es) (cond (test k) (Some v) None) (lookup_push test es k v)
+lookup_push test (e ∷ es) k v =
+    lookup_at (test e.0) e.1 (lookup test (es ++ (k, v) ∷ [])) (lookup test es) (cond (test k) (Some v) None) (lookup_push test es k v)
 
 module _ {X : Type 0} (index entries : List (List ℕ × X)) (k : List ℕ) (v : X) (same : IsIndexOf index entries) where
   -- a new name goes after the others
   pub index_more : IsIndexOf (index ++ (k, v) ∷ []) (entries ++ (k, v) ∷ [])
-  index_more name = lookup_push (bytes_eq name) index k v ∙ (ap (λ z. first_some z (cond (bytes_eq name k) (Some v) None)) (same name) ∙ sym (lookup_push (bytes_eq name) entries k v))
+  index_more name =
+      lookup_push (bytes_eq name) index k v ∙ (ap (λ z. first_some z (cond (bytes_eq name k) (Some v) None)) (same name)
+      ∙ sym (lookup_push (bytes_eq name) entries k v))
 
-  kept_at : (name : List ℕ) (o : Option X) (b : Bool) → lookup (bytes_eq name) entries ≡ o → bytes_eq name k ≡ b → is_some (lookup (bytes_eq k) entries) ≡ true → o ≡ first_some o (cond b (Some v) None)
+  kept_at : (name : List ℕ) (o : Option X) (b : Bool) → lookup (bytes_eq name) entries ≡ o → bytes_eq name k ≡ b → is_some (lookup (bytes_eq k) entries) ≡ true
+      → o ≡ first_some o (cond b (Some v) None)
   kept_at name (Some x) b is test there = refl
   kept_at name None false is test there = refl
   kept_at name None true is test there =
@@ -50,7 +55,8 @@ module _ {X : Type 0} (index entries : List (List ℕ × X)) (k : List ℕ) (v :
   pub index_kept : is_some (lookup (bytes_eq k) index) ≡ true → IsIndexOf index (entries ++ (k, v) ∷ [])
   index_kept there name =
       same name
-      ∙ (kept_at name (lookup (bytes_eq name) entries) (bytes_eq name k) refl refl (subst (λ z. is_some z ≡ true) (same k) there) ∙ sym (lookup_push (bytes_eq name) entries k v))
+      ∙ (kept_at name (lookup (bytes_eq name) entries) (bytes_eq name k) refl refl (subst (λ z. is_some z ≡ true) (same k) there)
+      ∙ sym (lookup_push (bytes_eq name) entries k v))
 
 abbrev pub Arguments : Type 0
 Arguments = List (List ℕ × Argument)
@@ -78,9 +84,11 @@ module _ (index : Arguments) (entries : Instances) (k : List ℕ) (v : InstanceV
   pub matches_more : (a : Argument) → IsArgumentOf a v → AreMatched (index ++ (k, a) ∷ []) (entries ++ (k, v) ∷ [])
   matches_more a is m =
       rw (lookup_push (bytes_eq m) index k a, lookup_push (bytes_eq m) entries k v)
-      (matches_first (lookup (bytes_eq m) index) (cond (bytes_eq m k) (Some a) None) (lookup (bytes_eq m) entries) (cond (bytes_eq m k) (Some v) None) (same m) (matches_one (bytes_eq m k) a v is))
+      (matches_first (lookup (bytes_eq m) index) (cond (bytes_eq m k) (Some a) None) (lookup (bytes_eq m) entries) (cond (bytes_eq m k) (Some v) None) (same m)
+      (matches_one (bytes_eq m k) a v is))
 
-  passed_at : (m : List ℕ) (b : Bool) → bytes_eq m k ≡ b → is_some (lookup (bytes_eq k) index) ≡ true → lookup (bytes_eq m) index ≡ None → cond b (Some v) None ≡ None
+  passed_at : (m : List ℕ) (b : Bool) → bytes_eq m k ≡ b → is_some (lookup (bytes_eq k) index) ≡ true → lookup (bytes_eq m) index ≡ None
+      → cond b (Some v) None ≡ None
   passed_at m false test there none = refl
   passed_at m true test there none =
       let gone : lookup (bytes_eq k) index ≡ None = subst (λ z. lookup (bytes_eq z) index ≡ None) ((bytes_eq-Decides m k).0 test) none in
@@ -90,4 +98,5 @@ module _ (index : Arguments) (entries : Instances) (k : List ℕ) (v : InstanceV
   pub matches_passed : is_some (lookup (bytes_eq k) index) ≡ true → AreMatched index (entries ++ (k, v) ∷ [])
   matches_passed there m =
       rw (lookup_push (bytes_eq m) entries k v)
-      (matches_kept (lookup (bytes_eq m) index) (lookup (bytes_eq m) entries) (cond (bytes_eq m k) (Some v) None) (same m) (passed_at m (bytes_eq m k) refl there))
+      (matches_kept (lookup (bytes_eq m) index) (lookup (bytes_eq m) entries) (cond (bytes_eq m k) (Some v) None) (same m)
+      (passed_at m (bytes_eq m k) refl there))

@@ -3,19 +3,19 @@ use Rattle.std.proofs.Common.{◌≡◌, ℕ, Bool, true, false, List, [], ◌�
 use Rattle.std.proofs.lemmas.List.{append_cancel_left, append_cancel_right}
 use Rattle.wc_read.specs.declared.types.ValType.TheVariants.{I32}
 use Rattle.wc_read.specs.Types.{FuncTypeValue}
-use Rattle.wc_resolve.specs.Views.{FunctionView, KeyView, WorldView}
-use Rattle.wc_resolve.specs.World.{ResolveView}
+use Rattle.wc_resolve.specs.Views.{FunctionView, KeyView}
 use Rattle.wc_names.specs.declared.imports.Import.{Import}
 use Rattle.wc_names.specs.Builtins.{signature}
-use Rattle.wc_names.specs.Lookups.{Scope, scope_key, function_named}
+use Rattle.wc_names.specs.Keys.{scope_key}
 use Rattle.wc_names.specs.Meanings.{Meaning, means, refuses, no_such_export}
 use Rattle.wc_names.specs.Schemes.{Scheme, standard, legacy, ResourceOperation, resource_drop, resource_new, resource_rep, NamesResource, NamesTaskReturn}
-use Rattle.wc_names.specs.Verdicts.{FaultKind, IsVerdict}
+use Rattle.wc_names.specs.Classifications.{FaultKind, IsImportClassification, of_imports}
 use Rattle.wc_names.specs.Views.{ImportView, exported_task_return}
-use Rattle.wc_names.specs.WitIntrinsics.{of_resource, task_return, no_task_return, IsWitIntrinsic, resource_row}
-use Rattle.wc_names.proofs.VerdictLemmas.{verdict_as}
-use Rattle.wc_validate.specs.Kinds.{MeansIntrinsic, MeansOnResource}
-use Rattle.wc_validate.specs.Operations.{has_result}
+use Rattle.wc_names.specs.WitIntrinsics.{of_resource, task_return, no_task_return, resource_row}
+use Rattle.wc_names.proofs.ClassificationLemmas.{classified_as}
+use Rattle.wc_validate.specs.Private.Imports.Kinds.{IsIntrinsic, MeansIntrinsic, MeansOnResource}
+use Rattle.wc_validate.specs.Private.Imports.Lookups.{LookupScope, function_in}
+use Rattle.wc_validate.specs.Private.Imports.Intrinsics.{has_result}
 
 pub not_found : {X : Type 0} {o : Option X} (x : X) → None ≡ o → o ≡ Some x → ⊥
 not_found x none some = let both : None ≡ Some x = none ∙ some in let bad : ⊥ = cc both in bad
@@ -50,25 +50,26 @@ without_result false resource_drop h = refl
 without_result false resource_new h = absurd (let bad : ⊥ = cc h in bad)
 without_result false resource_rep h = absurd (let bad : ⊥ = cc h in bad)
 
-module _ (s : Scheme) (r : ResolveView) (w : WorldView) (imported : Bool) (scope : Scope) (name : List ℕ) where
-  -- the verdict on the resource of a name is that on the name
-  pub of_named_resource : {F : Type 0} (kind : F → FaultKind) (op : ResourceOperation) (resource : List ℕ) (ty : FuncTypeValue) (o : Result (Option Import) F) → NamesResource s op resource name
-      → IsVerdict kind (MeansOnResource r w imported scope op resource) ty o → IsVerdict kind (IsWitIntrinsic s r w imported scope name (of_resource op)) ty o
-  of_named_resource kind op resource ty o named v = verdict_as kind _ _ ty o (λ m h. (resource, h.0, named, h.1, h.2)) (λ m h. from m h) v where
-    from : (m : Meaning) → IsWitIntrinsic s r w imported scope name (of_resource op) m → MeansOnResource r w imported scope op resource m
-    from m h = subst (λ z. MeansOnResource r w imported scope op z m) (resource_unique s op h.0 resource name h.2 named) (h.1, h.3, h.4)
+module _ (s : Scheme) (l : LookupScope) (name : List ℕ) where
+  -- the classification of the resource of a name is that on the name
+  pub of_named_resource : {F : Type 0} (kind : F → FaultKind) (op : ResourceOperation) (resource : List ℕ) (ty : FuncTypeValue) (o : Result (Option Import) F)
+      → NamesResource s op resource name
+      → IsImportClassification kind (MeansOnResource l op resource) ty o → IsImportClassification kind (IsIntrinsic s l name (of_resource op)) ty o
+  of_named_resource kind op resource ty o named v = classified_as of_imports kind _ _ ty o (λ m h. (resource, h.0, named, h.1, h.2)) (λ m h. from m h) v where
+    from : (m : Meaning) → IsIntrinsic s l name (of_resource op) m → MeansOnResource l op resource m
+    from m h = subst (λ z. MeansOnResource l op z m) (resource_unique s op h.0 resource name h.2 named) (h.1, h.3, h.4)
 
-  pub no_task : ((x : List ℕ) → ¬ NamesTaskReturn s x name) → (m : Meaning) → ¬ MeansIntrinsic s r w imported scope (task_return ∷ no_task_return ∷ []) name m
+  pub no_task : ((x : List ℕ) → ¬ NamesTaskReturn s x name) → (m : Meaning) → ¬ MeansIntrinsic s l (task_return ∷ no_task_return ∷ []) name m
   no_task none m (inl h) = none h.0 h.2
   no_task none m (inr (n, inl h)) = none h.0 h.1
   no_task none m (inr (n, inr h)) = h.1
 
-  pub is_task : (function : List ℕ) (f : FunctionView) (i : ImportView) → NamesTaskReturn s function name → function_named r w imported scope function ≡ Some f
-      → i ≡ exported_task_return (scope_key scope function) scope.interface f → MeansIntrinsic s r w imported scope (task_return ∷ no_task_return ∷ []) name (means i None)
+  pub is_task : (function : List ℕ) (f : FunctionView) (i : ImportView) → NamesTaskReturn s function name → function_in l function ≡ Some f
+      → i ≡ exported_task_return (scope_key l.scope function) l.scope.interface f → MeansIntrinsic s l (task_return ∷ no_task_return ∷ []) name (means i None)
   is_task function f i named there is = inl (function, f, named, there, ap (λ z. means z None) is)
 
-  pub is_no_task : (function : List ℕ) → NamesTaskReturn s function name → None ≡ function_named r w imported scope function
-      → MeansIntrinsic s r w imported scope (task_return ∷ no_task_return ∷ []) name (refuses no_such_export)
+  pub is_no_task : (function : List ℕ) → NamesTaskReturn s function name → None ≡ function_in l function
+      → MeansIntrinsic s l (task_return ∷ no_task_return ∷ []) name (refuses no_such_export)
   is_no_task function named none = inr (not_first, inl (function, named, sym none, refl)) where
-    not_first : (m : Meaning) → ¬ IsWitIntrinsic s r w imported scope name task_return m
-    not_first m h = not_found h.1 none (subst (λ z. function_named r w imported scope z ≡ Some h.1) (task_return_unique s h.0 function name h.2 named) h.3)
+    not_first : (m : Meaning) → ¬ IsIntrinsic s l name task_return m
+    not_first m h = not_found h.1 none (subst (λ z. function_in l z ≡ Some h.1) (task_return_unique s h.0 function name h.2 named) h.3)

@@ -13,17 +13,17 @@ use Rattle.wc_encoder.specs.Adapters.{InstanceView, module_instance, item_instan
 use Rattle.wc_encoder.specs.EncoderParts.{EncoderView}
 use Rattle.wc_names.specs.Exports.{CoreExport, ExportMeaning, is_export}
 use Rattle.wc_names.specs.ExportViews.{ExportView}
-use Rattle.wc_names.specs.Imports.{CoreImport, ExternType, Setting, Classified}
+use Rattle.wc_names.specs.Imports.{CoreImport, ExternType, NameScope, Classified}
 use Rattle.wc_names.specs.Laws.{ExportsUnique, IsImportIn, MeaningsInRange, MeaningsUnique}
 use Rattle.wc_names.specs.Meanings.{Meaning, means}
 use Rattle.wc_names.specs.Views.{ImportView, library_item}
-use Rattle.wc_validate.specs.Entries.{Entry, Records, by_modules, single}
-use Rattle.wc_validate.specs.ExportMaps.{ExportRecord}
-use Rattle.wc_validate.specs.Imports.{ImportSetting, IsCoreImport, AreEntries, argument_entry, argument_for, item_by_alias, item_entry, library_entry}
+use Rattle.wc_validate.specs.Imports.Entries.{Entry, Records, by_modules, single}
+use Rattle.wc_validate.specs.Exports.Map.{ExportRecord}
+use Rattle.wc_validate.specs.Imports.Record.{ImportScope, IsCoreImport, AreEntries, argument_entry, argument_for, item_by_alias, item_entry, library_entry}
 use Rattle.wc_validate.specs.Laws.{EntriesInRange, EntriesUnique, RecordsUnique, SignaturesFixed}
-use Rattle.wc_validate.specs.RecordedExports.{AreExports, IsExportEntry, core_exports, entry_of}
-use Rattle.wc_validate.specs.Rules.{HasSignature}
-use Rattle.wc_validate.specs.Validated.{IsExportsRecord, IsImportsRecord, IsSettingFor, IsSettingOf, ModuleRecord, encoder_setting}
+use Rattle.wc_validate.specs.Exports.Record.{AreExports, IsExportEntry, core_exports, entry_of}
+use Rattle.wc_validate.specs.Imports.Classify.{HasSignature}
+use Rattle.wc_validate.specs.Validated.{IsExportsRecord, IsImportsRecord, IsImportScopeFor, IsNameScopeOf, ModuleRecord, encoder_scope}
 
 some_same : {X : Type 0} {x y : X} → Some x ≡ Some y → x ≡ y
 some_same e = cc e
@@ -31,9 +31,10 @@ some_same e = cc e
 abbrev core_by : List ℕ → List ℕ → ExternType → CoreImport
 core_by from name ty = record { from = from; name = name; ty = ty }
 
-pub one_core : (s : ImportSetting) (i : ImportValue) (a b : CoreImport) → IsCoreImport s i a → IsCoreImport s i b → a ≡ b
+pub one_core : (s : ImportScope) (i : ImportValue) (a b : CoreImport) → IsCoreImport s i a → IsCoreImport s i b → a ≡ b
 one_core s i a b p q =
-    ap (λ z. core_by z a.name a.ty) (p.0 ∙ sym q.0) ∙ (ap (λ z. core_by b.from z a.ty) (p.1 ∙ sym q.1) ∙ ap (λ z. core_by b.from b.name z) (some_same (sym p.2 ∙ q.2)))
+    ap (λ z. core_by z a.name a.ty) (p.0 ∙ sym q.0) ∙ (ap (λ z. core_by b.from z a.ty) (p.1 ∙ sym q.1)
+    ∙ ap (λ z. core_by b.from b.name z) (some_same (sym p.2 ∙ q.2)))
 
 pub same_import : {v u : ImportView} {p q : Option FuncTypeValue} → means v p ≡ means u q → v ≡ u
 same_import e = cc e
@@ -45,8 +46,9 @@ pub none_some : {X : Type 0} (o : Option X) (x : X) → o ≡ None → o ≡ Som
 none_some o x none some = let both : None ≡ Some x = sym none ∙ some in let bad : ⊥ = cc both in bad
 
 module _ (r : ResolveView) (unique : MeaningsUnique r) where
-  meant : (s : ImportSetting) (i : ImportValue) (a b : CoreImport) (m n : Meaning) → s.setting.resolve ≡ r → IsCoreImport s i a → IsCoreImport s i b → Classified s.setting a m → Classified s.setting b n → m ≡ n
-  meant s i a b m n at p q first second = unique s.setting b m n at (subst (λ z. Classified s.setting z m) (one_core s i a b p q) first) second
+  meant : (s : ImportScope) (i : ImportValue) (a b : CoreImport) (m n : Meaning) → s.name_scope.resolve ≡ r → IsCoreImport s i a → IsCoreImport s i b
+      → Classified s.name_scope a m → Classified s.name_scope b n → m ≡ n
+  meant s i a b m n at p q first second = unique s.name_scope b m n at (subst (λ z. Classified s.name_scope z m) (one_core s i a b p q) first) second
 
   pub one_entry : EntriesUnique r
   one_entry s i x y at (inl p) (inl q) = some_same (sym p ∙ q)
@@ -61,7 +63,8 @@ module _ (r : ResolveView) (unique : MeaningsUnique r) where
       let fixed : p.3 ≡ Some ty = same_signature (meant s i p.1 a (means p.2 p.3) (means v (Some ty)) at p.4 core p.5 h) in
       ap (λ z. z.ty) (one_core s i a p.1 core p.4) ∙ subst (HasSignature (p.1).ty) fixed p.6
 
-  entries_same : (s : ImportSetting) (before : List Entry) (is : List ImportValue) (xs ys : List Entry) → s.setting.resolve ≡ r → AreEntries s before is xs → AreEntries s before is ys → xs ≡ ys
+  entries_same : (s : ImportScope) (before : List Entry) (is : List ImportValue) (xs ys : List Entry) → s.name_scope.resolve ≡ r → AreEntries s before is xs
+      → AreEntries s before is ys → xs ≡ ys
   entries_same s before [] xs ys at p q = p ∙ sym q
   entries_same s before (i ∷ is) [] ys at p q = absurd p
   entries_same s before (i ∷ is) (x ∷ xs) [] at p q = absurd q
@@ -69,38 +72,44 @@ module _ (r : ResolveView) (unique : MeaningsUnique r) where
       let same = one_entry s i x y at p.0 q.0 in
       ap (λ z. z ∷ xs) same ∙ ap (λ z. y ∷ z) (entries_same s (before ++ y ∷ []) is xs ys at (subst (λ z. AreEntries s (before ++ z ∷ []) is xs) same p.2) q.2)
 
-abbrev setting_by : Setting → Option LibraryView → Option (List RenameValue) → List FuncTypeValue → ImportSetting
-setting_by e l n t = record { setting = e; library = l; renames = n; types = t }
+abbrev scope_by : NameScope → Option LibraryView → Option (List RenameValue) → List FuncTypeValue → ImportScope
+scope_by e l n t = record { name_scope = e; library = l; renames = n; types = t }
 
-pub one_setting : (e : EncoderView) (p q : Setting) → IsSettingOf e p → IsSettingOf e q → p ≡ q
-one_setting e p q a b = a.2 ∙ (ap (encoder_setting e) (some_same (sym a.1 ∙ b.1)) ∙ sym b.2)
+pub one_name_scope : (e : EncoderView) (p q : NameScope) → IsNameScopeOf e p → IsNameScopeOf e q → p ≡ q
+one_name_scope e p q a b = a.2 ∙ (ap (encoder_scope e) (some_same (sym a.1 ∙ b.1)) ∙ sym b.2)
 
-pub settings_same : (e : EncoderView) (renames : Option (List RenameValue)) (library : Option LibraryView) (types : List FuncTypeValue) (s t : ImportSetting) → IsSettingFor e renames library types s → IsSettingFor e renames library types t → s ≡ t
-settings_same e renames library types s t p q =
-    ap (λ z. setting_by z s.library s.renames s.types) (one_setting e s.setting t.setting p.has_setting q.has_setting)
-    ∙ (ap (λ z. setting_by t.setting z s.renames s.types) (p.has_library ∙ sym q.has_library)
-    ∙ (ap (λ z. setting_by t.setting t.library z s.types) (p.has_renames ∙ sym q.has_renames) ∙ ap (λ z. setting_by t.setting t.library t.renames z) (p.has_types ∙ sym q.has_types)))
+pub import_scopes_same : (e : EncoderView) (renames : Option (List RenameValue)) (library : Option LibraryView) (types : List FuncTypeValue) (s t : ImportScope)
+    → IsImportScopeFor e renames library types s → IsImportScopeFor e renames library types t → s ≡ t
+import_scopes_same e renames library types s t p q =
+    ap (λ z. scope_by z s.library s.renames s.types) (one_name_scope e s.name_scope t.name_scope p.has_name_scope q.has_name_scope)
+    ∙ (ap (λ z. scope_by t.name_scope z s.renames s.types) (p.has_library ∙ sym q.has_library)
+    ∙ (ap (λ z. scope_by t.name_scope t.library z s.types) (p.has_renames ∙ sym q.has_renames)
+    ∙ ap (λ z. scope_by t.name_scope t.library t.renames z) (p.has_types ∙ sym q.has_types)))
 
 -- the exports of a module
-pub entries_alike : (s : Setting) (keys : List KeyView) (x : CoreExport) (o p : Option ExportView) → ExportsUnique → IsExportEntry s keys x o → IsExportEntry s keys x p → o ≡ p
+pub same_entries : (s : NameScope) (keys : List KeyView) (x : CoreExport) (o p : Option ExportView) → ExportsUnique → IsExportEntry s keys x o
+    → IsExportEntry s keys x p → o ≡ p
 unfolding IsExportEntry
-entries_alike s keys x None None unique a b = refl
-entries_alike s keys x None (Some w) unique a b = absurd (a (is_export w b.0) b.1)
-entries_alike s keys x (Some v) None unique a b = absurd (b (is_export v a.0) a.1)
-entries_alike s keys x (Some v) (Some w) unique a b =
+same_entries s keys x None None unique a b = refl
+same_entries s keys x None (Some w) unique a b = absurd (a (is_export w b.0) b.1)
+same_entries s keys x (Some v) None unique a b = absurd (b (is_export v a.0) a.1)
+same_entries s keys x (Some v) (Some w) unique a b =
     ap (λ (z : ExportMeaning). Some z.export) (unique s keys x (is_export v a.0) (is_export w b.0) a.1 b.1)
 
-pub exports_alike : (s : Setting) (keys : List KeyView) (xs : List CoreExport) (p q : ExportRecord) → ExportsUnique → AreExports s keys xs p → AreExports s keys xs q → p ≡ q
+pub exports_alike : (s : NameScope) (keys : List KeyView) (xs : List CoreExport) (p q : ExportRecord) → ExportsUnique → AreExports s keys xs p
+    → AreExports s keys xs q → p ≡ q
 exports_alike s keys [] p q unique a b = a ∙ sym b
 exports_alike s keys (x ∷ xs) p q unique a b =
-    a.4 ∙ (ap (λ o. entry_of x.name o ++ a.1) (entries_alike s keys x a.0 b.0 unique a.2 b.2) ∙ (ap (λ z. entry_of x.name b.0 ++ z) (exports_alike s keys xs a.1 b.1 unique a.3 b.3) ∙ sym b.4))
+    a.4 ∙ (ap (λ o. entry_of x.name o ++ a.1) (same_entries s keys x a.0 b.0 unique a.2 b.2)
+    ∙ (ap (λ z. entry_of x.name b.0 ++ z) (exports_alike s keys xs a.1 b.1 unique a.3 b.3) ∙ sym b.4))
 
-imports_alike : (e : EncoderView) (renames : Option (List RenameValue)) (library : Option LibraryView) (m : ModuleValue) (p q : Records) → MeaningsUnique e.resolve → IsImportsRecord e renames library m.types m.imports p
+same_imports : (e : EncoderView) (renames : Option (List RenameValue)) (library : Option LibraryView) (m : ModuleValue) (p q : Records)
+    → MeaningsUnique e.resolve → IsImportsRecord e renames library m.types m.imports p
     → IsImportsRecord e renames library m.types m.imports q → p ≡ q
-imports_alike e renames library m p q unique a b =
-    let settings = settings_same e renames library m.types a.0 b.0 a.1 b.1 in
-    let entries = subst (λ z. AreEntries z [] m.imports b.2.0) (sym settings) b.2.1 in
-    let resolve : (a.0).setting.resolve ≡ e.resolve = ap (λ z. z.resolve) a.1.has_setting.2 in
+same_imports e renames library m p q unique a b =
+    let scopes = import_scopes_same e renames library m.types a.0 b.0 a.1 b.1 in
+    let entries = subst (λ z. AreEntries z [] m.imports b.2.0) (sym scopes) b.2.1 in
+    let resolve : (a.0).name_scope.resolve ≡ e.resolve = ap (λ z. z.resolve) a.1.has_name_scope.2 in
     a.2.2 ∙ (ap by_modules (entries_same e.resolve unique a.0 [] m.imports a.2.0 b.2.0 resolve a.2.1 entries) ∙ sym b.2.2)
 
 both_parts : (p q : ModuleRecord) → p.imports ≡ q.imports → p.exports ≡ q.exports → p ≡ q
@@ -111,24 +120,27 @@ one_record e unique unique_exports one j bytes p q is a b =
     let same = one bytes a.value b.value a.spelled b.spelled in
     let imports = subst (λ (z : ModuleValue). IsImportsRecord j.encoder j.renames j.library z.types z.imports q.imports) (sym same) b.imports in
     let exports = subst (λ z. IsExportsRecord j.encoder j.keys j.required z q.exports) (sym same) b.exports in
-    let settings = one_setting j.encoder exports.0 a.exports.0 exports.1 a.exports.1 in
-    both_parts p q (imports_alike j.encoder j.renames j.library a.value p.imports q.imports (subst (λ (z : EncoderView). MeaningsUnique z.resolve) (sym is) unique) a.imports imports)
+    let scopes = one_name_scope j.encoder exports.0 a.exports.0 exports.1 a.exports.1 in
+    both_parts p q (same_imports j.encoder j.renames j.library a.value p.imports q.imports
+    (subst (λ (z : EncoderView). MeaningsUnique z.resolve) (sym is) unique) a.imports imports)
     (exports_alike a.exports.0 j.keys (core_exports a.value a.value.exports) p.exports q.exports unique_exports a.exports.2
-    (subst (λ z. AreExports z j.keys (core_exports a.value a.value.exports) q.exports) settings exports.2))
+    (subst (λ z. AreExports z j.keys (core_exports a.value a.value.exports) q.exports) scopes exports.2))
 
--- what a library is handed names nothing of the world
-item_in : (r : ResolveView) (w : WorldView) (m n k name : List ℕ) (item : Option LibraryItemView) (v : ImportView) → option_map (item_entry m n) item ≡ Some (single k name v) → IsImportIn r w v
+-- what a library is passed names nothing of the world
+item_in : (r : ResolveView) (w : WorldView) (m n k name : List ℕ) (item : Option LibraryItemView) (v : ImportView)
+    → option_map (item_entry m n) item ≡ Some (single k name v) → IsImportIn r w v
 item_in r w m n k name None v is = absurd (let bad : ⊥ = cc is in bad)
 item_in r w m n k name (Some item) v is = let same : library_item item ≡ v = cc is in subst (IsImportIn r w) same tt
 
-handed_in : (r : ResolveView) (w : WorldView) (m n k name : List ℕ) (o : Option InstanceView) (v : ImportView) → option_and_then (argument_entry m n) o ≡ Some (single k name v) → IsImportIn r w v
-handed_in r w m n k name None v is = absurd (let bad : ⊥ = cc is in bad)
-handed_in r w m n k name (Some (module_instance which)) v is = absurd (let bad : ⊥ = cc is in bad)
-handed_in r w m n k name (Some (item_instance items)) v is = item_in r w m n k name (item_by_alias items n) v is
+passed_in : (r : ResolveView) (w : WorldView) (m n k name : List ℕ) (o : Option InstanceView) (v : ImportView)
+    → option_and_then (argument_entry m n) o ≡ Some (single k name v) → IsImportIn r w v
+passed_in r w m n k name None v is = absurd (let bad : ⊥ = cc is in bad)
+passed_in r w m n k name (Some (module_instance which)) v is = absurd (let bad : ⊥ = cc is in bad)
+passed_in r w m n k name (Some (item_instance items)) v is = item_in r w m n k name (item_by_alias items n) v is
 
 pub entry_in : (r : ResolveView) → MeaningsInRange r → EntriesInRange r
-entry_in r range s i m name v at world (inl p) = handed_in r s.setting.world i.module_name i.name m name (argument_for s.library i.module_name) v p
+entry_in r range s i m name v at world (inl p) = passed_in r s.name_scope.world i.module_name i.name m name (argument_for s.library i.module_name) v p
 entry_in r range s i m name v at world (inr p) =
     let same : p.2 ≡ v = (let e : single m name v ≡ single i.module_name i.name p.2 = p.7 in let f : p.2 ≡ v = cc e in f) in
-    let there = subst (λ z. slice_get z.worlds world.0 ≡ Some s.setting.world) at world.1 in
-    subst (IsImportIn r s.setting.world) same (range s.setting p.1 world.0 p.2 p.3 at there p.5)
+    let there = subst (λ z. slice_get z.worlds world.0 ≡ Some s.name_scope.world) at world.1 in
+    subst (IsImportIn r s.name_scope.world) same (range s.name_scope p.1 world.0 p.2 p.3 at there p.5)

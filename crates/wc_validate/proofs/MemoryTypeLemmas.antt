@@ -20,23 +20,23 @@ use Rattle.wc_resolve.specs.World.{ResolveView}
 use Rattle.wc_encoder.specs.Adapters.{InstanceView, LibraryItemView, item_instance, module_instance}
 use Rattle.wc_names.specs.Builtins.{builtin_import}
 use Rattle.wc_names.specs.Environment.{EnvironmentFunction, NamesEnvironment, environment_row, get_stack_pointer, get_tls_base, names_value_type, set_stack_pointer, set_tls_base}
-use Rattle.wc_names.specs.Imports.{Classified, CoreFunction, CoreImport, ExternType, IsKind, IsRule, Kind, Rule, Setting, adapter_function, by_scheme, environment, export_intrinsic, export_other_name, export_root_intrinsic, export_unknown, func_type, interface_function, interface_intrinsic, interface_other_name, interface_unknown, main_item, main_memory, memory_type, not_function, root_builtin, root_function, root_intrinsic, root_other_item, root_unknown, rules, scope_of, without_prefix}
-use Rattle.wc_names.specs.Lookups.{Scope, scope_key, world_scope}
+use Rattle.wc_names.specs.Imports.{Classified, CoreFunction, CoreImport, ExternType, IsKind, IsRule, Kind, Rule, NameScope, adapter_function, by_scheme, environment, export_intrinsic, export_other_name, export_root_intrinsic, export_unknown, func_type, interface_function, interface_intrinsic, interface_other_name, interface_unknown, main_item, main_memory, memory_type, not_function, root_builtin, root_function, root_intrinsic, root_other_item, root_unknown, rules, scope_of, without_prefix}
+use Rattle.wc_names.specs.Keys.{Scope, scope_key, world_scope}
 use Rattle.wc_names.specs.Meanings.{Meaning, means, refuses, typed_reference}
 use Rattle.wc_names.specs.Schemes.{ResourceOperation, Scheme, legacy, resource_drop, resource_new, resource_rep, standard}
 use Rattle.wc_names.specs.Views.{Builtin, ImportView, adapter_export, waitable_set_poll, waitable_set_wait}
 use Rattle.wc_names.specs.WitIntrinsics.{IsWitIntrinsic, WitIntrinsic, no_task_return, of_async_value, of_resource, resource_row, task_cancel, task_return}
 use Rattle.wc_names.proofs.SearchLemmas.{first_kind}
-use Rattle.wc_validate.specs.Entries.{Entry, InstanceRecord, Records, all_of, memory_type_of, names_of}
-use Rattle.wc_validate.specs.ImportMaps.{imports_in, memory_in, memory_in_record, singles_of}
-use Rattle.wc_validate.specs.Imports.{ImportSetting, IsEntry, argument_entry, argument_for, extern_type, item_by_alias, item_entry}
+use Rattle.wc_validate.specs.Imports.Entries.{Entry, InstanceRecord, Records, all_of, memory_type_of, names_of}
+use Rattle.wc_validate.specs.Imports.Map.{imports_in, memory_in, memory_in_record, singles_of}
+use Rattle.wc_validate.specs.Imports.Record.{ImportScope, IsEntry, argument_entry, argument_for, extern_type, item_by_alias, item_entry}
 use Rattle.wc_validate.specs.MemoryTypes.{RecordedMemoriesValid}
 use Rattle.wc_validate.proofs.ContainedLemmas.{first_from, flat_there, mapped_there, none_some, some_same}
 use Rattle.wc_validate.proofs.RecordLawLemmas.{OnImport, OnSingle, by_modules_all, entries_all}
 
 -- a meaning that is no memory
 abbrev NoMemory : Meaning → Type 0
-NoMemory (means i wanted) = memory_type_of i ≡ None
+NoMemory (means i required_type) = memory_type_of i ≡ None
 NoMemory (refuses why) = Unit {0}
 
 builtin_none : (b : Builtin) → memory_type_of (builtin_import b) ≡ None
@@ -44,7 +44,8 @@ builtin_none (waitable_set_wait t) = refl
 builtin_none (waitable_set_poll t) = refl
 builtin_none b = refl
 
-resource_none : (imports : Bool) (op : ResourceOperation) (key : KeyView) (i : Option ℕ) (t : ℕ) → memory_type_of ((resource_row imports op).meaning key i t) ≡ None
+resource_none : (imports : Bool) (op : ResourceOperation) (key : KeyView) (i : Option ℕ) (t : ℕ)
+    → memory_type_of ((resource_row imports op).meaning key i t) ≡ None
 resource_none true op key i t = refl
 resource_none false resource_drop key i t = refl
 resource_none false resource_new key i t = refl
@@ -65,7 +66,8 @@ meant_none : (refused : Bool) (i : ImportView) → memory_type_of i ≡ None →
 meant_none true i h = tt
 meant_none false i h = h
 
-intrinsic_none : (s : Scheme) (r : ResolveView) (w : WorldView) (imports : Bool) (scope : Scope) (name : List ℕ) (k : WitIntrinsic) (m : Meaning) → IsWitIntrinsic s r w imports scope name k m → NoMemory m
+intrinsic_none : (s : Scheme) (r : ResolveView) (w : WorldView) (imports : Bool) (scope : Scope) (name : List ℕ) (k : WitIntrinsic) (m : Meaning)
+    → IsWitIntrinsic s r w imports scope name k m → NoMemory m
 intrinsic_none s r w imports scope name (of_resource op) m x = subst NoMemory (sym x.4) (resource_none imports op (scope_key scope x.0) scope.interface x.1)
 intrinsic_none s r w imports scope name task_return m x = subst NoMemory (sym x.4) refl
 intrinsic_none s r w imports scope name no_task_return m x = subst NoMemory (sym x.3) tt
@@ -73,7 +75,7 @@ intrinsic_none s r w imports scope name task_cancel m x = subst NoMemory (sym x.
 intrinsic_none s r w imports scope name of_async_value m x = subst NoMemory (sym x.5) refl
 
 -- no name of a function is a memory
-kind_none : (s : Scheme) (e : Setting) (c : CoreFunction) (k : Kind) (m : Meaning) → IsKind s e c k m → NoMemory m
+kind_none : (s : Scheme) (e : NameScope) (c : CoreFunction) (k : Kind) (m : Meaning) → IsKind s e c k m → NoMemory m
 kind_none s e c root_builtin m x = subst NoMemory (sym x.3) (builtin_none x.1)
 kind_none s e c root_function m x = subst NoMemory (sym x.6) refl
 kind_none s e c (root_intrinsic k) m x = intrinsic_none s e.resolve e.world true world_scope c.name k m x.1
@@ -92,22 +94,24 @@ kind_none s e c interface_other_name m x = subst NoMemory (sym x) tt
 
 -- a memory that is meant is the import's own type
 abbrev HasItsType : ExternType → Meaning → Type 0
-HasItsType ty (means i wanted) = (t : MemoryType) → memory_type_of i ≡ Some t → ty ≡ memory_type t
+HasItsType ty (means i required_type) = (t : MemoryType) → memory_type_of i ≡ Some t → ty ≡ memory_type t
 HasItsType ty (refuses why) = Unit {0}
 
 no_memory : (ty : ExternType) (m : Meaning) → NoMemory m → HasItsType ty m
-no_memory ty (means i wanted) h = λ t is. absurd (none_some t (sym h ∙ is))
+no_memory ty (means i required_type) h = λ t is. absurd (none_some t (sym h ∙ is))
 no_memory ty (refuses why) h = tt
 
-rule_typed : (e : Setting) (a : CoreImport) (k : Rule) (m : Meaning) → IsRule e a k m → HasItsType a.ty m
+rule_typed : (e : NameScope) (a : CoreImport) (k : Rule) (m : Meaning) → IsRule e a k m → HasItsType a.ty m
 rule_typed e a main_memory m x = subst (HasItsType a.ty) (sym x.4) (λ t is. x.3 ∙ ap memory_type (some_same is))
 rule_typed e a main_item m x = subst (HasItsType a.ty) (sym x.1) (λ t is. absurd (none_some t is))
 rule_typed e a not_function m x = subst (HasItsType a.ty) (sym x.1) tt
 rule_typed e a adapter_function m x = no_memory a.ty m (subst NoMemory (sym x.3) (meant_none (names_types x.1) (adapter_export a.from a.name x.1) refl))
 rule_typed e a (by_scheme k) m x = no_memory a.ty m (kind_none x.1 e (record { from = x.2; name = a.name; ty = x.0 }) k m x.5)
 
-memory_typed : (e : Setting) (a : CoreImport) (i : ImportView) (wanted : Option FuncTypeValue) → Classified e a (means i wanted) → HasItsType a.ty (means i wanted)
-memory_typed e a i wanted h = let found = first_kind (IsRule e a) rules (means i wanted) h in rule_typed e a found.0 (means i wanted) found.1
+memory_typed : (e : NameScope) (a : CoreImport) (i : ImportView) (required_type : Option FuncTypeValue) → Classified e a (means i required_type)
+    → HasItsType a.ty (means i required_type)
+memory_typed e a i required_type h =
+    let found = first_kind (IsRule e a) rules (means i required_type) h in rule_typed e a found.0 (means i required_type) found.1
 
 -- memories that are imported have types that bytes spell
 abbrev HasMemoryType : ImportValue → Type 0
@@ -123,7 +127,8 @@ spelled_items bytes (j ∷ is) h i there = elim (contains_cons j is i there) [
   | inr later ↦ spelled_items h.1 is h.4 i later
 ]
 
-spelled_content : (o : Option (List ℕ)) (is : List ImportValue) → MatchOption o (is ≡ []) (λ content. SpellsImports content is) → (i : ImportValue) → Contains is i → HasMemoryType i
+spelled_content : (o : Option (List ℕ)) (is : List ImportValue) → MatchOption o (is ≡ []) (λ content. SpellsImports content is) → (i : ImportValue)
+    → Contains is i → HasMemoryType i
 spelled_content None is h i there = absurd (contains_none i (subst (λ z. Contains z i) h there))
 spelled_content (Some content) is h i there = spelled_items h.1 is h.4 i there
 
@@ -150,16 +155,18 @@ item_valid : (m n : List ℕ) (item : Option LibraryItemView) (x : Entry) → op
 item_valid m n None x is = absurd (none_some x is)
 item_valid m n (Some item) x is = subst (OnSingle IsValid) (some_same is) (λ t h. absurd (none_some t h))
 
-handed_valid : (m n : List ℕ) (o : Option InstanceView) (x : Entry) → option_and_then (argument_entry m n) o ≡ Some x → OnSingle IsValid x
-handed_valid m n None x is = absurd (none_some x is)
-handed_valid m n (Some (module_instance which)) x is = subst (OnSingle IsValid) (some_same is) tt
-handed_valid m n (Some (item_instance items)) x is = item_valid m n (item_by_alias items n) x is
+passed_valid : (m n : List ℕ) (o : Option InstanceView) (x : Entry) → option_and_then (argument_entry m n) o ≡ Some x → OnSingle IsValid x
+passed_valid m n None x is = absurd (none_some x is)
+passed_valid m n (Some (module_instance which)) x is = subst (OnSingle IsValid) (some_same is) tt
+passed_valid m n (Some (item_instance items)) x is = item_valid m n (item_by_alias items n) x is
 
-entry_valid : (s : ImportSetting) (i : ImportValue) (x : Entry) → HasMemoryType i → IsEntry s i x → OnSingle IsValid x
-entry_valid s i x typed (inl h) = handed_valid i.module_name i.name (argument_for s.library i.module_name) x h
-entry_valid s i x typed (inr h) = subst (OnSingle IsValid) (sym h.7) (λ t is. typed t (imported_memory s.types i.ty t (h.4.2 ∙ ap Some (memory_typed s.setting h.1 h.2 h.3 h.5 t is))))
+entry_valid : (s : ImportScope) (i : ImportValue) (x : Entry) → HasMemoryType i → IsEntry s i x → OnSingle IsValid x
+entry_valid s i x typed (inl h) = passed_valid i.module_name i.name (argument_for s.library i.module_name) x h
+entry_valid s i x typed (inr h) =
+    subst (OnSingle IsValid) (sym h.7) (λ t is. typed t (imported_memory s.types i.ty t (h.4.2 ∙ ap Some (memory_typed s.name_scope h.1 h.2 h.3 h.5 t is))))
 
-memory_single : (m : List ℕ) (r : InstanceRecord) (t : MemoryType) → memory_in_record r ≡ Some t → (y : List ℕ × (List ℕ × ImportView)) × Contains (singles_of (m, r)) y × (memory_type_of y.1.1 ≡ Some t)
+memory_single : (m : List ℕ) (r : InstanceRecord) (t : MemoryType) → memory_in_record r ≡ Some t → (y : List ℕ × (List ℕ × ImportView))
+    × Contains (singles_of (m, r)) y × (memory_type_of y.1.1 ≡ Some t)
 memory_single m (all_of which) t h = absurd (none_some t h)
 memory_single m (names_of names) t h =
     let found = first_from (λ (x : List ℕ × ImportView). memory_type_of x.1) names t h in
@@ -179,6 +186,7 @@ small (Some n) (inr e) = omega (arith, e)
 pub recorded_memories : RecordedMemoriesValid
 recorded_memories j bytes r t h is =
     let own = h.imports in
-    let each = entries_all own.0 (OnSingle IsValid) [] (h.value).imports own.2.0 (λ i x there entry. entry_valid own.0 i x (spelled_memories bytes h.value h.spelled i there) entry) own.2.1 in
+    let each = entries_all own.0 (OnSingle IsValid) [] (h.value).imports own.2.0
+    (λ i x there entry. entry_valid own.0 i x (spelled_memories bytes h.value h.spelled i there) entry) own.2.1 in
     let valid = recorded_valid r.imports t (subst (λ z. All (OnImport IsValid) (imports_in z)) (sym own.2.2) (by_modules_all IsValid own.2.0 each)) is in
     (valid, small t.page_size_log2 valid.known_page_size)

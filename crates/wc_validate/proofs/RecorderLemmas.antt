@@ -9,24 +9,26 @@ use Rattle.wc_encoder.specs.Adapters.{WhichView}
 use Rattle.wc_names.specs.Views.{ImportView, adapter_export}
 use Rattle.wc_validate.specs.declared.fault.ValidateFault.{ValidateFault}
 use Rattle.wc_validate.specs.declared.fault.ValidateFault.TheVariants.{Memory, WholeDiffers, Mixed, SeveralMemoryImports, DuplicateImport, AdapterTypesDiffer}
-use Rattle.wc_validate.specs.AdapterTypes.{Agrees, first_some}
-use Rattle.wc_validate.specs.Entries.{Entry, single, whole, InstanceRecord, all_of, names_of, Records, by_modules, IsAllRecorded, memory_type_of, memory_of, adapter_type_in, adapter_type_of, first_by}
-use Rattle.wc_validate.specs.Imports.{IsEntryCause, IsEntryFault, IsSound}
-use Rattle.wc_validate.specs.Records.{instance_entry, add_to, put_in, IsFree, IsPutFault, IsInstanceFault, IsWholeFault, IsWholePut}
-use Rattle.wc_validate.specs.declared.recorder.Recorder.{Recorder}
-use Rattle.wc_validate.specs.Recorders.{AgreesIn, IsRecordedAfter, IsRecorderOf, types_in, IsOneMemory, IsNoteFault, IsRefusedAfter}
-use Rattle.wc_validate.specs.ImportMaps.{memory_in_names, memory_in_record, memory_in}
+use Rattle.wc_validate.specs.Imports.AdapterTypes.{Agrees, first_some}
+use Rattle.wc_validate.specs.Imports.Entries.{Entry, single, whole, InstanceRecord, all_of, names_of, Records, by_modules, IsAllRecorded, memory_type_of, memory_of, adapter_type_in, adapter_type_of, first_by}
+use Rattle.wc_validate.specs.Imports.Record.{IsEntryCause, IsEntryFault, IsValidAfter}
+use Rattle.wc_validate.specs.Imports.Instances.{instance_entry, add_to, put_in, IsFree, IsPutFault, IsInstanceFault, IsWholeFault, IsWholePut}
+use Rattle.wc_validate.specs.declared.imports.recorder.Recorder.{Recorder}
+use Rattle.wc_validate.specs.Private.Imports.Recorder.{AgreesIn, IsRecordedAfter, IsRecorderOf, types_in, IsOneMemory, IsNoteFault, IsRefusedAfter}
+use Rattle.wc_validate.specs.Imports.Map.{memory_in_names, memory_in_record, memory_in}
 use Rattle.wc_validate.proofs.IndexLemmas.{first_by_push, first_some_none}
-use Rattle.wc_validate.proofs.RecordLemmas.{recorded_after}
+use Rattle.wc_validate.proofs.InstanceLemmas.{recorded_after}
 use Rattle.wc_validate.proofs.WholeLemmas.{whole_after}
 
 -- the memory among the records after one import more
 memory_added : (r : InstanceRecord) (n : List ℕ) (i : ImportView) → memory_type_of i ≡ None → memory_in_record (add_to r n i) ≡ memory_in_record r
 memory_added (all_of w) n i none = refl
 memory_added (names_of names) n i none =
-    first_by_push (λ (x : List ℕ × ImportView). memory_type_of x.1) names (n, i) ∙ (ap (first_some (memory_in_names names)) none ∙ first_some_none (memory_in_names names))
+    first_by_push (λ (x : List ℕ × ImportView). memory_type_of x.1) names (n, i)
+    ∙ (ap (first_some (memory_in_names names)) none ∙ first_some_none (memory_in_names names))
 
-stays_at : (e : List ℕ × InstanceRecord) (es : Records) (m n : List ℕ) (i : ImportView) (b : Bool) → memory_type_of i ≡ None → memory_in (put_in es m n i) ≡ memory_in es
+stays_at : (e : List ℕ × InstanceRecord) (es : Records) (m n : List ℕ) (i : ImportView) (b : Bool) → memory_type_of i ≡ None
+    → memory_in (put_in es m n i) ≡ memory_in es
     → memory_in (cond b ((e.0, add_to e.1 n i) ∷ es) (e ∷ put_in es m n i)) ≡ memory_in (e ∷ es)
 stays_at e es m n i true none rest = ap (λ z. first_some z (memory_in es)) (memory_added e.1 n i none)
 stays_at e es m n i false none rest = ap (first_some (memory_in_record e.1)) rest
@@ -43,15 +45,19 @@ none_second : {X : Type 0} (a b : Option X) → first_some a b ≡ None → b �
 none_second None b h = h
 none_second (Some x) b h = absurd (let bad : ⊥ = cc h in bad)
 
-memory_new : (r : InstanceRecord) (n : List ℕ) (i : ImportView) → memory_in_record r ≡ None → ((w : WhichView) → ¬ (r ≡ all_of w)) → memory_in_record (add_to r n i) ≡ memory_type_of i
+memory_new : (r : InstanceRecord) (n : List ℕ) (i : ImportView) → memory_in_record r ≡ None → ((w : WhichView) → ¬ (r ≡ all_of w))
+    → memory_in_record (add_to r n i) ≡ memory_type_of i
 memory_new (all_of w) n i none no_whole = absurd (no_whole w refl)
 memory_new (names_of names) n i none no_whole =
     first_by_push (λ (x : List ℕ × ImportView). memory_type_of x.1) names (n, i) ∙ ap (λ z. first_some z (memory_type_of i)) none
 
-gets_at : (e : List ℕ × InstanceRecord) (es : Records) (m n : List ℕ) (i : ImportView) (b : Bool) → bytes_eq m e.0 ≡ b → memory_in (e ∷ es) ≡ None → ¬ IsAllRecorded (e ∷ es) m
-    → (¬ IsAllRecorded es m → memory_in (put_in es m n i) ≡ memory_type_of i) → memory_in (cond b ((e.0, add_to e.1 n i) ∷ es) (e ∷ put_in es m n i)) ≡ memory_type_of i
+gets_at : (e : List ℕ × InstanceRecord) (es : Records) (m n : List ℕ) (i : ImportView) (b : Bool) → bytes_eq m e.0 ≡ b → memory_in (e ∷ es) ≡ None
+    → ¬ IsAllRecorded (e ∷ es) m
+    → (¬ IsAllRecorded es m → memory_in (put_in es m n i) ≡ memory_type_of i)
+    → memory_in (cond b ((e.0, add_to e.1 n i) ∷ es) (e ∷ put_in es m n i)) ≡ memory_type_of i
 gets_at e es m n i true is none free rest =
-    let no_whole = λ (w : WhichView) (h : e.1 ≡ all_of w). free (w, ap (λ b. cond b (Some e.1) (lookup (bytes_eq m) es)) is ∙ ap (λ (z : InstanceRecord). Some z) h) in
+    let no_whole = λ (w : WhichView) (h : e.1 ≡ all_of w). free
+    (w, ap (λ b. cond b (Some e.1) (lookup (bytes_eq m) es)) is ∙ ap (λ (z : InstanceRecord). Some z) h) in
     ap (λ z. first_some z (memory_in es)) (memory_new e.1 n i (none_first (memory_in_record e.1) (memory_in es) none) no_whole)
     ∙ (ap (first_some (memory_type_of i)) (none_second (memory_in_record e.1) (memory_in es) none) ∙ first_some_none (memory_type_of i))
 gets_at e es m n i false is none free rest =
@@ -60,59 +66,72 @@ gets_at e es m n i false is none free rest =
 
 pub memory_gets : (es : Records) (m n : List ℕ) (i : ImportView) → memory_in es ≡ None → ¬ IsAllRecorded es m → memory_in (put_in es m n i) ≡ memory_type_of i
 memory_gets [] m n i none free = first_some_none (first_some (memory_type_of i) None) ∙ first_some_none (memory_type_of i)
-memory_gets (e ∷ es) m n i none free = gets_at e es m n i (bytes_eq m e.0) refl none free (memory_gets es m n i (none_second (memory_in_record e.1) (memory_in es) none))
+memory_gets (e ∷ es) m n i none free =
+    gets_at e es m n i (bytes_eq m e.0) refl none free (memory_gets es m n i (none_second (memory_in_record e.1) (memory_in es) none))
 
 -- the memory after one import more that is no second memory
-pub memory_put : (es : Records) (m n : List ℕ) (i : ImportView) (memory : Option MemoryType) → memory_in es ≡ memory → IsOneMemory memory i → ¬ IsAllRecorded es m → memory_in (put_in es m n i) ≡ first_some memory (memory_type_of i)
+pub memory_put : (es : Records) (m n : List ℕ) (i : ImportView) (memory : Option MemoryType) → memory_in es ≡ memory → IsOneMemory memory i
+    → ¬ IsAllRecorded es m → memory_in (put_in es m n i) ≡ first_some memory (memory_type_of i)
 memory_put es m n i memory is (inl none) free = memory_stays es m n i none ∙ (is ∙ (sym (first_some_none memory) ∙ ap (first_some memory) (sym none)))
 memory_put es m n i memory is (inr none) free = memory_gets es m n i (is ∙ none) free ∙ ap (λ z. first_some z (memory_type_of i)) (sym none)
 
 -- the memory after a module that is all of another one
 pub memory_whole : (old new : Records) (m : List ℕ) (w : WhichView) → IsWholePut old new m w → memory_in new ≡ memory_in old
-memory_whole old new m w (inl h) = ap memory_in h.1 ∙ (first_by_push (λ (x : List ℕ × InstanceRecord). memory_in_record x.1) old (m, all_of w) ∙ first_some_none (memory_in old))
+memory_whole old new m w (inl h) =
+    ap memory_in h.1 ∙ (first_by_push (λ (x : List ℕ × InstanceRecord). memory_in_record x.1) old (m, all_of w) ∙ first_some_none (memory_in old))
 memory_whole old new m w (inr h) = ap memory_in h.1
 
 -- an import that is no second memory, whose name is free, and that agrees with the first types of functions of adapters
-agrees_here : (noted : List ℕ → List ℕ → Option FuncTypeValue) (i : ImportView) (adapter function : List ℕ) (ty other : FuncTypeValue) → AgreesIn noted i → i ≡ adapter_export adapter function ty → noted adapter function ≡ Some other → ty ≡ other
+agrees_here : (noted : List ℕ → List ℕ → Option FuncTypeValue) (i : ImportView) (adapter function : List ℕ) (ty other : FuncTypeValue) → AgreesIn noted i
+    → i ≡ adapter_export adapter function ty → noted adapter function ≡ Some other → ty ≡ other
 agrees_here noted i adapter function ty other agrees is there =
     let here : Agrees (noted adapter function) ty = subst (AgreesIn noted) is agrees in
     subst (λ z. Agrees z ty) there here
 
-pub sound_single : (before : List Entry) (m n : List ℕ) (i : ImportView) → IsOneMemory (first_by memory_of before) i → IsFree (by_modules before) m n
-    → AgreesIn (λ a f. first_by (adapter_type_of a f) before) i → IsSound before (single m n i)
-sound_single before m n i (inl none) free agrees SeveralMemoryImports h = let both : Some h.0 ≡ None = sym (ap memory_type_of h.2) ∙ none in let bad : ⊥ = cc both in bad
-sound_single before m n i (inr none) free agrees SeveralMemoryImports h = let both : Some h.1 ≡ None = sym h.3 ∙ none in let bad : ⊥ = cc both in bad
-sound_single before m n i one free agrees Mixed h = free.0 h
-sound_single before m n i one free agrees DuplicateImport h = free.1 h
-sound_single before m n i one free agrees AdapterTypesDiffer h = h.6 (agrees_here (λ a f. first_by (adapter_type_of a f) before) i h.0 h.1 h.2 h.3 agrees h.4 h.5)
-sound_single before m n i one free agrees f h = h
+pub valid_single : (before : List Entry) (m n : List ℕ) (i : ImportView) → IsOneMemory (first_by memory_of before) i → IsFree (by_modules before) m n
+    → AgreesIn (λ a f. first_by (adapter_type_of a f) before) i → IsValidAfter before (single m n i)
+valid_single before m n i (inl none) free agrees SeveralMemoryImports h =
+    let both : Some h.0 ≡ None = sym (ap memory_type_of h.2) ∙ none in let bad : ⊥ = cc both in bad
+valid_single before m n i (inr none) free agrees SeveralMemoryImports h = let both : Some h.1 ≡ None = sym h.3 ∙ none in let bad : ⊥ = cc both in bad
+valid_single before m n i one free agrees Mixed h = free.0 h
+valid_single before m n i one free agrees DuplicateImport h = free.1 h
+valid_single before m n i one free agrees AdapterTypesDiffer h =
+    h.6 (agrees_here (λ a f. first_by (adapter_type_of a f) before) i h.0 h.1 h.2 h.3 agrees h.4 h.5)
+valid_single before m n i one free agrees f h = h
 
 -- that it is not a second memory is not refused
-not_second : (before : List Entry) (m n : List ℕ) (i : ImportView) → IsOneMemory (first_by memory_of before) i → ¬ IsEntryCause before (single m n i) SeveralMemoryImports
+not_second : (before : List Entry) (m n : List ℕ) (i : ImportView) → IsOneMemory (first_by memory_of before) i
+    → ¬ IsEntryCause before (single m n i) SeveralMemoryImports
 not_second before m n i (inl none) h = let both : Some h.0 ≡ None = sym (ap memory_type_of h.2) ∙ none in let bad : ⊥ = cc both in bad
 not_second before m n i (inr none) h = let both : Some h.1 ≡ None = sym h.3 ∙ none in let bad : ⊥ = cc both in bad
 
 -- why an entry is refused: the first of its faults that has a cause
-pub refused_second : (before : List Entry) (m n : List ℕ) (i : ImportView) (f : ValidateFault) → IsNoteFault (first_by memory_of before) i f → IsRefusedAfter before (single m n i) f
+pub refused_second : (before : List Entry) (m n : List ℕ) (i : ImportView) (f : ValidateFault) → IsNoteFault (first_by memory_of before) i f
+    → IsRefusedAfter before (single m n i) f
 refused_second before m n i Memory h = tt
 refused_second before m n i SeveralMemoryImports h = inr (λ p h. h.0, inl (h, refl))
 refused_second before m n i f h = absurd h
 
-pub refused_put : (before : List Entry) (m n : List ℕ) (i : ImportView) (f : ValidateFault) → IsOneMemory (first_by memory_of before) i → IsPutFault (by_modules before) m n f → IsRefusedAfter before (single m n i) f
+pub refused_put : (before : List Entry) (m n : List ℕ) (i : ImportView) (f : ValidateFault) → IsOneMemory (first_by memory_of before) i
+    → IsPutFault (by_modules before) m n f → IsRefusedAfter before (single m n i) f
 refused_put before m n i Memory one h = tt
 refused_put before m n i Mixed one h = inr (λ p h. h.0, inr (λ p h. not_second before m n i one h.0, inl (h, refl)))
 refused_put before m n i DuplicateImport one h =
-    let not_mixed = λ (all : IsAllRecorded (by_modules before) m). let both : Some (names_of h.0) ≡ Some (all_of all.0) = sym h.2 ∙ all.1 in let bad : ⊥ = cc both in bad in
+    let not_mixed = λ (all : IsAllRecorded (by_modules before) m). let both : Some (names_of h.0) ≡ Some (all_of all.0) = sym h.2 ∙ all.1 in
+    let bad : ⊥ = cc both in bad in
     inr (λ p h. h.0, inr (λ p h. not_second before m n i one h.0, inr (λ p h. not_mixed h.0, inl (h, refl))))
 refused_put before m n i f one h = absurd h
 
-differs_at : (before : List Entry) (m n adapter function : List ℕ) (ty : FuncTypeValue) (o : Option FuncTypeValue) → first_by (adapter_type_of adapter function) before ≡ o → ¬ Agrees o ty
+differs_at : (before : List Entry) (m n adapter function : List ℕ) (ty : FuncTypeValue) (o : Option FuncTypeValue)
+    → first_by (adapter_type_of adapter function) before ≡ o → ¬ Agrees o ty
     → IsEntryCause before (single m n (adapter_export adapter function ty)) AdapterTypesDiffer
 differs_at before m n adapter function ty None is differ = absurd (differ refl)
 differs_at before m n adapter function ty (Some other) is differ = (adapter, function, ty, other, refl, is, differ)
 
-differs : (before : List Entry) (m n : List ℕ) (i : ImportView) → ¬ AgreesIn (λ a f. first_by (adapter_type_of a f) before) i → IsEntryCause before (single m n i) AdapterTypesDiffer
-differs before m n (adapter_export adapter function ty) h = differs_at before m n adapter function ty (first_by (adapter_type_of adapter function) before) refl h
+differs : (before : List Entry) (m n : List ℕ) (i : ImportView) → ¬ AgreesIn (λ a f. first_by (adapter_type_of a f) before) i
+    → IsEntryCause before (single m n i) AdapterTypesDiffer
+differs before m n (adapter_export adapter function ty) h =
+    differs_at before m n adapter function ty (first_by (adapter_type_of adapter function) before) refl h
 differs before m n i h = absurd (h tt)
 
 pub refused_type : (before : List Entry) (m n : List ℕ) (i : ImportView) → IsOneMemory (first_by memory_of before) i → IsFree (by_modules before) m n
@@ -121,22 +140,32 @@ refused_type before m n i one free differ =
     inr (λ p h. h.0, inr (λ p h. not_second before m n i one h.0, inr (λ p h. free.0 h.0, inr (λ p h. free.1 h.0, inl (differs before m n i differ, refl)))))
 
 -- all of a module
-pub sound_whole : (before : List Entry) (m : List ℕ) (w : WhichView) (old new : Records) → old ≡ by_modules before → IsWholePut old new m w → IsSound before (whole m w)
-sound_whole before m w old new is (inl put) WholeDiffers h = let both : None ≡ Some (all_of h.0) = sym (subst (λ z. lookup (bytes_eq m) z ≡ None) is put.0) ∙ h.1 in let bad : ⊥ = cc both in bad
-sound_whole before m w old new is (inr put) WholeDiffers h =
+pub valid_whole : (before : List Entry) (m : List ℕ) (w : WhichView) (old new : Records) → old ≡ by_modules before → IsWholePut old new m w
+    → IsValidAfter before (whole m w)
+valid_whole before m w old new is (inl put) WholeDiffers h =
+    let both : None ≡ Some (all_of h.0) = sym (subst (λ z. lookup (bytes_eq m) z ≡ None) is put.0) ∙ h.1 in let bad : ⊥ = cc both in bad
+valid_whole before m w old new is (inr put) WholeDiffers h =
     let both : Some (all_of w) ≡ Some (all_of h.0) = sym (subst (λ z. lookup (bytes_eq m) z ≡ Some (all_of w)) is put.0) ∙ h.1 in
     h.2 (let e : h.0 ≡ w = cc both in e)
-sound_whole before m w old new is (inl put) Mixed h = let both : None ≡ Some (names_of h.0) = sym (subst (λ z. lookup (bytes_eq m) z ≡ None) is put.0) ∙ h.1 in let bad : ⊥ = cc both in bad
-sound_whole before m w old new is (inr put) Mixed h = let both : Some (all_of w) ≡ Some (names_of h.0) = sym (subst (λ z. lookup (bytes_eq m) z ≡ Some (all_of w)) is put.0) ∙ h.1 in let bad : ⊥ = cc both in bad
-sound_whole before m w old new is put f h = h
+valid_whole before m w old new is (inl put) Mixed h =
+    let both : None ≡ Some (names_of h.0) = sym (subst (λ z. lookup (bytes_eq m) z ≡ None) is put.0) ∙ h.1 in let bad : ⊥ = cc both in bad
+valid_whole before m w old new is (inr put) Mixed h =
+    let both : Some (all_of w) ≡ Some (names_of h.0) = sym (subst (λ z. lookup (bytes_eq m) z ≡ Some (all_of w)) is put.0) ∙ h.1 in let bad : ⊥ = cc both in bad
+valid_whole before m w old new is put f h = h
 
-refused_by : (before : List Entry) (m : List ℕ) (w : WhichView) (instance : InstanceRecord) (f : ValidateFault) → lookup (bytes_eq m) (by_modules before) ≡ Some instance → IsInstanceFault instance w f → IsEntryFault before (whole m w) f
+refused_by : (before : List Entry) (m : List ℕ) (w : WhichView) (instance : InstanceRecord) (f : ValidateFault)
+    → lookup (bytes_eq m) (by_modules before) ≡ Some instance → IsInstanceFault instance w f → IsEntryFault before (whole m w) f
 refused_by before m w (all_of other) WholeDiffers there h = inl ((other, there, h), refl)
 refused_by before m w (names_of names) Mixed there h =
-    inr (λ p h. let both : Some (names_of names) ≡ Some (all_of h.0.0) = sym there ∙ h.0.1 in let bad : ⊥ = cc both in bad, inr (λ p h. h.0, inl ((names, there), refl)))
+    inr (
+      λ p h. let both : Some (names_of names) ≡ Some (all_of h.0.0) = sym there ∙ h.0.1 in let bad : ⊥ = cc both in
+          bad,
+      inr (λ p h. h.0, inl ((names, there), refl)),
+    )
 refused_by before m w instance f there h = absurd h
 
-pub refused_whole : (before : List Entry) (m : List ℕ) (w : WhichView) (records : Records) (f : ValidateFault) → records ≡ by_modules before → IsWholeFault records m w f → IsRefusedAfter before (whole m w) f
+pub refused_whole : (before : List Entry) (m : List ℕ) (w : WhichView) (records : Records) (f : ValidateFault) → records ≡ by_modules before
+    → IsWholeFault records m w f → IsRefusedAfter before (whole m w) f
 refused_whole before m w records Memory is h = tt
 refused_whole before m w records f is h = refused_by before m w h.0 f (subst (λ z. lookup (bytes_eq m) z ≡ Some h.0) is h.1) h.2
 
@@ -163,15 +192,17 @@ module _ (before : List Entry) (m n : List ℕ) (i : ImportView) (old noted : Re
   -- a single import was recorded
   pub recorded_single : (new : Recorder) → noted.memory ≡ first_some old.memory (memory_type_of i) → AgreesIn (types_in old) i
       → ((a f : List ℕ) → types_in noted a f ≡ first_some (types_in old a f) (adapter_type_in a f i))
-      → map instance_entry new.instances.entries ≡ by_modules (before ++ single m n i ∷ []) → IsFree (map instance_entry noted.instances.entries) m n → new.memory ≡ noted.memory → new.adapter_types ≡ noted.adapter_types
+      → map instance_entry new.instances.entries ≡ by_modules (before ++ single m n i ∷ []) → IsFree (map instance_entry noted.instances.entries) m n
+      → new.memory ≡ noted.memory → new.adapter_types ≡ noted.adapter_types
       → IsRecordedAfter before (single m n i) new
   recorded_single new memory agrees types put free same_memory same_types = (
-    sound_single before m n i one_here (free_here free) (agrees_as (types_in old) (λ a f. first_by (adapter_type_of a f) before) i is.types agrees),
+    valid_single before m n i one_here (free_here free) (agrees_as (types_in old) (λ a f. first_by (adapter_type_of a f) before) i is.types agrees),
     record {
       instances = put;
       memory = same_memory ∙ (memory ∙ (ap (λ z. first_some z (memory_type_of i)) is.memory ∙ sym (first_by_push memory_of before (single m n i))));
       memory_recorded =
-          ap memory_in (recorded_after before m n i (free_here free).0) ∙ (memory_put (by_modules before) m n i old.memory is.memory_recorded one (free_here free).0 ∙ sym (same_memory ∙ memory));
+          ap memory_in (recorded_after before m n i (free_here free).0)
+          ∙ (memory_put (by_modules before) m n i old.memory is.memory_recorded one (free_here free).0 ∙ sym (same_memory ∙ memory));
       types = λ a f. ap (λ z. types_in (record { instances = new.instances; memory = new.memory; adapter_types = z }) a f) same_types
           ∙ (types a f ∙ (ap (λ z. first_some z (adapter_type_in a f i)) (is.types a f) ∙ sym (first_by_push (adapter_type_of a f) before (single m n i))));
     },
@@ -180,19 +211,23 @@ module _ (before : List Entry) (m n : List ℕ) (i : ImportView) (old noted : Re
   pub refused_single : (f : ValidateFault) → IsPutFault (map instance_entry noted.instances.entries) m n f → IsRefusedAfter before (single m n i) f
   refused_single f h = refused_put before m n i f one_here (subst (λ z. IsPutFault z m n f) records_here h)
 
-  pub refused_differs : IsFree (map instance_entry noted.instances.entries) m n → ¬ AgreesIn (types_in old) i → IsRefusedAfter before (single m n i) AdapterTypesDiffer
+  pub refused_differs : IsFree (map instance_entry noted.instances.entries) m n → ¬ AgreesIn (types_in old) i
+      → IsRefusedAfter before (single m n i) AdapterTypesDiffer
   refused_differs free differ =
-      refused_type before m n i one_here (free_here free) (λ h. differ (agrees_as (λ a f. first_by (adapter_type_of a f) before) (types_in old) i (λ a f. sym (is.types a f)) h))
+      refused_type before m n i one_here (free_here free) (λ h. differ
+      (agrees_as (λ a f. first_by (adapter_type_of a f) before) (types_in old) i (λ a f. sym (is.types a f)) h))
 
-pub refused_note : (before : List Entry) (m n : List ℕ) (i : ImportView) (old : Recorder) (f : ValidateFault) → IsRecorderOf old before → IsNoteFault old.memory i f → IsRefusedAfter before (single m n i) f
+pub refused_note : (before : List Entry) (m n : List ℕ) (i : ImportView) (old : Recorder) (f : ValidateFault) → IsRecorderOf old before
+    → IsNoteFault old.memory i f → IsRefusedAfter before (single m n i) f
 refused_note before m n i old f is h = refused_second before m n i f (subst (λ z. IsNoteFault z i f) is.memory h)
 
 -- all of a module was recorded
-recorded_all : (before : List Entry) (m : List ℕ) (w : WhichView) (old new : Recorder) → IsRecorderOf old before → new.memory ≡ old.memory → new.adapter_types ≡ old.adapter_types
+recorded_all : (before : List Entry) (m : List ℕ) (w : WhichView) (old new : Recorder) → IsRecorderOf old before → new.memory ≡ old.memory
+    → new.adapter_types ≡ old.adapter_types
     → IsWholePut (map instance_entry old.instances.entries) (map instance_entry new.instances.entries) m w → IsRecordedAfter before (whole m w) new
 recorded_all before m w old new is same_memory same_types put =
     let after : map instance_entry new.instances.entries ≡ by_modules (before ++ whole m w ∷ []) = whole_after before m w _ _ is.instances put in (
-      sound_whole before m w _ _ is.instances put,
+      valid_whole before m w _ _ is.instances put,
       record {
         instances = after;
         memory = same_memory ∙ (is.memory ∙ sym (first_by_push memory_of before (whole m w) ∙ first_some_none (first_by memory_of before)));
@@ -202,12 +237,15 @@ recorded_all before m w old new is same_memory same_types put =
       },
     )
 
-pub recorded_whole : {T F : Type 0} (r : Result T F) (before : List Entry) (m : List ℕ) (w : WhichView) (old new : Recorder) → IsRecorderOf old before → new.memory ≡ old.memory → new.adapter_types ≡ old.adapter_types
-    → OnOk r (IsWholePut (map instance_entry old.instances.entries) (map instance_entry new.instances.entries) m w) → OnOk r (IsRecordedAfter before (whole m w) new)
+pub recorded_whole : {T F : Type 0} (r : Result T F) (before : List Entry) (m : List ℕ) (w : WhichView) (old new : Recorder) → IsRecorderOf old before
+    → new.memory ≡ old.memory → new.adapter_types ≡ old.adapter_types
+    → OnOk r (IsWholePut (map instance_entry old.instances.entries) (map instance_entry new.instances.entries) m w)
+    → OnOk r (IsRecordedAfter before (whole m w) new)
 recorded_whole (Ok x) before m w old new is same_memory same_types put = recorded_all before m w old new is same_memory same_types put
 recorded_whole (Err f) before m w old new is same_memory same_types put = tt
 
-pub refused_all : {T : Type 0} (r : Result T ValidateFault) (before : List Entry) (m : List ℕ) (w : WhichView) (old : Recorder) → IsRecorderOf old before → IfErr r (IsWholeFault (map instance_entry old.instances.entries) m w)
+pub refused_all : {T : Type 0} (r : Result T ValidateFault) (before : List Entry) (m : List ℕ) (w : WhichView) (old : Recorder) → IsRecorderOf old before
+    → IfErr r (IsWholeFault (map instance_entry old.instances.entries) m w)
     → IfErr r (IsRefusedAfter before (whole m w))
 refused_all (Ok x) before m w old is h = tt
 refused_all (Err f) before m w old is h = refused_whole before m w _ f is.instances h

@@ -13,8 +13,8 @@ use Rattle.wc_resolve.proofs.LookupLemmas.{name_viewed}
 use Rattle.wc_encoder.specs.Entries.{Entries}
 use Rattle.wc_names.specs.declared.exports.Export.{Export}
 use Rattle.wc_names.specs.ExportViews.{ExportView, export_view}
-use Rattle.wc_names.specs.Lookups.{item_under, key_eq}
-use Rattle.wc_names.proofs.ResolveLemmas.{item_viewed}
+use Rattle.wc_names.specs.Keys.{item_under, key_eq}
+use Rattle.wc_names.proofs.KeyLemmas.{item_viewed}
 use Rattle.std.specs.Option.{IsSome, option_and_then, option_map, option_map_or, option_to_list}
 use Rattle.wc_read.specs.Types.{FuncTypeValue, names_types}
 use Rattle.wc_resolve.specs.World.{ResolveView}
@@ -22,7 +22,7 @@ use Rattle.wc_names.specs.Exports.{CoreExport}
 use Rattle.wc_validate.specs.declared.fault.ValidateFault.{ValidateFault}
 use Rattle.wc_validate.specs.declared.fault.ValidateFault.TheVariants.{AdapterExportType, Memory, AdapterModuleDidNotExport as missing, TypedReference}
 use Rattle.wc_validate.specs.declared.fault.AdapterModuleDidNotExport.{AdapterModuleDidNotExport}
-use Rattle.wc_validate.specs.ExportMaps.{ExportRecord, export_entry, is_memory}
+use Rattle.wc_validate.specs.Exports.Map.{ExportRecord, export_entry, is_memory}
 use Rattle.wc_validate.specs.Requirements.{AreMet, IsFirstUnmet, IsMet, IsShortfall, IsUnmetFault, Requirement, callback_name, exported_type, interface_functions, is_called_back, is_callback_for, item_requirement, key_requirement, key_requirements, memory_count, needs_callback, typed_function, world_function}
 use Rattle.wc_validate.proofs.PutLemmas.{is_called}
 use Rattle.wc_validate.proofs.ScopeLemmas.{holds_of_found}
@@ -39,7 +39,8 @@ module _ (r : ResolveView) (xs : List CoreExport) (recorded : ExportRecord) wher
   first_left (m ∷ ms) ns f (inl h) = inl h
   first_left (m ∷ ms) ns f (inr h) = inr (h.0, first_left ms ns f h.1)
 
-  first_right : (ms ns : List Requirement) (f : ValidateFault) → AreMet r xs recorded ms → IsFirstUnmet r xs recorded ns f → IsFirstUnmet r xs recorded (ms ++ ns) f
+  first_right : (ms ns : List Requirement) (f : ValidateFault) → AreMet r xs recorded ms → IsFirstUnmet r xs recorded ns f
+      → IsFirstUnmet r xs recorded (ms ++ ns) f
   first_right [] ns f met h = h
   first_right (m ∷ ms) ns f met h = inr (met.0, first_right ms ns f met.1 h)
 
@@ -47,7 +48,8 @@ module _ (r : ResolveView) (xs : List CoreExport) (recorded : ExportRecord) wher
   unmet_left ms ns Memory h = tt
   unmet_left ms ns f h = first_left ms ns f h
 
-  pub unmet_right : (ms ns : List Requirement) (f : ValidateFault) → AreMet r xs recorded ms → IsUnmetFault r xs recorded ns f → IsUnmetFault r xs recorded (ms ++ ns) f
+  pub unmet_right : (ms ns : List Requirement) (f : ValidateFault) → AreMet r xs recorded ms → IsUnmetFault r xs recorded ns f
+      → IsUnmetFault r xs recorded (ms ++ ns) f
   unmet_right ms ns Memory met h = tt
   unmet_right ms ns f met h = first_right ms ns f met h
 
@@ -69,7 +71,8 @@ module _ (r : ResolveView) (xs : List CoreExport) (recorded : ExportRecord) wher
       let here : NeedsLeft all (ns ++ rest) = subst (NeedsLeft all) is p in
       record { met = λ h. here.met (met_append ns rest met h); unmet = λ f h. here.unmet f (first_right ns rest f met h) }
 
-  pub needs_fault : (all left ns rest : List Requirement) (f : ValidateFault) → NeedsLeft all left → left ≡ ns ++ rest → IsUnmetFault r xs recorded ns f → IsUnmetFault r xs recorded all f
+  pub needs_fault : (all left ns rest : List Requirement) (f : ValidateFault) → NeedsLeft all left → left ≡ ns ++ rest → IsUnmetFault r xs recorded ns f
+      → IsUnmetFault r xs recorded all f
   needs_fault all left ns rest Memory p is h = tt
   needs_fault all left ns rest f p is h = (subst (NeedsLeft all) is p).unmet f (first_left ns rest f h)
 
@@ -78,17 +81,20 @@ module _ (r : ResolveView) (xs : List CoreExport) (recorded : ExportRecord) wher
 
 -- a required function, by what is found under its name
 module _ (r : ResolveView) (xs : List CoreExport) (recorded : ExportRecord) (name : List ℕ) (ty : FuncTypeValue) where
-  pub function_same : (own : FuncTypeValue) → names_types ty ≡ false → exported_type xs name ≡ Some own → ty ≡ own → IsMet r xs recorded (typed_function name ty)
+  pub function_same : (own : FuncTypeValue) → names_types ty ≡ false → exported_type xs name ≡ Some own → ty ≡ own
+      → IsMet r xs recorded (typed_function name ty)
   function_same own plain there same = (plain, there ∙ ap (λ (z : FuncTypeValue). Some z) (sym same))
 
   pub function_typed : names_types ty ≡ true → IsUnmetFault r xs recorded (typed_function name ty ∷ []) TypedReference
   function_typed typed = inl (λ met. (let both : true ≡ false = sym typed ∙ met.0 in let bad : ⊥ = cc both in bad), typed)
 
-  pub function_differs : (own : FuncTypeValue) → names_types ty ≡ false → exported_type xs name ≡ Some own → own ≢ ty → IsUnmetFault r xs recorded (typed_function name ty ∷ []) AdapterExportType
+  pub function_differs : (own : FuncTypeValue) → names_types ty ≡ false → exported_type xs name ≡ Some own → own ≢ ty
+      → IsUnmetFault r xs recorded (typed_function name ty ∷ []) AdapterExportType
   function_differs own plain there differ =
       inl (λ met. differ (let both : Some own ≡ Some ty = sym there ∙ met.1 in let same : own ≡ ty = cc both in same), (plain, subst IsSome (sym there) refl))
 
-  pub function_absent : (e : AdapterModuleDidNotExport) → names_types ty ≡ false → exported_type xs name ≡ None → name_not_exported e ≡ name → IsUnmetFault r xs recorded (typed_function name ty ∷ []) (missing e)
+  pub function_absent : (e : AdapterModuleDidNotExport) → names_types ty ≡ false → exported_type xs name ≡ None → name_not_exported e ≡ name
+      → IsUnmetFault r xs recorded (typed_function name ty ∷ []) (missing e)
   function_absent e plain none named = inl (λ met. (let both : None ≡ Some ty = sym none ∙ met.1 in let bad : ⊥ = cc both in bad), (plain, none, named))
 
 -- how many memories are left, after one was found or not
@@ -98,20 +104,26 @@ MemoriesLeft found all rest = memory_count all ≡ cond found (memory_count rest
 pub memories_start : (all rest : ExportRecord) → rest ≡ all → MemoriesLeft false all rest
 memories_start all rest is = ap memory_count (sym is)
 
-passed_memory : (found : Bool) (n : ℕ) (rest : ExportRecord) (x : List ℕ × ExportView) → is_memory x.1 ≡ false → n ≡ cond found (memory_count (x ∷ rest) + 1) (memory_count (x ∷ rest)) → n ≡ cond found (memory_count rest + 1) (memory_count rest)
-passed_memory found n rest x none h = h ∙ ap (λ b. cond found (cond b (memory_count rest + 1) (memory_count rest) + 1) (cond b (memory_count rest + 1) (memory_count rest))) none
+passed_memory : (found : Bool) (n : ℕ) (rest : ExportRecord) (x : List ℕ × ExportView) → is_memory x.1 ≡ false
+    → n ≡ cond found (memory_count (x ∷ rest) + 1) (memory_count (x ∷ rest)) → n ≡ cond found (memory_count rest + 1) (memory_count rest)
+passed_memory found n rest x none h =
+    h ∙ ap (λ b. cond found (cond b (memory_count rest + 1) (memory_count rest) + 1) (cond b (memory_count rest + 1) (memory_count rest))) none
 
-pub memories_pass : (found : Bool) (all left rest : ExportRecord) (x : List ℕ × ExportView) → MemoriesLeft found all left → left ≡ x ∷ rest → is_memory x.1 ≡ false → MemoriesLeft found all rest
+pub memories_pass : (found : Bool) (all left rest : ExportRecord) (x : List ℕ × ExportView) → MemoriesLeft found all left → left ≡ x ∷ rest
+    → is_memory x.1 ≡ false → MemoriesLeft found all rest
 memories_pass found all left rest x p is none = passed_memory found (memory_count all) rest x none (subst (MemoriesLeft found all) is p)
 
 more_memory : (rest : ExportRecord) (x : List ℕ × ExportView) → is_memory x.1 ≡ true → memory_count (x ∷ rest) ≡ memory_count rest + 1
 more_memory rest x one = ap (λ b. cond b (memory_count rest + 1) (memory_count rest)) one
 
-pub memories_first : (all left rest : ExportRecord) (x : List ℕ × ExportView) → MemoriesLeft false all left → left ≡ x ∷ rest → is_memory x.1 ≡ true → MemoriesLeft true all rest
+pub memories_first : (all left rest : ExportRecord) (x : List ℕ × ExportView) → MemoriesLeft false all left → left ≡ x ∷ rest → is_memory x.1 ≡ true
+    → MemoriesLeft true all rest
 memories_first all left rest x p is one = subst (MemoriesLeft false all) is p ∙ more_memory rest x one
 
-pub memories_second : (all left rest : ExportRecord) (x : List ℕ × ExportView) → MemoriesLeft true all left → left ≡ x ∷ rest → is_memory x.1 ≡ true → 1 < memory_count all
-memories_second all left rest x p is one = let e : memory_count all ≡ memory_count (x ∷ rest) + 1 = subst (MemoriesLeft true all) is p in omega (arith, e, more_memory rest x one)
+pub memories_second : (all left rest : ExportRecord) (x : List ℕ × ExportView) → MemoriesLeft true all left → left ≡ x ∷ rest → is_memory x.1 ≡ true
+    → 1 < memory_count all
+memories_second all left rest x p is one =
+    let e : memory_count all ≡ memory_count (x ∷ rest) + 1 = subst (MemoriesLeft true all) is p in omega (arith, e, more_memory rest x one)
 
 pub memories_end : (found : Bool) (all left : ExportRecord) → MemoriesLeft found all left → left ≡ [] → 1 < memory_count all → ⊥
 memories_end true all left p is many = let e : memory_count all ≡ 0 + 1 = subst (MemoriesLeft true all) is p in absurd (omega (arith, e, many))
@@ -122,19 +134,23 @@ pub called_back_unneeded : (recorded : ExportRecord) (e : List ℕ × ExportView
 unfolding is_called_back
 called_back_unneeded recorded e none = sym (ap (λ b. not b || option_map_or (is_callback_for e.1) (lookup (bytes_eq (callback_name e.0)) recorded) false) none)
 
-pub called_back_by : (es : List (String Global × Export)) (name callback : List ℕ) (x : ExportView) (o : Option Export) → needs_callback x ≡ true → callback ≡ callback_name name → o ≡ lookup (is_called callback) es
+pub called_back_by : (es : List (String Global × Export)) (name callback : List ℕ) (x : ExportView) (o : Option Export) → needs_callback x ≡ true
+    → callback ≡ callback_name name → o ≡ lookup (is_called callback) es
     → option_map_or (λ (y : Export). is_callback_for x (export_view y)) o false ≡ is_called_back (map export_entry es) (name, x)
 unfolding is_called_back
 called_back_by es name callback x o needed called is =
-    viewed o ∙ (ap (λ z. option_map_or (is_callback_for x) z false) (ap (option_map export_view) is ∙ (name_viewed export_view es callback ∙ ap (λ z. lookup (bytes_eq z) (map export_entry es)) called))
+    viewed o ∙ (ap (λ z. option_map_or (is_callback_for x) z false)
+    (ap (option_map export_view) is ∙ (name_viewed export_view es callback ∙ ap (λ z. lookup (bytes_eq z) (map export_entry es)) called))
     ∙ sym (ap (λ b. not b || option_map_or (is_callback_for x) (lookup (bytes_eq (callback_name name)) (map export_entry es)) false) needed)) where
-      viewed : (p : Option Export) → option_map_or (λ (y : Export). is_callback_for x (export_view y)) p false ≡ option_map_or (is_callback_for x) (option_map export_view p) false
+      viewed : (p : Option Export) → option_map_or (λ (y : Export). is_callback_for x (export_view y)) p false ≡ option_map_or (is_callback_for x)
+          (option_map export_view p) false
       viewed None = refl
       viewed (Some y) = refl
 
 -- what a key requires
 module _ (exports : Entries) (key : KeyView) where
-  pub requires_interface : (i : ℕ) (external : Option (List ℕ)) → Some (interface_item i external) ≡ item_under exports key → key_requirement exports key ≡ Some (interface_functions i)
+  pub requires_interface : (i : ℕ) (external : Option (List ℕ)) → Some (interface_item i external) ≡ item_under exports key
+      → key_requirement exports key ≡ Some (interface_functions i)
   requires_interface i external is = ap (option_and_then item_requirement) (sym is)
 
   pub requires_function : (f : FunctionView) → Some (function_item f) ≡ item_under exports key → key_requirement exports key ≡ Some (world_function f.name)
@@ -153,22 +169,26 @@ module _ (r : ResolveView) (xs : List CoreExport) (recorded : ExportRecord) wher
   pub met_some : (o : Option Requirement) (need : Requirement) → o ≡ Some need → IsMet r xs recorded need → AreMet r xs recorded (option_to_list o)
   met_some o need is h = subst (λ z. AreMet r xs recorded (option_to_list z)) (sym is) (h, tt)
 
-  pub unmet_some : (o : Option Requirement) (need : Requirement) (f : ValidateFault) → o ≡ Some need → ¬ IsMet r xs recorded need → IsShortfall xs need f → IsUnmetFault r xs recorded (option_to_list o) f
+  pub unmet_some : (o : Option Requirement) (need : Requirement) (f : ValidateFault) → o ≡ Some need → ¬ IsMet r xs recorded need → IsShortfall xs need f
+      → IsUnmetFault r xs recorded (option_to_list o) f
   unmet_some o need f is unmet short = subst (λ z. IsUnmetFault r xs recorded (option_to_list z) f) (sym is) (unmet_one r xs recorded need f unmet short)
 
 -- one more key
-pub keys_next : (exports : Entries) (left rest : List KeyView) (key : KeyView) → left ≡ key ∷ rest → key_requirements exports left ≡ option_to_list (key_requirement exports key) ++ key_requirements exports rest
+pub keys_next : (exports : Entries) (left rest : List KeyView) (key : KeyView) → left ≡ key ∷ rest
+    → key_requirements exports left ≡ option_to_list (key_requirement exports key) ++ key_requirements exports rest
 keys_next exports left rest key is = ap (key_requirements exports) is ∙ consed (key_requirement exports key) where
   consed : (o : Option Requirement) → cons_option o (key_requirements exports rest) ≡ option_to_list o ++ key_requirements exports rest
   consed None = refl
   consed (Some need) = refl
 
 -- of two parts of requirements
-pub passed_unmet : {T : Type 0} (r : ResolveView) (xs : List CoreExport) (recorded : ExportRecord) (ms ns : List Requirement) (p : Result T ValidateFault) → AreMet r xs recorded ms → IfErr p (IsUnmetFault r xs recorded ns) → IfErr p (IsUnmetFault r xs recorded (ms ++ ns))
+pub passed_unmet : {T : Type 0} (r : ResolveView) (xs : List CoreExport) (recorded : ExportRecord) (ms ns : List Requirement) (p : Result T ValidateFault)
+    → AreMet r xs recorded ms → IfErr p (IsUnmetFault r xs recorded ns) → IfErr p (IsUnmetFault r xs recorded (ms ++ ns))
 passed_unmet r xs recorded ms ns (Ok x) met h = tt
 passed_unmet r xs recorded ms ns (Err f) met h = unmet_right r xs recorded ms ns f met h
 
-pub passed_met : {T F : Type 0} (r : ResolveView) (xs : List CoreExport) (recorded : ExportRecord) (ms ns : List Requirement) (p : Result T F) → AreMet r xs recorded ms → OnOk p (AreMet r xs recorded ns) → OnOk p (AreMet r xs recorded (ms ++ ns))
+pub passed_met : {T F : Type 0} (r : ResolveView) (xs : List CoreExport) (recorded : ExportRecord) (ms ns : List Requirement) (p : Result T F)
+    → AreMet r xs recorded ms → OnOk p (AreMet r xs recorded ns) → OnOk p (AreMet r xs recorded (ms ++ ns))
 passed_met r xs recorded ms ns (Ok x) met h = met_append r xs recorded ms ns met h
 passed_met r xs recorded ms ns (Err f) met h = tt
 
@@ -178,11 +198,15 @@ at_most_one (suc zero) h = omega arith
 at_most_one (suc (suc n)) h = absurd (h (omega arith))
 
 -- what is found under a key
-pub item_is : (key : WorldKey) (es : List (WorldKey × WorldItem)) (i : WorldItem) → Some i ≡ lookup (world_key_eq.it key) es → Some (item_view i) ≡ item_under (map world_entry es) (key_view key)
+pub item_is : (key : WorldKey) (es : List (WorldKey × WorldItem)) (i : WorldItem) → Some i ≡ lookup (world_key_eq.it key) es
+    → Some (item_view i) ≡ item_under (map world_entry es) (key_view key)
 item_is key es i is = ap (option_map item_view) is ∙ item_viewed key es
 
-pub no_item : (key : WorldKey) (es : List (WorldKey × WorldItem)) → None ≡ lookup (world_key_eq.it key) es → None ≡ item_under (map world_entry es) (key_view key)
+pub no_item : (key : WorldKey) (es : List (WorldKey × WorldItem)) → None ≡ lookup (world_key_eq.it key) es
+    → None ≡ item_under (map world_entry es) (key_view key)
 no_item key es is = ap (option_map item_view) is ∙ item_viewed key es
 
-pub interface_here : (r : ResolveView) (exports : Entries) (key : KeyView) (i : ℕ) (external : Option (List ℕ)) → All (λ (x : KeyView × ItemView). IsItemIn r x.1) exports → Some (interface_item i external) ≡ item_under exports key → i < length r.interfaces
-interface_here r exports key i external all is = (holds_of_found (λ (x : KeyView × ItemView). IsItemIn r x.1) (key_eq key) exports (interface_item i external) all (sym is)).1
+pub interface_here : (r : ResolveView) (exports : Entries) (key : KeyView) (i : ℕ) (external : Option (List ℕ))
+    → All (λ (x : KeyView × ItemView). IsItemIn r x.1) exports → Some (interface_item i external) ≡ item_under exports key → i < length r.interfaces
+interface_here r exports key i external all is =
+    (holds_of_found (λ (x : KeyView × ItemView). IsItemIn r x.1) (key_eq key) exports (interface_item i external) all (sym is)).1

@@ -8,11 +8,14 @@ use Rattle.wc_resolve.specs.Ranges.{AreIdsInRange, AreNamesIn, IsEntryIn, IsFunc
 use Rattle.wc_resolve.specs.Views.{KeyView, plain_key, ItemView, function_item, type_item, FunctionView, InterfaceView, WorldView}
 use Rattle.wc_resolve.specs.WellFormed.{IsFree, IsUsable, IsWellFormed}
 use Rattle.wc_resolve.specs.World.{ResolveView, DoAllTypesPass, DoesInterfacePass, DoesItemPass, DoesWorldPass, SignatureHasOnly}
-use Rattle.wc_names.specs.Lookups.{as_function, as_type, function_at, item_under, type_named, under_name, world_entries}
+use Rattle.wc_names.specs.Keys.{as_type, function_at, item_under, type_named, under_name, world_entries}
 use Rattle.wc_resolve.proofs.WellFormedLemmas.{all_get}
+use Rattle.wc_names.proofs.RangeLemmas.{as_function_is}
+use Rattle.wc_names.proofs.KeyLemmas.{entries_in_range as entries_in}
 
 module _ {K X : Type 0} (P : K × X → Type 0) (test : K → Bool) where
-  found_step : (e : K × X) (es : List (K × X)) (x : X) (b : Bool) → P e → (lookup test es ≡ Some x → (k : K) × P (k, x)) → cond b (Some e.1) (lookup test es) ≡ Some x → (k : K) × P (k, x)
+  found_step : (e : K × X) (es : List (K × X)) (x : X) (b : Bool) → P e → (lookup test es ≡ Some x → (k : K) × P (k, x))
+      → cond b (Some e.1) (lookup test es) ≡ Some x → (k : K) × P (k, x)
   found_step e es x true here rest is = (e.0, subst (λ z. P (e.0, z)) (let same : e.1 ≡ x = cc is in same) here)
   found_step e es x false here rest is = rest is
 
@@ -29,11 +32,6 @@ worlds_in r h = h.0
 pub world_in_range : (r : ResolveView) (k : ℕ) (w : WorldView) → IsWellFormed r → slice_get r.worlds k ≡ Some w → IsWorldIn r w
 world_in_range r k w formed at = all_get (IsWorldIn r) r.worlds k w (worlds_in r formed.in_range) at
 
-entries_in : (r : ResolveView) (w : WorldView) (imported : Bool) → IsWorldIn r w → All (IsEntryIn r) (world_entries w imported)
-unfolding IsWorldIn
-entries_in r w true h = h.0
-entries_in r w false h = h.1
-
 entry_item : (r : ResolveView) (e : KeyView × ItemView) → IsEntryIn r e → IsItemIn r e.1
 unfolding IsEntryIn
 entry_item r e h = h.1
@@ -43,26 +41,24 @@ unfolding IsEntryIn
 entry_key r e h = h.0
 
 -- what a world imports or exports is in range, and so are its keys
-pub entries_in_range : (r : ResolveView) (w : WorldView) (k : ℕ) (imported : Bool) → IsWellFormed r → slice_get r.worlds k ≡ Some w → All (IsEntryIn r) (world_entries w imported)
+pub entries_in_range : (r : ResolveView) (w : WorldView) (k : ℕ) (imported : Bool) → IsWellFormed r → slice_get r.worlds k ≡ Some w
+    → All (IsEntryIn r) (world_entries w imported)
 entries_in_range r w k imported formed at = entries_in r w imported (world_in_range r k w formed at)
 
-pub keys_in_range : (r : ResolveView) (w : WorldView) (k : ℕ) (imported : Bool) → IsWellFormed r → slice_get r.worlds k ≡ Some w → All (λ x. IsKeyIn r x.0) (world_entries w imported)
+pub keys_in_range : (r : ResolveView) (w : WorldView) (k : ℕ) (imported : Bool) → IsWellFormed r → slice_get r.worlds k ≡ Some w
+    → All (λ x. IsKeyIn r x.0) (world_entries w imported)
 keys_in_range r w k imported formed at =
     All-weaker (IsEntryIn r) (λ x. IsKeyIn r x.0) (entry_key r) (world_entries w imported) (entries_in_range r w k imported formed at)
 
 -- the item under a key is in range
-pub item_in_range : (r : ResolveView) (es : List (KeyView × ItemView)) (key : KeyView) (item : ItemView) → All (IsEntryIn r) es → item_under es key ≡ Some item → IsItemIn r item
+pub item_in_range : (r : ResolveView) (es : List (KeyView × ItemView)) (key : KeyView) (item : ItemView) → All (IsEntryIn r) es → item_under es key ≡ Some item
+    → IsItemIn r item
 item_in_range r es key item all is = let found = holds_of_found (IsEntryIn r) _ es item all is in entry_item r (found.0, item) found.1
 
 as_type_is : (o : Option ItemView) (t : ℕ) → option_and_then as_type o ≡ Some t → o ≡ Some (type_item t)
 as_type_is None t is = absurd (let bad : ⊥ = cc is in bad)
 as_type_is (Some (type_item u)) t is = let same : u ≡ t = cc is in ap (λ z. Some (type_item z)) same
 as_type_is (Some i) t is = absurd (let bad : ⊥ = cc is in bad)
-
-as_function_is : (o : Option ItemView) (f : FunctionView) → option_and_then as_function o ≡ Some f → o ≡ Some (function_item f)
-as_function_is None f is = absurd (let bad : ⊥ = cc is in bad)
-as_function_is (Some (function_item g)) f is = let same : g ≡ f = cc is in ap (λ z. Some (function_item z)) same
-as_function_is (Some i) f is = absurd (let bad : ⊥ = cc is in bad)
 
 interfaces_in : (r : ResolveView) → AreIdsInRange r → All (IsInterfaceIn r) r.interfaces
 unfolding AreIdsInRange
@@ -80,12 +76,15 @@ named_type_in : (r : ResolveView) (o : Option InterfaceView) (i : ℕ) (name : L
     → option_and_then (λ (v : InterfaceView). under_name v.types name) o ≡ Some t → t < length r.types
 named_type_in r None i name t formed at is = absurd (let bad : ⊥ = cc is in bad)
 named_type_in r (Some v) i name t formed at is =
-    (holds_of_found (λ e. e.1 < length r.types) _ v.types t (types_in r v (all_get (IsInterfaceIn r) r.interfaces i v (interfaces_in r formed.in_range) at)) is).1
+    (holds_of_found (λ e. e.1 < length r.types) _ v.types t (types_in r v (all_get (IsInterfaceIn r) r.interfaces i v (interfaces_in r formed.in_range) at))
+    is).1
 
 -- the type of a name is in range
-pub type_in_range : (r : ResolveView) (w : WorldView) (k : ℕ) (o : Option ℕ) (name : List ℕ) (t : ℕ) → IsWellFormed r → slice_get r.worlds k ≡ Some w → type_named r w o name ≡ Some t → t < length r.types
+pub type_in_range : (r : ResolveView) (w : WorldView) (k : ℕ) (o : Option ℕ) (name : List ℕ) (t : ℕ) → IsWellFormed r → slice_get r.worlds k ≡ Some w
+    → type_named r w o name ≡ Some t → t < length r.types
 type_in_range r w k None name t formed at is =
-    item_in_range r w.imports (plain_key name) (type_item t) (entries_in r w true (world_in_range r k w formed at)) (as_type_is (item_under w.imports (plain_key name)) t is)
+    item_in_range r w.imports (plain_key name) (type_item t) (entries_in r w true (world_in_range r k w formed at))
+    (as_type_is (item_under w.imports (plain_key name)) t is)
 type_in_range r w k (Some i) name t formed at is = named_type_in r (slice_get r.interfaces i) i name t formed refl is
 
 worlds_pass : (P : _) (r : ResolveView) → DoAllTypesPass P r → All (DoesWorldPass P) r.worlds
@@ -109,18 +108,22 @@ named_function_usable : (r : ResolveView) (o : Option InterfaceView) (i : ℕ) (
     → option_and_then (λ (v : InterfaceView). under_name v.functions name) o ≡ Some f → IsUsable r f
 named_function_usable r None i name f formed at is = absurd (let bad : ⊥ = cc is in bad)
 named_function_usable r (Some v) i name f formed at is = (
-  (holds_of_found (λ e. IsFunctionIn (length r.types) e.1) _ v.functions f (functions_in r v (all_get (IsInterfaceIn r) r.interfaces i v (interfaces_in r formed.in_range) at)) is).1,
+  (holds_of_found (λ e. IsFunctionIn (length r.types) e.1) _ v.functions f
+      (functions_in r v (all_get (IsInterfaceIn r) r.interfaces i v (interfaces_in r formed.in_range) at)) is).1,
   (holds_of_found (λ e. SignatureHasOnly (IsFree r.types) e.1) _ v.functions f
-      (functions_pass (IsFree r.types) v (all_get (DoesInterfacePass (IsFree r.types)) r.interfaces i v (interfaces_pass (IsFree r.types) r formed.no_resource_by_value) at)) is).1,
+      (functions_pass (IsFree r.types) v (all_get (DoesInterfacePass (IsFree r.types)) r.interfaces i v
+      (interfaces_pass (IsFree r.types) r formed.no_resource_by_value) at)) is).1,
 )
 
 -- the function of a name can be used
-pub function_usable : (r : ResolveView) (w : WorldView) (k : ℕ) (imported : Bool) (o : Option ℕ) (name : List ℕ) (f : FunctionView) → IsWellFormed r → slice_get r.worlds k ≡ Some w
+pub function_usable : (r : ResolveView) (w : WorldView) (k : ℕ) (imported : Bool) (o : Option ℕ) (name : List ℕ) (f : FunctionView) → IsWellFormed r
+    → slice_get r.worlds k ≡ Some w
     → function_at r w imported o name ≡ Some f → IsUsable r f
 function_usable r w k imported None name f formed at is =
     let there = as_function_is (item_under (world_entries w imported) (plain_key name)) f is in (
       item_in_range r (world_entries w imported) (plain_key name) (function_item f) (entries_in r w imported (world_in_range r k w formed at)) there,
       (holds_of_found (λ e. DoesItemPass (IsFree r.types) e.1) _ (world_entries w imported) (function_item f)
-          (items_pass (IsFree r.types) w imported (all_get (DoesWorldPass (IsFree r.types)) r.worlds k w (worlds_pass (IsFree r.types) r formed.no_resource_by_value) at)) there).1,
+          (items_pass (IsFree r.types) w imported (all_get (DoesWorldPass (IsFree r.types)) r.worlds k w
+          (worlds_pass (IsFree r.types) r formed.no_resource_by_value) at)) there).1,
     )
 function_usable r w k imported (Some i) name f formed at is = named_function_usable r (slice_get r.interfaces i) i name f formed refl is

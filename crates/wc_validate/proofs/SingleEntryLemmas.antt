@@ -10,14 +10,14 @@ use Rattle.wc_resolve.proofs.SearchLemmas.{contains_cons, contains_none}
 use Rattle.wc_encoder.specs.Adapters.{WhichView}
 use Rattle.wc_names.specs.Views.{ImportView, adapter_export, main_module_memory}
 use Rattle.wc_validate.specs.declared.fault.ValidateFault.TheVariants.{AdapterTypesDiffer, DuplicateImport, SeveralMemoryImports}
-use Rattle.wc_validate.specs.AdapterTypes.{first_some}
-use Rattle.wc_validate.specs.Entries.{Entry, single, whole, InstanceRecord, IsAllRecorded, IsNameRecorded, adapter_type_in, adapter_type_of, all_of, by_modules, entry_module, first_by, first_occurrences, instance_record, memory_of, memory_type_of, names_of, single_of, whole_of}
-use Rattle.wc_validate.specs.ImportMaps.{imports_in, singles_of}
-use Rattle.wc_validate.specs.Imports.{IsSound}
+use Rattle.wc_validate.specs.Imports.AdapterTypes.{first_some}
+use Rattle.wc_validate.specs.Imports.Entries.{Entry, single, whole, InstanceRecord, IsAllRecorded, IsNameRecorded, adapter_type_in, adapter_type_of, all_of, by_modules, entry_module, first_by, first_occurrences, instance_record, memory_of, memory_type_of, names_of, single_of, whole_of}
+use Rattle.wc_validate.specs.Imports.Map.{imports_in, singles_of}
+use Rattle.wc_validate.specs.Imports.Record.{IsValidAfter}
 use Rattle.wc_validate.proofs.ContainedLemmas.{all_by, first_there, flat_there, found_there, kept_from, kept_there, looked_up, mapped_there, some_same}
 use Rattle.wc_validate.proofs.IndexLemmas.{first_by_push}
 use Rattle.wc_validate.proofs.RecordLawLemmas.{OnImport, OnSingle, by_modules_all}
-use Rattle.wc_validate.proofs.RecordLemmas.{among, found_once, recorded, same, seen, self}
+use Rattle.wc_validate.proofs.InstanceLemmas.{among, found_once, recorded, same, seen, self}
 
 abbrev pub IsSingle : Entry → Type 0
 IsSingle (single m name i) = Unit {0}
@@ -28,7 +28,8 @@ no_whole m [] h = refl
 no_whole m (single k name v ∷ xs) h = no_whole m xs (All-tail IsSingle (single k name v) xs h)
 no_whole m (whole k w ∷ xs) h = absurd (All-head IsSingle (whole k w) xs h)
 
-not_all_at : (xs : List Entry) (k : List ℕ) (ws : List WhichView) (which : WhichView) (b : Bool) (rest : Option InstanceRecord) → ws ≡ [] → cond b (Some (instance_record xs k ws)) rest ≡ Some (all_of which)
+not_all_at : (xs : List Entry) (k : List ℕ) (ws : List WhichView) (which : WhichView) (b : Bool) (rest : Option InstanceRecord) → ws ≡ []
+    → cond b (Some (instance_record xs k ws)) rest ≡ Some (all_of which)
     → ¬ (rest ≡ Some (all_of which)) → ⊥
 not_all_at xs k [] which true rest none h later = let bad : ⊥ = cc h in bad
 not_all_at xs k (w ∷ ws) which true rest none h later = let bad : ⊥ = cc none in bad
@@ -37,13 +38,16 @@ not_all_at xs k ws which false rest none h later = later h
 same_names : {p q : List (List ℕ × ImportView)} → Some (names_of p) ≡ Some (names_of q) → q ≡ p
 same_names e = cc e
 
-names_at : (xs : List Entry) (m k : List ℕ) (ws : List WhichView) (names : List (List ℕ × ImportView)) (b : Bool) (rest : Option InstanceRecord) → bytes_eq m k ≡ b → ws ≡ []
-    → cond b (Some (instance_record xs k ws)) rest ≡ Some (names_of names) → (rest ≡ Some (names_of names) → names ≡ filter_map (single_of m) xs) → names ≡ filter_map (single_of m) xs
+names_at : (xs : List Entry) (m k : List ℕ) (ws : List WhichView) (names : List (List ℕ × ImportView)) (b : Bool) (rest : Option InstanceRecord)
+    → bytes_eq m k ≡ b → ws ≡ []
+    → cond b (Some (instance_record xs k ws)) rest ≡ Some (names_of names) → (rest ≡ Some (names_of names) → names ≡ filter_map (single_of m) xs)
+    → names ≡ filter_map (single_of m) xs
 names_at xs m k [] names true rest is none h later = same_names h ∙ ap (λ z. filter_map (single_of z) xs) (sym (same m k is))
 names_at xs m k (w ∷ ws) names true rest is none h later = absurd (let bad : ⊥ = cc none in bad)
 names_at xs m k ws names false rest is none h later = later h
 
-single_at : (m n : List ℕ) (i : ImportView) (k name : List ℕ) (v : ImportView) (b : Bool) → bytes_eq m k ≡ b → cond {A = Option (List ℕ × ImportView)} b (Some (name, v)) None ≡ Some (n, i) → single k name v ≡ single m n i
+single_at : (m n : List ℕ) (i : ImportView) (k name : List ℕ) (v : ImportView) (b : Bool) → bytes_eq m k ≡ b
+    → cond {A = Option (List ℕ × ImportView)} b (Some (name, v)) None ≡ Some (n, i) → single k name v ≡ single m n i
 single_at m n i k name v true is h =
     let both : (name, v) ≡ (n, i) = some_same h in
     let name_same : name ≡ n = ap (λ (z : List ℕ × ImportView). z.0) both in
@@ -71,16 +75,19 @@ module _ (xs : List Entry) (singles : All IsSingle xs) where
   not_all_in : (m : List ℕ) (ks : List (List ℕ)) (which : WhichView) → ¬ (lookup (bytes_eq m) (map (recorded xs) ks) ≡ Some (all_of which))
   not_all_in m [] which h = let bad : ⊥ = cc h in bad
   not_all_in m (k ∷ ks) which h =
-      not_all_at xs k (filter_map (whole_of k) xs) which (bytes_eq m k) (lookup (bytes_eq m) (map (recorded xs) ks)) (no_whole k xs singles) h (not_all_in m ks which)
+      not_all_at xs k (filter_map (whole_of k) xs) which (bytes_eq m k) (lookup (bytes_eq m) (map (recorded xs) ks)) (no_whole k xs singles) h
+      (not_all_in m ks which)
 
   -- no module is all of another one
   pub not_all : (m : List ℕ) → ¬ IsAllRecorded (by_modules xs) m
   not_all m h = not_all_in m (first_occurrences (map entry_module xs)) h.0 h.1
 
-  names_in : (m : List ℕ) (ks : List (List ℕ)) (names : List (List ℕ × ImportView)) → lookup (bytes_eq m) (map (recorded xs) ks) ≡ Some (names_of names) → names ≡ filter_map (single_of m) xs
+  names_in : (m : List ℕ) (ks : List (List ℕ)) (names : List (List ℕ × ImportView)) → lookup (bytes_eq m) (map (recorded xs) ks) ≡ Some (names_of names)
+      → names ≡ filter_map (single_of m) xs
   names_in m [] names h = absurd (let bad : ⊥ = cc h in bad)
   names_in m (k ∷ ks) names h =
-      names_at xs m k (filter_map (whole_of k) xs) names (bytes_eq m k) (lookup (bytes_eq m) (map (recorded xs) ks)) refl (no_whole k xs singles) h (names_in m ks names)
+      names_at xs m k (filter_map (whole_of k) xs) names (bytes_eq m k) (lookup (bytes_eq m) (map (recorded xs) ks)) refl (no_whole k xs singles) h
+      (names_in m ks names)
 
   -- a name is recorded where it is an entry's
   pub name_from : (m n : List ℕ) → IsNameRecorded (by_modules xs) m n → (i : ImportView) × Contains xs (single m n i)
@@ -91,9 +98,11 @@ module _ (xs : List Entry) (singles : All IsSingle xs) where
       (h.1, subst (Contains xs) (single_is m n h.1 from.0 from.2) from.1)
 
   -- single imports of a module are recorded in their order
-  pub names_recorded : (m n : List ℕ) (i : ImportView) → Contains xs (single m n i) → lookup (bytes_eq m) (by_modules xs) ≡ Some (names_of (filter_map (single_of m) xs))
+  pub names_recorded : (m n : List ℕ) (i : ImportView) → Contains xs (single m n i)
+      → lookup (bytes_eq m) (by_modules xs) ≡ Some (names_of (filter_map (single_of m) xs))
   names_recorded m n i there =
-      found_once xs m (first_occurrences (map entry_module xs)) (seen m (map entry_module xs) (among_there m n i xs there)) ∙ ap (λ ws. Some (instance_record xs m ws)) (no_whole m xs singles)
+      found_once xs m (first_occurrences (map entry_module xs)) (seen m (map entry_module xs) (among_there m n i xs there))
+      ∙ ap (λ ws. Some (instance_record xs m ws)) (no_whole m xs singles)
 
   pub name_kept : (m n : List ℕ) (i : ImportView) → Contains xs (single m n i) → Contains (filter_map (single_of m) xs) (n, i)
   name_kept m n i there = kept_there (single_of m) xs (single m n i) (n, i) there (ap (λ b. cond b (Some (n, i)) None) (self m))
@@ -112,7 +121,8 @@ module _ (xs : List Entry) (singles : All IsSingle xs) where
 
   -- what is recorded is an entry
   pub recorded_from : (x : List ℕ × (List ℕ × ImportView)) → Contains (imports_in (by_modules xs)) x → Contains xs (single x.0 x.1.0 x.1.1)
-  recorded_from x there = All-contains (OnImport IsThere) (imports_in (by_modules xs)) x (by_modules_all IsThere xs (all_by (OnSingle IsThere) xs single_there)) there
+  recorded_from x there =
+      All-contains (OnImport IsThere) (imports_in (by_modules xs)) x (by_modules_all IsThere xs (all_by (OnSingle IsThere) xs single_there)) there
 
   pub recorded_there : (m n : List ℕ) (i : ImportView) → Contains xs (single m n i) → Contains (imports_in (by_modules xs)) (m, (n, i))
   recorded_there m n i there =
@@ -125,7 +135,8 @@ pub memory_is : (i : ImportView) (ty : MemoryType) → memory_type_of i ≡ Some
 memory_is (main_module_memory t) ty h = ap main_module_memory (some_same h)
 memory_is i ty h = absurd (let bad : ⊥ = cc h in bad)
 
-adapter_at : (a f b g : List ℕ) (t ty : FuncTypeValue) (p q : Bool) → bytes_eq a b ≡ p → bytes_eq f g ≡ q → cond (p && q) (Some t) None ≡ Some ty → adapter_export b g t ≡ adapter_export a f ty
+adapter_at : (a f b g : List ℕ) (t ty : FuncTypeValue) (p q : Bool) → bytes_eq a b ≡ p → bytes_eq f g ≡ q → cond (p && q) (Some t) None ≡ Some ty
+    → adapter_export b g t ≡ adapter_export a f ty
 adapter_at a f b g t ty true true p q h =
     ap (λ z. adapter_export z g t) (sym (same a b p)) ∙ (ap (λ z. adapter_export a z t) (sym (same f g q)) ∙ ap (adapter_export a f) (some_same h))
 adapter_at a f b g t ty true false p q h = absurd (let bad : ⊥ = cc h in bad)
@@ -154,41 +165,46 @@ swapped x y c = record {
 
 -- the first entry of a function of an adapter has its type in all
 abbrev pub AgreesWithFirst : List Entry → Type 0
-AgreesWithFirst xs = (a f : List ℕ) (y : Entry) (t u : FuncTypeValue) → Contains xs y → adapter_type_of a f y ≡ Some t → first_by (adapter_type_of a f) xs ≡ Some u → ¬ (¬ (t ≡ u))
+AgreesWithFirst xs = (a f : List ℕ) (y : Entry) (t u : FuncTypeValue) → Contains xs y → adapter_type_of a f y ≡ Some t
+    → first_by (adapter_type_of a f) xs ≡ Some u → ¬ (¬ (t ≡ u))
 
 pub agrees_none : AgreesWithFirst []
 agrees_none a f y t u there type first differ = contains_none y there
 
-module _ (before : List Entry) (x : Entry) (agrees : AgreesWithFirst before) (one : IsSingle x) (sound : IsSound before x) where
-  sound_type : (a f : List ℕ) (t u : FuncTypeValue) → adapter_type_of a f x ≡ Some t → first_by (adapter_type_of a f) before ≡ Some u → ¬ (¬ (t ≡ u))
-  sound_type a f t u type first differ = at x one sound type where
-    at : (z : Entry) → IsSingle z → IsSound before z → adapter_type_of a f z ≡ Some t → ⊥
+module _ (before : List Entry) (x : Entry) (agrees : AgreesWithFirst before) (one : IsSingle x) (valid : IsValidAfter before x) where
+  valid_type : (a f : List ℕ) (t u : FuncTypeValue) → adapter_type_of a f x ≡ Some t → first_by (adapter_type_of a f) before ≡ Some u → ¬ (¬ (t ≡ u))
+  valid_type a f t u type first differ = at x one valid type where
+    at : (z : Entry) → IsSingle z → IsValidAfter before z → adapter_type_of a f z ≡ Some t → ⊥
     at (single m n i) h is own = is AdapterTypesDiffer (a, f, t, u, adapter_is a f i t own, first, differ)
     at (whole m w) h is own = h
 
-  agrees_at : (a f : List ℕ) (y : Entry) (t u : FuncTypeValue) (o : Option FuncTypeValue) → first_by (adapter_type_of a f) before ≡ o → Contains before y ⊎ (x ≡ y) → adapter_type_of a f y ≡ Some t
+  agrees_at : (a f : List ℕ) (y : Entry) (t u : FuncTypeValue) (o : Option FuncTypeValue) → first_by (adapter_type_of a f) before ≡ o → Contains before y
+      ⊎ (x ≡ y) → adapter_type_of a f y ≡ Some t
       → first_some o (adapter_type_of a f x) ≡ Some u → ¬ (¬ (t ≡ u))
   agrees_at a f y t u (Some w) is (inl there) type first differ = agrees a f y t u there type (is ∙ first) differ
-  agrees_at a f y t u (Some w) is (inr e) type first differ = sound_type a f t u (ap (adapter_type_of a f) e ∙ type) (is ∙ first) differ
+  agrees_at a f y t u (Some w) is (inr e) type first differ = valid_type a f t u (ap (adapter_type_of a f) e ∙ type) (is ∙ first) differ
   agrees_at a f y t u None is (inl there) type first differ =
       let found = first_there (adapter_type_of a f) before y t there type in let both : None ≡ Some found.0 = sym is ∙ found.1 in let bad : ⊥ = cc both in bad
   agrees_at a f y t u None is (inr e) type first differ = differ (some_same (sym type ∙ (ap (adapter_type_of a f) (sym e) ∙ first)))
 
   pub agrees_more : AgreesWithFirst (before ++ x ∷ [])
   agrees_more a f y t u there type first differ =
-      agrees_at a f y t u (first_by (adapter_type_of a f) before) refl (Contains-push_cases before x y there) type (sym (first_by_push (adapter_type_of a f) before x) ∙ first) differ
+      agrees_at a f y t u (first_by (adapter_type_of a f) before) refl (Contains-push_cases before x y there) type
+      (sym (first_by_push (adapter_type_of a f) before x) ∙ first) differ
 
--- a sound entry can stand with each before it
-pub sound_compatible : (before : List Entry) (x y : Entry) → All IsSingle before → AgreesWithFirst before → IsSingle x → IsSound before x → Contains before y → AreCompatible y x
-sound_compatible before (single m n i) y singles agrees one sound there = record {
-  memories = λ t u p q. (let found = first_there memory_of before y t there p in sound SeveralMemoryImports (u, found.0, memory_is i u q, found.1));
+-- a valid entry can stand with each before it
+pub valid_compatible : (before : List Entry) (x y : Entry) → All IsSingle before → AgreesWithFirst before → IsSingle x → IsValidAfter before x
+    → Contains before y
+    → AreCompatible y x
+valid_compatible before (single m n i) y singles agrees one valid there = record {
+  memories = λ t u p q. (let found = first_there memory_of before y t there p in valid SeveralMemoryImports (u, found.0, memory_is i u q, found.1));
   names = λ k l v w p q.
       (let modules : k ≡ m = cc q in
       let names : l ≡ n = cc q in
       let is : y ≡ single m n v = p ∙ (ap (λ z. single z l v) modules ∙ ap (λ z. single m z v) names) in
-      sound DuplicateImport (name_there before singles m n v (subst (Contains before) is there)));
+      valid DuplicateImport (name_there before singles m n v (subst (Contains before) is there)));
   types = λ a f t u p q differ.
       (let found = first_there (adapter_type_of a f) before y t there p in
-      agrees a f y t found.0 there p found.1 (λ e. sound_type before (single m n i) agrees one sound a f u found.0 q found.1 (λ g. differ (e ∙ sym g))));
+      agrees a f y t found.0 there p found.1 (λ e. valid_type before (single m n i) agrees one valid a f u found.0 q found.1 (λ g. differ (e ∙ sym g))));
 }
-sound_compatible before (whole m w) y singles agrees one sound there = absurd one
+valid_compatible before (whole m w) y singles agrees one valid there = absurd one

@@ -11,55 +11,55 @@ use Rattle.wc_names.specs.Imports.{CoreImport, Classified, func_type}
 use Rattle.wc_names.specs.Laws.{IsExportIn, IsImportIn}
 use Rattle.wc_names.specs.Meanings.{means}
 use Rattle.wc_names.specs.Views.{ImportView}
-use Rattle.wc_validate.specs.Entries.{Entry, single}
-use Rattle.wc_validate.specs.ImportMaps.{imports_in}
-use Rattle.wc_validate.specs.Imports.{ImportSetting, IsCoreImport, IsEntry, library_entry}
-use Rattle.wc_validate.specs.Settings.{HasItsWorld}
-use Rattle.wc_validate.specs.Validated.{HasNoCause, IsRecordOf, IsSettingFor, Job, ModuleRecord}
+use Rattle.wc_validate.specs.Imports.Entries.{Entry, single}
+use Rattle.wc_validate.specs.Imports.Map.{imports_in}
+use Rattle.wc_validate.specs.Imports.Record.{ImportScope, IsCoreImport, IsEntry, library_entry}
+use Rattle.wc_validate.specs.NameScopes.{HasItsWorld}
+use Rattle.wc_validate.specs.Validated.{HasNoCause, IsRecordOf, IsImportScopeFor, ValidationInput, ModuleRecord}
 
--- of a module there is one record at most, for a job
+-- of a module there is one record at most, for one validation input
 abbrev pub RecordsUnique : EncoderView → Type 0
 RecordsUnique e =
-    (j : Job) (bytes : List ℕ) (p q : ModuleRecord) → j.encoder ≡ e → IsRecordOf j bytes p → IsRecordOf j bytes q → p ≡ q
+    (j : ValidationInput) (bytes : List ℕ) (p q : ModuleRecord) → j.encoder ≡ e → IsRecordOf j bytes p → IsRecordOf j bytes q → p ≡ q
 
 -- where there is a record of a module, no fault but Memory has a cause
 abbrev pub RecordsExcludeFaults : EncoderView → Type 0
-RecordsExcludeFaults e = (j : Job) (bytes : List ℕ) (r : ModuleRecord) → j.encoder ≡ e → IsRecordOf j bytes r → HasNoCause j bytes
+RecordsExcludeFaults e = (j : ValidationInput) (bytes : List ℕ) (r : ModuleRecord) → j.encoder ≡ e → IsRecordOf j bytes r → HasNoCause j bytes
 
 -- an import has one entry at most
 abbrev pub EntriesUnique : ResolveView → Type 0
-EntriesUnique r = (s : ImportSetting) (i : ImportValue) (x y : Entry) → s.setting.resolve ≡ r → IsEntry s i x → IsEntry s i y → x ≡ y
+EntriesUnique r = (s : ImportScope) (i : ImportValue) (x y : Entry) → s.name_scope.resolve ≡ r → IsEntry s i x → IsEntry s i y → x ≡ y
 
 -- an import that is recorded by its name, and not by an argument of the library, has the signature that its name fixes
 abbrev pub SignaturesFixed : ResolveView → Type 0
 SignaturesFixed r =
-    (s : ImportSetting) (i : ImportValue) (x : Entry) (a : CoreImport) (v : ImportView) (ty : FuncTypeValue)
-    → s.setting.resolve ≡ r → library_entry s.library i.module_name i.name ≡ None → IsEntry s i x → IsCoreImport s i a → Classified s.setting a (means v (Some ty)) → a.ty ≡ func_type ty
+    (s : ImportScope) (i : ImportValue) (x : Entry) (a : CoreImport) (v : ImportView) (ty : FuncTypeValue)
+    → s.name_scope.resolve ≡ r → library_entry s.library i.module_name i.name ≡ None → IsEntry s i x → IsCoreImport s i a → Classified s.name_scope a (means v (Some ty)) → a.ty ≡ func_type ty
 
 -- what a recorded import names is there, in the world
 abbrev pub EntriesInRange : ResolveView → Type 0
 EntriesInRange r =
-    (s : ImportSetting) (i : ImportValue) (m name : List ℕ) (v : ImportView)
-    → s.setting.resolve ≡ r → HasItsWorld s.setting → IsEntry s i (single m name v) → IsImportIn r s.setting.world v
+    (s : ImportScope) (i : ImportValue) (m name : List ℕ) (v : ImportView)
+    → s.name_scope.resolve ≡ r → HasItsWorld s.name_scope → IsEntry s i (single m name v) → IsImportIn r s.name_scope.world v
 
 -- a record of one import of a module: it has a module and a name that are those of an import, and is its entry
-abbrev pub IsRecordedImport : ImportSetting → List ImportValue → List ℕ × (List ℕ × ImportView) → Type 0
+abbrev pub IsRecordedImport : ImportScope → List ImportValue → List ℕ × (List ℕ × ImportView) → Type 0
 IsRecordedImport s imports x = (i : ImportValue) × Contains imports i × IsEntry s i (single x.0 x.1.0 x.1.1)
 
 -- all imports that are recorded of a module are its imports, each by its own entry
 abbrev pub RecordsAreImports : EncoderView → Type 0
 RecordsAreImports e =
-    (j : Job) (bytes : List ℕ) (r : ModuleRecord) → j.encoder ≡ e → IsRecordOf j bytes r
-    → (m : ModuleValue) × SpellsModule bytes m × (s : ImportSetting) × IsSettingFor e j.renames j.library m.types s × All (IsRecordedImport s m.imports) (imports_in r.imports)
+    (j : ValidationInput) (bytes : List ℕ) (r : ModuleRecord) → j.encoder ≡ e → IsRecordOf j bytes r
+    → (m : ModuleValue) × SpellsModule bytes m × (s : ImportScope) × IsImportScopeFor e j.renames j.library m.types s × All (IsRecordedImport s m.imports) (imports_in r.imports)
 
 -- what the recorded imports of a module name is there, in the world of the encoder
 abbrev pub RecordsInRange : EncoderView → Type 0
 RecordsInRange e =
-    (j : Job) (bytes : List ℕ) (r : ModuleRecord) (w : WorldView) → j.encoder ≡ e → IsRecordOf j bytes r → IsWorldOf e w
+    (j : ValidationInput) (bytes : List ℕ) (r : ModuleRecord) (w : WorldView) → j.encoder ≡ e → IsRecordOf j bytes r → IsWorldOf e w
     → All (λ (x : List ℕ × (List ℕ × ImportView)). IsImportIn e.resolve w x.1.1) (imports_in r.imports)
 
 -- what the recorded exports of a module are for is there, in the world of the encoder
 abbrev pub RecordedExportsInRange : EncoderView → Type 0
 RecordedExportsInRange e =
-    (j : Job) (bytes : List ℕ) (r : ModuleRecord) (w : WorldView) → j.encoder ≡ e → IsRecordOf j bytes r → IsWorldOf e w
+    (j : ValidationInput) (bytes : List ℕ) (r : ModuleRecord) (w : WorldView) → j.encoder ≡ e → IsRecordOf j bytes r → IsWorldOf e w
     → All (λ (x : List ℕ × ExportView). IsExportIn e.resolve w x.1) r.exports

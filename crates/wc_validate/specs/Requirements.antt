@@ -12,10 +12,10 @@ use Rattle.wc_encoder.specs.Entries.{Entries}
 use Rattle.wc_names.specs.Exports.{CoreExport}
 use Rattle.wc_names.specs.ExportViews.{ExportView, exported_func, exported_func_callback, exported_interface_func, exported_interface_func_callback}
 use Rattle.wc_names.specs.Imports.{ExternType, func_type}
-use Rattle.wc_names.specs.Lookups.{item_under}
+use Rattle.wc_names.specs.Keys.{item_under}
 use Rattle.wc_validate.specs.declared.fault.ValidateFault.{ValidateFault}
 use Rattle.wc_validate.specs.declared.fault.ValidateFault.TheVariants.{Memory, SeveralMemoryExports, MissingCallback, MissingInterfaceExport, MissingWorldExport, AdapterModuleDidNotExport, AdapterExportType, TypedReference}
-use Rattle.wc_validate.specs.ExportMaps.{ExportRecord, is_memory}
+use Rattle.wc_validate.specs.Exports.Map.{ExportRecord, is_memory}
 use Rattle.wc_validate.specs.Texts.{name_not_exported}
 
 -- at most one memory; a callback for each function that is lifted with one; all functions of the interface at an index; a
@@ -77,7 +77,7 @@ typed_name x = option_map (λ (ty : FuncTypeValue). (x.name, ty)) (as_function_t
 abbrev pub exported_type : List CoreExport → List ℕ → Option FuncTypeValue
 exported_type xs name = lookup (bytes_eq name) (filter_map typed_name xs)
 
--- of the exports of a module, and what they are recorded as
+-- a requirement is met by the exports of a module, and what they are recorded as
 abbrev pub IsMet : ResolveView → List CoreExport → ExportRecord → Requirement → Type 0
 IsMet r xs recorded one_memory = memory_count recorded ≤ 1
 IsMet r xs recorded callbacks = All (λ e. IsTrue (is_called_back recorded e)) recorded
@@ -97,7 +97,7 @@ IsShortfall xs (typed_function name ty) (AdapterModuleDidNotExport e) =
 IsShortfall xs (typed_function name ty) AdapterExportType = (names_types ty ≡ false) × IsSome (exported_type xs name)
 IsShortfall xs need f = ⊥
 
--- all of them are met
+-- all requirements of a list are met
 abbrev pub AreMet : ResolveView → List CoreExport → ExportRecord → List Requirement → Type 0
 AreMet r xs recorded [] = Unit {0}
 AreMet r xs recorded (need ∷ needs) = IsMet r xs recorded need × AreMet r xs recorded needs
@@ -108,7 +108,7 @@ IsFirstUnmet r xs recorded [] f = ⊥
 IsFirstUnmet r xs recorded (need ∷ needs) f =
     ((¬ IsMet r xs recorded need) × IsShortfall xs need f) ⊎ (IsMet r xs recorded need × IsFirstUnmet r xs recorded needs f)
 
--- the same, or an allocation failed
+-- the fault of the first requirement that is not met, or an allocation failed
 abbrev pub IsUnmetFault : ResolveView → List CoreExport → ExportRecord → List Requirement → ValidateFault → Type 0
 IsUnmetFault r xs recorded needs Memory = Unit {0}
 IsUnmetFault r xs recorded needs f = IsFirstUnmet r xs recorded needs f

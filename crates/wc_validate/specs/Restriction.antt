@@ -10,29 +10,29 @@ use Rattle.wc_read.specs.Modules.{IsModule, ModuleValue}
 use Rattle.wc_read.specs.Types.{FuncTypeValue}
 use Rattle.wc_encoder.specs.EncoderParts.{EncoderView}
 use Rattle.wc_names.specs.ExportViews.{ExportView}
-use Rattle.wc_names.specs.AlikeTypes.{without_indices}
+use Rattle.wc_names.specs.SameButIndices.{without_indices}
 use Rattle.wc_names.specs.Imports.{ExternType, func_type}
 use Rattle.wc_names.specs.Views.{ImportView, main_module_export}
 use Rattle.wc_validate.specs.declared.fault.ValidateFault.{ValidateFault}
 use Rattle.wc_validate.specs.declared.fault.ValidateFault.TheVariants.{DuplicateImport, Memory}
-use Rattle.wc_validate.specs.ImportMaps.{imports_in}
-use Rattle.wc_validate.specs.Imports.{extern_type}
-use Rattle.wc_validate.specs.RecordedExports.{item_type}
-use Rattle.wc_validate.specs.Validated.{IsExportsRecord, IsImportsRecord, IsModuleCause, Job, ModuleRecord}
+use Rattle.wc_validate.specs.Imports.Map.{imports_in}
+use Rattle.wc_validate.specs.Imports.Record.{extern_type}
+use Rattle.wc_validate.specs.Exports.Record.{item_type}
+use Rattle.wc_validate.specs.Validated.{IsExportsRecord, IsImportsRecord, IsModuleCause, ValidationInput, ModuleRecord}
 
 -- the name by which modules import from the main module
 abbrev pub main_module : List ℕ
 main_module = codes "__main_module__"
 
 -- types in two modules, where they are there, are the same but for the indices by which they name others
-abbrev pub AreTypesAlike : Option ExternType → Option ExternType → Type 0
-AreTypesAlike t u = option_map without_indices t ≡ option_map without_indices u
+abbrev pub AreSameTypesButIndices : Option ExternType → Option ExternType → Type 0
+AreSameTypesButIndices t u = option_map without_indices t ≡ option_map without_indices u
 
 -- imports of two modules are the same: module, name, and type but for indices
 pub record IsSameImport (v m : ModuleValue) (j i : ImportValue) : Type 0 where
   pub from : j.module_name ≡ i.module_name
   pub name : j.name ≡ i.name
-  pub ty : AreTypesAlike (extern_type v.types j.ty) (extern_type m.types i.ty)
+  pub ty : AreSameTypesButIndices (extern_type v.types j.ty) (extern_type m.types i.ty)
 
 -- an import of a function of the main module
 abbrev pub IsMainFunction : ModuleValue → ImportValue → Type 0
@@ -50,7 +50,7 @@ AreDistinct origins = AllPairs (λ a b. a ≡ b → a ≡ None) origins
 -- exports of two modules are the same: name, and type but for indices
 pub record IsSameExport (v m : ModuleValue) (x y : ExportValue) : Type 0 where
   pub name : x.name ≡ y.name
-  pub ty : AreTypesAlike (item_type v x.kind x.index) (item_type m y.kind y.index)
+  pub ty : AreSameTypesButIndices (item_type v x.kind x.index) (item_type m y.kind y.index)
 
 -- an export of m is one of v; and one of v is one of m
 abbrev pub IsOldExport : ModuleValue → ModuleValue → ExportValue → Type 0
@@ -68,13 +68,13 @@ pub record IsRestriction (names : List (List ℕ)) (v m : ModuleValue) : Type 0 
   pub old_exports : All (IsOldExport v m) m.exports
   pub kept_exports : (x : ExportValue) → Contains v.exports x → Contains names x.name → IsKeptExport v m x
 
--- what is recorded of a module, for a job
-pub record IsModuleRecord (j : Job) (m : ModuleValue) (r : ModuleRecord) : Type 0 where
+-- what is recorded of a module, for a validation input
+pub record IsModuleRecord (j : ValidationInput) (m : ModuleValue) (r : ModuleRecord) : Type 0 where
   pub imports : IsImportsRecord j.encoder j.renames j.library m.types m.imports r.imports
   pub exports : IsExportsRecord j.encoder j.keys j.required m r.exports
 
--- the names are those, at least, of the recorded exports and of the functions that a job requires
-pub record AreNeeded (j : Job) (r : ModuleRecord) (names : List (List ℕ)) : Type 0 where
+-- the names are those, at least, of the recorded exports and of the functions that a validation input requires
+pub record AreNeeded (j : ValidationInput) (r : ModuleRecord) (names : List (List ℕ)) : Type 0 where
   pub recorded : All (λ (x : List ℕ × ExportView). Contains names x.0) r.exports
   pub required : All (λ (f : List ℕ × FuncTypeValue). Contains names f.0) j.required
 
@@ -90,11 +90,11 @@ pub record HasCollision (m : ModuleValue) : Type 0 where
   pub same_module : first.module_name ≡ second.module_name
   pub same_name : first.name ≡ second.name
 
--- a module that restricts one of which there is a record is refused, for the same job, only for a second import of one
--- name of the main module
+-- a module that restricts one of which there is a record is refused, for the same validation input, only for a second
+-- import of one name of the main module
 abbrev pub RestrictionsValid : EncoderView → Type 0
 RestrictionsValid e =
-    (j : Job) (v m : ModuleValue) (r : ModuleRecord) (names : List (List ℕ)) (f : ValidateFault)
+    (j : ValidationInput) (v m : ModuleValue) (r : ModuleRecord) (names : List (List ℕ)) (f : ValidateFault)
     → j.encoder ≡ e → j.library ≡ None → IsModuleRecord j v r → AreNeeded j r names → IsRestriction names v m → IsModule m
     → f ≢ Memory → IsModuleCause j m f → (f ≡ DuplicateImport) × HasCollision m
 
@@ -104,7 +104,7 @@ abbrev pub IsRecordedFrom : ModuleRecord → Option ℕ → ImportValue → List
 IsRecordedFrom first (Some position) i x = (x.0 ≡ i.module_name) × (x.1.0 ≡ i.name) × Contains (imports_in first.imports) x
 IsRecordedFrom first None i x = x ≡ (main_module, (i.name, main_module_export i.name Func))
 
--- the same of some import
+-- a recorded import of a restricted module is that of some import, of this origin
 pub record IsRestrictedImport (first : ModuleRecord) (origins : List (Option ℕ)) (own : List ImportValue) (x : List ℕ × (List ℕ × ImportView)) : Type 0 where
   pub index : ℕ
   pub origin : Option ℕ
@@ -122,6 +122,6 @@ pub record IsRestrictedRecord (first last : ModuleRecord) (origins : List (Optio
 -- what is recorded of a module that restricts one of which there is a record, where no import was renamed
 abbrev pub RestrictionsRecorded : EncoderView → Type 0
 RestrictionsRecorded e =
-    (j : Job) (v m : ModuleValue) (first last : ModuleRecord) (names : List (List ℕ))
+    (j : ValidationInput) (v m : ModuleValue) (first last : ModuleRecord) (names : List (List ℕ))
     → j.encoder ≡ e → j.library ≡ None → j.renames ≡ None → IsModuleRecord j v first → AreNeeded j first names → (r : IsRestriction names v m)
     → IsModuleRecord j m last → IsRestrictedRecord first last r.origins m.imports

@@ -1,15 +1,11 @@
 //! Positions of first exports by the keys and names of functions.
 
-ghost use Rattle.std.specs.Prelude.{◌≡◌, ◌&&◌, ◌∷◌, ◌++◌, [], List, None, OnOk, map, ℕ};
-ghost use Rattle.std.specs.Str.{bytes_eq};
+ghost use Rattle.std.specs.Prelude.{◌≡◌, ◌∷◌, [], List, None, ℕ};
 ghost use Rattle.wc_resolve.specs.Views.{KeyView, key_view};
-ghost use Rattle.wc_names.specs.Lookups.{key_eq};
-ghost use Rattle.wc_validate.specs.FirstByKey.{position_called, under_key, under_text};
-ghost use Rattle.wc_validate.specs.FirstFunctions.{position_entry};
-ghost use Rattle.wc_validate.specs.FirstPositions.{kept_position};
-ghost use Rattle.wc_validate.specs.Required.{HasFirsts};
+ghost use Rattle.wc_validate.specs.FirstByKey.{position_called, IsKeyKept, IsNameKept, IsPositionKept};
+ghost use Rattle.wc_validate.specs.Private.Imports.Required.{ArePositionsAdded};
 
-use crate::records::one_entry;
+use crate::imports::instances::one_entry;
 use indexmap::IndexMap;
 use std::alloc::{AllocError, Global};
 use wc_resolve::WorldKey;
@@ -27,12 +23,9 @@ pub(crate) fn keep_name(
     name: &str,
     position: usize,
 ) -> Result<(), AllocError>
-    ensures kept { OnOk result ((called : List ℕ) → under_text names.new.entries called
-        ≡ kept_position (under_text names.old.entries called) (bytes_eq called name.now) position) }
-    ensures firsts { (passed : List (List ℕ × ℕ))
-        → HasFirsts (map position_entry names.old.entries) passed
-        → OnOk result (HasFirsts (map position_entry names.new.entries)
-        (passed ++ (name.now, position) ∷ [])) }
+    ensures kept { IsNameKept names.old.entries names.new.entries name.now position result }
+    ensures firsts { ArePositionsAdded names.old.entries names.new.entries
+        ((name.now, position) ∷ []) result }
 {
     if names.contains_key(name) {
         return Ok(());
@@ -48,9 +41,7 @@ pub(crate) fn keep_key(
     key: &WorldKey,
     position: usize,
 ) -> Result<(), AllocError>
-    ensures { OnOk result ((asked : KeyView) → under_key keys.new.entries asked
-        ≡ kept_position (under_key keys.old.entries asked) (key_eq (key_view key.now) asked)
-        position) }
+    ensures { IsKeyKept keys.old.entries keys.new.entries key.now position result }
 {
     if keys.contains_key(key) {
         return Ok(());
@@ -84,10 +75,7 @@ impl FirstByKey {
         name: &str,
         position: usize,
     ) -> Result<(), AllocError>
-        ensures { OnOk result ((asked : KeyView) (called : List ℕ) →
-            position_called self.new asked called
-            ≡ kept_position (position_called self.old asked called)
-            (key_eq (key_view key.now) asked && bytes_eq called name.now) position) }
+        ensures { IsPositionKept self.old self.new key.now name.now position result }
     {
         if let Some(names) = self.keys.get_mut(key) {
             return keep_name(alloc, names, name, position);

@@ -10,8 +10,8 @@ use wc_names::laws::{exports_in_range, exports_unique, meanings_in_range, meanin
 use wc_read::laws::modules_unique;
 use wc_resolve::Resolve;
 
-/// Of a module there is one record at most, of its imports and of its exports, for one job: an encoder, what a library
-/// is handed, original names, and what the module has to export. It does nothing when it runs.
+/// Of a module there is one record at most, of its imports and of its exports, for one validation input: an encoder,
+/// what a library is passed, original names, and what the module has to export. It does nothing when it runs.
 pub fn records_unique(encoder: &ComponentEncoder)
     ensures { RecordsUnique encoder.now }
 {
@@ -58,6 +58,7 @@ pub fn entries_in_range(resolve: &Resolve)
 pub fn records_are_imports(encoder: &ComponentEncoder)
     ensures { RecordsAreImports encoder.now }
 {
+    // The law holds of any encoder by the definitions alone; as the other laws of records it is called with one.
     let _ = encoder;
 }
 
@@ -87,7 +88,7 @@ pub fn recorded_memories_valid()
 
 /// A module that has imports of another, each at most once, besides functions of the main module, and at least those of
 /// its exports that are recorded or required, is refused only where two of its imports have one name of the main
-/// module, if the other module is valid for the same job. It does nothing when it runs.
+/// module, if the other module is valid for the same validation input. It does nothing when it runs.
 pub fn restrictions_valid(encoder: &ComponentEncoder)
     ensures { RestrictionsValid encoder.now }
 {

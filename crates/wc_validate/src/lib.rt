@@ -16,7 +16,8 @@
 //!     bytes: &[u8],
 //! ) -> Result<Option<MemoryType>, ValidateFault>
 //!     ensures { IfOk result (λ memory. (r : ModuleRecord)
-//!         × IsRecordOf (main_job encoder.now None) bytes.now r × (memory ≡ memory_in r.imports)) }
+//!         × IsRecordOf (main_input encoder.now None) bytes.now r
+//!         × (memory ≡ memory_in r.imports)) }
 //! {
 //!     let validated = validate_module(alloc, encoder, bytes, None)?;
 //!     Ok(validated.imports.imported_memory())
@@ -24,40 +25,22 @@
 //! ```
 #![tactic(auto)]
 
-mod adapter_types;
-mod arguments;
-mod builtins;
-mod classify;
-mod classify_exports;
-mod export_map;
-mod exported_functions;
+mod exports;
+mod externs;
 mod fault;
 mod first_by_key;
-mod first_exports;
-mod first_functions;
-mod first_singles;
-mod import_map;
 mod imports;
-mod interfaces;
-mod intrinsics;
 pub mod laws;
-mod lookups;
-mod recorded_exports;
-mod recorder;
-mod records;
+mod name_scope;
+mod prefixes;
 mod requirements;
-mod roots;
-mod rules;
-mod setting;
 mod signatures;
-mod single_exports;
-mod single_imports;
 mod validate;
 
-pub use export_map::ExportMap;
+pub use exports::iter::{Exports, Reallocs};
+pub use exports::map::ExportMap;
 pub use fault::{AdapterModuleDidNotExport, ValidateFault};
-pub use import_map::ImportMap;
-pub use records::ImportInstance;
-pub use single_exports::{Exports, Reallocs};
-pub use single_imports::Imports;
+pub use imports::instances::ImportInstance;
+pub use imports::iter::Imports;
+pub use imports::map::ImportMap;
 pub use validate::{ValidatedModule, validate_adapter_module, validate_module};

@@ -1,23 +1,21 @@
 //! What has to be among the exports of a core module.
 
-ghost use Rattle.std.specs.Prelude.{◌≡◌, ◌↔◌, ◌<◌, ◌∷◌, ◌++◌, [], All, IfErr, IfOk, IsTrue, List, OnOk, length, map, ℕ};
-ghost use Rattle.std.specs.List.{filter_map};
-ghost use Rattle.std.specs.Option.{option_map, option_to_list};
-ghost use Rattle.wc_read.specs.Exports.{export_value};
-ghost use Rattle.wc_read.specs.Modules.{HaveTypes, count_of, module_value};
+ghost use Rattle.std.specs.Prelude.{◌≡◌, ◌↔◌, ◌<◌, All, IfErr, IfOk, IsTrue, OnOk, map};
+ghost use Rattle.wc_read.specs.Modules.{HaveTypes, module_value};
 ghost use Rattle.wc_resolve.specs.Ranges.{IsItemIn};
-ghost use Rattle.wc_resolve.specs.Views.{key_view, world_entry};
-ghost use Rattle.wc_resolve.specs.World.{ResolveView};
-ghost use Rattle.wc_names.specs.Exports.{CoreExport};
+ghost use Rattle.wc_resolve.specs.Views.{world_entry};
 ghost use Rattle.wc_names.specs.ExportViews.{export_view};
-ghost use Rattle.wc_validate.specs.ExportedFunctions.{AreNamesOf};
-ghost use Rattle.wc_validate.specs.ExportMaps.{ExportRecord, export_entry, is_memory};
-ghost use Rattle.wc_validate.specs.ImportMaps.{required_entry};
-ghost use Rattle.wc_validate.specs.RecordedExports.{core_exports};
-ghost use Rattle.wc_validate.specs.Requirements.{AreMet, IsUnmetFault, callbacks, is_called_back, is_callback_for, key_requirement, key_requirements, memory_count, needs_callback, one_memory, requirements};
+ghost use Rattle.wc_validate.specs.Exports.Map.{export_entry, is_memory};
+ghost use Rattle.wc_validate.specs.Requirements.{is_called_back, is_callback_for, memory_count, needs_callback};
+ghost use Rattle.wc_validate.specs.Private.RequiredExports.{AreMetBy, HasItemsInRange, IsUnmetBy, requirement_of_key, requirements_of_keys, AreCalledBack, FailsAlone, FailsByNames, MeetsAlone, MeetsByNames};
+ghost use Rattle.wc_validate.specs.NameScopes.{name_scope_of};
+ghost use Rattle.wc_validate.specs.Exports.Record.{AreExportsIn};
+
+mod exported_functions;
 
 use crate::ValidateFault;
-use crate::exported_functions::{
+use crate::name_scope::Names;
+use crate::requirements::exported_functions::{
     FunctionNames, check_functions, is_interface_recorded, is_recorded, names_of_functions,
 };
 use indexmap::{IndexMap, IndexSet};
@@ -25,6 +23,14 @@ use std::alloc::{AllocError, Global};
 use wc_names::Export;
 use wc_read::{FuncType, Module};
 use wc_resolve::{AbiVariant, Resolve, WorldItem, WorldKey};
+
+/// What a module has to export: what the keys of an export set are for, and functions that other modules import from
+/// it, with their types.
+#[derive(Clone, Copy)]
+pub(crate) struct RequiredExports<'a> {
+    pub(crate) keys: &'a IndexSet<WorldKey>,
+    pub(crate) functions: &'a IndexMap<String, FuncType>,
+}
 
 /// Whether an export is a memory.
 fn is_memory(export: &Export) -> bool
@@ -97,9 +103,7 @@ fn is_called_back(
 
 /// Whether all recorded exports have the callbacks that they need.
 fn are_called_back(alloc: Global, names: &IndexMap<String, Export>) -> Result<bool, AllocError>
-    ensures { IfOk result (λ b. IsTrue b
-        ↔ All (λ e. IsTrue (is_called_back (map export_entry names.now.entries) e))
-        (map export_entry names.now.entries)) }
+    ensures { IfOk result (λ b. IsTrue b ↔ AreCalledBack names.now.entries) }
 {
     for (name, export) in names.iter() {
         if !is_called_back(alloc, names, name.as_str(), export)? {
@@ -117,10 +121,8 @@ fn are_called_back(alloc: Global, names: &IndexMap<String, Export>) -> Result<bo
 /// - `MissingCallback`: an export needs a callback that is not recorded.
 /// - `Memory`: an allocation failed.
 fn check_record(alloc: Global, names: &IndexMap<String, Export>) -> Result<(), ValidateFault>
-    ensures met { (r : ResolveView) (xs : List CoreExport) → OnOk result (AreMet r xs
-        (map export_entry names.now.entries) (one_memory ∷ callbacks ∷ [])) }
-    ensures fault { (r : ResolveView) (xs : List CoreExport) → IfErr result (IsUnmetFault r xs
-        (map export_entry names.now.entries) (one_memory ∷ callbacks ∷ [])) }
+    ensures met { MeetsAlone names.now.entries result }
+    ensures fault { FailsAlone names.now.entries result }
 {
     if has_several_memories(names) {
         return Err(ValidateFault::SeveralMemoryExports);
@@ -146,14 +148,10 @@ fn check_key(
     key: &WorldKey,
 ) -> Result<(), ValidateFault>
     requires { All (λ x. IsItemIn resolve.now x.1) (map world_entry exports.now.entries) }
-    ensures met { (xs : List CoreExport) (recorded : ExportRecord)
-        → AreNamesOf functions.now.keys recorded
-        → OnOk result (AreMet resolve.now xs recorded (option_to_list
-        (key_requirement (map world_entry exports.now.entries) (key_view key.now)))) }
-    ensures fault { (xs : List CoreExport) (recorded : ExportRecord)
-        → AreNamesOf functions.now.keys recorded
-        → IfErr result (IsUnmetFault resolve.now xs recorded (option_to_list
-        (key_requirement (map world_entry exports.now.entries) (key_view key.now)))) }
+    ensures met { MeetsByNames resolve.now functions.now.keys
+        (requirement_of_key exports.now.entries key.now) result }
+    ensures fault { FailsByNames resolve.now functions.now.keys
+        (requirement_of_key exports.now.entries key.now) result }
 {
     let Some(item) = exports.get(key) else {
         return Ok(());
@@ -188,14 +186,10 @@ fn check_keys(
     keys: &IndexSet<WorldKey>,
 ) -> Result<(), ValidateFault>
     requires { All (λ x. IsItemIn resolve.now x.1) (map world_entry exports.now.entries) }
-    ensures met { (xs : List CoreExport) (recorded : ExportRecord)
-        → AreNamesOf functions.now.keys recorded
-        → OnOk result (AreMet resolve.now xs recorded (key_requirements
-        (map world_entry exports.now.entries) (map key_view keys.now.keys))) }
-    ensures fault { (xs : List CoreExport) (recorded : ExportRecord)
-        → AreNamesOf functions.now.keys recorded
-        → IfErr result (IsUnmetFault resolve.now xs recorded (key_requirements
-        (map world_entry exports.now.entries) (map key_view keys.now.keys))) }
+    ensures met { MeetsByNames resolve.now functions.now.keys
+        (requirements_of_keys exports.now.entries keys.now.keys) result }
+    ensures fault { FailsByNames resolve.now functions.now.keys
+        (requirements_of_keys exports.now.entries keys.now.keys) result }
 {
     for key in keys.iter() {
         check_key(alloc, functions, resolve, exports, key)?;
@@ -218,32 +212,28 @@ fn check_keys(
 /// - `Memory`: an allocation failed.
 pub(crate) fn check_exports<'m>(
     alloc: Global,
-    names: &IndexMap<String, Export>,
-    resolve: &Resolve,
-    world_exports: &IndexMap<WorldKey, WorldItem>,
-    keys: &IndexSet<WorldKey>,
+    recorded: &IndexMap<String, Export>,
+    names: &Names<'_>,
     module: &'m Module<'m>,
-    exports: &'m [wc_read::Export<'m>],
-    required: &IndexMap<String, FuncType>,
+    required: RequiredExports<'_>,
 ) -> Result<(), ValidateFault>
-    requires items { All (λ e. e.index < count_of (module_value «module».now) e.kind)
-        (map export_value exports.now) }
+    requires items { AreExportsIn «module».now «module».now.exports.items }
     requires typed { HaveTypes (module_value «module».now) }
-    requires world { All (λ x. IsItemIn resolve.now x.1)
-        (map world_entry world_exports.now.entries) }
-    ensures met { OnOk result (AreMet resolve.now
-        (core_exports (module_value «module».now) (map export_value exports.now))
-        (map export_entry names.now.entries)
-        (requirements (map world_entry world_exports.now.entries) (map key_view keys.now.keys)
-        (map required_entry required.now.entries))) }
-    ensures fault { IfErr result (IsUnmetFault resolve.now
-        (core_exports (module_value «module».now) (map export_value exports.now))
-        (map export_entry names.now.entries)
-        (requirements (map world_entry world_exports.now.entries) (map key_view keys.now.keys)
-        (map required_entry required.now.entries))) }
+    requires world { HasItemsInRange (name_scope_of names.now) }
+    ensures met { OnOk result (AreMetBy names.now required.entry «module».now
+        recorded.now.entries) }
+    ensures fault { IfErr result (IsUnmetBy names.now required.entry «module».now
+        recorded.now.entries) }
 {
-    check_record(alloc, names)?;
-    let functions = names_of_functions(alloc, names)?;
-    check_keys(alloc, &functions, resolve, world_exports, keys)?;
-    check_functions(alloc, module, exports, required)
+    check_record(alloc, recorded)?;
+    let functions = names_of_functions(alloc, recorded)?;
+    let world_exports = &names.world.exports;
+    check_keys(
+        alloc,
+        &functions,
+        names.resolve,
+        world_exports,
+        required.keys,
+    )?;
+    check_functions(alloc, module, &module.exports, required.functions)
 }

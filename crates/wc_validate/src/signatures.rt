@@ -2,16 +2,16 @@
 
 ghost use Rattle.std.specs.Prelude.{◌≡◌, ◌↔◌, IfOk, IsTrue, Some, map};
 ghost use Rattle.std.specs.List.{list_any};
-ghost use Rattle.wc_read.specs.Types.{FuncTypeValue, func_type_value, names_type, names_types};
+ghost use Rattle.wc_read.specs.Types.{func_type_value, names_type, names_types};
 ghost use Rattle.wc_resolve.specs.Signatures.{signature_view};
 ghost use Rattle.wc_resolve.specs.Views.{function_view};
 ghost use Rattle.wc_resolve.specs.WellFormed.{IsUsable};
 ghost use Rattle.wc_names.specs.Builtins.{signature};
 ghost use Rattle.wc_names.specs.Exports.{post_return_type};
 ghost use Rattle.wc_names.specs.Imports.{function_type, signature_type, val_type};
-ghost use Rattle.wc_names.specs.Verdicts.{IsTypeChecked};
 ghost use Rattle.wc_names.specs.Views.{import_view};
-ghost use Rattle.wc_validate.specs.BuiltinTypes.{async_value_type, thread_type};
+ghost use Rattle.wc_validate.specs.Private.Imports.Builtins.{async_value_type, thread_type, IsCheckedBy};
+ghost use Rattle.wc_names.specs.Classifications.{IsTypeChecked};
 ghost use Rattle.wc_validate.specs.Faults.{fault_kind};
 
 use crate::ValidateFault;
@@ -48,18 +48,18 @@ pub(crate) fn names_types(ty: &FuncType) -> bool
     any_names_type(ty.params()) || any_names_type(ty.results())
 }
 
-/// The import, if its type is the signature that its name fixes.
-pub(crate) fn checked(
-    import: Import,
+/// The import or the export, if its type is the signature that its name fixes.
+pub(crate) fn checked<T: Drop>(
+    item: T,
     ty: &FuncType,
     params: &[ValType],
     results: &[ValType],
-) -> Result<Option<Import>, ValidateFault>
-    ensures { IsTypeChecked fault_kind result import (func_type_value ty.now)
-        (signature params.now results.now) }
+) -> Result<Option<T>, ValidateFault>
+    ensures { IsTypeChecked fault_kind result item
+        (func_type_value ty.now) (signature params.now results.now) }
 {
     if has_type(ty, params, results) {
-        Ok(Some(import))
+        Ok(Some(item))
     } else {
         Err(ValidateFault::SignatureMismatch)
     }
@@ -86,8 +86,7 @@ fn has_thread_type(import: &Import, ty: &FuncType) -> bool
 
 /// The built-in for threads, if its type is the one that it has to have.
 pub(crate) fn checked_thread(import: Import, ty: &FuncType) -> Result<Option<Import>, ValidateFault>
-    ensures { (wanted : FuncTypeValue) → thread_type (import_view import) ≡ Some wanted
-        → IsTypeChecked fault_kind result import (func_type_value ty.now) wanted }
+    ensures { IsCheckedBy thread_type import ty.now result }
 {
     if has_thread_type(&import, ty) {
         Ok(Some(import))
@@ -133,8 +132,7 @@ pub(crate) fn checked_async_value(
     import: Import,
     ty: &FuncType,
 ) -> Result<Option<Import>, ValidateFault>
-    ensures { (wanted : FuncTypeValue) → async_value_type (import_view import) ≡ Some wanted
-        → IsTypeChecked fault_kind result import (func_type_value ty.now) wanted }
+    ensures { IsCheckedBy async_value_type import ty.now result }
 {
     if has_async_value_type(&import, ty) {
         Ok(Some(import))

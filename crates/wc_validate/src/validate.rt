@@ -1,30 +1,24 @@
 //! Core modules, validated for an encoder.
 
-ghost use Rattle.std.specs.Prelude.{◌≡◌, [], All, IfErr, IfOk, OnOk, length, map, option_copied};
-ghost use Rattle.std.specs.Option.{option_map};
-ghost use Rattle.wc_read.specs.Imports.{import_values};
+ghost use Rattle.std.specs.Prelude.{◌≡◌, [], IfErr, IfOk, OnOk, map, option_copied};
 ghost use Rattle.wc_read.specs.Modules.{IsModule, module_value};
-ghost use Rattle.wc_read.specs.Types.{func_type_value};
 ghost use Rattle.wc_resolve.specs.Views.{key_view};
-ghost use Rattle.wc_encoder.specs.Adapters.{library_view};
-ghost use Rattle.wc_encoder.specs.EncoderParts.{EncoderView};
-ghost use Rattle.wc_validate.specs.Arguments.{HasArgumentsOf};
-ghost use Rattle.wc_validate.specs.Contexts.{IsTypeIn};
-ghost use Rattle.wc_validate.specs.ExportContexts.{IsExportContext};
-ghost use Rattle.wc_validate.specs.ImportMaps.{required_entry};
-ghost use Rattle.wc_validate.specs.Settings.{AreInterfacesOf, setting_of};
-ghost use Rattle.wc_validate.specs.Validated.{HasNoCause, IsCause, IsExportsCause, IsExportsRecord, IsImportsCause, IsImportsRecord, IsModuleCause, IsRecordOf, IsSettingOf, adapter_job, job_by, main_job, module_record};
+ghost use Rattle.wc_validate.specs.Private.Imports.Contexts.{HasLibrary, HasTypedImports};
+ghost use Rattle.wc_validate.specs.Exports.Contexts.{IsExportContext};
+ghost use Rattle.wc_validate.specs.NameScopes.{AreInterfacesOf, name_scope_of};
+ghost use Rattle.wc_validate.specs.Validated.{HasNoCause, IsCause, IsCauseOfExports, IsCauseOfImports, IsModuleCause, IsNameScopeOf, IsRecordOf, IsRecordOfExports, IsRecordOfImports, adapter_input_of, library_of, main_input, module_record};
+ghost use Rattle.wc_validate.specs.Private.ValidationInputs.{main_input_requiring, validation_input_of, AreExportsRecorded, AreExportsRefused};
 
 use crate::ValidateFault;
-use crate::arguments::Arguments;
-use crate::classify_exports::ExportContext;
-use crate::export_map::ExportMap;
-use crate::import_map::ImportMap;
-use crate::imports::{ImportContext, record_imports};
+use crate::exports::classify::ExportContext;
+use crate::exports::map::ExportMap;
+use crate::exports::record::record_exports;
+use crate::imports::arguments::Arguments;
+use crate::imports::map::ImportMap;
+use crate::imports::record::{ImportContext, record_imports};
 use crate::laws::records_exclude_faults;
-use crate::recorded_exports::record_exports;
-use crate::requirements::check_exports;
-use crate::setting::{Interfaces, Names};
+use crate::name_scope::{Interfaces, Names};
+use crate::requirements::{RequiredExports, check_exports};
 use indexmap::{IndexMap, IndexSet};
 use std::alloc::{AllocError, Global};
 use wc_dedupe::ModuleImportMap;
@@ -57,7 +51,7 @@ impl ValidatedModule {
 
 /// What names are looked up in, for an encoder.
 fn names_of(encoder: &ComponentEncoder) -> Names<'_>
-    ensures { IsSettingOf encoder.now (setting_of result) }
+    ensures { IsNameScopeOf encoder.now (name_scope_of result) }
 {
     encoder.well_formedness();
     let metadata = encoder.metadata();
@@ -70,29 +64,39 @@ fn names_of(encoder: &ComponentEncoder) -> Names<'_>
     }
 }
 
-/// What the imports of a module are recorded by, for an encoder.
+/// What a module is validated for: an encoder; what it is passed, if it is a library; what its imports were called, if
+/// some were renamed; and what it has to export.
+#[derive(Clone, Copy)]
+pub(crate) struct ValidationInput<'a> {
+    encoder: &'a ComponentEncoder,
+    library: Option<&'a LibraryInfo>,
+    renames: Option<&'a ModuleImportMap>,
+    required: RequiredExports<'a>,
+}
+
+/// What the imports of a module are recorded by.
 fn import_context<'a>(
     alloc: Global,
-    encoder: &'a ComponentEncoder,
+    validation_input: ValidationInput<'a>,
     module: &'a Module<'_>,
-    renames: Option<&'a ModuleImportMap>,
-    library: Option<&'a LibraryInfo>,
 ) -> Result<ImportContext<'a>, AllocError>
-    ensures setting { IfOk result (λ c. IsSettingOf encoder.now (setting_of c.names)) }
-    ensures interfaces { IfOk result (λ c. AreInterfacesOf (setting_of c.names) c.interfaces) }
-    ensures arguments { IfOk result (λ c. HasArgumentsOf c.arguments
-        (option_map (λ l. library_view l.now) library.entry)) }
-    ensures renames { IfOk result (λ c. option_copied c.renames ≡ option_copied renames.entry) }
+    ensures name_scope { IfOk result
+        (λ c. IsNameScopeOf validation_input.entry.encoder.now (name_scope_of c.names)) }
+    ensures interfaces { IfOk result (λ c. AreInterfacesOf (name_scope_of c.names) c.interfaces) }
+    ensures arguments { IfOk result
+        (λ c. HasLibrary c (library_of validation_input.entry.library)) }
+    ensures renames { IfOk result
+        (λ c. option_copied c.renames ≡ option_copied validation_input.entry.renames) }
     ensures types { IfOk result (λ c. c.types.now ≡ «module».now.types.items) }
 {
-    let names = names_of(encoder);
+    let names = names_of(validation_input.encoder);
     let interfaces = Interfaces::new(alloc, &names, module.imports.len())?;
-    let arguments = Arguments::new(alloc, library)?;
+    let arguments = Arguments::new(alloc, validation_input.library)?;
     Ok(ImportContext {
         names,
         interfaces,
         arguments,
-        renames,
+        renames: validation_input.renames,
         types: &module.types,
     })
 }
@@ -100,23 +104,17 @@ fn import_context<'a>(
 /// The imports of a module, recorded.
 fn module_imports(
     alloc: Global,
-    encoder: &ComponentEncoder,
+    validation_input: ValidationInput<'_>,
     module: &Module<'_>,
-    renames: Option<&ModuleImportMap>,
-    library: Option<&LibraryInfo>,
 ) -> Result<ImportMap, ValidateFault>
-    requires { All (λ i. IsTypeIn (length «module».now.types.items) i.ty)
-        «module».now.imports.items }
-    ensures recorded { IfOk result (IsImportsRecord encoder.now (option_copied renames.entry)
-        (option_map (λ l. library_view l.now) library.entry)
-        (map func_type_value «module».now.types.items)
-        (import_values «module».now.imports.items)) }
-    ensures fault { IfErr result (IsImportsCause encoder.now (option_copied renames.entry)
-        (option_map (λ l. library_view l.now) library.entry)
-        (map func_type_value «module».now.types.items)
-        (import_values «module».now.imports.items)) }
+    requires { HasTypedImports «module».now }
+    ensures recorded { IfOk result (IsRecordOfImports (validation_input_of validation_input.entry)
+        (module_value «module».now)) }
+    ensures fault { IfErr result
+        (IsCauseOfImports (validation_input_of validation_input.entry) (module_value
+        «module».now)) }
 {
-    let context = import_context(alloc, encoder, module, renames, library)?;
+    let context = import_context(alloc, validation_input, module)?;
     let recorder = record_imports(alloc, &context, &module.imports)?;
     Ok(ImportMap::from_recorder(alloc, recorder)?)
 }
@@ -128,7 +126,7 @@ fn export_context<'a>(
     keys: &'a IndexSet<WorldKey>,
 ) -> Result<ExportContext<'a>, AllocError>
     ensures context { IfOk result IsExportContext }
-    ensures setting { IfOk result (λ c. IsSettingOf encoder.now (setting_of c.names)) }
+    ensures name_scope { IfOk result (λ c. IsNameScopeOf encoder.now (name_scope_of c.names)) }
     ensures keys { IfOk result (λ c. c.standard.keys ≡ map key_view keys.now.keys) }
 {
     encoder.well_formedness();
@@ -152,106 +150,107 @@ fn exports_by(
     alloc: Global,
     context: &ExportContext<'_>,
     module: &Module<'_>,
-    keys: &IndexSet<WorldKey>,
-    required: &IndexMap<String, FuncType>,
+    required: RequiredExports<'_>,
 ) -> Result<ExportMap, ValidateFault>
     requires valid { IsModule (module_value «module».now) }
     requires context { IsExportContext context.now }
-    requires keys { context.now.standard.keys ≡ map key_view keys.now.keys }
-    ensures recorded { (e : EncoderView) → IsSettingOf e (setting_of context.now.names)
-        → IfOk result (IsExportsRecord e (map key_view keys.now.keys)
-        (map required_entry required.now.entries) (module_value «module».now)) }
-    ensures fault { (e : EncoderView) → IsSettingOf e (setting_of context.now.names)
-        → IfErr result (IsExportsCause e (map key_view keys.now.keys)
-        (map required_entry required.now.entries) (module_value «module».now)) }
+    requires keys { context.now.standard.keys ≡ map key_view required.keys.now.keys }
+    ensures recorded { AreExportsRecorded context.now required.entry
+        (module_value «module».now) result }
+    ensures fault { AreExportsRefused context.now required.entry
+        (module_value «module».now) result }
 {
-    let resolve = context.names.resolve;
-    resolve.well_formedness();
-    let exports = &context.names.world.exports;
+    context.names.resolve.well_formedness();
     let names = record_exports(alloc, context, module, &module.exports)?;
-    check_exports(
-        alloc,
-        &names,
-        resolve,
-        exports,
-        keys,
-        module,
-        &module.exports,
-        required,
-    )?;
+    check_exports(alloc, &names, &context.names, module, required)?;
     Ok(ExportMap::from_names(alloc, names)?)
 }
 
 /// The exports of a module, recorded, where all that is required is among them.
 fn module_exports(
     alloc: Global,
-    encoder: &ComponentEncoder,
+    validation_input: ValidationInput<'_>,
     module: &Module<'_>,
-    keys: &IndexSet<WorldKey>,
-    required: &IndexMap<String, FuncType>,
 ) -> Result<ExportMap, ValidateFault>
     requires { IsModule (module_value «module».now) }
-    ensures recorded { IfOk result (IsExportsRecord encoder.now (map key_view keys.now.keys)
-        (map required_entry required.now.entries) (module_value «module».now)) }
-    ensures fault { IfErr result (IsExportsCause encoder.now (map key_view keys.now.keys)
-        (map required_entry required.now.entries) (module_value «module».now)) }
+    ensures recorded { IfOk result (IsRecordOfExports (validation_input_of validation_input.entry)
+        (module_value «module».now)) }
+    ensures fault { IfErr result
+        (IsCauseOfExports (validation_input_of validation_input.entry) (module_value
+        «module».now)) }
 {
-    let context = export_context(alloc, encoder, keys)?;
-    exports_by(alloc, &context, module, keys, required)
+    let context = export_context(
+        alloc,
+        validation_input.encoder,
+        validation_input.required.keys,
+    )?;
+    exports_by(alloc, &context, module, validation_input.required)
 }
 
 /// What is recorded of a module that is read.
 fn validate_read(
     alloc: Global,
-    encoder: &ComponentEncoder,
+    validation_input: ValidationInput<'_>,
     module: &Module<'_>,
-    renames: Option<&ModuleImportMap>,
-    library: Option<&LibraryInfo>,
-    keys: &IndexSet<WorldKey>,
-    required: &IndexMap<String, FuncType>,
 ) -> Result<ValidatedModule, ValidateFault>
-    requires typed { All (λ i. IsTypeIn (length «module».now.types.items) i.ty)
-        «module».now.imports.items }
+    requires typed { HasTypedImports «module».now }
     requires valid { IsModule (module_value «module».now) }
-    ensures imports { IfOk result (λ v. IsImportsRecord encoder.now
-        (option_copied renames.entry) (option_map (λ l. library_view l.now) library.entry)
-        (module_value «module».now).types (module_value «module».now).imports v.imports) }
-    ensures exports { IfOk result (λ v. IsExportsRecord encoder.now (map key_view keys.now.keys)
-        (map required_entry required.now.entries) (module_value «module».now) v.exports) }
-    ensures fault { IfErr result (IsModuleCause (job_by encoder.now
-        (option_map (λ l. library_view l.now) library.entry) (option_copied renames.entry)
-        (map key_view keys.now.keys) (map required_entry required.now.entries))
-        (module_value «module».now)) }
+    ensures imports { IfOk result
+        (λ v. IsRecordOfImports (validation_input_of validation_input.entry)
+        (module_value «module».now) v.imports) }
+    ensures exports { IfOk result
+        (λ v. IsRecordOfExports (validation_input_of validation_input.entry)
+        (module_value «module».now) v.exports) }
+    ensures fault { IfErr result
+        (IsModuleCause (validation_input_of validation_input.entry) (module_value «module».now)) }
 {
-    let imports = module_imports(alloc, encoder, module, renames, library)?;
-    let exports = module_exports(alloc, encoder, module, keys, required)?;
+    let imports = module_imports(alloc, validation_input, module)?;
+    let exports = module_exports(alloc, validation_input, module)?;
     Ok(ValidatedModule { imports, exports })
 }
 
 /// What is recorded of the module that bytes spell.
 fn validate_bytes(
     alloc: Global,
-    encoder: &ComponentEncoder,
+    validation_input: ValidationInput<'_>,
     bytes: &[u8],
-    renames: Option<&ModuleImportMap>,
-    library: Option<&LibraryInfo>,
-    keys: &IndexSet<WorldKey>,
-    required: &IndexMap<String, FuncType>,
 ) -> Result<ValidatedModule, ValidateFault>
-    ensures recorded { IfOk result (λ v. IsRecordOf (job_by encoder.now
-        (option_map (λ l. library_view l.now) library.entry) (option_copied renames.entry)
-        (map key_view keys.now.keys) (map required_entry required.now.entries))
-        bytes.now (module_record v)) }
-    ensures fault { IfErr result (IsCause (job_by encoder.now
-        (option_map (λ l. library_view l.now) library.entry) (option_copied renames.entry)
-        (map key_view keys.now.keys) (map required_entry required.now.entries)) bytes.now) }
-    ensures no_cause { OnOk result (HasNoCause (job_by encoder.now
-        (option_map (λ l. library_view l.now) library.entry) (option_copied renames.entry)
-        (map key_view keys.now.keys) (map required_entry required.now.entries)) bytes.now) }
+    ensures recorded { IfOk result
+        (λ v. IsRecordOf (validation_input_of validation_input.entry) bytes.now
+        (module_record v)) }
+    ensures fault { IfErr result (IsCause (validation_input_of validation_input.entry) bytes.now) }
+    ensures no_cause { OnOk result
+        (HasNoCause (validation_input_of validation_input.entry) bytes.now) }
 {
-    records_exclude_faults(encoder);
+    records_exclude_faults(validation_input.encoder);
     let module = read_module(alloc, bytes)?;
-    validate_read(alloc, encoder, &module, renames, library, keys, required)
+    validate_read(alloc, validation_input, &module)
+}
+
+/// What is recorded of the main module of an encoder, where other modules import these functions from it.
+fn validate_main<'a>(
+    alloc: Global,
+    encoder: &'a ComponentEncoder,
+    bytes: &[u8],
+    import_map: Option<&'a ModuleImportMap>,
+    functions: &'a IndexMap<String, FuncType>,
+) -> Result<ValidatedModule, ValidateFault>
+    ensures recorded { IfOk result (λ v. IsRecordOf (main_input_requiring encoder.now
+        (option_copied import_map.entry) functions.now.entries) bytes.now (module_record v)) }
+    ensures fault { IfErr result (IsCause (main_input_requiring encoder.now
+        (option_copied import_map.entry) functions.now.entries) bytes.now) }
+    ensures no_cause { OnOk result (HasNoCause (main_input_requiring encoder.now
+        (option_copied import_map.entry) functions.now.entries) bytes.now) }
+{
+    let keys = encoder.main_module_exports();
+    let required = RequiredExports { keys, functions };
+    let validation_input = ValidationInput {
+        encoder,
+        library: None,
+        renames: import_map,
+        required,
+    };
+    validate_bytes(alloc, validation_input, bytes)
 }
 
 /// Validates the main module of an encoder. Each import is classified as what it names, or as what its original name
@@ -290,26 +289,25 @@ pub fn validate_module(
     bytes: &[u8],
     import_map: Option<&ModuleImportMap>,
 ) -> Result<ValidatedModule, ValidateFault>
-    ensures recorded { IfOk result (λ v. IsRecordOf (main_job encoder.now
+    ensures recorded { IfOk result (λ v. IsRecordOf (main_input encoder.now
         (option_copied import_map.entry)) bytes.now (module_record v)) }
-    ensures fault { IfErr result (IsCause (main_job encoder.now
+    ensures fault { IfErr result (IsCause (main_input encoder.now
         (option_copied import_map.entry)) bytes.now) }
     // Without a fault there is no cause.
-    ensures no_cause { OnOk result (HasNoCause (main_job encoder.now
+    ensures no_cause { OnOk result (HasNoCause (main_input encoder.now
         (option_copied import_map.entry)) bytes.now) }
 {
-    let keys = encoder.main_module_exports();
-    let required = IndexMap::new(alloc);
-    validate_bytes(alloc, encoder, bytes, import_map, None, keys, &required)
+    let functions = IndexMap::new(alloc);
+    validate_main(alloc, encoder, bytes, import_map, &functions)
 }
 
-/// Validates an adapter or a library for an encoder. Each import is recorded as what the library is handed for it, or
+/// Validates an adapter or a library for an encoder. Each import is recorded as what the library is passed for it, or
 /// else as what it names; each export as what it is for, among the exports of the world that this module has to have
 /// (`exports`; a key that the world doesn't export is passed over). Exports that are for nothing are left out.
 ///
 /// # Errors
 ///
-/// Those of [`validate_module`], in its order. Of what a library is handed come besides, after the faults of names:
+/// Those of [`validate_module`], in its order. Of what a library is passed come besides, after the faults of names:
 ///
 /// - `WholeDiffers`: the module's name stands for another module of the component already.
 /// - `Mixed`: the module's name stands for a module of the component, and for single items too. No library has such
@@ -320,35 +318,34 @@ pub fn validate_module(
 ///
 /// - `AdapterModuleDidNotExport`: no function of the name is exported.
 /// - `AdapterExportType`: it is exported with another type.
-pub fn validate_adapter_module(
+pub fn validate_adapter_module<'a>(
     alloc: Global,
-    encoder: &ComponentEncoder,
+    encoder: &'a ComponentEncoder,
     bytes: &[u8],
-    required_by_import: &IndexMap<String, FuncType>,
-    exports: &IndexSet<WorldKey>,
-    library_info: Option<&LibraryInfo>,
+    required_by_import: &'a IndexMap<String, FuncType>,
+    exports: &'a IndexSet<WorldKey>,
+    library_info: Option<&'a LibraryInfo>,
 ) -> Result<ValidatedModule, ValidateFault>
-    ensures recorded { IfOk result (λ v. IsRecordOf (adapter_job encoder.now
-        (option_map (λ l. library_view l.now) library_info.entry)
-        (map key_view exports.now.keys) (map required_entry required_by_import.now.entries))
+    ensures recorded { IfOk result (λ v. IsRecordOf (adapter_input_of encoder.now library_info.entry
+        exports.now.keys required_by_import.now.entries)
         bytes.now (module_record v)) }
-    ensures fault { IfErr result (IsCause (adapter_job encoder.now
-        (option_map (λ l. library_view l.now) library_info.entry)
-        (map key_view exports.now.keys) (map required_entry required_by_import.now.entries))
+    ensures fault { IfErr result (IsCause (adapter_input_of encoder.now library_info.entry
+        exports.now.keys required_by_import.now.entries)
         bytes.now) }
     // Without a fault there is no cause.
-    ensures no_cause { OnOk result (HasNoCause (adapter_job encoder.now
-        (option_map (λ l. library_view l.now) library_info.entry)
-        (map key_view exports.now.keys) (map required_entry required_by_import.now.entries))
+    ensures no_cause { OnOk result (HasNoCause (adapter_input_of encoder.now library_info.entry
+        exports.now.keys required_by_import.now.entries)
         bytes.now) }
 {
-    validate_bytes(
-        alloc,
+    let required = RequiredExports {
+        keys: exports,
+        functions: required_by_import,
+    };
+    let validation_input = ValidationInput {
         encoder,
-        bytes,
-        None,
-        library_info,
-        exports,
-        required_by_import,
-    )
+        library: library_info,
+        renames: None,
+        required,
+    };
+    validate_bytes(alloc, validation_input, bytes)
 }

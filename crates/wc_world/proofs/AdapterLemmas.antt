@@ -1,4 +1,4 @@
--- Adapters and libraries gone through, and those that are kept.
+-- Adapters and libraries gone through, and those that are needed.
 use Rattle.std.proofs.Common.{◌≡◌, ◌≢◌, ◌⊎◌, ℕ, List, [], ◌∷◌, ◌++◌, Bool, true, false, cond, map, filter, All, String, string_bytes, string_eq, true≢false, refl, sym, ap, ◌∙◌, subst, append_assoc, append-nil, inl, inr}
 use Rattle.std.specs.Prelude.{if◌then◌else◌}
 use Rattle.std.specs.Borrow.{Bor}
@@ -14,16 +14,16 @@ use Rattle.wc_read.specs.Types.{FuncTypeValue}
 use Rattle.wc_resolve.specs.World.{ResolveView}
 use Rattle.wc_resolve.proofs.KeyLemmas.{texts_law}
 use Rattle.wc_encoder.specs.declared.adapters.Adapter.{Adapter}
-use Rattle.wc_encoder.specs.Adapters.{adapter_entry as given_entry}
+use Rattle.wc_encoder.specs.Adapters.{adapter_entry as input_entry}
 use Rattle.wc_encoder.specs.EncoderParts.{EncoderView, world_exports}
 use Rattle.wc_encoder.specs.Entries.{Entries}
-use Rattle.wc_validate.specs.ImportMaps.{required_in}
-use Rattle.wc_validate.specs.Validated.{IsCause as IsModuleCause, IsRecordOf, ModuleRecord, main_job}
+use Rattle.wc_validate.specs.Imports.Map.{required_in}
+use Rattle.wc_validate.specs.Validated.{IsCause as IsModuleCause, IsRecordOf, ModuleRecord, main_input}
 use Rattle.wc_validate.specs.declared.fault.ValidateFault.{ValidateFault}
-use Rattle.wc_world.specs.Adapters.{HasOtherName, NamedAdapter, is_kept, is_needed, kept_adapters}
-use Rattle.wc_world.specs.Causes.{IsCause, IsFaultOf, IsFirst, IsFirstFault, IsFirstStop, IsKeptStop, IsMemory, IsMemoryOf, IsReachedMemory, IsSound, IsStopOf}
+use Rattle.wc_world.specs.Adapters.{HasOtherName, NamedAdapter, is_adapter_needed, is_needed, needed_adapters}
+use Rattle.wc_world.specs.Causes.{IsCause, IsFaultOf, IsFirst, IsFirstFault, IsFirstStop, IsNeededStop, IsMemory, IsMemoryOf, IsReachedMemory, IsValidAdapter, IsStopOf}
 use Rattle.wc_world.specs.Views.{NamedWorldAdapter}
-use Rattle.wc_world.specs.World.{AreMade, IsAdapterOf}
+use Rattle.wc_world.specs.World.{AreAdaptersAmong, IsAdapterOf}
 use Rattle.wc_world.specs.WorldViews.{adapter_entry}
 use Rattle.wc_world.specs.declared.adapter.WorldAdapter.{WorldAdapter}
 use Rattle.wc_world.specs.declared.fault.WorldFault.{WorldFault}
@@ -53,10 +53,10 @@ kept_cut : {X : Type 0} (test : X → Bool) (xs : List X) (x : X) (rest : List X
 kept_cut test xs x rest is = filter-append test xs (x ∷ rest) ∙ ap (λ z. filter test xs ++ cond z (x ∷ filter test rest) (filter test rest)) is
 
 module _ (e : EncoderView) (main : ModuleRecord) where
-  all_sound : (xs : List NamedAdapter) (ys : List NamedWorldAdapter) → AllZip (IsAdapterOf e main) xs ys → AllByRecursion (IsSound e main) xs
-  all_sound [] ys h = tt
-  all_sound (x ∷ xs) [] h = absurd h
-  all_sound (x ∷ xs) (y ∷ ys) h = ((y, h.0), all_sound xs ys h.1)
+  all_valid : (xs : List NamedAdapter) (ys : List NamedWorldAdapter) → AllZip (IsAdapterOf e main) xs ys → AllByRecursion (IsValidAdapter e main) xs
+  all_valid [] ys h = tt
+  all_valid (x ∷ xs) [] h = absurd h
+  all_valid (x ∷ xs) (y ∷ ys) h = ((y, h.0), all_valid xs ys h.1)
 
   other_names : (name : List ℕ) (xs : List NamedAdapter) (ys : List NamedWorldAdapter) → AllByRecursion (HasOtherName name) xs → AllZip (IsAdapterOf e main) xs ys → AllByRecursion (λ (y : NamedWorldAdapter). y.0 ≢ name) ys
   other_names name [] [] others h = tt
@@ -78,31 +78,33 @@ put_last [] e others = refl
 put_last (old ∷ es) e others = put_at old e es (bytes_eq e.0.now old.0.now) (λ same. others.0 (sym ((bytes_eq-Decides e.0.now old.0.now).0 same))) (put_last es e others.1)
 
 module _ (e : EncoderView) (main : ModuleRecord) (x : NamedAdapter) (passed : List NamedAdapter) where
-  -- an adapter that is not kept
-  pub passed_over : (ys : List NamedWorldAdapter) → is_kept e main x ≡ false → AreMade e main passed ys → AreMade e main (passed ++ x ∷ []) ys
-  passed_over ys not_kept h = subst (λ z. AllZip (IsAdapterOf e main) z ys) (sym (kept_push (is_kept e main) passed x false not_kept ∙ append-nil (filter (is_kept e main) passed))) h
+  -- an adapter that is not needed
+  pub passed_over : (ys : List NamedWorldAdapter) → is_adapter_needed e main x ≡ false → AreAdaptersAmong e main passed ys
+      → AreAdaptersAmong e main (passed ++ x ∷ []) ys
+  passed_over ys not_needed h = subst (λ z. AllZip (IsAdapterOf e main) z ys) (sym (kept_push (is_adapter_needed e main) passed x false not_needed ∙ append-nil (filter (is_adapter_needed e main) passed))) h
 
   -- one that is
-  pub made_last : (old new : List RawAdapter) (key : Bor (List ℕ)) (a : WorldAdapter) → is_kept e main x ≡ true → key.now ≡ x.0 → new ≡ insert_entry (λ (a c : Bor (List ℕ)). bytes_eq a.now c.now) old key a
-      → IsAdapterOf e main x (adapter_entry (key, a)) → All (HasOtherName x.0) passed → AreMade e main passed (map adapter_entry old) → AreMade e main (passed ++ x ∷ []) (map adapter_entry new)
-  made_last old new key a kept is put made others h =
+  pub adapter_last : (old new : List RawAdapter) (key : Bor (List ℕ)) (a : WorldAdapter) → is_adapter_needed e main x ≡ true → key.now ≡ x.0 → new ≡ insert_entry (λ (a c : Bor (List ℕ)). bytes_eq a.now c.now) old key a
+      → IsAdapterOf e main x (adapter_entry (key, a)) → All (HasOtherName x.0) passed → AreAdaptersAmong e main passed (map adapter_entry old) → AreAdaptersAmong e main (passed ++ x ∷ []) (map adapter_entry new)
+  adapter_last old new key a needed is put is_adapter others h =
       let differs : AllByRecursion (λ (y : NamedWorldAdapter). y.0 ≢ key.now) (map adapter_entry old) =
       subst (λ n. AllByRecursion (λ (y : NamedWorldAdapter). y.0 ≢ n) (map adapter_entry old)) (sym is)
-      (other_names e main x.0 (filter (is_kept e main) passed) (map adapter_entry old) (kept_all (HasOtherName x.0) (is_kept e main) passed (recursion_from_All (HasOtherName x.0) passed others)) h) in
+      (other_names e main x.0 (filter (is_adapter_needed e main) passed) (map adapter_entry old) (kept_all (HasOtherName x.0) (is_adapter_needed e main) passed (recursion_from_All (HasOtherName x.0) passed others)) h) in
       let more : map adapter_entry new ≡ map adapter_entry old ++ adapter_entry (key, a) ∷ [] = ap (map adapter_entry) (put ∙ put_last old (key, a) differs) ∙ map-append adapter_entry old ((key, a) ∷ []) in
-      subst (λ z. AreMade e main (passed ++ x ∷ []) z) (sym more)
-      (subst (λ z. AllZip (IsAdapterOf e main) z (map adapter_entry old ++ adapter_entry (key, a) ∷ [])) (sym (kept_push (is_kept e main) passed x true kept))
-      (zip_push (IsAdapterOf e main) (filter (is_kept e main) passed) (map adapter_entry old) x (adapter_entry (key, a)) h made))
+      subst (λ z. AreAdaptersAmong e main (passed ++ x ∷ []) z) (sym more)
+      (subst (λ z. AllZip (IsAdapterOf e main) z (map adapter_entry old ++ adapter_entry (key, a) ∷ []))
+      (sym (kept_push (is_adapter_needed e main) passed x true needed))
+      (zip_push (IsAdapterOf e main) (filter (is_adapter_needed e main) passed) (map adapter_entry old) x (adapter_entry (key, a)) h is_adapter))
 
 -- names of a map are distinct
-abbrev pub RawGiven : Type 0
-RawGiven = String Global × Adapter
+abbrev pub RawInput : Type 0
+RawInput = String Global × Adapter
 
-test_in : (test : String Global → Bool) (front rest : List RawGiven) (x : RawGiven) → AllByRecursion (λ y. test y ≡ false) (keys_of (front ++ x ∷ rest)) → test x.0 ≡ false
+test_in : (test : String Global → Bool) (front rest : List RawInput) (x : RawInput) → AllByRecursion (λ y. test y ≡ false) (keys_of (front ++ x ∷ rest)) → test x.0 ≡ false
 test_in test [] rest x h = h.0
 test_in test (p ∷ front) rest x h = test_in test front rest x h.1
 
-others_before : (front rest : List RawGiven) (x : RawGiven) → IsDistinct string_eq (keys_of (front ++ x ∷ rest)) → AllByRecursion (HasOtherName (string_bytes x.0)) (map given_entry front)
+others_before : (front rest : List RawInput) (x : RawInput) → IsDistinct string_eq (keys_of (front ++ x ∷ rest)) → AllByRecursion (HasOtherName (string_bytes x.0)) (map input_entry front)
 unfolding IsDistinct
 others_before [] rest x h = tt
 others_before (p ∷ front) rest x h = (
@@ -111,65 +113,67 @@ others_before (p ∷ front) rest x h = (
 )
 
 -- adapters that are gone through, and those that are left
-pub record AdaptersWalk (e : EncoderView) (main : ModuleRecord) (left : List RawGiven) (ys : List NamedWorldAdapter) : Type 0 where
-  pub front : List RawGiven
-  pub split : map given_entry (front ++ left) ≡ e.adapters
+pub record AdaptersWalk (e : EncoderView) (main : ModuleRecord) (left : List RawInput) (ys : List NamedWorldAdapter) : Type 0 where
+  pub front : List RawInput
+  pub split : map input_entry (front ++ left) ≡ e.adapters
   pub distinct : IsDistinct string_eq (keys_of (front ++ left))
-  pub made : AreMade e main (map given_entry front) ys
+  pub is_adapter : AreAdaptersAmong e main (map input_entry front) ys
 
-module _ (e : EncoderView) (main : ModuleRecord) (left : List RawGiven) where
-  pub walk_start : (all : List RawGiven) (ys : List NamedWorldAdapter) → left ≡ all → map given_entry all ≡ e.adapters → IsDistinct string_eq (keys_of all) → ys ≡ [] → AdaptersWalk e main left ys
+module _ (e : EncoderView) (main : ModuleRecord) (left : List RawInput) where
+  pub walk_start : (all : List RawInput) (ys : List NamedWorldAdapter) → left ≡ all → map input_entry all ≡ e.adapters → IsDistinct string_eq (keys_of all) → ys ≡ [] → AdaptersWalk e main left ys
   walk_start all ys is are distinct none = record {
     front = [];
-    split = ap (map given_entry) is ∙ are;
+    split = ap (map input_entry) is ∙ are;
     distinct = subst (λ z. IsDistinct string_eq (keys_of z)) (sym is) distinct;
-    made = subst (AreMade e main []) (sym none) tt;
+    is_adapter = subst (AreAdaptersAmong e main []) (sym none) tt;
   }
 
-  pub walk_next : (rest : List RawGiven) (x : RawGiven) (old new : List NamedWorldAdapter) → left ≡ x ∷ rest
-      → ((passed : List NamedAdapter) → All (HasOtherName (string_bytes x.0)) passed → AreMade e main passed old → AreMade e main (passed ++ given_entry x ∷ []) new)
+  pub walk_next : (rest : List RawInput) (x : RawInput) (old new : List NamedWorldAdapter) → left ≡ x ∷ rest
+      → ((passed : List NamedAdapter) → All (HasOtherName (string_bytes x.0)) passed → AreAdaptersAmong e main passed old → AreAdaptersAmong e main (passed ++ input_entry x ∷ []) new)
       → AdaptersWalk e main left old → AdaptersWalk e main rest new
   walk_next rest x old new is put w =
       let same : w.front ++ left ≡ (w.front ++ x ∷ []) ++ rest = ap (λ z. w.front ++ z) is ∙ sym (append_assoc w.front (x ∷ []) rest) in
       record {
         front = w.front ++ x ∷ [];
-        split = ap (map given_entry) (sym same) ∙ w.split;
+        split = ap (map input_entry) (sym same) ∙ w.split;
         distinct = subst (λ z. IsDistinct string_eq (keys_of z)) same w.distinct;
-        made = subst (λ z. AreMade e main z new) (sym (map-append given_entry w.front (x ∷ [])))
-            (put (map given_entry w.front) (All-from_recursion (HasOtherName (string_bytes x.0)) (map given_entry w.front) (others_before w.front rest x (subst (λ z. IsDistinct string_eq (keys_of (w.front ++ z))) is w.distinct))) w.made);
+        is_adapter = subst (λ z. AreAdaptersAmong e main z new) (sym (map-append input_entry w.front (x ∷ [])))
+            (put (map input_entry w.front) (All-from_recursion (HasOtherName (string_bytes x.0)) (map input_entry w.front) (others_before w.front rest x (subst (λ z. IsDistinct string_eq (keys_of (w.front ++ z))) is w.distinct))) w.is_adapter);
       }
 
-  pub walk_end : (ys : List NamedWorldAdapter) → left ≡ [] → AdaptersWalk e main left ys → AreMade e main e.adapters ys
-  walk_end ys none w = subst (λ z. AreMade e main z ys) (ap (map given_entry) (sym (append-nil w.front) ∙ ap (λ z. w.front ++ z) (sym none)) ∙ w.split) w.made
+  pub walk_end : (ys : List NamedWorldAdapter) → left ≡ [] → AdaptersWalk e main left ys → AreAdaptersAmong e main e.adapters ys
+  walk_end ys none w =
+      subst (λ z. AreAdaptersAmong e main z ys) (ap (map input_entry) (sym (append-nil w.front) ∙ ap (λ z. w.front ++ z) (sym none)) ∙ w.split) w.is_adapter
 
-  pub walk_fault : (rest : List RawGiven) (x : RawGiven) (ys : List NamedWorldAdapter) (f : WorldFault) → left ≡ x ∷ rest → IsKeptStop e main (given_entry x) f → AdaptersWalk e main left ys → IsFirstStop e main f
+  pub walk_fault : (rest : List RawInput) (x : RawInput) (ys : List NamedWorldAdapter) (f : WorldFault) → left ≡ x ∷ rest → IsNeededStop e main (input_entry x) f → AdaptersWalk e main left ys → IsFirstStop e main f
   walk_fault rest x ys f is h w =
-      let cut : e.adapters ≡ map given_entry w.front ++ given_entry x ∷ map given_entry rest = sym w.split ∙ (ap (λ z. map given_entry (w.front ++ z)) is ∙ map-append given_entry w.front (x ∷ rest)) in
+      let cut : e.adapters ≡ map input_entry w.front ++ input_entry x ∷ map input_entry rest = sym w.split ∙ (ap (λ z. map input_entry (w.front ++ z)) is ∙ map-append input_entry w.front (x ∷ rest)) in
       record {
-        front = filter (is_kept e main) (map given_entry w.front);
-        adapter = given_entry x;
-        back = filter (is_kept e main) (map given_entry rest);
-        cut = ap (filter (is_kept e main)) cut ∙ kept_cut (is_kept e main) (map given_entry w.front) (given_entry x) (map given_entry rest) h.0;
-        sound = All-from_recursion (IsSound e main) (filter (is_kept e main) (map given_entry w.front)) (all_sound e main (filter (is_kept e main) (map given_entry w.front)) ys w.made);
+        front = filter (is_adapter_needed e main) (map input_entry w.front);
+        adapter = input_entry x;
+        back = filter (is_adapter_needed e main) (map input_entry rest);
+        cut = ap (filter (is_adapter_needed e main)) cut
+            ∙ kept_cut (is_adapter_needed e main) (map input_entry w.front) (input_entry x) (map input_entry rest) h.0;
+        are_valid = All-from_recursion (IsValidAdapter e main) (filter (is_adapter_needed e main) (map input_entry w.front)) (all_valid e main (filter (is_adapter_needed e main) (map input_entry w.front)) ys w.is_adapter);
         here = h.1;
       }
 
--- what is required of an adapter decides whether it is kept
-pub kept_by : (e : EncoderView) (main : ModuleRecord) (x : NamedAdapter) (r : ResolveView) (exports : Entries) (required : List (List ℕ × FuncTypeValue)) → r ≡ e.resolve → world_exports e ≡ exports → required ≡ required_in main.imports x.0
-    → is_kept e main x ≡ is_needed r exports x.1 required
-kept_by e main x r exports required same are is =
+-- what is required of an adapter decides whether it is needed
+pub needed_by : (e : EncoderView) (main : ModuleRecord) (x : NamedAdapter) (r : ResolveView) (exports : Entries) (required : List (List ℕ × FuncTypeValue)) → r ≡ e.resolve → world_exports e ≡ exports → required ≡ required_in main.imports x.0
+    → is_adapter_needed e main x ≡ is_needed r exports x.1 required
+needed_by e main x r exports required same are is =
     ap (λ z. is_needed e.resolve (world_exports e) x.1 z) (sym is) ∙ (ap (λ z. is_needed e.resolve z x.1 required) are ∙ ap (λ z. is_needed z exports x.1 required) (sym same))
 
-pub kept_or_memory : (e : EncoderView) (main : ModuleRecord) (x : NamedAdapter) (f : WorldFault) → is_kept e main x ≡ true → (f ≡ Memory) ⊎ IsStopOf e main x f → (f ≡ Memory) ⊎ IsKeptStop e main x f
-kept_or_memory e main x f kept (inl memory) = inl memory
-kept_or_memory e main x f kept (inr fault) = inr (kept, fault)
+pub needed_or_memory : (e : EncoderView) (main : ModuleRecord) (x : NamedAdapter) (f : WorldFault) → is_adapter_needed e main x ≡ true → (f ≡ Memory) ⊎ IsStopOf e main x f → (f ≡ Memory) ⊎ IsNeededStop e main x f
+needed_or_memory e main x f needed (inl memory) = inl memory
+needed_or_memory e main x f needed (inr fault) = inr (needed, fault)
 
 -- the fault of the adapters has its cause, the main module being valid
-pub adapters_cause : (e : EncoderView) (main : ModuleRecord) (f : WorldFault) → IsRecordOf (main_job e e.module_import_map) e.module_bytes main → IsFirstFault e main f → IsCause e f
+pub adapters_cause : (e : EncoderView) (main : ModuleRecord) (f : WorldFault) → IsRecordOf (main_input e e.module_import_map) e.module_bytes main → IsFirstFault e main f → IsCause e f
 adapters_cause e main (Main v) h first = absurd first.here
 adapters_cause e main f h first = record { main = main; recorded = h; first = first }
 
-adapters_memory : (e : EncoderView) (main : ModuleRecord) (f : WorldFault) → IsRecordOf (main_job e e.module_import_map) e.module_bytes main → IsReachedMemory e main f → IsMemory e f
+adapters_memory : (e : EncoderView) (main : ModuleRecord) (f : WorldFault) → IsRecordOf (main_input e e.module_import_map) e.module_bytes main → IsReachedMemory e main f → IsMemory e f
 adapters_memory e main Memory h first = tt
 adapters_memory e main (Main v) h first = absurd first.here
 adapters_memory e main f h first = record { main = main; recorded = h; first = first }
@@ -178,24 +182,24 @@ adapters_memory e main f h first = record { main = main; recorded = h; first = f
 first_cases : (e : EncoderView) (main : ModuleRecord) (xs : List NamedAdapter) (P Q : NamedAdapter → Type 0) → IsFirst e main xs (λ x. P x ⊎ Q x) → IsFirst e main xs P ⊎ IsFirst e main xs Q
 first_cases e main xs P Q h =
     elim h.here [
-      | inl p ↦ inl (record { front = h.front; adapter = h.adapter; back = h.back; cut = h.cut; sound = h.sound; here = p })
-      | inr q ↦ inr (record { front = h.front; adapter = h.adapter; back = h.back; cut = h.cut; sound = h.sound; here = q })
+      | inl p ↦ inl (record { front = h.front; adapter = h.adapter; back = h.back; cut = h.cut; are_valid = h.are_valid; here = p })
+      | inr q ↦ inr (record { front = h.front; adapter = h.adapter; back = h.back; cut = h.cut; are_valid = h.are_valid; here = q })
     ]
 
-pub first_or_memory : (e : EncoderView) (main : ModuleRecord) (f : WorldFault) → IsRecordOf (main_job e e.module_import_map) e.module_bytes main → (f ≡ Memory) ⊎ IsFirstStop e main f → IsMemory e f ⊎ IsCause e f
+pub first_or_memory : (e : EncoderView) (main : ModuleRecord) (f : WorldFault) → IsRecordOf (main_input e e.module_import_map) e.module_bytes main → (f ≡ Memory) ⊎ IsFirstStop e main f → IsMemory e f ⊎ IsCause e f
 first_or_memory e main f h (inl memory) = inl (subst (IsMemory e) (sym memory) tt)
 first_or_memory e main f h (inr stop) =
-    elim (first_cases e main (kept_adapters e main) (λ x. IsFaultOf e main x f) (λ x. IsMemoryOf e main x f) stop) [
+    elim (first_cases e main (needed_adapters e main) (λ x. IsFaultOf e main x f) (λ x. IsMemoryOf e main x f) stop) [
       | inl first ↦ inr (adapters_cause e main f h first)
       | inr first ↦ inl (adapters_memory e main f h first)
     ]
 
 -- the main module is refused
-pub main_refused : (e : EncoderView) (f : ValidateFault) → IsModuleCause (main_job e e.module_import_map) e.module_bytes f → IsMemory e (Main f) ⊎ IsCause e (Main f)
-main_refused e f h = refused_or_memory (main_job e e.module_import_map) e.module_bytes f h
+pub main_refused : (e : EncoderView) (f : ValidateFault) → IsModuleCause (main_input e e.module_import_map) e.module_bytes f → IsMemory e (Main f) ⊎ IsCause e (Main f)
+main_refused e f h = refused_or_memory (main_input e e.module_import_map) e.module_bytes f h
 
 -- of an adapter that the walk has come to, under the name that was read
-pub first_by_walk : (e : EncoderView) (main : ModuleRecord) (left rest : List RawGiven) (x : RawGiven) (ys : List NamedWorldAdapter) (f : WorldFault) (name : List ℕ) → left ≡ x ∷ rest → name ≡ string_bytes x.0
-    → (f ≡ Memory) ⊎ IsKeptStop e main (name, (given_entry x).1) f → AdaptersWalk e main left ys → (f ≡ Memory) ⊎ IsFirstStop e main f
+pub first_by_walk : (e : EncoderView) (main : ModuleRecord) (left rest : List RawInput) (x : RawInput) (ys : List NamedWorldAdapter) (f : WorldFault) (name : List ℕ) → left ≡ x ∷ rest → name ≡ string_bytes x.0
+    → (f ≡ Memory) ⊎ IsNeededStop e main (name, (input_entry x).1) f → AdaptersWalk e main left ys → (f ≡ Memory) ⊎ IsFirstStop e main f
 first_by_walk e main left rest x ys f name is same (inl memory) w = inl memory
-first_by_walk e main left rest x ys f name is same (inr fault) w = inr (walk_fault e main left rest x ys f is (subst (λ n. IsKeptStop e main (n, (given_entry x).1) f) same fault) w)
+first_by_walk e main left rest x ys f name is same (inr fault) w = inr (walk_fault e main left rest x ys f is (subst (λ n. IsNeededStop e main (n, (input_entry x).1) f) same fault) w)

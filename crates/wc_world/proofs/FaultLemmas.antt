@@ -8,7 +8,7 @@ use Rattle.wc_read.specs.declared.types.MemoryType.{MemoryType}
 use Rattle.wc_read.specs.Limits.{page_exponent}
 use Rattle.wc_encoder.specs.declared.adapters.LibraryInfo.{LibraryInfo}
 use Rattle.wc_encoder.specs.Adapters.{LibraryView, library_view}
-use Rattle.wc_gc.specs.Liveness.{Wanted, names_of, wanted}
+use Rattle.wc_gc.specs.Liveness.{TrimInput, names_of, trim_input}
 use Rattle.wc_gc.specs.Parts.{SettingsValue, settings}
 use Rattle.wc_gc.specs.TrimmedText.{IsTrimmedRead}
 use Rattle.wc_gc.specs.Laws.{AreSettings}
@@ -16,17 +16,17 @@ use Rattle.wc_gc.specs.Trimming.{IsTrimCause, IsTrimFault}
 use Rattle.wc_write.specs.Values.{AreBytes}
 use Rattle.wc_gc.specs.declared.fault.GcFault.{GcFault}
 use Rattle.wc_gc.specs.declared.fault.GcFault.TheVariants as trim
-use Rattle.wc_validate.specs.ImportMaps.{memory_in}
-use Rattle.wc_validate.specs.Validated.{IsCause as IsModuleCause, IsRecordOf, Job, ModuleRecord, adapter_job}
+use Rattle.wc_validate.specs.Imports.Map.{memory_in}
+use Rattle.wc_validate.specs.Validated.{IsCause as IsModuleCause, IsRecordOf, ValidationInput, ModuleRecord, adapter_input}
 use Rattle.wc_validate.specs.declared.fault.ValidateFault.{ValidateFault}
 use Rattle.wc_validate.specs.declared.fault.ValidateFault.TheVariants as validate
-use Rattle.wc_world.specs.Adapters.{job_of, main_page_size, main_realloc, page_size, required_names, trim_exponent}
+use Rattle.wc_world.specs.Adapters.{validation_input_of, main_page_size, main_realloc, page_size, required_names, trim_exponent}
 use Rattle.wc_world.specs.Causes.{IsMinimizedReached, IsNamed, IsRefused, IsTrimReached}
-use Rattle.wc_world.specs.Given.{IsGivenFault, IsGivenMade, IsGivenRecord, IsGivenText, IsNeeded, main_of, named_adapter, required_of}
+use Rattle.wc_world.specs.Private.AdapterInput.{IsInputFault, IsInputTrimmedOrLibrary, IsInputRecord, IsInputTrimmedText, IsNeeded, main_of, named_adapter, required_of}
 use Rattle.wc_world.specs.Restricted.{RefusedAsCollision}
 use Rattle.wc_world.specs.Views.{WorldAdapterView}
-use Rattle.wc_world.specs.World.{IsMade, settings_of, wanted_of}
-use Rattle.wc_world.specs.declared.adapters.Given.{Given}
+use Rattle.wc_world.specs.World.{IsTrimmedOrLibrary, settings_of, trim_input_of}
+use Rattle.wc_world.specs.declared.adapters.AdapterInput.{AdapterInput}
 use Rattle.wc_world.specs.declared.fault.WorldFault.{WorldFault}
 use Rattle.wc_world.specs.declared.fault.WorldFault.TheVariants.{Memory, Adapter, Trim, Minimized, PageSize}
 use Rattle.wc_world.proofs.NeededLemmas.{needed_some}
@@ -42,15 +42,15 @@ pub named_fault : (make : String Global → WorldFault) (name : List ℕ) (P : W
 named_fault make name P f at_memory at_name (inl is) = subst P (sym is) at_memory
 named_fault make name P f at_memory at_name (inr (s, named, is)) = subst P (sym is) (at_name s named)
 
-pub refused_or_memory : (j : Job) (bytes : List ℕ) (f : ValidateFault) → IsModuleCause j bytes f → (f ≡ validate.Memory) ⊎ IsRefused j bytes f
+pub refused_or_memory : (j : ValidationInput) (bytes : List ℕ) (f : ValidateFault) → IsModuleCause j bytes f → (f ≡ validate.Memory) ⊎ IsRefused j bytes f
 refused_or_memory j bytes validate.Memory h = inl refl
 refused_or_memory j bytes f h = inr ((λ is. let bad : ⊥ = cc is in bad), h)
 
-untrimmed_or_memory : (s : SettingsValue) (w : Wanted) (f : GcFault) → IsTrimFault s w f → (f ≡ trim.Memory) ⊎ ((f ≢ trim.Memory) × IsTrimFault s w f)
+untrimmed_or_memory : (s : SettingsValue) (w : TrimInput) (f : GcFault) → IsTrimFault s w f → (f ≡ trim.Memory) ⊎ ((f ≢ trim.Memory) × IsTrimFault s w f)
 untrimmed_or_memory s w trim.Memory h = inl refl
 untrimmed_or_memory s w f h = inr ((λ is. let bad : ⊥ = cc is in bad), h)
 
--- what a library is handed, as it is seen
+-- what a library is passed, as it is seen
 pub seen_library : (o : Option (Bor LibraryInfo)) (p : Option LibraryInfo) → option_copied o ≡ p → option_map (λ (l : Bor LibraryInfo). library_view l.now) o ≡ option_map library_view p
 seen_library None p is = ap (option_map library_view) is
 seen_library (Some l) p is = ap (option_map library_view) is
@@ -63,35 +63,35 @@ ok_mapped P Q (Ok v) f h = f v h
 ok_mapped P Q (Err e) f h = tt
 
 -- what a module is validated for in an adapter's place
-module _ (g : Given) (needed : IsNeeded g) (library : Option LibraryView) (own : library ≡ (named_adapter g).1.library_info) where
-  job : Job
-  job = job_of g.encoder.now (main_of g) (named_adapter g)
+module _ (g : AdapterInput) (needed : IsNeeded g) (library : Option LibraryView) (own : library ≡ (named_adapter g).1.library_info) where
+  validation_input : ValidationInput
+  validation_input = validation_input_of g.encoder.now (main_of g) (named_adapter g)
 
-  own_job : adapter_job g.encoder.now library (named_adapter g).1.required_exports (required_of g) ≡ job
-  unfolding job
-  own_job =
-      ap (λ l. adapter_job g.encoder.now l (named_adapter g).1.required_exports (required_of g)) own
-      ∙ ap (λ r. adapter_job g.encoder.now (named_adapter g).1.library_info (named_adapter g).1.required_exports r) needed.required
+  own_input : adapter_input g.encoder.now library (named_adapter g).1.required_exports (required_of g) ≡ validation_input
+  unfolding validation_input
+  own_input =
+      ap (λ l. adapter_input g.encoder.now l (named_adapter g).1.required_exports (required_of g)) own
+      ∙ ap (λ r. adapter_input g.encoder.now (named_adapter g).1.library_info (named_adapter g).1.required_exports r) needed.required
 
-  pub recorded_given : (bytes other : List ℕ) (r : ModuleRecord) → bytes ≡ other → IsRecordOf (adapter_job g.encoder.now library (named_adapter g).1.required_exports (required_of g)) bytes r → IsGivenRecord g other r
-  unfolding job
-  recorded_given bytes other r is h = subst (λ b. IsGivenRecord g b r) is (subst (λ j. IsRecordOf j bytes r) own_job h)
+  pub recorded_input : (bytes other : List ℕ) (r : ModuleRecord) → bytes ≡ other → IsRecordOf (adapter_input g.encoder.now library (named_adapter g).1.required_exports (required_of g)) bytes r → IsInputRecord g other r
+  unfolding validation_input
+  recorded_input bytes other r is h = subst (λ b. IsInputRecord g b r) is (subst (λ j. IsRecordOf j bytes r) own_input h)
 
-  refused_given : (bytes other : List ℕ) (f : ValidateFault) → bytes ≡ other → IsModuleCause (adapter_job g.encoder.now library (named_adapter g).1.required_exports (required_of g)) bytes f → (f ≡ validate.Memory) ⊎ IsRefused job other f
-  refused_given bytes other f is h =
-      refused_or_memory job other f (subst (λ b. IsModuleCause job b f) is (subst (λ j. IsModuleCause j bytes f) own_job h))
+  refused_input : (bytes other : List ℕ) (f : ValidateFault) → bytes ≡ other → IsModuleCause (adapter_input g.encoder.now library (named_adapter g).1.required_exports (required_of g)) bytes f → (f ≡ validate.Memory) ⊎ IsRefused validation_input other f
+  refused_input bytes other f is h =
+      refused_or_memory validation_input other f (subst (λ b. IsModuleCause validation_input b f) is (subst (λ j. IsModuleCause j bytes f) own_input h))
 
-  -- a module that is refused as it was given, and one that is refused once it is trimmed
-  pub adapter_refused : (bytes : List ℕ) (v : ValidateFault) (f : WorldFault) → bytes ≡ g.adapter.now.wasm.items → IsModuleCause (adapter_job g.encoder.now library (named_adapter g).1.required_exports (required_of g)) bytes v
-      → IsNamed (λ s. Adapter s v) g.name.now f → IsGivenFault g f
-  unfolding job
+  -- a module that is refused as the encoder has it, and one that is refused once it is trimmed
+  pub adapter_refused : (bytes : List ℕ) (v : ValidateFault) (f : WorldFault) → bytes ≡ g.adapter.now.wasm.items → IsModuleCause (adapter_input g.encoder.now library (named_adapter g).1.required_exports (required_of g)) bytes v
+      → IsNamed (λ s. Adapter s v) g.name.now f → IsInputFault g f
+  unfolding validation_input
   adapter_refused bytes v f is h named =
-      named_fault (λ s. Adapter s v) g.name.now (IsGivenFault g) f (inl refl)
-      (λ s same. elim (refused_given bytes g.adapter.now.wasm.items v is h) [ inl memory ↦ inr (inr (same, memory)) | inr refused ↦ inr (inl (same, refused)) ]) named
+      named_fault (λ s. Adapter s v) g.name.now (IsInputFault g) f (inl refl)
+      (λ s same. elim (refused_input bytes g.adapter.now.wasm.items v is h) [ inl memory ↦ inr (inr (same, memory)) | inr refused ↦ inr (inl (same, refused)) ]) named
 
-  pub minimized_refused : (bytes : List ℕ) (v : ValidateFault) (f : WorldFault) (first : ModuleRecord) → RefusedAsCollision g.encoder.now → IsGivenText g first bytes
-      → IsModuleCause (adapter_job g.encoder.now library (named_adapter g).1.required_exports (required_of g)) bytes v → IsNamed (λ s. Minimized s v) g.name.now f → IsGivenFault g f
-  unfolding job
+  pub minimized_refused : (bytes : List ℕ) (v : ValidateFault) (f : WorldFault) (first : ModuleRecord) → RefusedAsCollision g.encoder.now → IsInputTrimmedText g first bytes
+      → IsModuleCause (adapter_input g.encoder.now library (named_adapter g).1.required_exports (required_of g)) bytes v → IsNamed (λ s. Minimized s v) g.name.now f → IsInputFault g f
+  unfolding validation_input
   minimized_refused bytes v f first law trim h named =
       let reached : IsMinimizedReached g.encoder.now (main_of g) (named_adapter g) = record {
         valid = record { first = first; trims = trim.no_library; original = trim.original };
@@ -99,75 +99,75 @@ module _ (g : Given) (needed : IsNeeded g) (library : Option LibraryView) (own :
         trimmed = trim.trimmed;
         no_cause = trim.no_cause;
       } in
-      named_fault (λ s. Minimized s v) g.name.now (IsGivenFault g) f (inl refl)
-      (λ s same. elim (refused_given bytes bytes v refl h) [
+      named_fault (λ s. Minimized s v) g.name.now (IsInputFault g) f (inl refl)
+      (λ s same. elim (refused_input bytes bytes v refl h) [
         | inl memory ↦ inr (inr (same, memory, reached))
         | inr refused ↦ inr (inl (
           same,
           record {
             reached = reached;
             refused = refused;
-            collides = law job (settings_of g.encoder.now (main_of g) first) (wanted_of (main_of g) (named_adapter g) first) bytes first v trim refused.0 refused.1;
+            collides = law validation_input (settings_of g.encoder.now (main_of g) first) (trim_input_of (main_of g) (named_adapter g) first) bytes first v trim refused.0 refused.1;
           },
         ))
       ]) named
 
 -- to what it is trimmed
-module _ (g : Given) (needed : IsNeeded g) (first : ModuleRecord) (realloc : Option (Bor (List ℕ))) (exponent : ℕ) (bytes : List ℕ) (names : List (String Global))
+module _ (g : AdapterInput) (needed : IsNeeded g) (first : ModuleRecord) (realloc : Option (Bor (List ℕ))) (exponent : ℕ) (bytes : List ℕ) (names : List (String Global))
     (is_realloc : option_map (λ (name : Bor (List ℕ)). name.now) realloc ≡ main_realloc g.encoder.now.realloc_via_memory_grow g.main.now.exports) (is_exponent : exponent ≡ trim_exponent (memory_in first.imports))
     (is_bytes : bytes ≡ g.adapter.now.wasm.items) (is_names : names_of names ≡ required_names (required_of g) first.exports) where
   settings_by : Option (List ℕ) → ℕ → SettingsValue
   settings_by r n = record { realloc = r; exponent = n }
 
-  wanted_by : List ℕ → List (List ℕ) → Wanted
-  wanted_by b ns = record { bytes = b; required = ns }
+  trim_input_by : List ℕ → List (List ℕ) → TrimInput
+  trim_input_by b ns = record { bytes = b; required = ns }
 
   own_settings : settings realloc exponent ≡ settings_of g.encoder.now (main_of g) first
   unfolding settings_by
   own_settings = ap (λ r. settings_by r exponent) is_realloc ∙ ap (settings_by (main_realloc g.encoder.now.realloc_via_memory_grow g.main.now.exports)) is_exponent
 
-  own_wanted : wanted bytes names ≡ wanted_of (main_of g) (named_adapter g) first
-  unfolding wanted_by
-  own_wanted =
-      ap (λ b. wanted_by b (names_of names)) is_bytes
-      ∙ ap (wanted_by g.adapter.now.wasm.items) (is_names ∙ ap (λ r. required_names r first.exports) needed.required)
+  own_trim_input : trim_input bytes names ≡ trim_input_of (main_of g) (named_adapter g) first
+  unfolding trim_input_by
+  own_trim_input =
+      ap (λ b. trim_input_by b (names_of names)) is_bytes
+      ∙ ap (trim_input_by g.adapter.now.wasm.items) (is_names ∙ ap (λ r. required_names r first.exports) needed.required)
 
-  -- what is said of settings and of what is wanted, in these words
-  in_own_words : (P : SettingsValue → Wanted → Type 0) → P (settings realloc exponent) (wanted bytes names) → P (settings_of g.encoder.now (main_of g) first) (wanted_of (main_of g) (named_adapter g) first)
-  in_own_words P h = subst (λ w. P (settings_of g.encoder.now (main_of g) first) w) own_wanted (subst (λ s. P s (wanted bytes names)) own_settings h)
+  -- what is said of settings and of what is required, in these words
+  in_own_words : (P : SettingsValue → TrimInput → Type 0) → P (settings realloc exponent) (trim_input bytes names) → P (settings_of g.encoder.now (main_of g) first) (trim_input_of (main_of g) (named_adapter g) first)
+  in_own_words P h = subst (λ w. P (settings_of g.encoder.now (main_of g) first) w) own_trim_input (subst (λ s. P s (trim_input bytes names)) own_settings h)
 
-  pub text_given : (text : List ℕ) → (named_adapter g).1.library_info ≡ None → IsGivenRecord g g.adapter.now.wasm.items first → AreSettings (settings realloc exponent) → AreBytes bytes
-      → IsTrimmedRead (settings realloc exponent) (wanted bytes names) text → ((f : GcFault) → ¬ (IsTrimCause (settings realloc exponent) (wanted bytes names) f)) → IsGivenText g first text
-  text_given text none original valid are h no_cause =
+  pub input_trimmed_text : (text : List ℕ) → (named_adapter g).1.library_info ≡ None → IsInputRecord g g.adapter.now.wasm.items first → AreSettings (settings realloc exponent) → AreBytes bytes
+      → IsTrimmedRead (settings realloc exponent) (trim_input bytes names) text → ((f : GcFault) → ¬ (IsTrimCause (settings realloc exponent) (trim_input bytes names) f)) → IsInputTrimmedText g first text
+  input_trimmed_text text none original valid are h no_cause =
       trimmed_for g.encoder.now (main_of g) (named_adapter g) first text none (subst AreSettings own_settings valid) (subst AreBytes is_bytes are) original
       (in_own_words (λ s w. IsTrimmedRead s w text) h) (λ f. in_own_words (λ s w. ¬ (IsTrimCause s w f)) (no_cause f))
 
-  untrimmed_given : (f : GcFault) → IsTrimFault (settings realloc exponent) (wanted bytes names) f → IsTrimFault (settings_of g.encoder.now (main_of g) first) (wanted_of (main_of g) (named_adapter g) first) f
-  untrimmed_given f h = in_own_words (λ s w. IsTrimFault s w f) h
+  untrimmed_input : (f : GcFault) → IsTrimFault (settings realloc exponent) (trim_input bytes names) f → IsTrimFault (settings_of g.encoder.now (main_of g) first) (trim_input_of (main_of g) (named_adapter g) first) f
+  untrimmed_input f h = in_own_words (λ s w. IsTrimFault s w f) h
 
-  pub trim_refused : (v : GcFault) (f : WorldFault) → (named_adapter g).1.library_info ≡ None → IsGivenRecord g g.adapter.now.wasm.items first → IsTrimFault (settings realloc exponent) (wanted bytes names) v → IsNamed (λ s. Trim s v) g.name.now f → IsGivenFault g f
+  pub trim_refused : (v : GcFault) (f : WorldFault) → (named_adapter g).1.library_info ≡ None → IsInputRecord g g.adapter.now.wasm.items first → IsTrimFault (settings realloc exponent) (trim_input bytes names) v → IsNamed (λ s. Trim s v) g.name.now f → IsInputFault g f
   trim_refused v f none original h named =
       let valid : IsTrimReached g.encoder.now (main_of g) (named_adapter g) = record { first = first; trims = none; original = original } in
-      named_fault (λ s. Trim s v) g.name.now (IsGivenFault g) f (inl refl)
-      (λ s same. elim (untrimmed_or_memory (settings_of g.encoder.now (main_of g) first) (wanted_of (main_of g) (named_adapter g) first) v (untrimmed_given v h)) [
+      named_fault (λ s. Trim s v) g.name.now (IsInputFault g) f (inl refl)
+      (λ s same. elim (untrimmed_or_memory (settings_of g.encoder.now (main_of g) first) (trim_input_of (main_of g) (named_adapter g) first) v (untrimmed_input v h)) [
         | inl memory ↦ inr (inr (same, memory, valid))
         | inr stopped ↦ inr (inl (same, record { valid = valid; stopped = stopped.1; no_memory = stopped.0 }))
       ]) named
 
-  -- a name is wanted of it
-  pub some_given : (named_adapter g).1.library_info ≡ None → IsGivenRecord g g.adapter.now.wasm.items first → names ≢ []
-  some_given none original is =
-      needed_some g.encoder.now (main_of g) (named_adapter g) g.adapter.now.wasm.items first none needed.kept original
+  -- a name is required of it
+  pub some_names : (named_adapter g).1.library_info ≡ None → IsInputRecord g g.adapter.now.wasm.items first → names ≢ []
+  some_names none original is =
+      needed_some g.encoder.now (main_of g) (named_adapter g) g.adapter.now.wasm.items first none needed.in_component original
       (sym (is_names ∙ ap (λ r. required_names r first.exports) needed.required) ∙ ap names_of is)
 
 -- its pages are others
-pub page_fault : (g : Given) (info : ModuleRecord) (s : String Global) (memory : MemoryType) (own mains : ℕ) → string_bytes s ≡ g.name.now → memory_in info.imports ≡ Some memory → own ≡ page_size memory → mains ≡ main_page_size g.main.now.exports → own ≢ mains
-    → (a : WorldAdapterView) → a.info ≡ info → IsGivenMade g a → IsGivenFault g (PageSize s own mains)
-page_fault g info s memory own mains named imported is_own is_main differ a is made =
-    inr (inl (named, record { adapter = a; memory = memory; made = made; imported = subst (λ (z : ModuleRecord). memory_in z.imports ≡ Some memory) (sym is) imported; is_own = is_own; is_main = is_main; differ = differ }))
+pub page_fault : (g : AdapterInput) (info : ModuleRecord) (s : String Global) (memory : MemoryType) (own mains : ℕ) → string_bytes s ≡ g.name.now → memory_in info.imports ≡ Some memory → own ≡ page_size memory → mains ≡ main_page_size g.main.now.exports → own ≢ mains
+    → (a : WorldAdapterView) → a.info ≡ info → IsInputTrimmedOrLibrary g a → IsInputFault g (PageSize s own mains)
+page_fault g info s memory own mains named imported is_own is_main differ a is is_adapter =
+    inr (inl (named, record { adapter = a; memory = memory; is_adapter = is_adapter; imported = subst (λ (z : ModuleRecord). memory_in z.imports ≡ Some memory) (sym is) imported; is_own = is_own; is_main = is_main; differ = differ }))
 
--- a library is what it was given as
-pub library_made : (g : Given) (library : LibraryInfo) (a : WorldAdapterView) → g.adapter.now.library_info ≡ Some library → a.wasm ≡ g.adapter.now.wasm.items → a.is_borrowed ≡ true → IsGivenRecord g g.adapter.now.wasm.items a.info → IsGivenMade g a
-library_made g library a is given borrowed recorded =
-    subst (λ o. IsMade g.encoder.now (main_of g) (named_adapter g) a (option_map library_view o)) (sym is)
-    (record { given = given; borrowed = borrowed; recorded = subst (λ b. IsGivenRecord g b a.info) (sym given) recorded })
+-- a library is what the encoder has
+pub borrowed_library : (g : AdapterInput) (library : LibraryInfo) (a : WorldAdapterView) → g.adapter.now.library_info ≡ Some library → a.wasm ≡ g.adapter.now.wasm.items → a.is_borrowed ≡ true → IsInputRecord g g.adapter.now.wasm.items a.info → IsInputTrimmedOrLibrary g a
+borrowed_library g library a is same_bytes borrowed recorded =
+    subst (λ o. IsTrimmedOrLibrary g.encoder.now (main_of g) (named_adapter g) a (option_map library_view o)) (sym is)
+    (record { same_bytes = same_bytes; borrowed = borrowed; recorded = subst (λ b. IsInputRecord g b a.info) (sym same_bytes) recorded })

@@ -13,9 +13,9 @@ use Rattle.wc_encoder.specs.EncoderParts.{EncoderView, IsWorldOf, world_imports}
 use Rattle.wc_encoder.specs.WellFormed.{IsWellFormed as IsEncoder}
 use Rattle.wc_names.specs.Laws.{IsImportIn}
 use Rattle.wc_names.specs.Views.{ImportView}
-use Rattle.wc_validate.specs.ImportMaps.{imports_in}
+use Rattle.wc_validate.specs.Imports.Map.{imports_in}
 use Rattle.wc_validate.specs.Laws.{RecordsInRange}
-use Rattle.wc_validate.specs.Validated.{main_job}
+use Rattle.wc_validate.specs.Validated.{main_input}
 use Rattle.wc_world.specs.FunctionsLowered.{FunctionsLowered, IsLoweredIn}
 use Rattle.wc_world.specs.Lowered.{Lowerer, all_entries, lowerer}
 use Rattle.wc_world.specs.Options.{OptionsOf}
@@ -39,7 +39,7 @@ module _ (e : EncoderView) (law : RecordsInRange e) (options : OptionsOf) (w : C
   -- what the imports of the main module and of the adapters name is there
   all_there : All (IsImportIn e.resolve v) (imports_of (all_imports w.info w.adapters))
   all_there =
-      let main : All Names (imports_in w.info.imports) = law (main_job e e.module_import_map) e.module_bytes w.info v refl made.main at in
+      let main : All Names (imports_in w.info.imports) = law (main_input e e.module_import_map) e.module_bytes w.info v refl made.main at in
       let each : All (λ (a : NamedWorldAdapter). All Names (imports_in a.1.info.imports)) w.adapters = λ k d small. adapters_in e w.info law w.adapters made.adapters k d small v at in
       All-map (IsImportIn e.resolve v) (λ (x : List ℕ × (List ℕ × ImportView)). x.1.1) (all_imports w.info w.adapters)
       (All-append Names (imports_in w.info.imports) (flat_map (λ (a : NamedWorldAdapter). imports_in a.1.info.imports) w.adapters) main

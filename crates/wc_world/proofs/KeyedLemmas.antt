@@ -1,11 +1,13 @@
 -- Lowerings and entries put into a map one after another.
-use Rattle.std.proofs.Common.{◌≡◌, ◌≢◌, ℕ, List, [], ◌∷◌, ◌++◌, Bool, true, false, ◌&&◌, Option, Some, None, All, AllPairs, map, String, string_bytes, refl, sym, ap, ◌∙◌, subst, append_assoc}
+use Rattle.std.proofs.Common.{◌≡◌, ◌≢◌, ℕ, List, [], ◌∷◌, ◌++◌, Bool, true, false, ◌&&◌, Option, Some, None, All, AllPairs, map, String, string_bytes, refl}
+use Rattle.std.proofs.Common.{sym, ap, ◌∙◌, subst, append_assoc}
 use Rattle.std.specs.Prelude.{if◌then◌else◌}
 use Rattle.std.specs.Option.{option_eq, option_map}
 use Rattle.std.specs.String.{string_eq}
 use Rattle.std.specs.declared.alloc.Global.{Global}
 use Rattle.std.proofs.lemmas.List.{map-append}
 use Rattle.std.proofs.lemmas.List.Elements.{All-head, All-tail}
+use Rattle.std.proofs.lemmas.Bool.{and_parts}
 use Rattle.indexmap.specs.IndexMap.{insert_entry}
 use Rattle.wc_resolve.specs.declared.functions.AbiVariant.{AbiVariant}
 use Rattle.wc_resolve.specs.declared.functions.AbiVariant.TheVariants.{GuestImport, GuestExport, GuestImportAsync, GuestExportAsync, GuestExportAsyncStackful}
@@ -37,7 +39,8 @@ module _ {K V A B : Type 0} (key : K → A) (value : V → B) (eq : K → K → 
   at_last P [] h = All-head P (view x) [] h
   at_last P (e ∷ es) h = at_last P es (All-tail P (view e) (map view (es ++ x ∷ [])) h)
 
-  at : (e : K × V) (es : List (K × V)) (b : Bool) → (b ≡ true → ⊥) → insert_entry eq es x.0 x.1 ≡ es ++ x ∷ [] → (if b then (e.0, x.1) ∷ es else e ∷ insert_entry eq es x.0 x.1) ≡ e ∷ (es ++ x ∷ [])
+  at : (e : K × V) (es : List (K × V)) (b : Bool) → (b ≡ true → ⊥) → insert_entry eq es x.0 x.1 ≡ es ++ x ∷ []
+      → (if b then (e.0, x.1) ∷ es else e ∷ insert_entry eq es x.0 x.1) ≡ e ∷ (es ++ x ∷ [])
   at e es true never later = absurd (never refl)
   at e es false never later = ap (λ z. e ∷ z) later
 
@@ -53,7 +56,9 @@ module _ {K V A B : Type 0} (key : K → A) (value : V → B) (eq : K → K → 
 abbrev pub SaysEqual : (String Global × AbiVariant → String Global × AbiVariant → Bool) → Type 0
 SaysEqual eq = (a b : String Global × AbiVariant) → eq a b ≡ true → ◌≡◌ {A = LoweringKey} (string_bytes a.0, a.1) (string_bytes b.0, b.1)
 
-pub put_next : (eq : String Global × AbiVariant → String Global × AbiVariant → Bool) → SaysEqual eq → (all left rest old new : List RawLowering) (x : RawLowering) → AreKeysDistinct (map lowering_entry all) → left ≡ x ∷ rest → new ≡ insert_entry eq old x.0 x.1 → old ++ left ≡ all → new ++ rest ≡ all
+pub put_next : (eq : String Global × AbiVariant → String Global × AbiVariant → Bool) → SaysEqual eq
+    → (all left rest old new : List RawLowering) (x : RawLowering) → AreKeysDistinct (map lowering_entry all) → left ≡ x ∷ rest
+    → new ≡ insert_entry eq old x.0 x.1 → old ++ left ≡ all → new ++ rest ≡ all
 put_next eq law all left rest old new x distinct is put same =
     let split : (old ++ x ∷ []) ++ rest ≡ all = append_assoc old (x ∷ []) rest ∙ (ap (λ z. old ++ z) (sym is) ∙ same) in
     let keys_distinct : AreKeysDistinct (map lowering_entry (old ++ x ∷ [])) =
@@ -68,10 +73,12 @@ names_law None (Some b) h = absurd (let bad : ⊥ = cc h in bad)
 names_law (Some a) None h = absurd (let bad : ⊥ = cc h in bad)
 names_law (Some a) (Some b) h = ap (λ (n : List ℕ). Some n) ((texts_law a b).0 h)
 
-pub entry_put : (old new : List RawImport) (x : RawImport) → new ≡ insert_entry (option_eq string_eq) old x.0 x.1 → AreEntriesDistinct (map imported_entry old ++ imported_entry x ∷ []) → map imported_entry new ≡ map imported_entry old ++ imported_entry x ∷ []
+pub entry_put : (old new : List RawImport) (x : RawImport) → new ≡ insert_entry (option_eq string_eq) old x.0 x.1
+    → AreEntriesDistinct (map imported_entry old ++ imported_entry x ∷ []) → map imported_entry new ≡ map imported_entry old ++ imported_entry x ∷ []
 entry_put old new x put distinct =
     let pushed : map imported_entry (old ++ x ∷ []) ≡ map imported_entry old ++ imported_entry x ∷ [] = map-append imported_entry old (x ∷ []) in
-    ap (map imported_entry) (put ∙ put_last (option_map string_bytes) imported_view (option_eq string_eq) names_law x old (subst AreEntriesDistinct (sym pushed) distinct)) ∙ pushed
+    ap (map imported_entry) (put ∙ put_last (option_map string_bytes) imported_view (option_eq string_eq) names_law x old
+    (subst AreEntriesDistinct (sym pushed) distinct)) ∙ pushed
 
 abi_law : (a b : AbiVariant) → abi_eq.it a b ≡ true → a ≡ b
 abi_law GuestImport GuestImport h = refl
@@ -81,15 +88,10 @@ abi_law GuestExportAsync GuestExportAsync h = refl
 abi_law GuestExportAsyncStackful GuestExportAsyncStackful h = refl
 abi_law a b h = absurd (let bad : ⊥ = cc h in bad)
 
-both_true : (x y : Bool) → (x && y) ≡ true → (x ≡ true) × (y ≡ true)
-both_true true true h = (refl, refl)
-both_true true false h = absurd (let bad : ⊥ = cc h in bad)
-both_true false y h = absurd (let bad : ⊥ = cc h in bad)
-
 abbrev pub same_key : String Global × AbiVariant → String Global × AbiVariant → Bool
 same_key a b = string_eq a.0 b.0 && abi_eq.it a.1 b.1
 
 pub key_law : SaysEqual same_key
 key_law a b h =
-    let both = both_true (string_eq a.0 b.0) (abi_eq.it a.1 b.1) h in
+    let both = and_parts (string_eq a.0 b.0) (abi_eq.it a.1 b.1) h in
     ap (λ n. (n, a.1)) ((texts_law a.0 b.0).0 both.0) ∙ ap (λ z. (string_bytes b.0, z)) (abi_law a.1 b.1 both.1)

@@ -26,13 +26,13 @@ use Rattle.wc_encoder.specs.Dependencies.{AreItemsIn}
 use Rattle.wc_encoder.specs.EncoderParts.{EncoderView, IsWorldOf, world_imports}
 use Rattle.wc_encoder.specs.Entries.{Entries}
 use Rattle.wc_names.specs.Laws.{IsImportIn}
-use Rattle.wc_names.specs.Lookups.{as_type, item_under, under_name}
+use Rattle.wc_names.specs.Keys.{as_type, item_under, under_name}
 use Rattle.wc_names.specs.Payloads.{HasPayload}
 use Rattle.wc_names.specs.declared.imports.Import.{Import}
 use Rattle.wc_names.specs.declared.imports.Import.TheVariants as variant
 use Rattle.wc_names.specs.Views.{ImportView, import_view, PayloadTypeView, typed, unit_future, unit_stream, world_func, interface_func, imported_resource_drop, exported_resource_drop, exported_resource_new, exported_resource_rep, adapter_export, main_module_memory, main_module_export, library_item, exported_task_return, exported_task_cancel, tls_base_get, tls_base_set, wait_import, poll_import, builtin, async_value}
-use Rattle.wc_validate.specs.Entries.{Records}
-use Rattle.wc_validate.specs.ImportMaps.{imports_in}
+use Rattle.wc_validate.specs.Imports.Entries.{Records}
+use Rattle.wc_validate.specs.Imports.Map.{imports_in}
 use Rattle.wc_validate.specs.Requirements.{functions_of}
 use Rattle.wc_validate.specs.Validated.{ModuleRecord}
 use Rattle.wc_world.specs.Live.{AreImportsIn, AreImportsOf, AreListed, AreRootsIn, adapter_roots, builtin_roots, by_owner, export_roots, import_payload, import_resource, import_roots, imported_types, is_from_elsewhere, live_from, live_types, module_roots, payload_roots, world_roots}

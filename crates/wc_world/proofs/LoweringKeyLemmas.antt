@@ -21,9 +21,9 @@ use Rattle.wc_resolve.proofs.KeyLemmas.{texts_law}
 use Rattle.wc_resolve.proofs.WellFormedLemmas.{all_get}
 use Rattle.wc_encoder.specs.Distinct.{AreNamesDistinct, import_name}
 use Rattle.wc_encoder.proofs.PairLemmas.{pairs_none}
-use Rattle.wc_names.specs.Lookups.{resource_at}
+use Rattle.wc_names.specs.Keys.{resource_at}
 use Rattle.wc_names.proofs.RangeLemmas.{resource_is}
-use Rattle.wc_world.specs.Lowered.{AreKeysDistinct, KeyedLowering, Lowerer, called_lowering, drop_key, function_lowerings, interface_lowerings, is_drop_of, is_import_of, item_lowerings, lowered_function, resource_lowerings, resource_name, type_lowerings}
+use Rattle.wc_world.specs.Lowered.{AreKeysDistinct, KeyedLowering, Lowerer, called_lowering, drop_key, function_lowerings, interface_lowerings, is_drop_of, is_import_of, item_lowerings, lowered_function, resource_lowerings, resource_name, type_lowerings, lowerings_of_interface}
 use Rattle.wc_world.specs.Views.{LoweringKey, resource_drop}
 use Rattle.wc_world.proofs.PairListLemmas.{all_back, all_of_flat, pairs_across, pairs_of_flat, pairs_one, pairs_unviewed}
 
@@ -256,8 +256,8 @@ module _ {V W : Type 0} (entry : String Global × V → List ℕ × W) (own : (e
 
 -- an interface by what maps say of its names
 pub interface_of_parts : (l : Lowerer) (r : ResolveView) → l.resolve ≡ r → IsWellFormed r → (i : ℕ) (v : Interface) → slice_get r.interfaces i ≡ Some (interface_view v) → IsDistinct string_eq (keys_of v.types.entries) → IsDistinct string_eq (keys_of v.functions.entries)
-    → AreKeysDistinct (option_map_or (interface_lowerings l i) (slice_get r.interfaces i) [])
+    → AreKeysDistinct (lowerings_of_interface l i)
 interface_of_parts l r same formed i v at types functions =
-    subst (λ o. AreKeysDistinct (option_map_or (interface_lowerings l i) o [])) (sym at)
+    subst (λ o. AreKeysDistinct (option_map_or (interface_lowerings l i) o [])) (sym (ap (λ (z : ResolveView). slice_get z.interfaces i) same ∙ at))
     (interface_distinct l (subst IsWellFormed (sym same) formed) i (interface_view v) (ap (λ (z : ResolveView). slice_get z.interfaces i) same ∙ at) (names_distinct type_entry (λ e. refl) v.types.entries types)
     (names_distinct function_entry (λ e. refl) v.functions.entries functions))

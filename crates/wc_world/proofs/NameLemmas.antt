@@ -5,8 +5,8 @@ use Rattle.std.specs.Str.{bytes_eq}
 use Rattle.std.specs.String.{string_eq}
 use Rattle.std.specs.declared.alloc.Global.{Global}
 use Rattle.std.proofs.lemmas.List.{map-append}
-use Rattle.wc_validate.specs.Entries.{first_occurrences}
-use Rattle.wc_validate.proofs.RecordLemmas.{new_module, old_module}
+use Rattle.wc_validate.specs.Imports.Entries.{first_occurrences}
+use Rattle.wc_validate.proofs.InstanceLemmas.{new_module, old_module}
 use Rattle.wc_world.specs.Adapters.{HasNames}
 use Rattle.wc_world.proofs.RequiredLemmas.{added_last, bytes_turned}
 

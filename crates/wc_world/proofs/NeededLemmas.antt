@@ -1,4 +1,4 @@
--- A name is wanted of each adapter that is trimmed.
+-- A name is required of each adapter that is trimmed.
 use Rattle.std.proofs.Common.{◌≡◌, ◌≢◌, ℕ, List, [], ◌∷◌, ◌++◌, Bool, true, false, Option, Some, None, is_some, All, map, refl, ap, subst}
 use Rattle.std.specs.Prelude.{◌||◌, Contains}
 use Rattle.std.specs.List.{cons_option, list_any}
@@ -12,15 +12,15 @@ use Rattle.wc_encoder.specs.EncoderParts.{EncoderView, world_exports}
 use Rattle.wc_encoder.specs.Entries.{Entries}
 use Rattle.wc_names.specs.Exports.{CoreExport}
 use Rattle.wc_names.specs.ExportViews.{ExportView}
-use Rattle.wc_names.specs.Imports.{Setting}
-use Rattle.wc_names.specs.Lookups.{item_under}
-use Rattle.wc_validate.specs.Entries.{first_occurrences}
-use Rattle.wc_validate.specs.ExportMaps.{ExportRecord}
-use Rattle.wc_validate.specs.ImportMaps.{required_in}
-use Rattle.wc_validate.specs.RecordedExports.{core_exports}
+use Rattle.wc_names.specs.Imports.{NameScope}
+use Rattle.wc_names.specs.Keys.{item_under}
+use Rattle.wc_validate.specs.Imports.Entries.{first_occurrences}
+use Rattle.wc_validate.specs.Exports.Map.{ExportRecord}
+use Rattle.wc_validate.specs.Imports.Map.{required_in}
+use Rattle.wc_validate.specs.Exports.Record.{core_exports}
 use Rattle.wc_validate.specs.Requirements.{AreMet, Requirement, function_names, functions_of, item_requirement, key_requirements, type_requirement}
 use Rattle.wc_validate.specs.Validated.{IsRecordOf, ModuleRecord}
-use Rattle.wc_world.specs.Adapters.{NamedAdapter, exports_function, has_function, is_kept, is_some_of, job_of, required_names}
+use Rattle.wc_world.specs.Adapters.{NamedAdapter, exports_function, has_function, is_adapter_needed, is_some_of, validation_input_of, required_names}
 
 -- a function that is recorded is an export
 recorded_has : (recorded : ExportRecord) (name : Option ℕ × List ℕ) → Contains (function_names recorded) name → recorded ≢ []
@@ -52,13 +52,14 @@ exported_some r xs recorded exports rest (k ∷ keys) met any =
     item_has r xs recorded (list_any (exports_function r exports) keys) (key_requirements exports keys ++ rest) (exported_some r xs recorded exports rest keys) (item_under exports k)
     (met_after r xs recorded (option_and_then item_requirement (item_under exports k)) (key_requirements exports keys) rest met) any
 
-recorded_some : (e : EncoderView) (main : ModuleRecord) (x : NamedAdapter) (bytes : List ℕ) (first : ModuleRecord) → IsRecordOf (job_of e main x) bytes first → list_any (exports_function e.resolve (world_exports e)) x.1.required_exports ≡ true → first.exports ≢ []
+recorded_some : (e : EncoderView) (main : ModuleRecord) (x : NamedAdapter) (bytes : List ℕ) (first : ModuleRecord) → IsRecordOf (validation_input_of e main x) bytes first → list_any (exports_function e.resolve (world_exports e)) x.1.required_exports ≡ true → first.exports ≢ []
 recorded_some e main x bytes first h any =
     let w : WorldView = h.exports.1.0 in
     let xs : List CoreExport = core_exports h.value h.value.exports in
     let rest : List Requirement = map type_requirement (required_in main.imports x.0) in
     let met : AreMet e.resolve xs first.exports (key_requirements w.exports x.1.required_exports ++ rest) =
-    subst (λ (z : Setting). AreMet z.resolve xs first.exports (key_requirements z.world.exports x.1.required_exports ++ rest)) h.exports.1.2 h.exports.3.1.1 in
+    subst (λ (z : NameScope). AreMet z.resolve xs first.exports (key_requirements z.world.exports x.1.required_exports ++ rest)) h.exports.1.2 h.exports.3.1.1
+    in
     let same : world_exports e ≡ w.exports = ap (λ o. option_map_or (λ (v : WorldView). v.exports) o []) h.exports.1.1 in
     exported_some e.resolve xs first.exports w.exports rest x.1.required_exports met (subst (λ z. list_any (exports_function e.resolve z) x.1.required_exports ≡ true) same any)
 
@@ -66,14 +67,14 @@ names_some : (exports : ExportRecord) → exports ≢ [] → first_occurrences (
 names_some [] some is = some refl
 names_some (x ∷ exports) some is = let bad : ⊥ = cc is in bad
 
-wanted_some : (required : List (List ℕ × FuncTypeValue)) (exports : ExportRecord) (others : Bool) → (is_some_of required || others) ≡ true → (others ≡ true → exports ≢ []) → required_names required exports ≢ []
-wanted_some [] exports others any some is = names_some exports (some any) is
-wanted_some (f ∷ required) exports others any some is = let bad : ⊥ = cc is in bad
+required_some : (required : List (List ℕ × FuncTypeValue)) (exports : ExportRecord) (others : Bool) → (is_some_of required || others) ≡ true → (others ≡ true → exports ≢ []) → required_names required exports ≢ []
+required_some [] exports others any some is = names_some exports (some any) is
+required_some (f ∷ required) exports others any some is = let bad : ⊥ = cc is in bad
 
--- of an adapter that is no library, since it is kept for a function
-pub needed_some : (e : EncoderView) (main : ModuleRecord) (x : NamedAdapter) (bytes : List ℕ) (first : ModuleRecord) → x.1.library_info ≡ None → is_kept e main x ≡ true → IsRecordOf (job_of e main x) bytes first
+-- of an adapter that is no library, since it is needed for a function
+pub needed_some : (e : EncoderView) (main : ModuleRecord) (x : NamedAdapter) (bytes : List ℕ) (first : ModuleRecord) → x.1.library_info ≡ None → is_adapter_needed e main x ≡ true → IsRecordOf (validation_input_of e main x) bytes first
     → required_names (required_in main.imports x.0) first.exports ≢ []
-needed_some e main x bytes first none kept h =
+needed_some e main x bytes first none needed h =
     let others : Bool = list_any (exports_function e.resolve (world_exports e)) x.1.required_exports in
-    wanted_some (required_in main.imports x.0) first.exports others
-    (subst (λ o. (is_some o || (is_some_of (required_in main.imports x.0) || others)) ≡ true) none kept) (recorded_some e main x bytes first h)
+    required_some (required_in main.imports x.0) first.exports others
+    (subst (λ o. (is_some o || (is_some_of (required_in main.imports x.0) || others)) ≡ true) none needed) (recorded_some e main x bytes first h)

@@ -1,5 +1,6 @@
 -- Sets of functions that are imported.
-use Rattle.std.proofs.Common.{◌≡◌, ℕ, List, [], ◌∷◌, ◌++◌, Bool, true, false, cond, ◌&&◌, ◌||◌, Option, Some, None, string_bytes, nat_eq, refl, sym, ap, ◌∙◌, subst, append-nil, append_assoc}
+use Rattle.std.proofs.Common.{◌≡◌, ℕ, List, [], ◌∷◌, ◌++◌, Bool, true, false, cond, ◌&&◌, ◌||◌, Option, Some, None, string_bytes, nat_eq, refl, sym, ap, ◌∙◌}
+use Rattle.std.proofs.Common.{subst, append-nil, append_assoc}
 use Rattle.std.specs.Prelude.{◌==◌}
 use Rattle.std.specs.List.{flat_map, list_any}
 use Rattle.std.proofs.lemmas.Grind.{flat_map-append}
@@ -9,6 +10,7 @@ use Rattle.std.specs.Str.{bytes_eq}
 use Rattle.std.specs.String.{string_eq}
 use Rattle.std.proofs.lemmas.List.Folds.{list_any-append}
 use Rattle.std.proofs.lemmas.Slice.Eq.{bytes_eq-Decides}
+use Rattle.std.proofs.Math.Bool.{or-false, or-true}
 use Rattle.wc_resolve.specs.declared.ids.InterfaceId.{InterfaceId}
 use Rattle.wc_resolve.specs.Dependencies.{id_of_interface}
 use Rattle.wc_resolve.specs.declared.functions.AbiVariant.{AbiVariant}
@@ -18,14 +20,14 @@ use Rattle.wc_resolve.specs.Live.{with_live}
 use Rattle.wc_resolve.specs.Roots.{indices}
 use Rattle.wc_resolve.proofs.KeyLemmas.{nat_from}
 use Rattle.wc_names.specs.Views.{ImportView, imported_resource_drop, interface_func, world_func}
-use Rattle.wc_validate.specs.ExportedFunctions.{function_key}
-use Rattle.wc_validate.specs.ImportMaps.{imports_in}
+use Rattle.wc_validate.specs.Private.ExportedFunctions.{function_key}
+use Rattle.wc_validate.specs.Imports.Map.{imports_in}
 use Rattle.wc_validate.specs.Validated.{ModuleRecord}
 use Rattle.wc_world.specs.Slots.{all_imports, imports_of}
 use Rattle.wc_world.specs.Views.{NamedWorldAdapter}
 use Rattle.wc_world.specs.declared.required.Required.{Required}
 use Rattle.wc_world.specs.Lowered.{is_drop_of, is_import_of, same_call}
-use Rattle.wc_world.specs.Required.{AreCalled, AreRequired, FunctionKey, IsCall, called_function, dropped_resource, is_in, same_function}
+use Rattle.wc_world.specs.Private.Required.{AreCalled, AreRequired, FunctionKey, IsCall, called_function, dropped_resource, is_in, same_function}
 use Rattle.wc_world.proofs.UsedLemmas.{turned}
 
 -- the set of ids, by their indices
@@ -40,15 +42,18 @@ bytes_turned a b = two (bytes_eq a b) (bytes_eq b a) refl refl where
   two false true is at = (bytes_eq-Decides a b).1 (sym ((bytes_eq-Decides b a).0 at)) ∙ sym at
   two false false is at = is ∙ sym at
 
-interfaces_turned : (a b : Option InterfaceId) → option_eq (λ (i j : InterfaceId). i.0 == j.0) a b ≡ option_eq nat_eq (option_map id_of_interface b) (option_map id_of_interface a)
+interfaces_turned : (a b : Option InterfaceId) → option_eq (λ (i j : InterfaceId). i.0 == j.0) a b ≡ option_eq nat_eq (option_map id_of_interface b)
+    (option_map id_of_interface a)
 interfaces_turned None None = refl
 interfaces_turned None (Some b) = refl
 interfaces_turned (Some a) None = refl
 interfaces_turned (Some a) (Some b) = turned a.0 b.0
 
 -- a key is compared with another one as that with it
-pub keys_turned : (k f : FunctionKey) → same_function k f ≡ (option_eq nat_eq (function_key f).0 (function_key k).0 && bytes_eq (function_key f).1 (function_key k).1)
-keys_turned k f = ap (λ b. b && string_eq k.1 f.1) (interfaces_turned k.0 f.0) ∙ ap (λ b. option_eq nat_eq (function_key f).0 (function_key k).0 && b) (bytes_turned (string_bytes k.1) (string_bytes f.1))
+pub keys_turned : (k f : FunctionKey) → same_function k f ≡ (option_eq nat_eq (function_key f).0 (function_key k).0 && bytes_eq (function_key f).1
+    (function_key k).1)
+keys_turned k f = ap (λ b. b && string_eq k.1 f.1) (interfaces_turned k.0 f.0) ∙ ap (λ b. option_eq nat_eq (function_key f).0 (function_key k).0 && b)
+    (bytes_turned (string_bytes k.1) (string_bytes f.1))
 
 or_last : (e a p : Bool) → e ≡ p → cond e true a ≡ (a || (p || false))
 or_last true true true h = refl
@@ -59,29 +64,24 @@ or_last true a false h = absurd (let bad : ⊥ = cc h in bad)
 or_last false a true h = absurd (let bad : ⊥ = cc h in bad)
 
 -- one more is added to a set, and to a list
-pub added_last : {X : Type 0} (test : X → Bool) (xs : List X) (x : X) (new old e : Bool) → new ≡ cond e true old → old ≡ list_any test xs → e ≡ test x → new ≡ list_any test (xs ++ x ∷ [])
+pub added_last : {X : Type 0} (test : X → Bool) (xs : List X) (x : X) (new old e : Bool) → new ≡ cond e true old → old ≡ list_any test xs → e ≡ test x
+    → new ≡ list_any test (xs ++ x ∷ [])
 added_last test xs x new old e put same is =
     put ∙ (or_last e old (test x) is ∙ (ap (λ b. b || (test x || false)) same ∙ sym (list_any-append test xs (x ∷ []))))
 
 -- one that passes no test
-or_false : (b : Bool) → (b || false) ≡ b
-or_false true = refl
-or_false false = refl
 
 pub passed_last : {X : Type 0} (test : X → Bool) (xs : List X) (x : X) (b : Bool) → b ≡ list_any test xs → test x ≡ false → b ≡ list_any test (xs ++ x ∷ [])
 passed_last test xs x b same none =
-    same ∙ (sym (or_false (list_any test xs)) ∙ (ap (λ c. list_any test xs || (c || false)) (sym none) ∙ sym (list_any-append test xs (x ∷ []))))
-
-or_true : (b : Bool) → (b || (true || false)) ≡ true
-or_true true = refl
-or_true false = refl
+    same ∙ (sym (or-false (list_any test xs)) ∙ (ap (λ c. list_any test xs || (c || false)) (sym none) ∙ sym (list_any-append test xs (x ∷ []))))
 
 -- a test of functions by what an import is
 abbrev pub is_called : Option ℕ → List ℕ → AbiVariant → Option ((Option ℕ × List ℕ) × AbiVariant) → Bool
 is_called interface name abi None = false
 is_called interface name abi (Some c) = option_eq nat_eq interface c.0.0 && (bytes_eq name c.0.1 && same_call abi c.1)
 
-pub import_called : (interface : Option ℕ) (name : List ℕ) (abi : AbiVariant) (i : ImportView) → is_import_of interface name abi i ≡ is_called interface name abi (called_function i)
+pub import_called : (interface : Option ℕ) (name : List ℕ) (abi : AbiVariant) (i : ImportView)
+    → is_import_of interface name abi i ≡ is_called interface name abi (called_function i)
 import_called None name abi (world_func key f a) = refl
 import_called (Some i) name abi (world_func key f a) = refl
 import_called None name abi (interface_func key j f a) = refl
@@ -119,27 +119,35 @@ both_kept false b = refl
 
 module _ (imports : List ImportView) (i : ImportView) (f : Option ℕ × List ℕ) (abi : AbiVariant) (is : called_function i ≡ Some (f, abi)) where
   -- a function called in another way is none of these
-  pub call_other : (other : AbiVariant) (keys : List FunctionKey) → same_call other abi ≡ false → AreCalled other imports keys → AreCalled other (imports ++ i ∷ []) keys
+  pub call_other : (other : AbiVariant) (keys : List FunctionKey) → same_call other abi ≡ false → AreCalled other imports keys
+      → AreCalled other (imports ++ i ∷ []) keys
   call_other other keys differ same k =
       passed_last (is_import_of (function_key k).0 (function_key k).1 other) imports i (list_any (same_function k) keys) (same k)
       (import_called (function_key k).0 (function_key k).1 other i ∙ (ap (is_called (function_key k).0 (function_key k).1 other) is
-      ∙ (ap (λ b. option_eq nat_eq (function_key k).0 f.0 && (bytes_eq (function_key k).1 f.1 && b)) differ ∙ both_false (option_eq nat_eq (function_key k).0 f.0) (bytes_eq (function_key k).1 f.1))))
+      ∙ (ap (λ b. option_eq nat_eq (function_key k).0 f.0 && (bytes_eq (function_key k).1 f.1 && b)) differ
+      ∙ both_false (option_eq nat_eq (function_key k).0 f.0) (bytes_eq (function_key k).1 f.1))))
 
   pub call_own : same_call abi abi ≡ true → IsCall abi f i
   call_own own interface name =
-      import_called interface name abi i ∙ (ap (is_called interface name abi) is ∙ (ap (λ b. option_eq nat_eq interface f.0 && (bytes_eq name f.1 && b)) own ∙ both_kept (option_eq nat_eq interface f.0) (bytes_eq name f.1)))
+      import_called interface name abi i
+      ∙ (ap (is_called interface name abi) is ∙ (ap (λ b. option_eq nat_eq interface f.0 && (bytes_eq name f.1 && b)) own
+      ∙ both_kept (option_eq nat_eq interface f.0) (bytes_eq name f.1)))
 
-  pub call_drops : (drops : List TypeId) → ((t : ℕ) → is_in (indices drops) t ≡ list_any (is_drop_of t) imports) → (t : ℕ) → is_in (indices drops) t ≡ list_any (is_drop_of t) (imports ++ i ∷ [])
-  call_drops drops same t = passed_last (is_drop_of t) imports i (is_in (indices drops) t) (same t) (import_dropped t i ∙ ap (is_dropped t) (call_no_drop i (f, abi) is))
+  pub call_drops : (drops : List TypeId) → ((t : ℕ) → is_in (indices drops) t ≡ list_any (is_drop_of t) imports) → (t : ℕ)
+      → is_in (indices drops) t ≡ list_any (is_drop_of t) (imports ++ i ∷ [])
+  call_drops drops same t = passed_last (is_drop_of t) imports i (is_in (indices drops) t) (same t)
+      (import_dropped t i ∙ ap (is_dropped t) (call_no_drop i (f, abi) is))
 
 -- an import that is no function is none of these
-pub no_call : (imports : List ImportView) (i : ImportView) (abi : AbiVariant) (keys : List FunctionKey) → called_function i ≡ None → AreCalled abi imports keys → AreCalled abi (imports ++ i ∷ []) keys
+pub no_call : (imports : List ImportView) (i : ImportView) (abi : AbiVariant) (keys : List FunctionKey) → called_function i ≡ None
+    → AreCalled abi imports keys → AreCalled abi (imports ++ i ∷ []) keys
 no_call imports i abi keys none same k =
     passed_last (is_import_of (function_key k).0 (function_key k).1 abi) imports i (list_any (same_function k) keys) (same k)
     (import_called (function_key k).0 (function_key k).1 abi i ∙ ap (is_called (function_key k).0 (function_key k).1 abi) none)
 
 -- an import that is neither a function nor a drop
-pub nothing_required : (imports : List ImportView) (i : ImportView) (r : Required) → called_function i ≡ None → dropped_resource i ≡ None → AreRequired imports r → AreRequired (imports ++ i ∷ []) r
+pub nothing_required : (imports : List ImportView) (i : ImportView) (r : Required) → called_function i ≡ None → dropped_resource i ≡ None
+    → AreRequired imports r → AreRequired (imports ++ i ∷ []) r
 nothing_required imports i r none other a = record {
   functions = no_call imports i GuestImport r.functions.keys none a.functions;
   async_functions = no_call imports i GuestImportAsync r.async_functions.keys none a.async_functions;
@@ -147,7 +155,8 @@ nothing_required imports i r none other a = record {
 }
 
 -- a drop is added
-pub drop_required : (imports : List ImportView) (i : ImportView) (t : ℕ) (old new : List TypeId) → dropped_resource i ≡ Some t → indices new ≡ with_live (indices old) t → ((u : ℕ) → is_in (indices old) u ≡ list_any (is_drop_of u) imports)
+pub drop_required : (imports : List ImportView) (i : ImportView) (t : ℕ) (old new : List TypeId) → dropped_resource i ≡ Some t
+    → indices new ≡ with_live (indices old) t → ((u : ℕ) → is_in (indices old) u ≡ list_any (is_drop_of u) imports)
     → (u : ℕ) → is_in (indices new) u ≡ list_any (is_drop_of u) (imports ++ i ∷ [])
 drop_required imports i t old new is put same u = ap (λ z. is_in z u) put ∙ added (list_any (λ y. t == y) (indices old)) refl where
   own : is_drop_of u i ≡ (u == t)
@@ -156,13 +165,17 @@ drop_required imports i t old new is put same u = ap (λ z. is_in z u) put ∙ a
   last : is_in (indices old ++ t ∷ []) u ≡ list_any (is_drop_of u) (imports ++ i ∷ [])
   last =
       list_any-append (λ y. u == y) (indices old) (t ∷ [])
-      ∙ (ap (λ b. b || ((u == t) || false)) (same u) ∙ (ap (λ b. list_any (is_drop_of u) imports || (b || false)) (sym own) ∙ sym (list_any-append (is_drop_of u) imports (i ∷ []))))
+      ∙ (ap (λ b. b || ((u == t) || false)) (same u) ∙ (ap (λ b. list_any (is_drop_of u) imports || (b || false)) (sym own)
+      ∙ sym (list_any-append (is_drop_of u) imports (i ∷ []))))
 
   there : is_in (indices old) t ≡ true → (b : Bool) → (u == t) ≡ b → is_in (indices old) u ≡ list_any (is_drop_of u) (imports ++ i ∷ [])
-  there known true at = ap (is_in (indices old)) (nat_from u t at) ∙ (known ∙ sym (list_any-append (is_drop_of u) imports (i ∷ []) ∙ (ap (λ b. list_any (is_drop_of u) imports || (b || false)) (own ∙ at) ∙ or_true (list_any (is_drop_of u) imports))))
+  there known true at = ap (is_in (indices old)) (nat_from u t at)
+      ∙ (known ∙ sym (list_any-append (is_drop_of u) imports (i ∷ []) ∙ (ap (λ b. list_any (is_drop_of u) imports || (b || false)) (own ∙ at)
+      ∙ or-true (list_any (is_drop_of u) imports))))
   there known false at = passed_last (is_drop_of u) imports i (is_in (indices old) u) (same u) (own ∙ at)
 
-  added : (b : Bool) → list_any (λ y. t == y) (indices old) ≡ b → is_in (cond b (indices old) (indices old ++ t ∷ [])) u ≡ list_any (is_drop_of u) (imports ++ i ∷ [])
+  added : (b : Bool) → list_any (λ y. t == y) (indices old) ≡ b → is_in (cond b (indices old) (indices old ++ t ∷ [])) u ≡ list_any (is_drop_of u)
+      (imports ++ i ∷ [])
   added true known = there known (u == t) refl
   added false none = last
 
@@ -172,19 +185,26 @@ pub record ImportWalk (all left : List (List ℕ × (List ℕ × ImportView))) (
   pub split : front ++ left ≡ all
   pub required : AreRequired (passed ++ imports_of front) r
 
-pub imports_start : (all left : List (List ℕ × (List ℕ × ImportView))) (passed : List ImportView) (r : Required) → left ≡ all → AreRequired passed r → ImportWalk all left passed r
+pub imports_start : (all left : List (List ℕ × (List ℕ × ImportView))) (passed : List ImportView) (r : Required) → left ≡ all → AreRequired passed r
+    → ImportWalk all left passed r
 imports_start all left passed r is a = record { front = []; split = is; required = subst (λ z. AreRequired z r) (sym (append-nil passed)) a }
 
-pub imports_next : (all left rest : List (List ℕ × (List ℕ × ImportView))) (x : List ℕ × (List ℕ × ImportView)) (passed : List ImportView) (old new : Required) → left ≡ x ∷ rest
-    → ((imports : List ImportView) → AreRequired imports old → AreRequired (imports ++ x.1.1 ∷ []) new) → ImportWalk all left passed old → ImportWalk all rest passed new
+pub imports_next : (all left rest : List (List ℕ × (List ℕ × ImportView))) (x : List ℕ × (List ℕ × ImportView)) (passed : List ImportView)
+    (old new : Required) → left ≡ x ∷ rest
+    → ((imports : List ImportView) → AreRequired imports old → AreRequired (imports ++ x.1.1 ∷ []) new) → ImportWalk all left passed old
+    → ImportWalk all rest passed new
 imports_next all left rest x passed old new is put w = record {
   front = w.front ++ x ∷ [];
   split = append_assoc w.front (x ∷ []) rest ∙ (ap (λ z. w.front ++ z) (sym is) ∙ w.split);
-  required = subst (λ z. AreRequired z new) (append_assoc passed (imports_of w.front) (x.1.1 ∷ []) ∙ ap (λ z. passed ++ z) (sym (map-append (λ (y : List ℕ × (List ℕ × ImportView)). y.1.1) w.front (x ∷ [])))) (put (passed ++ imports_of w.front) w.required);
+  required = subst (λ z. AreRequired z new) (append_assoc passed (imports_of w.front) (x.1.1 ∷ [])
+      ∙ ap (λ z. passed ++ z) (sym (map-append (λ (y : List ℕ × (List ℕ × ImportView)). y.1.1) w.front (x ∷ []))))
+      (put (passed ++ imports_of w.front) w.required);
 }
 
-pub imports_end : (all left : List (List ℕ × (List ℕ × ImportView))) (passed : List ImportView) (r : Required) → left ≡ [] → ImportWalk all left passed r → AreRequired (passed ++ imports_of all) r
-imports_end all left passed r none w = subst (λ z. AreRequired (passed ++ imports_of z) r) (sym (append-nil w.front) ∙ (ap (λ z. w.front ++ z) (sym none) ∙ w.split)) w.required
+pub imports_end : (all left : List (List ℕ × (List ℕ × ImportView))) (passed : List ImportView) (r : Required) → left ≡ []
+    → ImportWalk all left passed r → AreRequired (passed ++ imports_of all) r
+imports_end all left passed r none w = subst (λ z. AreRequired (passed ++ imports_of z) r) (sym (append-nil w.front)
+    ∙ (ap (λ z. w.front ++ z) (sym none) ∙ w.split)) w.required
 
 -- the same of adapters
 pub record AdapterWalk (main : ModuleRecord) (all left : List NamedWorldAdapter) (r : Required) : Type 0 where
@@ -192,15 +212,23 @@ pub record AdapterWalk (main : ModuleRecord) (all left : List NamedWorldAdapter)
   pub split : front ++ left ≡ all
   pub required : AreRequired (imports_of (all_imports main front)) r
 
-pub adapters_start : (main : ModuleRecord) (all left : List NamedWorldAdapter) (r : Required) → left ≡ all → AreRequired (imports_of (imports_in main.imports)) r → AdapterWalk main all left r
-adapters_start main all left r is a = record { front = []; split = is; required = subst (λ z. AreRequired (imports_of z) r) (sym (append-nil (imports_in main.imports))) a }
+pub adapters_start : (main : ModuleRecord) (all left : List NamedWorldAdapter) (r : Required) → left ≡ all
+    → AreRequired (imports_of (imports_in main.imports)) r → AdapterWalk main all left r
+adapters_start main all left r is a = record {
+  front = [];
+  split = is;
+  required = subst (λ z. AreRequired (imports_of z) r)
+      (sym (append-nil (imports_in main.imports))) a;
+}
 
 pub adapters_next : (main : ModuleRecord) (all left rest : List NamedWorldAdapter) (x : NamedWorldAdapter) (old new : Required) → left ≡ x ∷ rest
-    → ((imports : List ImportView) → AreRequired imports old → AreRequired (imports ++ imports_of (imports_in x.1.info.imports)) new) → AdapterWalk main all left old → AdapterWalk main all rest new
+    → ((imports : List ImportView) → AreRequired imports old → AreRequired (imports ++ imports_of (imports_in x.1.info.imports)) new)
+    → AdapterWalk main all left old → AdapterWalk main all rest new
 adapters_next main all left rest x old new is put w =
     let own : List NamedWorldAdapter → List (List ℕ × (List ℕ × ImportView)) = flat_map (λ (a : NamedWorldAdapter). imports_in a.1.info.imports) in
     let more : all_imports main (w.front ++ x ∷ []) ≡ all_imports main w.front ++ imports_in x.1.info.imports =
-    ap (λ z. imports_in main.imports ++ z) (flat_map-append (λ (a : NamedWorldAdapter). imports_in a.1.info.imports) w.front (x ∷ []) ∙ ap (λ z. own w.front ++ z) (append-nil (imports_in x.1.info.imports)))
+    ap (λ z. imports_in main.imports ++ z) (flat_map-append (λ (a : NamedWorldAdapter). imports_in a.1.info.imports) w.front (x ∷ [])
+    ∙ ap (λ z. own w.front ++ z) (append-nil (imports_in x.1.info.imports)))
     ∙ sym (append_assoc (imports_in main.imports) (own w.front) (imports_in x.1.info.imports)) in
     record {
       front = w.front ++ x ∷ [];
@@ -210,5 +238,7 @@ adapters_next main all left rest x old new is put w =
           (put (imports_of (all_imports main w.front)) w.required);
     }
 
-pub adapters_end : (main : ModuleRecord) (all left : List NamedWorldAdapter) (r : Required) → left ≡ [] → AdapterWalk main all left r → AreRequired (imports_of (all_imports main all)) r
-adapters_end main all left r none w = subst (λ z. AreRequired (imports_of (all_imports main z)) r) (sym (append-nil w.front) ∙ (ap (λ z. w.front ++ z) (sym none) ∙ w.split)) w.required
+pub adapters_end : (main : ModuleRecord) (all left : List NamedWorldAdapter) (r : Required) → left ≡ [] → AdapterWalk main all left r
+    → AreRequired (imports_of (all_imports main all)) r
+adapters_end main all left r none w = subst (λ z. AreRequired (imports_of (all_imports main z)) r) (sym (append-nil w.front)
+    ∙ (ap (λ z. w.front ++ z) (sym none) ∙ w.split)) w.required

@@ -18,11 +18,11 @@ use Rattle.wc_write.specs.Values.{AreBytes}
 use Rattle.wc_resolve.proofs.SearchLemmas.{contains_cons, contains_head, contains_none, contains_tail}
 use Rattle.wc_encoder.specs.EncoderParts.{EncoderView}
 use Rattle.wc_names.specs.ExportViews.{ExportView}
-use Rattle.wc_names.specs.AlikeTypes.{without_indices}
+use Rattle.wc_names.specs.SameButIndices.{without_indices}
 use Rattle.wc_names.specs.Imports.{ExternType, func_type, global_type, memory_type, table_type}
 use Rattle.wc_gc.specs.EditedImage.{edited_image}
 use Rattle.wc_gc.specs.Laws.{AreSettings}
-use Rattle.wc_gc.specs.Liveness.{Wanted}
+use Rattle.wc_gc.specs.Liveness.{TrimInput}
 use Rattle.wc_gc.specs.Parts.{SettingsValue}
 use Rattle.wc_gc.specs.Restriction as trimming
 use Rattle.wc_gc.specs.TrimmedText.{IsTrimmedRead}
@@ -30,20 +30,20 @@ use Rattle.wc_gc.specs.Trimming.{IsTrimCause}
 use Rattle.wc_gc.specs.Unfolding.{edited_from}
 use Rattle.wc_gc.specs.declared.fault.GcFault.{GcFault}
 use Rattle.wc_gc.proofs.ImportOriginLemmas.{zip_weaker}
-use Rattle.wc_validate.specs.Entries.{first_occurrences}
-use Rattle.wc_validate.specs.Imports.{extern_type}
-use Rattle.wc_validate.specs.RecordedExports.{item_type}
+use Rattle.wc_validate.specs.Imports.Entries.{first_occurrences}
+use Rattle.wc_validate.specs.Imports.Record.{extern_type}
+use Rattle.wc_validate.specs.Exports.Record.{item_type}
 use Rattle.wc_validate.specs.Restriction as recording
 use Rattle.wc_validate.specs.Restriction.{AreNeeded, IsModuleRecord, RestrictionsRecorded, RestrictionsValid}
-use Rattle.wc_validate.specs.Validated.{IsModuleCause, IsRecordOf, Job, ModuleRecord}
+use Rattle.wc_validate.specs.Validated.{IsModuleCause, IsRecordOf, ValidationInput, ModuleRecord}
 use Rattle.wc_validate.specs.declared.fault.ValidateFault.{ValidateFault}
 use Rattle.wc_validate.specs.declared.fault.ValidateFault.TheVariants as fault
 use Rattle.wc_validate.proofs.ContainedLemmas.{all_by, mapped_there}
 use Rattle.wc_validate.proofs.ExclusionLemmas.{no_component}
-use Rattle.wc_validate.proofs.RecordLemmas.{same}
-use Rattle.wc_world.specs.Adapters.{NamedAdapter, job_of, required_names}
+use Rattle.wc_validate.proofs.InstanceLemmas.{same}
+use Rattle.wc_world.specs.Adapters.{NamedAdapter, validation_input_of, required_names}
 use Rattle.wc_world.specs.Restricted.{IsCollision, IsTrimFor, RefusedAsCollision, TrimmedIsRestricted}
-use Rattle.wc_world.specs.World.{settings_of, wanted_of}
+use Rattle.wc_world.specs.World.{settings_of, trim_input_of}
 
 -- the types of items, as they are recorded
 
@@ -86,22 +86,22 @@ without_under : (o : Option trimming.ItemType) → option_map without_indices (o
 without_under None = refl
 without_under (Some t) = ap Some (without_of t)
 
-alike_typed : (a b : Option ExternType) (o p : Option trimming.ItemType) → a ≡ option_map to_extern o → b ≡ option_map to_extern p → trimming.AreTypesAlike o p → recording.AreTypesAlike a b
-alike_typed a b o p first second alike =
+typed_the_same : (a b : Option ExternType) (o p : Option trimming.ItemType) → a ≡ option_map to_extern o → b ≡ option_map to_extern p → trimming.AreSameTypesButIndices o p → recording.AreSameTypesButIndices a b
+typed_the_same a b o p first second but_indices =
     ap (option_map without_indices) first
-    ∙ (without_under o ∙ (ap (option_map to_extern) alike ∙ (sym (without_under p) ∙ ap (option_map without_indices) (sym second))))
+    ∙ (without_under o ∙ (ap (option_map to_extern) but_indices ∙ (sym (without_under p) ∙ ap (option_map without_indices) (sym second))))
 
 import_same : (v m : ModuleValue) (j i : ImportValue) → trimming.SameImport v m j i → recording.IsSameImport v m j i
 import_same v m j i h = record {
   from = h.from;
   name = h.name;
-  ty = alike_typed _ _ _ _ (import_typed v.types j.ty) (import_typed m.types i.ty) h.ty;
+  ty = typed_the_same _ _ _ _ (import_typed v.types j.ty) (import_typed m.types i.ty) h.ty;
 }
 
 export_same : (v m : ModuleValue) (x y : ExportValue) → trimming.SameExport v m x y → recording.IsSameExport v m x y
 export_same v m x y h = record {
   name = h.name;
-  ty = alike_typed _ _ _ _ (export_typed v x.kind x.index) (export_typed m y.kind y.index) h.ty;
+  ty = typed_the_same _ _ _ _ (export_typed v x.kind x.index) (export_typed m y.kind y.index) h.ty;
 }
 
 origin_same : (realloc : Option (List ℕ)) (v m : ModuleValue) (o : Option ℕ) (i : ImportValue) → trimming.HasOrigin realloc v m o i → recording.HasOrigin v m o i
@@ -118,11 +118,11 @@ restricts realloc names v m r = record {
 }
 
 -- what is recorded of bytes is recorded of the module that they spell
-recorded : HasOneValue SpellsModule → (j : Job) (bytes : List ℕ) (r : ModuleRecord) (m : ModuleValue) → IsRecordOf j bytes r → SpellsModule bytes m → IsModuleRecord j m r
+recorded : HasOneValue SpellsModule → (j : ValidationInput) (bytes : List ℕ) (r : ModuleRecord) (m : ModuleValue) → IsRecordOf j bytes r → SpellsModule bytes m → IsModuleRecord j m r
 recorded one j bytes r m h s = subst (λ z. IsModuleRecord j z r) (one bytes h.value m h.spelled s) (record { imports = h.imports; exports = h.exports })
 
 module _ (e : EncoderView) (restriction : trimming.TrimmedIsRestriction) (one : HasOneValue SpellsModule) where
-  module _ (j : Job) (s : SettingsValue) (w : Wanted) (text : List ℕ) (first : ModuleRecord) (t : IsTrimFor e j s w text first) where
+  module _ (j : ValidationInput) (s : SettingsValue) (w : TrimInput) (text : List ℕ) (first : ModuleRecord) (t : IsTrimFor e j s w text first) where
     abbrev adapter : ModuleValue
     adapter = t.trimmed.trimmed.value
 
@@ -152,7 +152,7 @@ module _ (e : EncoderView) (restriction : trimming.TrimmedIsRestriction) (one : 
         records = law j (adapter j s w text first t) m first last w.required t.encoder t.no_library t.no_renames (original j s w text first t) t.needed (restricts s.realloc w.required (adapter j s w text first t) m of) (recorded one j text last m r r.spelled);
       }
 
-  collision : RestrictionsValid e → (j : Job) (s : SettingsValue) (w : Wanted) (text : List ℕ) (first : ModuleRecord) (f : ValidateFault) → IsTrimFor e j s w text first → f ≢ fault.Memory → (m : ModuleValue) → SpellsModule text m → IsModuleCause j m f → IsCollision text f
+  collision : RestrictionsValid e → (j : ValidationInput) (s : SettingsValue) (w : TrimInput) (text : List ℕ) (first : ModuleRecord) (f : ValidateFault) → IsTrimFor e j s w text first → f ≢ fault.Memory → (m : ModuleValue) → SpellsModule text m → IsModuleCause j m f → IsCollision text f
   collision law j s w text first f t other m spells cause =
       let v = adapter j s w text first t in
       let is = law j v m first w.required f t.encoder t.no_library (original j s w text first t) t.needed (restricts s.realloc w.required v m (restricted j s w text first t m spells)) spells.has_sections.valid other cause in
@@ -164,7 +164,7 @@ module _ (e : EncoderView) (restriction : trimming.TrimmedIsRestriction) (one : 
   refused_as_collision law j s w text first fault.NotAModule t other h = absurd (no_component text (image j s w text first t) (spelled j s w text first t) h)
   refused_as_collision law j s w text first f t other h = collision law j s w text first f t other h.0 h.1 h.2
 
--- the names that are wanted of an adapter hold those that are needed
+-- the names that are required of an adapter hold those that are needed
 
 later_there : {A : Type 0} (y x : A) (ys : List A) → Contains ys x → (b : Bool) → Contains (cond b (y ∷ ys) ys) x
 later_there y x ys c true = contains_tail y ys x c
@@ -188,7 +188,7 @@ occurrence_there (k ∷ ms) m c = elim (contains_cons k ms m c) [
   | inr later ↦ others_there k m (first_occurrences ms) (bytes_eq k m) refl (occurrence_there ms m later)
 ]
 
-pub needed_names : (j : Job) (r : ModuleRecord) → AreNeeded j r (required_names j.required r.exports)
+pub needed_names : (j : ValidationInput) (r : ModuleRecord) → AreNeeded j r (required_names j.required r.exports)
 needed_names j r =
     let required = map (λ (f : List ℕ × FuncTypeValue). f.0) j.required in
     let exported = map (λ (x : List ℕ × ExportView). x.0) r.exports in
@@ -201,8 +201,8 @@ needed_names j r =
 
 -- an adapter of an encoder, trimmed as a component's world has it
 pub trimmed_for : (e : EncoderView) (main : ModuleRecord) (x : NamedAdapter) (first : ModuleRecord) (text : List ℕ) → x.1.library_info ≡ None → AreSettings (settings_of e main first) → AreBytes x.1.wasm
-    → IsRecordOf (job_of e main x) x.1.wasm first → IsTrimmedRead (settings_of e main first) (wanted_of main x first) text → ((f : GcFault) → ¬ (IsTrimCause (settings_of e main first) (wanted_of main x first) f))
-    → IsTrimFor e (job_of e main x) (settings_of e main first) (wanted_of main x first) text first
+    → IsRecordOf (validation_input_of e main x) x.1.wasm first → IsTrimmedRead (settings_of e main first) (trim_input_of main x first) text → ((f : GcFault) → ¬ (IsTrimCause (settings_of e main first) (trim_input_of main x first) f))
+    → IsTrimFor e (validation_input_of e main x) (settings_of e main first) (trim_input_of main x first) text first
 trimmed_for e main x first text none settings bytes original trimmed no_cause = record {
   encoder = refl;
   no_library = none;
@@ -212,5 +212,5 @@ trimmed_for e main x first text none settings bytes original trimmed no_cause = 
   original = original;
   trimmed = trimmed;
   no_cause = no_cause;
-  needed = needed_names (job_of e main x) first;
+  needed = needed_names (validation_input_of e main x) first;
 }

@@ -3,9 +3,10 @@ use Rattle.std.proofs.Common.{◌≡◌, ◌↔◌, ℕ, List, [], ◌∷◌, Bo
 use Rattle.std.specs.Prelude.{◌||◌, IsTrue}
 use Rattle.std.specs.List.{Contains, flat_map, list_any}
 use Rattle.std.proofs.lemmas.List.Folds.{list_any-append}
+use Rattle.std.proofs.lemmas.Bool.{or_left, or_right}
 use Rattle.wc_names.specs.Views.{ImportView}
 use Rattle.wc_resolve.proofs.SearchLemmas.{contains_cons, contains_head, contains_none, contains_tail}
-use Rattle.wc_validate.specs.ImportMaps.{imports_in}
+use Rattle.wc_validate.specs.Imports.Map.{imports_in}
 use Rattle.wc_validate.specs.Validated.{ModuleRecord}
 use Rattle.wc_world.specs.Slots.{all_imports, uses_slot_1}
 use Rattle.wc_world.specs.Views.{NamedWorldAdapter}
@@ -20,21 +21,14 @@ pub any_flat : {X Y : Type 0} (test : Y → Bool) (f : X → List Y) (xs : List 
 any_flat test f [] = refl
 any_flat test f (x ∷ xs) = list_any-append test (f x) (flat_map f xs) ∙ ap (λ b. list_any test (f x) || b) (any_flat test f xs)
 
-found_here : {X : Type 0} (test : X → Bool) (x : X) (xs : List X) (b : Bool) → test x ≡ b → (list_any test xs ≡ true → (y : X) × Contains xs y × IsTrue (test y)) → (b || list_any test xs) ≡ true → (y : X) × Contains (x ∷ xs) y × IsTrue (test y)
+found_here : {X : Type 0} (test : X → Bool) (x : X) (xs : List X) (b : Bool) → test x ≡ b
+    → (list_any test xs ≡ true → (y : X) × Contains xs y × IsTrue (test y)) → (b || list_any test xs) ≡ true → (y : X) × Contains (x ∷ xs) y × IsTrue (test y)
 found_here test x xs true is rest h = (x, contains_head xs x, is)
 found_here test x xs false is rest h = let later = rest h in (later.0, contains_tail x xs later.0 later.1, later.2)
 
 pub any_from : {X : Type 0} (test : X → Bool) (xs : List X) → list_any test xs ≡ true → (x : X) × Contains xs x × IsTrue (test x)
 any_from test [] h = absurd (let bad : ⊥ = cc h in bad)
 any_from test (x ∷ xs) h = found_here test x xs (test x) refl (any_from test xs) h
-
-or_left : (a b : Bool) → a ≡ true → (a || b) ≡ true
-or_left true b h = refl
-or_left false b h = absurd (let bad : ⊥ = cc h in bad)
-
-or_right : (a b : Bool) → b ≡ true → (a || b) ≡ true
-or_right true b h = refl
-or_right false b h = h
 
 pub any_to : {X : Type 0} (test : X → Bool) (xs : List X) (x : X) → Contains xs x → IsTrue (test x) → list_any test xs ≡ true
 any_to test [] x c h = absurd (contains_none x c)

@@ -1,5 +1,6 @@
 -- Sets of the interfaces that exported interfaces use.
-use Rattle.std.proofs.Common.{◌+◌, ◌≤◌, filter, take, length, get_or, append-nil, ◌≡◌, ◌⊎◌, ℕ, ◌<◌, List, [], ◌∷◌, ◌++◌, Bool, true, false, cond, Some, None, Result, Ok, Err, refl, sym, ap, ◌∙◌, subst, inl, inr}
+use Rattle.std.proofs.Common.{◌+◌, ◌≤◌, filter, take, length, get_or, append-nil, ◌≡◌, ◌⊎◌, ℕ, ◌<◌, List, [], ◌∷◌, ◌++◌, Bool, true, false, cond, Some, None}
+use Rattle.std.proofs.Common.{Result, Ok, Err, refl, sym, ap, ◌∙◌, subst, inl, inr}
 use Rattle.std.specs.Prelude.{◌==◌, ◌||◌}
 use Rattle.std.specs.HashMap.{HashMap, get}
 use Rattle.std.specs.HashSet.{HashSet}
@@ -10,12 +11,15 @@ use Rattle.std.specs.Result.{OnOk}
 use Rattle.std.proofs.lemmas.List.Elements.{Contains-get_or, Contains-push_cases, filter-append}
 use Rattle.std.proofs.lemmas.List.{length-map, take_all, take_more, get_or-map}
 use Rattle.std.proofs.lemmas.Bool.Decides.{eqb_tells}
+use Rattle.std.proofs.Math.Bool.{or-true}
+use Rattle.std.proofs.lemmas.Option.{same_Some}
 use Rattle.wc_resolve.specs.declared.ids.InterfaceId.{InterfaceId}
 use Rattle.wc_resolve.specs.Dependencies.{direct_dependencies, id_of_interface, interface_ids}
 use Rattle.wc_resolve.specs.World.{ResolveView, Leads, refers, further}
 use Rattle.wc_resolve.proofs.SearchLemmas.{contains_cons, contains_head, contains_none, contains_tail}
 use Rattle.wc_encoder.specs.Entries.{Entries}
-use Rattle.wc_world.specs.Used.{Gathers, HasUsedSet, IsUsedSet, Used, UsedView, exported_dependencies, has_interface, is_exported_itself, same_interface, used_view}
+use Rattle.wc_world.specs.Used.{IsUsedPart, HasUsedSet, IsUsedSet, Used, UsedView, exported_dependencies, has_interface, is_exported_itself, same_interface}
+use Rattle.wc_world.specs.Used.{used_view}
 
 abbrev pub among : List InterfaceId → ℕ → Bool
 among ids j = list_any (λ (k : InterfaceId). j == k.0) ids
@@ -35,7 +39,8 @@ turned a b = elim (eqb_tells a b) [
 ]
 
 -- one more is inserted of those that are left
-pub insert_next : (old new : Bool) (id j : ℕ) (rest : List InterfaceId) (whole : Bool) → new ≡ cond (id == j) true old → (old || ((j == id) || among rest j)) ≡ whole → (new || among rest j) ≡ whole
+pub insert_next : (old new : Bool) (id j : ℕ) (rest : List InterfaceId) (whole : Bool) → new ≡ cond (id == j) true old
+    → (old || ((j == id) || among rest j)) ≡ whole → (new || among rest j) ≡ whole
 insert_next old new id j rest whole put before = ap (λ b. b || among rest j) put ∙ (or_moved (id == j) (j == id) old (among rest j) (turned id j) ∙ before)
 
 leads_on : {next : ℕ → List ℕ} {x y z : ℕ} → Leads next x y → Leads next y z → Leads next x z
@@ -43,7 +48,8 @@ leads_on (refers x y c) b = further x y _ c b
 leads_on (further x w y c rest) b = further x w _ c (leads_on rest b)
 
 -- what a set has after an interface and those that it uses are added
-module _ (x : ℕ) (old inserted test new : ℕ → Bool) (put : (j : ℕ) → inserted j ≡ cond (x == j) true (old j)) (joined : (j : ℕ) → new j ≡ (inserted j || test j)) where
+module _ (x : ℕ) (old inserted test new : ℕ → Bool) (put : (j : ℕ) → inserted j ≡ cond (x == j) true (old j)) (joined : (j : ℕ)
+    → new j ≡ (inserted j || test j)) where
   has_cases : (j : ℕ) → new j ≡ true → (x ≡ j) ⊎ ((old j ≡ true) ⊎ (test j ≡ true))
   has_cases j h = two (inserted j) (test j) refl refl (sym (joined j) ∙ h) where
     one : (e : Bool) → (x == j) ≡ e → cond e true (old j) ≡ true → (x ≡ j) ⊎ ((old j ≡ true) ⊎ (test j ≡ true))
@@ -62,56 +68,58 @@ module _ (x : ℕ) (old inserted test new : ℕ → Bool) (put : (j : ℕ) → i
     both false = refl
 
   has_test : (j : ℕ) → test j ≡ true → new j ≡ true
-  has_test j h = joined j ∙ (ap (λ b. inserted j || b) h ∙ last (inserted j)) where
-    last : (e : Bool) → (e || true) ≡ true
-    last true = refl
-    last false = refl
+  has_test j h = joined j ∙ (ap (λ b. inserted j || b) h ∙ or-true (inserted j))
 
   has_own : new x ≡ true
-  has_own = elim (eqb_tells x x) [ inl same ↦ joined x ∙ ap (λ b. b || test x) (put x ∙ ap (λ b. cond b true (old x)) same.0) | inr other ↦ absurd (other.1 refl) ]
+  has_own = elim (eqb_tells x x) [
+    | inl same ↦ joined x ∙ ap (λ b. b || test x) (put x ∙ ap (λ b. cond b true (old x)) same.0)
+    | inr other ↦ absurd (other.1 refl)
+  ]
 
-  pub gather_more : (r : ResolveView) (exports : Entries) (i : ℕ) (passed : List ℕ) → IsUsedSet r exports x test → Contains (exported_dependencies r exports i) x → Gathers r exports i passed old → Gathers r exports i (passed ++ x ∷ []) new
-  gather_more r exports i passed used depends a = record {
-    sound = λ j h. sound j (has_cases j h);
+  pub used_part_more : (r : ResolveView) (exports : Entries) (i : ℕ) (passed : List ℕ) → IsUsedSet r exports x test
+      → Contains (exported_dependencies r exports i) x → IsUsedPart r exports i passed old → IsUsedPart r exports i (passed ++ x ∷ []) new
+  used_part_more r exports i passed used depends a = record {
+    only_used = λ j h. only_used j (has_cases j h);
     closed = λ y j h leads. closed y j leads (has_cases y h);
     there = λ y h. elim (Contains-push_cases passed x y h) [ inl before ↦ has_old y (a.there y before) | inr same ↦ subst (λ z. new z ≡ true) same has_own ];
   } where
-    sound : (j : ℕ) → (x ≡ j) ⊎ ((old j ≡ true) ⊎ (test j ≡ true)) → Used r exports i j
-    sound j (inl same) = subst (Used r exports i) same (refers i x depends)
-    sound j (inr (inl h)) = a.sound j h
-    sound j (inr (inr h)) = further i x j depends ((used j).0 h)
+    only_used : (j : ℕ) → (x ≡ j) ⊎ ((old j ≡ true) ⊎ (test j ≡ true)) → Used r exports i j
+    only_used j (inl same) = subst (Used r exports i) same (refers i x depends)
+    only_used j (inr (inl h)) = a.only_used j h
+    only_used j (inr (inr h)) = further i x j depends ((used j).0 h)
 
     closed : (y j : ℕ) → Used r exports y j → (x ≡ y) ⊎ ((old y ≡ true) ⊎ (test y ≡ true)) → new j ≡ true
     closed y j leads (inl same) = has_test j ((used j).1 (subst (λ z. Used r exports z j) (sym same) leads))
     closed y j leads (inr (inl h)) = has_old j (a.closed y j h leads)
     closed y j leads (inr (inr h)) = has_test j ((used j).1 (leads_on ((used y).0 h) leads))
 
-pub gather_there : (r : ResolveView) (exports : Entries) (i : ℕ) (passed : List ℕ) (x : ℕ) (test : ℕ → Bool) → test x ≡ true → Gathers r exports i passed test → Gathers r exports i (passed ++ x ∷ []) test
-gather_there r exports i passed x test has a = record {
-  sound = a.sound;
+pub used_part_there : (r : ResolveView) (exports : Entries) (i : ℕ) (passed : List ℕ) (x : ℕ) (test : ℕ → Bool) → test x ≡ true
+    → IsUsedPart r exports i passed test → IsUsedPart r exports i (passed ++ x ∷ []) test
+used_part_there r exports i passed x test has a = record {
+  only_used = a.only_used;
   closed = a.closed;
   there = λ y h. elim (Contains-push_cases passed x y h) [ inl before ↦ a.there y before | inr same ↦ subst (λ z. test z ≡ true) same has ];
 }
 
-pub gather_none : (r : ResolveView) (exports : Entries) (i : ℕ) (test : ℕ → Bool) → ((j : ℕ) → test j ≡ false) → Gathers r exports i [] test
-gather_none r exports i test none = record {
-  sound = λ j h. absurd (let e : true ≡ false = sym h ∙ none j in let bad : ⊥ = cc e in bad);
+pub used_part_none : (r : ResolveView) (exports : Entries) (i : ℕ) (test : ℕ → Bool) → ((j : ℕ) → test j ≡ false) → IsUsedPart r exports i [] test
+used_part_none r exports i test none = record {
+  only_used = λ j h. absurd (let e : true ≡ false = sym h ∙ none j in let bad : ⊥ = cc e in bad);
   closed = λ x j h. absurd (let e : true ≡ false = sym h ∙ none x in let bad : ⊥ = cc e in bad);
   there = λ x h. absurd (contains_none x h);
 }
 
 -- with all its dependencies a set has all that an interface uses
-pub gather_all : (r : ResolveView) (exports : Entries) (i : ℕ) (test : ℕ → Bool) → Gathers r exports i (exported_dependencies r exports i) test → IsUsedSet r exports i test
-gather_all r exports i test a j = (λ h. a.sound j h, λ leads. from leads) where
+pub used_part_all : (r : ResolveView) (exports : Entries) (i : ℕ) (test : ℕ → Bool) → IsUsedPart r exports i (exported_dependencies r exports i) test
+    → IsUsedSet r exports i test
+used_part_all r exports i test a j = (λ h. a.only_used j h, λ leads. from leads) where
   from : Leads (exported_dependencies r exports) i j → test j ≡ true
   from (refers _ _ c) = a.there j c
   from (further _ y _ c rest) = a.closed y j (a.there y c) rest
 
 -- the set of one that has such a set
-pub used_set : (r : ResolveView) (exports : Entries) (sets : UsedView) (i : ℕ) (test : ℕ → Bool) → HasUsedSet r exports sets i → sets i ≡ Some test → IsUsedSet r exports i test
-used_set r exports sets i test (own, is, used) at = subst (IsUsedSet r exports i) (some_same (sym is ∙ at)) used where
-  some_same : {X : Type 0} {a b : X} → Some a ≡ Some b → a ≡ b
-  some_same e = cc e
+pub used_set : (r : ResolveView) (exports : Entries) (sets : UsedView) (i : ℕ) (test : ℕ → Bool) → HasUsedSet r exports sets i → sets i ≡ Some test
+    → IsUsedSet r exports i test
+used_set r exports sets i test (own, is, used) at = subst (IsUsedSet r exports i) (same_Some _ _ (sym is ∙ at)) used
 
 pub on_ok : {X E P Q : Type 0} (r : Result X E) → OnOk r P → (P → Q) → OnOk r Q
 on_ok (Ok x) p f = f p
@@ -121,26 +129,32 @@ filter_last : (p : ℕ → Bool) (xs : List ℕ) (x : ℕ) (b : Bool) → p x �
 filter_last p xs x b is = filter-append p xs (x ∷ []) ∙ ap (λ c. filter p xs ++ cond c (x ∷ []) []) is
 
 -- the dependencies that are exported, with the next one
-exported_front : (exports : Entries) (ids : List InterfaceId) (k : ℕ) (b : Bool) → k < length ids → is_exported_itself exports (get_or ids k (record { 0 = 0 })).0 ≡ b
-    → filter (is_exported_itself exports) (take (k + 1) (interface_ids ids)) ≡ filter (is_exported_itself exports) (take k (interface_ids ids)) ++ cond b ((get_or ids k (record { 0 = 0 })).0 ∷ []) []
+exported_front : (exports : Entries) (ids : List InterfaceId) (k : ℕ) (b : Bool) → k < length ids
+    → is_exported_itself exports (get_or ids k (record { 0 = 0 })).0 ≡ b
+    → filter (is_exported_itself exports) (take (k + 1) (interface_ids ids)) ≡ filter (is_exported_itself exports) (take k (interface_ids ids))
+    ++ cond b ((get_or ids k (record { 0 = 0 })).0 ∷ []) []
 exported_front exports ids k b small is =
     let short : k < length (interface_ids ids) = rw length-map small in
     let at : get_or (interface_ids ids) k 0 ≡ (get_or ids k (record { 0 = 0 })).0 = get_or-map id_of_interface ids k (record { 0 = 0 }) 0 small in
     ap (filter (is_exported_itself exports)) (take_more (interface_ids ids) k 0 short ∙ ap (λ z. take k (interface_ids ids) ++ z ∷ []) at)
     ∙ filter_last (is_exported_itself exports) (take k (interface_ids ids)) (get_or ids k (record { 0 = 0 })).0 b is
 
-module _ (r : ResolveView) (exports : Entries) (i : ℕ) (ids : List InterfaceId) (k : ℕ) (b : Bool) (test : ℕ → Bool) (small : k < length ids) (is : b ≡ is_exported_itself exports (get_or ids k (record { 0 = 0 })).0) where
+module _ (r : ResolveView) (exports : Entries) (i : ℕ) (ids : List InterfaceId) (k : ℕ) (b : Bool) (test : ℕ → Bool) (small : k < length ids)
+    (is : b ≡ is_exported_itself exports (get_or ids k (record { 0 = 0 })).0) where
   -- a dependency that is exported was added; one that is not is passed over
-  pub gather_has : b ≡ true → Gathers r exports i (filter (is_exported_itself exports) (take k (interface_ids ids)) ++ (get_or ids k (record { 0 = 0 })).0 ∷ []) test
-      → Gathers r exports i (filter (is_exported_itself exports) (take (k + 1) (interface_ids ids))) test
-  gather_has has a = subst (λ z. Gathers r exports i z test) (sym (exported_front exports ids k true small (sym is ∙ has))) a
+  pub used_part_has : b ≡ true → IsUsedPart r exports i (filter (is_exported_itself exports) (take k (interface_ids ids))
+      ++ (get_or ids k (record { 0 = 0 })).0 ∷ []) test
+      → IsUsedPart r exports i (filter (is_exported_itself exports) (take (k + 1) (interface_ids ids))) test
+  used_part_has has a = subst (λ z. IsUsedPart r exports i z test) (sym (exported_front exports ids k true small (sym is ∙ has))) a
 
-  pub gather_skip : b ≡ false → Gathers r exports i (filter (is_exported_itself exports) (take k (interface_ids ids))) test
-      → Gathers r exports i (filter (is_exported_itself exports) (take (k + 1) (interface_ids ids))) test
-  gather_skip none a = subst (λ z. Gathers r exports i z test) (sym (exported_front exports ids k false small (sym is ∙ none) ∙ append-nil (filter (is_exported_itself exports) (take k (interface_ids ids))))) a
+  pub used_part_skip : b ≡ false → IsUsedPart r exports i (filter (is_exported_itself exports) (take k (interface_ids ids))) test
+      → IsUsedPart r exports i (filter (is_exported_itself exports) (take (k + 1) (interface_ids ids))) test
+  used_part_skip none a = subst (λ z. IsUsedPart r exports i z test)
+      (sym (exported_front exports ids k false small (sym is ∙ none) ∙ append-nil (filter (is_exported_itself exports) (take k (interface_ids ids))))) a
 
 -- an element that passes a test is among those that do
-keeps_one : (p : ℕ → Bool) (xs : List ℕ) (x y : ℕ) (b : Bool) → p y ≡ b → p x ≡ true → (y ≡ x) ⊎ Contains (filter p xs) x → Contains (cond b (y ∷ filter p xs) (filter p xs)) x
+keeps_one : (p : ℕ → Bool) (xs : List ℕ) (x y : ℕ) (b : Bool) → p y ≡ b → p x ≡ true → (y ≡ x) ⊎ Contains (filter p xs) x
+    → Contains (cond b (y ∷ filter p xs) (filter p xs)) x
 keeps_one p xs x y true of is (inl same) = subst (Contains (y ∷ filter p xs)) same (contains_head (filter p xs) y)
 keeps_one p xs x y true of is (inr rest) = contains_tail y (filter p xs) x rest
 keeps_one p xs x y false of is (inl same) = absurd (let e : true ≡ false = sym is ∙ (ap p (sym same) ∙ of) in let bad : ⊥ = cc e in bad)
@@ -148,9 +162,11 @@ keeps_one p xs x y false of is (inr rest) = rest
 
 pub filter_has : (p : ℕ → Bool) (xs : List ℕ) (x : ℕ) → Contains xs x → p x ≡ true → Contains (filter p xs) x
 filter_has p [] x h is = absurd (contains_none x h)
-filter_has p (y ∷ xs) x h is = keeps_one p xs x y (p y) refl is (elim (contains_cons y xs x h) [ inl same ↦ inl same | inr rest ↦ inr (filter_has p xs x rest is) ])
+filter_has p (y ∷ xs) x h is = keeps_one p xs x y (p y) refl is
+    (elim (contains_cons y xs x h) [ inl same ↦ inl same | inr rest ↦ inr (filter_has p xs x rest is) ])
 
-kept_from : (p : ℕ → Bool) (xs : List ℕ) (x y : ℕ) (b : Bool) → p y ≡ b → (Contains (filter p xs) x → Contains xs x × (p x ≡ true)) → Contains (cond b (y ∷ filter p xs) (filter p xs)) x → Contains (y ∷ xs) x × (p x ≡ true)
+kept_from : (p : ℕ → Bool) (xs : List ℕ) (x y : ℕ) (b : Bool) → p y ≡ b → (Contains (filter p xs) x → Contains xs x × (p x ≡ true))
+    → Contains (cond b (y ∷ filter p xs) (filter p xs)) x → Contains (y ∷ xs) x × (p x ≡ true)
 kept_from p xs x y true of rest h =
     elim (contains_cons y (filter p xs) x h) [
       | inl same ↦ (subst (Contains (y ∷ xs)) same (contains_head xs y), ap p (sym same) ∙ of)
@@ -163,26 +179,33 @@ filter_from p [] x h = absurd (contains_none x h)
 filter_from p (y ∷ xs) x h = kept_from p xs x y (p y) refl (filter_from p xs x) h
 
 -- the dependency that is gone through is one of the interface
-pub dependency_there : (r : ResolveView) (exports : Entries) (i : ℕ) (items ids : List InterfaceId) (k : ℕ) (b : Bool) → interface_ids items ≡ direct_dependencies r i → ids ≡ items → k < length ids
-    → b ≡ is_exported_itself exports (get_or ids k (record { 0 = 0 })).0 → b ≡ true → Contains (exported_dependencies r exports i) (get_or ids k (record { 0 = 0 })).0
+pub dependency_there : (r : ResolveView) (exports : Entries) (i : ℕ) (items ids : List InterfaceId) (k : ℕ) (b : Bool)
+    → interface_ids items ≡ direct_dependencies r i → ids ≡ items → k < length ids
+    → b ≡ is_exported_itself exports (get_or ids k (record { 0 = 0 })).0 → b ≡ true
+    → Contains (exported_dependencies r exports i) (get_or ids k (record { 0 = 0 })).0
 dependency_there r exports i items ids k b are same small is has =
     let short : k < length (interface_ids ids) = rw length-map small in
     let at : get_or (interface_ids ids) k 0 ≡ (get_or ids k (record { 0 = 0 })).0 = get_or-map id_of_interface ids k (record { 0 = 0 }) 0 small in
-    let own : Contains (interface_ids ids) (get_or ids k (record { 0 = 0 })).0 = subst (Contains (interface_ids ids)) at (Contains-get_or (interface_ids ids) k 0 short) in
-    filter_has (is_exported_itself exports) (direct_dependencies r i) (get_or ids k (record { 0 = 0 })).0 (subst (λ z. Contains z (get_or ids k (record { 0 = 0 })).0) (ap interface_ids same ∙ are) own) (sym is ∙ has)
+    let own : Contains (interface_ids ids) (get_or ids k (record { 0 = 0 })).0 = subst (Contains (interface_ids ids)) at
+    (Contains-get_or (interface_ids ids) k 0 short) in
+    filter_has (is_exported_itself exports) (direct_dependencies r i) (get_or ids k (record { 0 = 0 })).0
+    (subst (λ z. Contains z (get_or ids k (record { 0 = 0 })).0) (ap interface_ids same ∙ are) own) (sym is ∙ has)
 
-pub gather_end : (r : ResolveView) (exports : Entries) (i : ℕ) (items ids : List InterfaceId) (k : ℕ) (test : ℕ → Bool) → interface_ids items ≡ direct_dependencies r i → ids ≡ items → length ids ≤ k
-    → Gathers r exports i (filter (is_exported_itself exports) (take k (interface_ids ids))) test → Gathers r exports i (exported_dependencies r exports i) test
-gather_end r exports i items ids k test are same past a =
+pub used_part_end : (r : ResolveView) (exports : Entries) (i : ℕ) (items ids : List InterfaceId) (k : ℕ) (test : ℕ → Bool)
+    → interface_ids items ≡ direct_dependencies r i → ids ≡ items → length ids ≤ k
+    → IsUsedPart r exports i (filter (is_exported_itself exports) (take k (interface_ids ids))) test
+    → IsUsedPart r exports i (exported_dependencies r exports i) test
+used_part_end r exports i items ids k test are same past a =
     let long : length (interface_ids ids) ≤ k = rw length-map past in
-    subst (λ z. Gathers r exports i (filter (is_exported_itself exports) z) test) (take_all k (interface_ids ids) long ∙ (ap interface_ids same ∙ are)) a
+    subst (λ z. IsUsedPart r exports i (filter (is_exported_itself exports) z) test) (take_all k (interface_ids ids) long ∙ (ap interface_ids same ∙ are)) a
 
 pub none_among : (ids : List InterfaceId) (j : ℕ) → ids ≡ [] → among ids j ≡ false
 none_among ids j none = ap (λ z. among z j) none
 
 -- a set put into the map
 pub set_put : {S T : Type 0} (m n : HashMap InterfaceId (HashSet InterfaceId S) T) (id : InterfaceId) (s : HashSet InterfaceId S) (j : ℕ)
-    → get same_interface n (record { 0 = j }) ≡ cond (id.0 == j) (Some s) (get same_interface m (record { 0 = j })) → used_view n j ≡ cond (id.0 == j) (Some (has_interface s)) (used_view m j)
+    → get same_interface n (record { 0 = j }) ≡ cond (id.0 == j) (Some s) (get same_interface m (record { 0 = j }))
+    → used_view n j ≡ cond (id.0 == j) (Some (has_interface s)) (used_view m j)
 set_put m n id s j is = ap (option_map has_interface) is ∙ by (id.0 == j) where
   by : (b : Bool) → option_map has_interface (cond b (Some s) (get same_interface m (record { 0 = j }))) ≡ cond b (Some (has_interface s)) (used_view m j)
   by true = refl

@@ -6,18 +6,19 @@ use Rattle.wc_encoder.specs.Adapters.{LibraryView}
 use Rattle.wc_encoder.specs.EncoderParts.{EncoderView}
 use Rattle.wc_validate.specs.Laws.{RecordsInRange}
 use Rattle.wc_validate.specs.Validated.{IsRecordOf, ModuleRecord}
-use Rattle.wc_world.specs.Adapters.{NamedAdapter, job_of, kept_adapters}
+use Rattle.wc_world.specs.Adapters.{NamedAdapter, validation_input_of, needed_adapters}
 use Rattle.wc_world.specs.Live.{AreImportsOf}
 use Rattle.wc_world.specs.Views.{NamedWorldAdapter, WorldAdapterView}
-use Rattle.wc_world.specs.World.{AreAdapters, IsAdapterOf, IsMade}
+use Rattle.wc_world.specs.World.{AreAdapters, IsAdapterOf, IsTrimmedOrLibrary}
 
 module _ (e : EncoderView) (main : ModuleRecord) (law : RecordsInRange e) where
-  made_recorded : (x : NamedAdapter) (w : WorldAdapterView) (o : Option LibraryView) → IsMade e main x w o → IsRecordOf (job_of e main x) w.wasm w.info
-  made_recorded x w None h = h.last
-  made_recorded x w (Some library) h = h.recorded
+  adapter_recorded : (x : NamedAdapter) (w : WorldAdapterView) (o : Option LibraryView) → IsTrimmedOrLibrary e main x w o
+      → IsRecordOf (validation_input_of e main x) w.wasm w.info
+  adapter_recorded x w None h = h.last
+  adapter_recorded x w (Some library) h = h.recorded
 
   one_in : (x : NamedAdapter) (y : NamedWorldAdapter) → IsAdapterOf e main x y → AreImportsOf e y.1.info
-  one_in x y h = λ w at. law (job_of e main x) y.1.wasm y.1.info w refl (made_recorded x y.1 x.1.library_info h.made) at
+  one_in x y h = λ w at. law (validation_input_of e main x) y.1.wasm y.1.info w refl (adapter_recorded x y.1 x.1.library_info h.is_adapter) at
 
   all_in : (xs : List NamedAdapter) (ys : List NamedWorldAdapter) → AllZip (IsAdapterOf e main) xs ys → AllByRecursion (λ (y : NamedWorldAdapter). AreImportsOf e y.1.info) ys
   all_in [] [] h = tt
@@ -27,4 +28,4 @@ module _ (e : EncoderView) (main : ModuleRecord) (law : RecordsInRange e) where
 
   -- of each adapter
   pub adapters_in : (ys : List NamedWorldAdapter) → AreAdapters e main ys → All (λ (y : NamedWorldAdapter). AreImportsOf e y.1.info) ys
-  adapters_in ys h = All-from_recursion (λ (y : NamedWorldAdapter). AreImportsOf e y.1.info) ys (all_in (kept_adapters e main) ys h)
+  adapters_in ys h = All-from_recursion (λ (y : NamedWorldAdapter). AreImportsOf e y.1.info) ys (all_in (needed_adapters e main) ys h)

@@ -14,12 +14,12 @@ use Rattle.wc_encoder.specs.Adapters.{AdapterView}
 use Rattle.wc_encoder.specs.EncoderParts.{EncoderView, world_exports}
 use Rattle.wc_encoder.specs.Entries.{Entries}
 use Rattle.wc_names.specs.ExportViews.{ExportView}
-use Rattle.wc_names.specs.Lookups.{item_under}
-use Rattle.wc_validate.specs.Entries.{first_occurrences}
-use Rattle.wc_validate.specs.ExportMaps.{ExportRecord, first_name, first_that, is_adapter_realloc, is_memory, memory_of, own_or_general}
-use Rattle.wc_validate.specs.ImportMaps.{required_in}
+use Rattle.wc_names.specs.Keys.{item_under}
+use Rattle.wc_validate.specs.Imports.Entries.{first_occurrences}
+use Rattle.wc_validate.specs.Exports.Map.{ExportRecord, first_name, first_that, is_adapter_realloc, is_memory, memory_of, own_or_general}
+use Rattle.wc_validate.specs.Imports.Map.{required_in}
 use Rattle.wc_validate.specs.Requirements.{functions_of}
-use Rattle.wc_validate.specs.Validated.{Job, ModuleRecord, adapter_job}
+use Rattle.wc_validate.specs.Validated.{ValidationInput, ModuleRecord, adapter_input}
 
 -- an adapter or a library under its name
 abbrev pub NamedAdapter : Type 0
@@ -46,17 +46,17 @@ abbrev pub is_needed : ResolveView → Entries → AdapterView → List (List �
 is_needed r exports a required = is_some a.library_info || (is_some_of required || list_any (exports_function r exports) a.required_exports)
 
 -- the adapters and libraries that a component has, by what its main module imports
-abbrev pub is_kept : EncoderView → ModuleRecord → NamedAdapter → Bool
-is_kept e main x = is_needed e.resolve (world_exports e) x.1 (required_in main.imports x.0)
+abbrev pub is_adapter_needed : EncoderView → ModuleRecord → NamedAdapter → Bool
+is_adapter_needed e main x = is_needed e.resolve (world_exports e) x.1 (required_in main.imports x.0)
 
-abbrev pub kept_adapters : EncoderView → ModuleRecord → List NamedAdapter
-kept_adapters e main = filter (is_kept e main) e.adapters
+abbrev pub needed_adapters : EncoderView → ModuleRecord → List NamedAdapter
+needed_adapters e main = filter (is_adapter_needed e main) e.adapters
 
 -- what an adapter is validated for, before it is trimmed and after
-abbrev pub job_of : EncoderView → ModuleRecord → NamedAdapter → Job
-job_of e main x = adapter_job e x.1.library_info x.1.required_exports (required_in main.imports x.0)
+abbrev pub validation_input_of : EncoderView → ModuleRecord → NamedAdapter → ValidationInput
+validation_input_of e main x = adapter_input e x.1.library_info x.1.required_exports (required_in main.imports x.0)
 
--- the exports that are wanted of an adapter: what the main module imports, and what the first validation records
+-- the exports that are required of an adapter: what the main module imports, and what the first validation records
 abbrev pub required_names : List (List ℕ × FuncTypeValue) → ExportRecord → List (List ℕ)
 required_names required exports = first_occurrences (map (λ (f : List ℕ × FuncTypeValue). f.0) required ++ map (λ (x : List ℕ × ExportView). x.0) exports)
 
@@ -72,7 +72,7 @@ trim_exponent memory = min (option_map_or (λ (t : MemoryType). page_exponent t.
 abbrev pub page_size : MemoryType → ℕ
 page_size t = if nat_lt (page_exponent t.page_size_log2) 64 then 2 ^ page_exponent t.page_size_log2 else 2 ^ 64 - 1
 
--- in one of the main module's memory; 65536, where it exports none
+-- the bytes in a page of the main module's memory; 65536, where it exports none
 abbrev pub exported_memory : ExportRecord → Option (List ℕ × MemoryType)
 exported_memory exports = option_and_then memory_of (first_that is_memory exports)
 

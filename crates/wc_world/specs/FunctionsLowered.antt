@@ -44,7 +44,8 @@ IsLoweredIn r m (interface_func key i name abi) =
     IsKeyIn r key × IsSome (key_text parts_text r key) × IsSome (lowering_at m (key_text parts_text r key) name abi)
 IsLoweredIn r m import = Unit {0}
 
--- in a world that is made of an encoder: each that is recorded, of the main module and of the adapters
+-- in a world that is made of an encoder each function that is recorded has its lowering, of the main module and of the
+-- adapters
 abbrev pub FunctionsLowered : EncoderView → Type 0
 FunctionsLowered e =
     (options : OptionsOf) (w : ComponentWorldView) → IsWorldOf options e w

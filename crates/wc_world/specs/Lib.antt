@@ -4,12 +4,11 @@ pub mod Views
 pub mod WorldViews
 pub mod Slots
 pub mod Lowered
-pub mod Required
 pub mod Adapters
 pub mod Live
 pub mod World
 pub mod Causes
-pub mod Given
 pub mod Restricted
 pub mod FunctionsLowered
 pub mod Laws
+pub mod Private

@@ -14,9 +14,9 @@ use Rattle.wc_resolve.specs.WellFormed.{IsUsable, type_name}
 use Rattle.wc_resolve.specs.World.{ResolveView}
 use Rattle.wc_encoder.specs.EncoderParts.{EncoderView, world_imports}
 use Rattle.wc_encoder.specs.Entries.{Entries}
-use Rattle.wc_names.specs.Lookups.{resource_at}
+use Rattle.wc_names.specs.Keys.{resource_at}
 use Rattle.wc_names.specs.Views.{ImportView, imported_resource_drop, interface_func, world_func}
-use Rattle.wc_validate.specs.ImportMaps.{memory_in}
+use Rattle.wc_validate.specs.Imports.Map.{memory_in}
 use Rattle.wc_validate.specs.Validated.{ModuleRecord}
 use Rattle.wc_world.specs.Options.{OptionsOf, signature_of}
 use Rattle.wc_world.specs.Slots.{all_imports, imports_of}
@@ -34,12 +34,16 @@ is_import_of None name abi (world_func key f a) = bytes_eq name f && same_call a
 is_import_of (Some i) name abi (interface_func key j f a) = (i == j) && (bytes_eq name f && same_call abi a)
 is_import_of interface name abi import = false
 
+-- a function is among imports, called in this way
+abbrev pub is_imported : Option ℕ → List ℕ → AbiVariant → List ImportView → Bool
+is_imported interface name abi imports = list_any (is_import_of interface name abi) imports
+
 -- an import drops resources of a type
 abbrev pub is_drop_of : ℕ → ImportView → Bool
 is_drop_of t (imported_resource_drop key interface u) = t == u
 is_drop_of t import = false
 
--- by what functions are lowered: a `Resolve`; the options of functions; what core modules import; and whether the main
+-- what functions are lowered by: a `Resolve`; the options of functions; what core modules import; and whether the main
 -- module imports its memory, which is then there before the main module is
 pub record Lowerer : Type 0 where
   pub resolve : ResolveView
@@ -69,7 +73,7 @@ AreKeysDistinct lowerings = AllPairs (λ (x y : KeyedLowering). x.0 ≢ y.0) low
 
 -- a function called in one way, if it is imported so
 abbrev pub called_lowering : Lowerer → Option ℕ → FunctionView → AbiVariant → List KeyedLowering
-called_lowering l interface f abi = cond (list_any (is_import_of interface f.name abi) l.imports) (((f.name, abi), lowered_function l f abi) ∷ []) []
+called_lowering l interface f abi = cond (is_imported interface f.name abi l.imports) (((f.name, abi), lowered_function l f abi) ∷ []) []
 
 -- a function as it is imported: called synchronously, and then asynchronously
 abbrev pub function_lowerings : Lowerer → Option ℕ → FunctionView → List KeyedLowering
@@ -89,12 +93,22 @@ resource_name r t = option_and_then (λ (u : ℕ). type_name r u) (resource_at r
 abbrev pub type_lowerings : Lowerer → ℕ → List KeyedLowering
 type_lowerings l t = option_map_or (resource_lowerings l t) (resource_name l.resolve t) []
 
--- of an interface: drops in the order of its types, and then its functions
-abbrev pub interface_lowerings : Lowerer → ℕ → InterfaceView → List KeyedLowering
-interface_lowerings l i v =
-    flat_map (λ (e : List ℕ × ℕ). type_lowerings l e.1) v.types ++ flat_map (λ (e : List ℕ × FunctionView). function_lowerings l (Some i) e.1) v.functions
+-- drops in the order of types; functions in their order
+abbrev pub lowerings_of_types : Lowerer → List (List ℕ × ℕ) → List KeyedLowering
+lowerings_of_types l types = flat_map (λ (e : List ℕ × ℕ). type_lowerings l e.1) types
 
--- of the world itself: its functions and the drops of its resources, in its order
+abbrev pub lowerings_of_functions : Lowerer → Option ℕ → List (List ℕ × FunctionView) → List KeyedLowering
+lowerings_of_functions l interface functions = flat_map (λ (e : List ℕ × FunctionView). function_lowerings l interface e.1) functions
+
+-- the lowerings of an interface: drops, and then functions
+abbrev pub interface_lowerings : Lowerer → ℕ → InterfaceView → List KeyedLowering
+interface_lowerings l i v = lowerings_of_types l v.types ++ lowerings_of_functions l (Some i) v.functions
+
+-- the lowerings of the interface at an index
+abbrev pub lowerings_of_interface : Lowerer → ℕ → List KeyedLowering
+lowerings_of_interface l i = option_map_or (interface_lowerings l i) (slice_get l.resolve.interfaces i) []
+
+-- the lowerings of the world itself: its functions and the drops of its resources, in its order
 abbrev pub item_lowerings : Lowerer → ItemView → List KeyedLowering
 item_lowerings l (interface_item i external) = []
 item_lowerings l (function_item f) = function_lowerings l None f
@@ -132,7 +146,7 @@ abbrev pub interface_entry : Lowerer → KeyView × ItemView → Option ImportEn
 interface_entry l (key, interface_item i external) = Some (
   key_text parts_text l.resolve key,
   record {
-    lowerings = option_map_or (interface_lowerings l i) (slice_get l.resolve.interfaces i) [];
+    lowerings = lowerings_of_interface l i;
     interface = Some i;
     implements = implemented l.resolve key (interface_item i external);
     external_id = external_id (interface_item i external);
@@ -140,15 +154,19 @@ interface_entry l (key, interface_item i external) = Some (
 )
 interface_entry l (key, item) = None
 
--- in the order of the imports of the world that are left: an entry for each interface, and one for all its functions and
--- types at the place of the first of these
+-- the entries of the imports of a world that are left, in their order: one for each interface, and one for all its
+-- functions and types at the position of the first of these
 abbrev pub entries_from : Lowerer → Entries → Entries → ImportMapView
 entries_from l all [] = []
 entries_from l all (x ∷ rest) = option_map_or (λ entry. entry ∷ entries_from l all rest) (interface_entry l x) (own_entry l all ∷ filter_map (interface_entry l) rest)
 
--- for all imports of a world
+-- the entries of all imports of a world
 abbrev pub all_entries : Lowerer → Entries → ImportMapView
 all_entries l imports = entries_from l imports imports
+
+-- a fact that holds where no two lowerings of the world itself have one key, and no two entries have one name
+abbrev pub IfDistinct : Lowerer → Entries → Type 0 → Type 0
+IfDistinct l imports P = AreKeysDistinct (own_lowerings l imports) → AreEntriesDistinct (all_entries l imports) → P
 
 abbrev pub lowerer : EncoderView → OptionsOf → ModuleRecord → List NamedWorldAdapter → Lowerer
 lowerer e options main adapters = record {

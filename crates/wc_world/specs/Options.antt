@@ -23,12 +23,16 @@ bit_if bit b = if b then bit else 0
 abbrev pub option_bits : Bool → Bool → Bool → Bool → ℕ
 option_bits memory realloc encoding is_async = bit_if 1 memory + (bit_if 2 realloc + (bit_if 4 encoding + bit_if 8 is_async))
 
--- one of the parameters passes a test; the result does
+-- one of the parameters of a function passes a test; its result passes a test
 abbrev pub any_param : (WitType → Bool) → FunctionView → Bool
 any_param test f = list_any (λ (p : List ℕ × WitType). test p.1) f.params
 
 abbrev pub outcome_does : (WitType → Bool) → FunctionView → Bool
 outcome_does test f = option_map_or test f.outcome false
+
+-- a parameter passes a test, or the result does
+abbrev pub function_does : (WitType → Bool) → FunctionView → Bool
+function_does test f = any_param test f || outcome_does test f
 
 -- a string is in the type, or, if lists count too, a string or a list
 abbrev pub holds_text : Bool → ResolveView → WitType → Bool
@@ -51,6 +55,6 @@ options_by strings texts r f abi =
     (any_param strings f || outcome_does strings f)
     (is_async_import abi)
 
--- by what the types of the function hold
+-- the options of a function by what its types hold
 abbrev pub plain_options : OptionsOf
 plain_options r = options_by (holds_string r) (holds_string_or_list r) r

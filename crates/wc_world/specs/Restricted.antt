@@ -5,20 +5,20 @@ use Rattle.wc_read.specs.Modules.{ModuleValue, SpellsModule}
 use Rattle.wc_write.specs.Values.{AreBytes}
 use Rattle.wc_encoder.specs.EncoderParts.{EncoderView}
 use Rattle.wc_gc.specs.Laws.{AreSettings}
-use Rattle.wc_gc.specs.Liveness.{Wanted}
+use Rattle.wc_gc.specs.Liveness.{TrimInput}
 use Rattle.wc_gc.specs.Parts.{SettingsValue}
 use Rattle.wc_gc.specs.Restriction.{IsRestriction}
 use Rattle.wc_gc.specs.TrimmedText.{IsTrimmedRead}
 use Rattle.wc_gc.specs.Trimming.{IsTrimCause}
 use Rattle.wc_gc.specs.declared.fault.GcFault.{GcFault}
 use Rattle.wc_validate.specs.Restriction.{AreNeeded, HasCollision, IsRestrictedRecord}
-use Rattle.wc_validate.specs.Validated.{IsCause, IsRecordOf, Job, ModuleRecord}
+use Rattle.wc_validate.specs.Validated.{IsCause, IsRecordOf, ValidationInput, ModuleRecord}
 use Rattle.wc_validate.specs.declared.fault.ValidateFault.{ValidateFault}
 use Rattle.wc_validate.specs.declared.fault.ValidateFault.TheVariants.{DuplicateImport, Memory}
 
--- the record of a trimmed adapter is that of the adapter, restricted: to the imports that its wanted exports reach, but
--- reallocs; besides these the main module's realloc is imported
-pub record IsRestrictedTrim (s : SettingsValue) (w : Wanted) (text : List ℕ) (first last : ModuleRecord) : Type 0 where
+-- the record of a trimmed adapter is that of the adapter, restricted: to the imports that its required exports reach,
+-- but reallocs; besides these the main module's realloc is imported
+pub record IsRestrictedTrim (s : SettingsValue) (w : TrimInput) (text : List ℕ) (first last : ModuleRecord) : Type 0 where
   pub adapter : ModuleValue
   pub trimmed : ModuleValue
   pub spells_adapter : SpellsModule w.bytes adapter
@@ -33,9 +33,9 @@ pub record IsCollision (text : List ℕ) (f : ValidateFault) : Type 0 where
   pub spelled : SpellsModule text trimmed
   pub collides : HasCollision trimmed
 
--- an adapter, no library, that is valid for a job, and its text trimmed without a fault; the exports that are recorded and
--- those that the job requires are wanted
-pub record IsTrimFor (e : EncoderView) (j : Job) (s : SettingsValue) (w : Wanted) (text : List ℕ) (first : ModuleRecord) : Type 0 where
+-- an adapter, no library, that is valid for a validation input, and its text trimmed without a fault; the exports that
+-- are recorded and those that the validation input requires are required
+pub record IsTrimFor (e : EncoderView) (j : ValidationInput) (s : SettingsValue) (w : TrimInput) (text : List ℕ) (first : ModuleRecord) : Type 0 where
   pub encoder : j.encoder ≡ e
   pub no_library : j.library ≡ None
   pub no_renames : j.renames ≡ None
@@ -49,11 +49,12 @@ pub record IsTrimFor (e : EncoderView) (j : Job) (s : SettingsValue) (w : Wanted
 -- the record of a trimmed adapter is that of the adapter, restricted
 abbrev pub TrimmedIsRestricted : EncoderView → Type 0
 TrimmedIsRestricted e =
-    (j : Job) (s : SettingsValue) (w : Wanted) (text : List ℕ) (first last : ModuleRecord)
+    (j : ValidationInput) (s : SettingsValue) (w : TrimInput) (text : List ℕ) (first last : ModuleRecord)
     → IsTrimFor e j s w text first → IsRecordOf j text last → IsRestrictedTrim s w text first last
 
--- where it is refused for the same job, that is for a second import of one name of the main module
+-- where a trimmed adapter is refused for the same validation input, that is for a second import of one name of the main
+-- module
 abbrev pub RefusedAsCollision : EncoderView → Type 0
 RefusedAsCollision e =
-    (j : Job) (s : SettingsValue) (w : Wanted) (text : List ℕ) (first : ModuleRecord) (f : ValidateFault)
+    (j : ValidationInput) (s : SettingsValue) (w : TrimInput) (text : List ℕ) (first : ModuleRecord) (f : ValidateFault)
     → IsTrimFor e j s w text first → f ≢ Memory → IsCause j text f → IsCollision text f

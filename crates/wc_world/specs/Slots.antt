@@ -1,9 +1,10 @@
 -- Whether slot 1 of a task's context is in use.
 use Rattle.std.specs.Prelude.{◌++◌, ◌==◌, ℕ, List, map, Bool, true, false, IsTrue, Contains}
-use Rattle.std.specs.List.{flat_map}
+use Rattle.std.specs.List.{flat_map, list_any}
 use Rattle.wc_names.specs.Views.{ImportView, builtin, context_get, context_set, thread_new_indirect}
-use Rattle.wc_validate.specs.ImportMaps.{imports_in}
+use Rattle.wc_validate.specs.Imports.Map.{imports_in}
 use Rattle.wc_validate.specs.Validated.{ModuleRecord}
+use Rattle.wc_validate.specs.Imports.Entries.{Records}
 use Rattle.wc_world.specs.Views.{ComponentWorldView, NamedWorldAdapter}
 
 -- single imports by their modules and names: those of the main module, and then those of each adapter
@@ -20,6 +21,10 @@ uses_slot_1 (builtin thread_new_indirect) = true
 uses_slot_1 (builtin (context_get ty slot)) = slot == 1
 uses_slot_1 (builtin (context_set ty slot)) = slot == 1
 uses_slot_1 i = false
+
+-- one of a module's imports starts a thread, or reads or writes slot 1
+abbrev pub module_uses_slot_1 : Records → Bool
+module_uses_slot_1 records = list_any (λ (x : List ℕ × (List ℕ × ImportView)). uses_slot_1 x.1.1) (imports_in records)
 
 -- the main module or an adapter has one
 abbrev pub IsSlot1Used : ComponentWorldView → Type 0

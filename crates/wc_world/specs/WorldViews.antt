@@ -8,6 +8,8 @@ use Rattle.std.specs.declared.borrow.CowSlice.{CowSlice}
 use Rattle.std.specs.declared.borrow.CowSlice.TheVariants.{Borrowed, Owned}
 use Rattle.indexmap.specs.IndexMap.{IndexMap}
 use Rattle.indexmap.specs.IndexSet.{IndexSet}
+use Rattle.wc_read.specs.declared.types.FuncType.{FuncType}
+use Rattle.wc_read.specs.Types.{FuncTypeValue}
 use Rattle.wc_resolve.specs.declared.functions.AbiVariant.{AbiVariant}
 use Rattle.wc_resolve.specs.declared.ids.InterfaceId.{InterfaceId}
 use Rattle.wc_resolve.specs.declared.ids.TypeId.{TypeId}
@@ -16,6 +18,7 @@ use Rattle.wc_resolve.specs.Roots.{indices}
 use Rattle.wc_resolve.specs.Signatures.{signature_view}
 use Rattle.wc_encoder.specs.Adapters.{library_view}
 use Rattle.wc_validate.specs.Validated.{module_record}
+use Rattle.wc_validate.specs.Imports.Map.{required_entry}
 use Rattle.wc_world.specs.Used.{used_view}
 use Rattle.wc_world.specs.Views.{ComponentWorldView, ImportMapView, ImportedView, LoweringKey, LoweringView, NamedWorldAdapter, WorldAdapterView, direct, indirect, resource_drop}
 use Rattle.wc_world.specs.declared.adapter.WorldAdapter.{WorldAdapter}
@@ -61,6 +64,13 @@ adapter_view a = record {
 abbrev pub adapter_entry : Bor (List ℕ) × WorldAdapter → NamedWorldAdapter
 adapter_entry e = (e.0.now, adapter_view e.1)
 
+abbrev pub adapters_view : {S : Type 0} → IndexMap (Bor (List ℕ)) WorldAdapter S → List NamedWorldAdapter
+adapters_view m = map adapter_entry m.entries
+
+-- functions by their names, with their types
+abbrev pub required_view : {S : Type 0} → IndexMap (String Global) FuncType S → List (List ℕ × FuncTypeValue)
+required_view m = map required_entry m.entries
+
 -- types by the interfaces that own them
 abbrev pub live_view : {S T : Type 0} → IndexMap InterfaceId (IndexSet TypeId S) T → List (ℕ × List ℕ)
 live_view m = map (λ e. (e.0.0, indices e.1.keys)) m.entries
@@ -69,7 +79,7 @@ abbrev pub world_view : ComponentWorld → ComponentWorldView
 world_view w = record {
   encoder = w.encoder.now;
   info = module_record w.info;
-  adapters = map adapter_entry w.adapters.entries;
+  adapters = adapters_view w.adapters;
   import_map = import_map_view w.import_map;
   live_type_imports = live_view w.live_type_imports;
   exports_used = used_view w.exports_used;

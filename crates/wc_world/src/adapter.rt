@@ -7,7 +7,8 @@ use wc_validate::ValidatedModule;
 /// An adapter or a library, as a component has it.
 #[derive(Drop)]
 pub struct WorldAdapter<'a> {
-    /// The bytes: of a library those that were given, borrowed; of an adapter those that it is trimmed to.
+    /// The bytes: of a library those of the encoder, borrowed; of an adapter those that it is
+    /// trimmed to.
     pub wasm: CowSlice<'a, u8>,
     /// What these bytes import and export.
     pub info: ValidatedModule,

@@ -1,16 +1,16 @@
 //! The adapters and libraries that a component has.
 
-ghost use Rattle.std.specs.Prelude.{◌≡◌, ◌++◌, ◌∷◌, ◌⊎◌, [], All, IfErr, IfOk, List, None, OnOk, map};
-ghost use Rattle.wc_encoder.specs.Adapters.{adapter_view as given_view};
+ghost use Rattle.std.specs.Prelude.{◌≡◌, ◌⊎◌, IfErr, IfOk, None, OnOk};
+ghost use Rattle.wc_encoder.specs.Adapters.{adapter_view as input_view};
 ghost use Rattle.wc_gc.specs.Liveness.{names_of};
 ghost use Rattle.wc_validate.specs.Validated.{ModuleRecord, module_record};
-ghost use Rattle.wc_world.specs.Adapters.{HasOtherName, NamedAdapter, required_names};
-ghost use Rattle.wc_world.specs.Causes.{IsFirstStop, IsKeptStop, IsNamed};
-ghost use Rattle.wc_world.specs.Given.{IsGivenAdapter, IsGivenFault, IsGivenMade, IsGivenRecord, IsGivenText, IsNeeded, main_of, named_adapter, required_of};
+ghost use Rattle.wc_world.specs.Adapters.{required_names};
+ghost use Rattle.wc_world.specs.Causes.{IsFirstStop, IsNamed, IsNeededStop};
+ghost use Rattle.wc_world.specs.Private.AdapterInput.{IsAdapterOfInput, IsInputFault, IsInputRecord, IsInputTrimmedOrLibrary, IsInputTrimmedText, IsNeeded, IsTrimmedInput, main_of, named_adapter, required_of};
 ghost use Rattle.wc_world.specs.declared.fault.WorldFault.TheVariants.{Memory};
 ghost use Rattle.wc_world.specs.Views.{WorldAdapterView};
-ghost use Rattle.wc_world.specs.World.{AreAdapters, AreMade, HasMainPages, IsTrimmedAdapter};
-ghost use Rattle.wc_world.specs.WorldViews.{adapter_entry, adapter_view};
+ghost use Rattle.wc_world.specs.World.{AddsAdapterOnOk, AreAdapters, HasMainPages};
+ghost use Rattle.wc_world.specs.WorldViews.{adapter_view, adapters_view};
 
 use crate::adapter::WorldAdapter;
 use crate::fault::WorldFault;
@@ -27,9 +27,9 @@ use wc_read::FuncType;
 use wc_validate::{ValidateFault, ValidatedModule, validate_adapter_module};
 use wc_write::laws::slices_are_bytes;
 
-/// An adapter or a library, and the main module for which it is made.
+/// An adapter or a library, and the main module for which it is trimmed.
 #[derive(Clone, Copy)]
-struct Given<'a, 'b> {
+struct AdapterInput<'a, 'b> {
     encoder: &'a ComponentEncoder,
     main: &'b ValidatedModule,
     /// What the main module imports from it.
@@ -68,115 +68,116 @@ fn minimized_fault(alloc: Global, name: &str, fault: ValidateFault) -> WorldFaul
     }
 }
 
-/// What the given bytes import and export.
-fn given_record(alloc: Global, given: &Given<'_, '_>) -> Result<ValidatedModule, WorldFault>
-    requires { IsNeeded given.now }
-    ensures recorded { IfOk result (λ v. IsGivenRecord given.now
-        given.now.adapter.now.wasm.items (module_record v)) }
-    ensures fault { IfErr result (IsGivenFault given.now) }
+/// What the bytes of the adapter import and export.
+fn input_record(alloc: Global, input: &AdapterInput<'_, '_>) -> Result<ValidatedModule, WorldFault>
+    requires { IsNeeded input.now }
+    ensures recorded { IfOk result (λ v. IsInputRecord input.now
+        input.now.adapter.now.wasm.items (module_record v)) }
+    ensures fault { IfErr result (IsInputFault input.now) }
 {
-    let adapter = given.adapter;
+    let adapter = input.adapter;
     match validate_adapter_module(
         alloc,
-        given.encoder,
+        input.encoder,
         &adapter.wasm,
-        given.required,
+        input.required,
         &adapter.required_exports,
         adapter.library_info.as_ref(),
     ) {
         Ok(record) => Ok(record),
-        Err(fault) => Err(adapter_fault(alloc, given.name, fault)),
+        Err(fault) => Err(adapter_fault(alloc, input.name, fault)),
     }
 }
 
-/// The bytes that an adapter is trimmed to, of which exports of these names are wanted.
+/// The bytes that an adapter is trimmed to, of which exports of these names are required.
 fn trim_to(
     alloc: Global,
-    given: &Given<'_, '_>,
+    input: &AdapterInput<'_, '_>,
     first: &ValidatedModule,
     names: &IndexSet<String>,
 ) -> Result<Vec<u8>, WorldFault>
-    requires needed { IsNeeded given.now }
-    requires trims { given.now.adapter.now.library_info ≡ None }
-    requires original { IsGivenRecord given.now given.now.adapter.now.wasm.items
+    requires needed { IsNeeded input.now }
+    requires trims { input.now.adapter.now.library_info ≡ None }
+    requires original { IsInputRecord input.now input.now.adapter.now.wasm.items
         (module_record first.now) }
     requires names { names_of names.now.keys
-        ≡ required_names (required_of given.now) first.now.exports }
-    ensures trimmed { IfOk result (λ v. IsGivenText given.now (module_record first.now) v.items) }
-    ensures fault { IfErr result (IsGivenFault given.now) }
+        ≡ required_names (required_of input.now) first.now.exports }
+    ensures trimmed { IfOk result
+        (λ v. IsInputTrimmedText input.now (module_record first.now) v.items) }
+    ensures fault { IfErr result (IsInputFault input.now) }
 {
-    let realloc = main_realloc(given.encoder, given.main);
+    let realloc = main_realloc(input.encoder, input.main);
     let exponent = trim_exponent(first.imports.imported_memory());
-    let wasm: &[u8] = &given.adapter.wasm;
+    let wasm: &[u8] = &input.adapter.wasm;
     settings_are_valid(realloc, exponent);
     slices_are_bytes(wasm);
     match run(alloc, wasm, names, realloc, exponent) {
         Ok(bytes) => Ok(bytes),
-        Err(fault) => Err(trim_fault(alloc, given.name, fault)),
+        Err(fault) => Err(trim_fault(alloc, input.name, fault)),
     }
 }
 
-/// The bytes that an adapter is trimmed to, by what is recorded of those that were given.
+/// The bytes that an adapter is trimmed to, by what is recorded of those that the encoder has.
 fn trimmed_bytes(
     alloc: Global,
-    given: &Given<'_, '_>,
+    input: &AdapterInput<'_, '_>,
     first: &ValidatedModule,
 ) -> Result<Vec<u8>, WorldFault>
-    requires needed { IsNeeded given.now }
-    requires trims { given.now.adapter.now.library_info ≡ None }
-    requires original { IsGivenRecord given.now given.now.adapter.now.wasm.items
+    requires needed { IsNeeded input.now }
+    requires trims { input.now.adapter.now.library_info ≡ None }
+    requires original { IsInputRecord input.now input.now.adapter.now.wasm.items
         (module_record first.now) }
-    ensures trimmed { IfOk result (λ v. IsGivenText given.now (module_record first.now) v.items) }
-    ensures fault { IfErr result (IsGivenFault given.now) }
+    ensures trimmed { IfOk result
+        (λ v. IsInputTrimmedText input.now (module_record first.now) v.items) }
+    ensures fault { IfErr result (IsInputFault input.now) }
 {
-    let names = required_names(alloc, given.required, &first.exports)?;
-    trim_to(alloc, given, first, &names)
+    let names = required_names(alloc, input.required, &first.exports)?;
+    trim_to(alloc, input, first, &names)
 }
 
 /// What the bytes import and export that an adapter is trimmed to.
 fn trimmed_record(
     alloc: Global,
-    given: &Given<'_, '_>,
+    input: &AdapterInput<'_, '_>,
     bytes: &[u8],
 ) -> Result<ValidatedModule, WorldFault>
-    requires needed { IsNeeded given.now }
-    requires trims { given.now.adapter.now.library_info ≡ None }
-    ensures recorded { IfOk result (λ v. IsGivenRecord given.now bytes.now (module_record v)) }
-    ensures fault { (first : ModuleRecord) → IsGivenText given.now first bytes.now
-        → IfErr result (IsGivenFault given.now) }
+    requires needed { IsNeeded input.now }
+    requires trims { input.now.adapter.now.library_info ≡ None }
+    ensures recorded { IfOk result (λ v. IsInputRecord input.now bytes.now (module_record v)) }
+    ensures fault { (first : ModuleRecord) → IsInputTrimmedText input.now first bytes.now
+        → IfErr result (IsInputFault input.now) }
 {
-    trimmed_is_restricted(given.encoder);
+    trimmed_is_restricted(input.encoder);
     match validate_adapter_module(
         alloc,
-        given.encoder,
+        input.encoder,
         bytes,
-        given.required,
-        &given.adapter.required_exports,
+        input.required,
+        &input.adapter.required_exports,
         None,
     ) {
         Ok(record) => Ok(record),
-        Err(fault) => Err(minimized_fault(alloc, given.name, fault)),
+        Err(fault) => Err(minimized_fault(alloc, input.name, fault)),
     }
 }
 
 /// An adapter, trimmed.
 fn trim_adapter<'a>(
     alloc: Global,
-    given: &Given<'a, '_>,
+    input: &AdapterInput<'a, '_>,
     first: &ValidatedModule,
 ) -> Result<WorldAdapter<'a>, WorldFault>
-    requires needed { IsNeeded given.now }
-    requires trims { given.now.adapter.now.library_info ≡ None }
-    requires original { IsGivenRecord given.now given.now.adapter.now.wasm.items
+    requires needed { IsNeeded input.now }
+    requires trims { input.now.adapter.now.library_info ≡ None }
+    requires original { IsInputRecord input.now input.now.adapter.now.wasm.items
         (module_record first.now) }
-    ensures made { IfOk result (λ a. IsTrimmedAdapter given.now.encoder.now (main_of given.now)
-        (named_adapter given.now) (adapter_view a)) }
+    ensures is_adapter { IfOk result (λ a. IsTrimmedInput input.now (adapter_view a)) }
     ensures library { IfOk result (λ a. a.library_info ≡ None) }
-    ensures fault { IfErr result (IsGivenFault given.now) }
+    ensures fault { IfErr result (IsInputFault input.now) }
 {
-    trimmed_is_restricted(given.encoder);
-    let bytes = trimmed_bytes(alloc, given, first)?;
-    let info = trimmed_record(alloc, given, &bytes)?;
+    trimmed_is_restricted(input.encoder);
+    let bytes = trimmed_bytes(alloc, input, first)?;
+    let info = trimmed_record(alloc, input, &bytes)?;
     Ok(WorldAdapter {
         wasm: CowSlice::Owned(bytes),
         info,
@@ -185,53 +186,59 @@ fn trim_adapter<'a>(
 }
 
 /// An adapter or a library as a component has it, but for its pages.
-fn made_adapter<'a>(alloc: Global, given: &Given<'a, '_>) -> Result<WorldAdapter<'a>, WorldFault>
-    requires { IsNeeded given.now }
-    ensures made { IfOk result (λ a. IsGivenMade given.now (adapter_view a)) }
+fn trimmed_or_library<'a>(
+    alloc: Global,
+    input: &AdapterInput<'a, '_>,
+) -> Result<WorldAdapter<'a>, WorldFault>
+    requires { IsNeeded input.now }
+    ensures is_adapter { IfOk result (λ a. IsInputTrimmedOrLibrary input.now (adapter_view a)) }
     ensures library { IfOk result (λ a. (adapter_view a).library_info
-        ≡ (named_adapter given.now).1.library_info) }
-    ensures fault { IfErr result (IsGivenFault given.now) }
+        ≡ (named_adapter input.now).1.library_info) }
+    ensures fault { IfErr result (IsInputFault input.now) }
 {
-    let first = given_record(alloc, given)?;
-    match &given.adapter.library_info {
+    let first = input_record(alloc, input)?;
+    match &input.adapter.library_info {
         Some(library) => Ok(WorldAdapter {
-            wasm: CowSlice::Borrowed(&given.adapter.wasm),
+            wasm: CowSlice::Borrowed(&input.adapter.wasm),
             info: first,
             library_info: Some(library),
         }),
-        None => trim_adapter(alloc, given, &first),
+        None => trim_adapter(alloc, input, &first),
     }
 }
 
 /// That the memory that a module imports has pages of as many bytes as the main module's memory.
 fn check_pages(
     alloc: Global,
-    given: &Given<'_, '_>,
+    input: &AdapterInput<'_, '_>,
     info: &ValidatedModule,
 ) -> Result<(), WorldFault>
-    ensures paged { OnOk result (HasMainPages (main_of given.now) (module_record info.now)) }
+    ensures paged { OnOk result (HasMainPages (main_of input.now) (module_record info.now)) }
     ensures fault { (a : WorldAdapterView) → a.info ≡ module_record info.now
-        → IsGivenMade given.now a → IfErr result (IsGivenFault given.now) }
+        → IsInputTrimmedOrLibrary input.now a → IfErr result (IsInputFault input.now) }
 {
     let Some(memory) = info.imports.imported_memory() else {
         return Ok(());
     };
     let own = page_size(&memory);
-    let main = main_page_size(&given.main.exports);
+    let main = main_page_size(&input.main.exports);
     if own == main {
         return Ok(());
     }
-    Err(WorldFault::PageSize(String::from_str(alloc, given.name)?, own, main))
+    Err(WorldFault::PageSize(String::from_str(alloc, input.name)?, own, main))
 }
 
 /// An adapter or a library as a component has it.
-fn one_adapter<'a>(alloc: Global, given: &Given<'a, '_>) -> Result<WorldAdapter<'a>, WorldFault>
-    requires { IsNeeded given.now }
-    ensures made { IfOk result (λ a. IsGivenAdapter given.now (adapter_view a)) }
-    ensures fault { IfErr result (IsGivenFault given.now) }
+fn one_adapter<'a>(
+    alloc: Global,
+    input: &AdapterInput<'a, '_>,
+) -> Result<WorldAdapter<'a>, WorldFault>
+    requires { IsNeeded input.now }
+    ensures is_adapter { IfOk result (λ a. IsAdapterOfInput input.now (adapter_view a)) }
+    ensures fault { IfErr result (IsInputFault input.now) }
 {
-    let adapter = made_adapter(alloc, given)?;
-    check_pages(alloc, given, &adapter.info)?;
+    let adapter = trimmed_or_library(alloc, input)?;
+    check_pages(alloc, input, &adapter.info)?;
     Ok(adapter)
 }
 
@@ -244,14 +251,10 @@ fn add_adapter<'a>(
     adapter: &'a Adapter,
     found: &mut IndexMap<&'a str, WorldAdapter<'a>>,
 ) -> Result<(), WorldFault>
-    ensures made { (passed : List NamedAdapter) → All (HasOtherName name.now) passed
-        → AreMade encoder.now (module_record main.now) passed
-        (map adapter_entry found.old.entries)
-        → OnOk result (AreMade encoder.now (module_record main.now)
-        (passed ++ (name.now, given_view adapter.now) ∷ [])
-        (map adapter_entry found.new.entries)) }
-    ensures fault { IfErr result (λ f. (f ≡ Memory) ⊎ IsKeptStop encoder.now
-        (module_record main.now) (name.now, given_view adapter.now) f) }
+    ensures is_adapter { AddsAdapterOnOk result encoder.now (module_record main.now)
+        (name.now, input_view adapter.now) (adapters_view found.old) (adapters_view found.new) }
+    ensures fault { IfErr result (λ f. (f ≡ Memory) ⊎ IsNeededStop encoder.now
+        (module_record main.now) (name.now, input_view adapter.now) f) }
 {
     encoder.well_formedness();
     let metadata = encoder.metadata();
@@ -262,15 +265,15 @@ fn add_adapter<'a>(
     if !is_needed(resolve, exports, adapter, &required) {
         return Ok(());
     }
-    let given = Given {
+    let input = AdapterInput {
         encoder,
         main,
         required: &required,
         name,
         adapter,
     };
-    let made = one_adapter(alloc, &given)?;
-    found.insert(name, made)?;
+    let world_adapter = one_adapter(alloc, &input)?;
+    found.insert(name, world_adapter)?;
     Ok(())
 }
 
@@ -280,8 +283,8 @@ pub(crate) fn adapters_of<'a>(
     encoder: &'a ComponentEncoder,
     main: &ValidatedModule,
 ) -> Result<IndexMap<&'a str, WorldAdapter<'a>>, WorldFault>
-    ensures made { IfOk result (λ found. AreAdapters encoder.now (module_record main.now)
-        (map adapter_entry found.entries)) }
+    ensures is_adapter { IfOk result (λ found. AreAdapters encoder.now (module_record main.now)
+        (adapters_view found)) }
     ensures fault { IfErr result (λ f. (f ≡ Memory)
         ⊎ IsFirstStop encoder.now (module_record main.now) f) }
 {

@@ -1,17 +1,17 @@
 //! How the imports of a world are met.
 
-ghost use Rattle.std.specs.Prelude.{◌≡◌, ◌<◌, ◌++◌, ◌∷◌, [], All, IfOk, List, None, OnOk, Some, length, map, slice_get};
-ghost use Rattle.std.specs.Option.{option_map, option_map_or};
+ghost use Rattle.std.specs.Prelude.{◌≡◌, ◌<◌, All, IfOk, None, Some, length, map};
+ghost use Rattle.std.specs.Option.{option_map};
 ghost use Rattle.wc_resolve.specs.Dependencies.{id_of_interface};
 ghost use Rattle.wc_resolve.specs.Queries.{external_id, implemented};
 ghost use Rattle.wc_resolve.specs.Ranges.{IsItemIn};
 ghost use Rattle.wc_resolve.specs.Views.{item_view, key_view, world_entry};
 ghost use Rattle.wc_encoder.specs.Distinct.{item_interface};
-ghost use Rattle.wc_names.specs.Views.{ImportView};
+ghost use Rattle.wc_encoder.specs.Entries.{entries_of};
 ghost use Rattle.wc_validate.specs.Validated.{module_record};
-ghost use Rattle.wc_world.specs.Lowered.{AreEntriesDistinct, AreKeysDistinct, ImportEntry, IsImportable, IsLowerable, all_entries, interface_entry, interface_lowerings, lowered, lowerer_of, own_entry, own_lowerings};
-ghost use Rattle.wc_world.specs.Required.{AreRequired};
-ghost use Rattle.wc_world.specs.WorldViews.{adapter_entry, import_map_view, imported_entry, imported_view, lowering_entry};
+ghost use Rattle.wc_world.specs.Lowered.{AreKeysDistinct, IfDistinct, ImportEntry, IsImportable, IsLowerable, all_entries, interface_entry, lowered, lowerings_of_interface, own_entry, own_lowerings};
+ghost use Rattle.wc_world.specs.WorldViews.{adapters_view, import_map_view, imported_entry, imported_view, lowering_entry};
+ghost use Rattle.wc_world.specs.Private.LoweringContext.{AddsEntryOnOk, ForLowerer};
 
 use crate::adapter::WorldAdapter;
 use crate::imported::{ImportedInterface, Lowering};
@@ -52,11 +52,8 @@ pub(crate) fn imported_interface<O: ImportOptions>(
 ) -> Result<ImportedInterface, AllocError>
     requires there { id.0 < length context.now.resolve.now.interfaces }
     requires item { IsItemIn context.now.resolve.now (item_view item.now) }
-    ensures lowerings { (imports : List ImportView) → AreRequired imports context.now.required.now
-        → IfOk result (λ i. (imported_view i).lowerings ≡ option_map_or (interface_lowerings
-        (lowerer_of context.now.resolve.now (O.options_of context.now.options.now)
-        context.now.has_memory imports) id.0)
-        (slice_get context.now.resolve.now.interfaces id.0) []) }
+    ensures lowerings { ForLowerer O.options_of context.now (λ l. IfOk result (λ i.
+        (imported_view i).lowerings ≡ lowerings_of_interface l id.0)) }
     ensures interface { IfOk result (λ i. (imported_view i).interface ≡ Some id.0) }
     ensures implements { IfOk result (λ i. (imported_view i).implements
         ≡ implemented context.now.resolve.now (key_view key.now) (item_view item.now)) }
@@ -83,13 +80,9 @@ pub(crate) fn imported_world<O: ImportOptions>(
     items: &IndexMap<WorldKey, WorldItem>,
 ) -> Result<ImportedInterface, AllocError>
     requires { All (λ e. IsLowerable context.now.resolve.now (item_view e.1)) items.now.entries }
-    ensures lowerings { (imports : List ImportView) → AreRequired imports context.now.required.now
-        → AreKeysDistinct (own_lowerings (lowerer_of context.now.resolve.now
-        (O.options_of context.now.options.now) context.now.has_memory imports)
-        (map world_entry items.now.entries))
-        → IfOk result (λ i. (imported_view i).lowerings ≡ own_lowerings (lowerer_of
-        context.now.resolve.now (O.options_of context.now.options.now) context.now.has_memory
-        imports) (map world_entry items.now.entries)) }
+    ensures lowerings { ForLowerer O.options_of context.now (λ l.
+        let own = own_lowerings l (entries_of items.now) in AreKeysDistinct own
+        → IfOk result (λ i. (imported_view i).lowerings ≡ own)) }
     ensures interface { IfOk result (λ i. (imported_view i).interface ≡ None) }
     ensures implements { IfOk result (λ i. (imported_view i).implements ≡ None) }
     ensures external { IfOk result (λ i. (imported_view i).external_id ≡ None) }
@@ -110,10 +103,7 @@ fn put_entry(
     name: Option<String>,
     imported: ImportedInterface,
 ) -> Result<(), AllocError>
-    ensures { AreEntriesDistinct
-        (map imported_entry entries.old.entries ++ imported_entry (name, imported) ∷ [])
-        → OnOk result (map imported_entry entries.new.entries
-        ≡ map imported_entry entries.old.entries ++ imported_entry (name, imported) ∷ []) }
+    ensures { AddsEntryOnOk result entries.old entries.new (imported_entry (name, imported)) }
 {
     entries.insert(name, imported)?;
     Ok(())
@@ -138,15 +128,11 @@ fn add_interface<O: ImportOptions>(
     item: &WorldItem,
     id: InterfaceId,
 ) -> Result<(), AllocError>
-    requires item { IsImportable context.now.resolve.now (key_view key.now, item_view item.now) }
+    requires item { IsImportable context.now.resolve.now (world_entry (key.now, item.now)) }
     requires interface { item_interface (item_view item.now) ≡ Some id.0 }
-    ensures { (imports : List ImportView) → AreRequired imports context.now.required.now
-        → (e : ImportEntry) → interface_entry (lowerer_of context.now.resolve.now
-        (O.options_of context.now.options.now) context.now.has_memory imports)
-        (key_view key.now, item_view item.now) ≡ Some e
-        → AreEntriesDistinct (map imported_entry entries.old.entries ++ e ∷ [])
-        → OnOk result (map imported_entry entries.new.entries
-        ≡ map imported_entry entries.old.entries ++ e ∷ []) }
+    ensures { ForLowerer O.options_of context.now (λ l. (e : ImportEntry)
+        → interface_entry l (world_entry (key.now, item.now)) ≡ Some e
+        → AddsEntryOnOk result entries.old entries.new e) }
 {
     let name = context.resolve.name_world_key(alloc, key)?;
     let imported = imported_interface(alloc, context, key, item, id)?;
@@ -161,40 +147,25 @@ fn add_own<O: ImportOptions>(
     items: &IndexMap<WorldKey, WorldItem>,
 ) -> Result<(), AllocError>
     requires { All (λ e. IsLowerable context.now.resolve.now (item_view e.1)) items.now.entries }
-    ensures { (imports : List ImportView) → AreRequired imports context.now.required.now
-        → AreKeysDistinct (own_lowerings (lowerer_of context.now.resolve.now
-        (O.options_of context.now.options.now) context.now.has_memory imports)
-        (map world_entry items.now.entries))
-        → AreEntriesDistinct (map imported_entry entries.old.entries ++ own_entry (lowerer_of
-        context.now.resolve.now (O.options_of context.now.options.now) context.now.has_memory
-        imports) (map world_entry items.now.entries) ∷ [])
-        → OnOk result (map imported_entry entries.new.entries
-        ≡ map imported_entry entries.old.entries ++ own_entry (lowerer_of
-        context.now.resolve.now (O.options_of context.now.options.now) context.now.has_memory
-        imports) (map world_entry items.now.entries) ∷ []) }
+    ensures { ForLowerer O.options_of context.now (λ l.
+        AreKeysDistinct (own_lowerings l (entries_of items.now))
+        → AddsEntryOnOk result entries.old entries.new (own_entry l (entries_of items.now))) }
 {
     let imported = imported_world(alloc, context, items)?;
     put_entry(entries, None, imported)
 }
 
 /// How what a world imports is met: an entry for each interface under its name, and one under `None` for all its
-/// functions and types, at the place of the first of these.
+/// functions and types, at the position of the first of these.
 fn import_entries<O: ImportOptions>(
     alloc: Global,
     context: &Lowerings<'_, O>,
     items: &IndexMap<WorldKey, WorldItem>,
 ) -> Result<ImportEntries, AllocError>
     requires { All (λ e. IsImportable context.now.resolve.now (world_entry e)) items.now.entries }
-    ensures { (imports : List ImportView) → AreRequired imports context.now.required.now
-        → AreKeysDistinct (own_lowerings (lowerer_of context.now.resolve.now
-        (O.options_of context.now.options.now) context.now.has_memory imports)
-        (map world_entry items.now.entries))
-        → AreEntriesDistinct (all_entries (lowerer_of context.now.resolve.now
-        (O.options_of context.now.options.now) context.now.has_memory imports)
-        (map world_entry items.now.entries))
-        → IfOk result (λ m. import_map_view m ≡ all_entries (lowerer_of
-        context.now.resolve.now (O.options_of context.now.options.now) context.now.has_memory
-        imports) (map world_entry items.now.entries)) }
+    ensures { ForLowerer O.options_of context.now (λ l.
+        IfDistinct l (entries_of items.now)
+        (IfOk result (λ m. import_map_view m ≡ all_entries l (entries_of items.now)))) }
 {
     let mut entries = IndexMap::new(alloc);
     let mut has_own = false;
@@ -218,8 +189,7 @@ pub(crate) fn import_map_of<'a, O: ImportOptions>(
     adapters: &IndexMap<&'a str, WorldAdapter<'a>>,
 ) -> Result<ImportEntries, AllocError>
     ensures { IfOk result (λ m. import_map_view m ≡ lowered encoder.now
-        (O.options_of options.now) (module_record main.now)
-        (map adapter_entry adapters.now.entries)) }
+        (O.options_of options.now) (module_record main.now) (adapters_view adapters.now)) }
 {
     encoder.well_formedness();
     let metadata = encoder.metadata();

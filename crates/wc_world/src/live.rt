@@ -1,25 +1,24 @@
 //! The types that the imports and exports of a component's world need.
 
-ghost use Rattle.std.specs.Prelude.{◌≡◌, ◌<◌, ◌++◌, ◌∷◌, [], ℕ, All, Contains, IfOk, IfSome, List, OnOk, Some, false, filter, length, map};
-ghost use Rattle.std.specs.Option.{option_map, option_map_or, option_to_list};
+ghost use Rattle.std.specs.Prelude.{◌≡◌, ◌<◌, ◌∷◌, [], ℕ, All, Contains, IfOk, IfSome, OnOk, Some, filter, length};
+ghost use Rattle.std.specs.Option.{option_map, option_to_list};
 ghost use Rattle.wc_resolve.specs.Dependencies.{id_of_interface, interface_owning};
 ghost use Rattle.wc_resolve.specs.Live.{AddsListings};
 ghost use Rattle.wc_resolve.specs.Ranges.{IsFunctionIn, IsItemIn, IsTypeIn};
-ghost use Rattle.wc_resolve.specs.Roots.{function_roots, id_index, item_roots, type_roots};
+ghost use Rattle.wc_resolve.specs.Roots.{id_index, item_roots};
 ghost use Rattle.wc_resolve.specs.Views.{function_view, item_view, key_view, world_view};
 ghost use Rattle.wc_resolve.specs.World.{ResolveView};
 ghost use Rattle.wc_encoder.specs.Dependencies.{AreItemsIn};
 ghost use Rattle.wc_encoder.specs.Entries.{entries_of};
-ghost use Rattle.wc_names.specs.Lookups.{as_type, item_under, under_name};
+ghost use Rattle.wc_names.specs.Keys.{as_type, item_under, under_name};
 ghost use Rattle.wc_names.specs.Laws.{IsImportIn};
 ghost use Rattle.wc_names.specs.Payloads.{HasPayload};
-ghost use Rattle.wc_names.specs.Views.{ImportView, async_value, import_view, payload_type_view, payload_view};
+ghost use Rattle.wc_names.specs.Views.{import_view, payload_type_view, payload_view};
 ghost use Rattle.wc_validate.specs.Requirements.{functions_of};
 ghost use Rattle.wc_validate.specs.Validated.{module_record};
-ghost use Rattle.wc_world.specs.Required.{is_in};
-ghost use Rattle.wc_world.specs.Live.{AreImportsIn, AreImportsOf, AreListed, AreLive, AreRootsIn, adapter_roots, builtin_roots, by_owner, elsewhere_from, export_roots, exports_roots, import_payload, import_resource, import_roots, imported_types, is_from_elsewhere, is_used, live_from, module_roots, payload_roots, world_roots};
+ghost use Rattle.wc_world.specs.Live.{AddsTypeOnOk, AreImportsIn, AreImportsOf, AreListed, AreLive, AreRootsIn, adapter_roots, builtin_roots, by_owner, elsewhere_from, export_roots, exports_roots, import_payload, import_resource, import_roots, imported_types, is_from_elsewhere, is_used, live_types_of, module_roots, named_function_roots, payload_roots, result_roots, roots_under};
 ghost use Rattle.wc_world.specs.Used.{used_view};
-ghost use Rattle.wc_world.specs.WorldViews.{adapter_entry, live_view};
+ghost use Rattle.wc_world.specs.WorldViews.{adapters_view, live_view};
 
 use crate::adapter::WorldAdapter;
 use indexmap::{IndexMap, IndexSet};
@@ -152,8 +151,7 @@ pub(crate) fn add_item(
     requires { IfSome (item_under (entries_of imports.now) (key_view key.now))
         (IsItemIn resolve.now) }
     ensures { OnOk result (AddsListings resolve.now live.old live.new
-        (option_map_or (item_roots resolve.now)
-        (item_under (entries_of imports.now) (key_view key.now)) [])) }
+        (roots_under resolve.now (entries_of imports.now) (key_view key.now))) }
 {
     match imports.get(key) {
         Some(item) => live.add_world_item(resolve, item),
@@ -169,7 +167,7 @@ pub(crate) fn add_result(
 ) -> Result<(), AllocError>
     requires { IfSome (function_view function.now).outcome (IsTypeIn (length resolve.now.types)) }
     ensures { OnOk result (AddsListings resolve.now live.old live.new
-        (option_map_or type_roots (function_view function.now).outcome [])) }
+        (result_roots (function_view function.now))) }
 {
     match function.result {
         Some(ty) => live.add_type(resolve, ty),
@@ -187,8 +185,8 @@ pub(crate) fn add_function(
     requires there { id.0 < length resolve.now.interfaces }
     requires function { IfSome (under_name (functions_of resolve.now id.0) name.now)
         (IsFunctionIn (length resolve.now.types)) }
-    ensures { OnOk result (AddsListings resolve.now live.old live.new (option_map_or
-        function_roots (under_name (functions_of resolve.now id.0) name.now) [])) }
+    ensures { OnOk result (AddsListings resolve.now live.old live.new
+        (named_function_roots resolve.now id.0 name.now)) }
 {
     match resolve.interface(id).functions.get(name) {
         Some(function) => live.add_func(resolve, function),
@@ -276,10 +274,9 @@ fn add_adapters<'a>(
 ) -> Result<(), AllocError>
     requires items { AreItemsIn resolve.now (world_view world.now).imports }
     requires imports { All (λ a. AreImportsIn resolve.now (world_view world.now) a.1.info.imports)
-        (map adapter_entry adapters.now.entries) }
+        (adapters_view adapters.now) }
     ensures { OnOk result (AddsListings resolve.now live.old live.new
-        (adapter_roots resolve.now (world_view world.now).imports
-        (map adapter_entry adapters.now.entries))) }
+        (adapter_roots resolve.now (world_view world.now).imports (adapters_view adapters.now))) }
 {
     for (_name, adapter) in adapters.iter() {
         add_module(resolve, world, &adapter.info.imports, live)?;
@@ -390,10 +387,9 @@ fn live_types<'a>(
     adapters: &IndexMap<&'a str, WorldAdapter<'a>>,
 ) -> Result<LiveTypes, AllocError>
     requires { AreRootsIn resolve.now (world_view world.now) (module_record main.now)
-        (map adapter_entry adapters.now.entries) }
-    ensures live { IfOk result (λ live. live ≡ live_from resolve.now (world_roots resolve.now
-        (used_view used.now) (world_view world.now).imports (world_view world.now).exports
-        (module_record main.now) (map adapter_entry adapters.now.entries))) }
+        (adapters_view adapters.now) }
+    ensures live { IfOk result (λ live. live ≡ live_types_of resolve.now (used_view used.now)
+        (world_view world.now) (module_record main.now) (adapters_view adapters.now)) }
     ensures listed { IfOk result (AreListed resolve.now) }
 {
     resolve.well_formedness();
@@ -411,9 +407,8 @@ fn add_to_owner(
     owner: InterfaceId,
     ty: TypeId,
 ) -> Result<(), AllocError>
-    ensures { (r : ResolveView) (passed : List ℕ) → interface_owning r ty.0 ≡ Some owner.0
-        → is_in passed ty.0 ≡ false → live_view groups.old ≡ by_owner r passed
-        → OnOk result (live_view groups.new ≡ by_owner r (passed ++ ty.0 ∷ [])) }
+    ensures { (r : ResolveView) → interface_owning r ty.0 ≡ Some owner.0
+        → AddsTypeOnOk result r groups.old groups.new ty.0 }
 {
     if let Some(group) = groups.get_mut(&owner) {
         group.insert(ty)?;
@@ -433,9 +428,7 @@ fn add_owned(
     ty: TypeId,
 ) -> Result<(), AllocError>
     requires { ty.0 < length resolve.now.types }
-    ensures { (passed : List ℕ) → is_in passed ty.0 ≡ false
-        → live_view groups.old ≡ by_owner resolve.now passed
-        → OnOk result (live_view groups.new ≡ by_owner resolve.now (passed ++ ty.0 ∷ [])) }
+    ensures { AddsTypeOnOk result resolve.now groups.old groups.new ty.0 }
 {
     match interface_owning(resolve, ty) {
         Some(owner) => add_to_owner(alloc, groups, owner, ty),
@@ -469,10 +462,9 @@ pub(crate) fn live_type_imports<'a>(
     adapters: &IndexMap<&'a str, WorldAdapter<'a>>,
 ) -> Result<IndexMap<InterfaceId, IndexSet<TypeId>>, AllocError>
     requires main { AreImportsOf encoder.now (module_record main.now) }
-    requires adapters { All (λ a. AreImportsOf encoder.now a.1.info)
-        (map adapter_entry adapters.now.entries) }
+    requires adapters { All (λ a. AreImportsOf encoder.now a.1.info) (adapters_view adapters.now) }
     ensures { IfOk result (λ groups. AreLive encoder.now (used_view used.now)
-        (module_record main.now) (map adapter_entry adapters.now.entries) (live_view groups)) }
+        (module_record main.now) (adapters_view adapters.now) (live_view groups)) }
 {
     encoder.well_formedness();
     let metadata = encoder.metadata();

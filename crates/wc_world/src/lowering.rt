@@ -1,15 +1,13 @@
 //! The lowerings of functions, and the drops of resources, that core modules import.
 
-ghost use Rattle.std.specs.Prelude.{◌≡◌, ◌<◌, ◌++◌, All, IfOk, List, OnOk, Some, [], length, map, option_copied, slice_get};
-ghost use Rattle.std.specs.List.{flat_map};
-ghost use Rattle.std.specs.Option.{option_map, option_map_or};
-ghost use Rattle.wc_resolve.specs.Dependencies.{id_of_interface};
-ghost use Rattle.wc_resolve.specs.Views.{function_entry, function_view, item_view, type_entry, world_entry};
+ghost use Rattle.std.specs.Prelude.{◌≡◌, ◌<◌, All, IfOk, OnOk, Some, length, map, option_copied};
+ghost use Rattle.wc_resolve.specs.Views.{function_entry, function_view, item_view, type_entry};
 ghost use Rattle.wc_resolve.specs.WellFormed.{IsUsable};
-ghost use Rattle.wc_names.specs.Views.{ImportView};
-ghost use Rattle.wc_world.specs.Lowered.{AreKeysDistinct, IsLowerable, Lowerer, called_lowering, function_lowerings, interface_lowerings, item_lowerings, lowered_function, lowerer_of, needs_memory, resource_name, type_lowerings};
-ghost use Rattle.wc_world.specs.Required.{AreRequired, import_abi};
+ghost use Rattle.wc_encoder.specs.Entries.{entries_of};
+ghost use Rattle.wc_world.specs.Lowered.{AreKeysDistinct, IsLowerable, Lowerer, called_lowering, function_lowerings, item_lowerings, lowerings_of_functions, lowerings_of_interface, lowerings_of_types, needs_memory, own_lowerings, resource_name, type_lowerings};
+ghost use Rattle.wc_world.specs.Private.Required.{import_abi, interface_index};
 ghost use Rattle.wc_world.specs.WorldViews.{lowering_entry, lowering_view};
+ghost use Rattle.wc_world.specs.Private.LoweringContext.{AddsLowerings, ForLowerer, lowered_in};
 
 use crate::imported::Lowering;
 use crate::options::{ImportOptions, RequiredOptions};
@@ -73,10 +71,8 @@ fn lower_function<O: ImportOptions>(
     abi: AbiVariant,
 ) -> Result<Lowering, AllocError>
     requires { IsUsable context.now.resolve.now (function_view function.now) }
-    ensures { (imports : List ImportView) → IfOk result (λ l. lowering_view l
-        ≡ lowered_function (lowerer_of context.now.resolve.now
-        (O.options_of context.now.options.now) context.now.has_memory imports)
-        (function_view function.now) abi) }
+    ensures { IfOk result (λ l. lowering_view l
+        ≡ lowered_in O.options_of context.now (function_view function.now) abi) }
 {
     let options = context
         .options
@@ -98,12 +94,10 @@ fn push_call<O: ImportOptions>(
     is_async: bool,
 ) -> Result<(), AllocError>
     requires { IsUsable context.now.resolve.now (function_view function.now) }
-    ensures { (imports : List ImportView) → AreRequired imports context.now.required.now
-        → OnOk result (map lowering_entry lowerings.new.items
-        ≡ map lowering_entry lowerings.old.items ++ called_lowering
-        (lowerer_of context.now.resolve.now (O.options_of context.now.options.now)
-        context.now.has_memory imports) (option_map id_of_interface interface)
-        (function_view function.now) (import_abi is_async)) }
+    ensures { ForLowerer O.options_of context.now (λ l.
+        OnOk result (AddsLowerings lowerings.old lowerings.new
+        (called_lowering l (interface_index interface) (function_view function.now)
+        (import_abi is_async)))) }
 {
     if !context
         .required
@@ -127,12 +121,9 @@ pub(crate) fn push_function<O: ImportOptions>(
     function: &Function,
 ) -> Result<(), AllocError>
     requires { IsUsable context.now.resolve.now (function_view function.now) }
-    ensures { (imports : List ImportView) → AreRequired imports context.now.required.now
-        → OnOk result (map lowering_entry lowerings.new.items
-        ≡ map lowering_entry lowerings.old.items ++ function_lowerings
-        (lowerer_of context.now.resolve.now (O.options_of context.now.options.now)
-        context.now.has_memory imports) (option_map id_of_interface interface)
-        (function_view function.now)) }
+    ensures { ForLowerer O.options_of context.now (λ l.
+        OnOk result (AddsLowerings lowerings.old lowerings.new
+        (function_lowerings l (interface_index interface) (function_view function.now)))) }
 {
     push_call(alloc, context, lowerings, interface, function, false)?;
     push_call(alloc, context, lowerings, interface, function, true)
@@ -146,11 +137,9 @@ pub(crate) fn push_type<O: ImportOptions>(
     id: TypeId,
 ) -> Result<(), AllocError>
     requires { id.0 < length context.now.resolve.now.types }
-    ensures { (imports : List ImportView) → AreRequired imports context.now.required.now
-        → OnOk result (map lowering_entry lowerings.new.items
-        ≡ map lowering_entry lowerings.old.items ++ type_lowerings
-        (lowerer_of context.now.resolve.now (O.options_of context.now.options.now)
-        context.now.has_memory imports) id.0) }
+    ensures { ForLowerer O.options_of context.now (λ l.
+        OnOk result (AddsLowerings lowerings.old lowerings.new
+        (type_lowerings l id.0))) }
 {
     let Some(name) = resource_name(context.resolve, id) else {
         return Ok(());
@@ -171,11 +160,9 @@ fn push_types<O: ImportOptions>(
     types: &IndexMap<String, TypeId>,
 ) -> Result<(), AllocError>
     requires { All (λ e. e.1.0 < length context.now.resolve.now.types) types.now.entries }
-    ensures { (imports : List ImportView) → AreRequired imports context.now.required.now
-        → OnOk result (map lowering_entry lowerings.new.items
-        ≡ map lowering_entry lowerings.old.items ++ flat_map (λ e. type_lowerings
-        (lowerer_of context.now.resolve.now (O.options_of context.now.options.now)
-        context.now.has_memory imports) e.1) (map type_entry types.now.entries)) }
+    ensures { ForLowerer O.options_of context.now (λ l.
+        OnOk result (AddsLowerings lowerings.old lowerings.new
+        (lowerings_of_types l (map type_entry types.now.entries)))) }
 {
     for (_name, id) in types.iter() {
         push_type(alloc, context, lowerings, *id)?;
@@ -193,12 +180,9 @@ fn push_functions<O: ImportOptions>(
 ) -> Result<(), AllocError>
     requires { All (λ e. IsUsable context.now.resolve.now (function_view e.1))
         functions.now.entries }
-    ensures { (imports : List ImportView) → AreRequired imports context.now.required.now
-        → OnOk result (map lowering_entry lowerings.new.items
-        ≡ map lowering_entry lowerings.old.items ++ flat_map (λ e. function_lowerings
-        (lowerer_of context.now.resolve.now (O.options_of context.now.options.now)
-        context.now.has_memory imports) (Some interface.0) e.1)
-        (map function_entry functions.now.entries)) }
+    ensures { ForLowerer O.options_of context.now (λ l.
+        OnOk result (AddsLowerings lowerings.old lowerings.new
+        (lowerings_of_functions l (Some interface.0) (map function_entry functions.now.entries)))) }
 {
     for (_name, function) in functions.iter() {
         push_function(alloc, context, lowerings, Some(interface), function)?;
@@ -209,8 +193,8 @@ fn push_functions<O: ImportOptions>(
 /// That what is imported of an interface has distinct keys, for proofs. It does nothing when it runs.
 pub(crate) fn distinct_keys(resolve: &Resolve, id: InterfaceId)
     requires { id.0 < length resolve.now.interfaces }
-    ensures { (l : Lowerer) → l.resolve ≡ resolve.now → AreKeysDistinct (option_map_or
-        (interface_lowerings l id.0) (slice_get resolve.now.interfaces id.0) []) }
+    ensures { (l : Lowerer) → l.resolve ≡ resolve.now
+        → AreKeysDistinct (lowerings_of_interface l id.0) }
 {
     resolve.well_formedness();
     let interface = resolve.interface(id);
@@ -226,12 +210,9 @@ pub(crate) fn push_interface<O: ImportOptions>(
     id: InterfaceId,
 ) -> Result<(), AllocError>
     requires { id.0 < length context.now.resolve.now.interfaces }
-    ensures { (imports : List ImportView) → AreRequired imports context.now.required.now
-        → OnOk result (map lowering_entry lowerings.new.items
-        ≡ map lowering_entry lowerings.old.items ++ option_map_or (interface_lowerings
-        (lowerer_of context.now.resolve.now (O.options_of context.now.options.now)
-        context.now.has_memory imports) id.0)
-        (slice_get context.now.resolve.now.interfaces id.0) []) }
+    ensures { ForLowerer O.options_of context.now (λ l.
+        OnOk result (AddsLowerings lowerings.old lowerings.new
+        (lowerings_of_interface l id.0))) }
 {
     context.resolve.well_formedness();
     let interface = context.resolve.interface(id);
@@ -248,11 +229,9 @@ fn push_item<O: ImportOptions>(
     item: &WorldItem,
 ) -> Result<(), AllocError>
     requires { IsLowerable context.now.resolve.now (item_view item.now) }
-    ensures { (imports : List ImportView) → AreRequired imports context.now.required.now
-        → OnOk result (map lowering_entry lowerings.new.items
-        ≡ map lowering_entry lowerings.old.items ++ item_lowerings
-        (lowerer_of context.now.resolve.now (O.options_of context.now.options.now)
-        context.now.has_memory imports) (item_view item.now)) }
+    ensures { ForLowerer O.options_of context.now (λ l.
+        OnOk result (AddsLowerings lowerings.old lowerings.new
+        (item_lowerings l (item_view item.now)))) }
 {
     match item {
         WorldItem::Interface { .. } => Ok(()),
@@ -268,10 +247,8 @@ pub(crate) fn world_lowerings<O: ImportOptions>(
     items: &IndexMap<WorldKey, WorldItem>,
 ) -> Result<Vec<KeyedLowering>, AllocError>
     requires { All (λ e. IsLowerable context.now.resolve.now (item_view e.1)) items.now.entries }
-    ensures { (imports : List ImportView) → AreRequired imports context.now.required.now
-        → IfOk result (λ found. map lowering_entry found.items ≡ flat_map (λ e. item_lowerings
-        (lowerer_of context.now.resolve.now (O.options_of context.now.options.now)
-        context.now.has_memory imports) e.1) (map world_entry items.now.entries)) }
+    ensures { ForLowerer O.options_of context.now (λ l. IfOk result (λ found.
+        map lowering_entry found.items ≡ own_lowerings l (entries_of items.now))) }
 {
     let mut lowerings = Vec::new(alloc);
     for (_key, item) in items.iter() {

@@ -5,7 +5,7 @@ ghost use Rattle.std.specs.List.{list_any};
 ghost use Rattle.std.specs.Option.{option_map_or};
 ghost use Rattle.wc_resolve.specs.Views.{function_view};
 ghost use Rattle.wc_resolve.specs.WellFormed.{IsUsable};
-ghost use Rattle.wc_world.specs.Options.{any_param, bit_if, holds_text, is_async_import, option_bits, outcome_does};
+ghost use Rattle.wc_world.specs.Options.{any_param, bit_if, function_does, holds_text, is_async_import, option_bits};
 
 use bitflags::{Flag, Flags};
 use std::alloc::{AllocError, Global};
@@ -135,8 +135,7 @@ fn takes_text(resolve: &Resolve, function: &Function, lists: bool) -> bool
 
 /// Whether a parameter or the result of a function holds a string (or, where `lists` is true, a list).
 fn passes_text(resolve: &Resolve, function: &Function, lists: bool) -> bool
-    ensures { result ≡ (any_param (holds_text lists resolve.now) (function_view function.now)
-        || outcome_does (holds_text lists resolve.now) (function_view function.now)) }
+    ensures { result ≡ function_does (holds_text lists resolve.now) (function_view function.now) }
 {
     takes_text(resolve, function, lists) || optional_holds_text(resolve, function.result, lists)
 }

@@ -1,18 +1,16 @@
 //! Which functions and drops of resources core modules import.
 
-ghost use Rattle.std.specs.Prelude.{◌≡◌, ◌++◌, ◌∷◌, [], IfOk, List, OnOk, Some, map};
+ghost use Rattle.std.specs.Prelude.{◌≡◌, ◌++◌, ◌∷◌, [], IfOk, OnOk, Some};
 ghost use Rattle.std.specs.List.{list_any};
 ghost use Rattle.std.specs.Option.{option_map};
-ghost use Rattle.wc_resolve.specs.Dependencies.{id_of_interface};
 ghost use Rattle.wc_resolve.specs.Roots.{id_index};
-ghost use Rattle.wc_resolve.specs.declared.functions.AbiVariant.{AbiVariant as Abi};
 ghost use Rattle.wc_names.specs.Views.{ImportView, import_view};
-ghost use Rattle.wc_validate.specs.ImportMaps.{imports_in};
+ghost use Rattle.wc_validate.specs.Imports.Map.{imports_in};
 ghost use Rattle.wc_validate.specs.Validated.{module_record};
-ghost use Rattle.wc_world.specs.Lowered.{is_drop_of, is_import_of};
+ghost use Rattle.wc_world.specs.Lowered.{is_drop_of, is_imported};
 ghost use Rattle.wc_world.specs.Slots.{all_imports, imports_of};
-ghost use Rattle.wc_world.specs.WorldViews.{adapter_entry};
-ghost use Rattle.wc_world.specs.Required.{AreCalled, AreRequired, IsCall, called_function, dropped_resource, import_abi};
+ghost use Rattle.wc_world.specs.WorldViews.{adapters_view};
+ghost use Rattle.wc_world.specs.Private.Required.{AddsImportsOnOk, AreCalled, AreRequired, ForCalled, ForRequired, IsCall, call_view, called_function, dropped_resource, import_abi, interface_index};
 
 use crate::adapter::WorldAdapter;
 use indexmap::{IndexMap, IndexSet};
@@ -39,10 +37,9 @@ fn add_name(
     interface: Option<InterfaceId>,
     name: &str,
 ) -> Result<(), AllocError>
-    ensures { (abi : Abi) (imports : List ImportView) (i : ImportView)
-        → IsCall abi (option_map id_of_interface interface, name.now) i
-        → AreCalled abi imports names.old.keys
-        → OnOk result (AreCalled abi (imports ++ i ∷ []) names.new.keys) }
+    ensures { ForCalled names.old.keys (λ abi imports. (i : ImportView)
+        → IsCall abi (interface_index interface, name.now) i
+        → OnOk result (AreCalled abi (imports ++ i ∷ []) names.new.keys)) }
 {
     names.insert_full((interface, String::from_str(alloc, name)?))?;
     Ok(())
@@ -55,19 +52,16 @@ fn has_name(
     interface: Option<InterfaceId>,
     name: &str,
 ) -> Result<bool, AllocError>
-    ensures { (abi : Abi) (imports : List ImportView) → AreCalled abi imports names.now.keys
-        → IfOk result (λ b. b ≡ list_any
-        (is_import_of (option_map id_of_interface interface) name.now abi) imports) }
+    ensures { ForCalled names.now.keys (λ abi imports. IfOk result (λ b.
+        b ≡ is_imported (interface_index interface) name.now abi imports)) }
 {
-    let wanted = (interface, String::from_str(alloc, name)?);
-    Ok(names.contains(&wanted))
+    let sought = (interface, String::from_str(alloc, name)?);
+    Ok(names.contains(&sought))
 }
 
 /// The function that an import is, and how it is called.
 fn called_function(import: &Import) -> Option<(Option<InterfaceId>, &str, AbiVariant)>
-    ensures { option_map
-        (λ c. ((option_map id_of_interface c.0, c.1.now), c.2)) result
-        ≡ called_function (import_view import.now) }
+    ensures { option_map call_view result ≡ called_function (import_view import.now) }
 {
     match import {
         Import::WorldFunc(_, name, abi) => Some((None, name.as_str(), *abi)),
@@ -106,10 +100,9 @@ impl Required {
         name: &str,
         abi: AbiVariant,
     ) -> Result<(), AllocError>
-        ensures { (imports : List ImportView) (i : ImportView)
-            → called_function i ≡ Some ((option_map id_of_interface interface, name.now), abi)
-            → AreRequired imports self.old
-            → OnOk result (AreRequired (imports ++ i ∷ []) self.new) }
+        ensures { (i : ImportView)
+            → called_function i ≡ Some ((interface_index interface, name.now), abi)
+            → AddsImportsOnOk result self.old self.new (i ∷ []) }
     {
         match abi {
             AbiVariant::GuestImport => add_name(alloc, &mut self.functions, interface, name),
@@ -124,9 +117,8 @@ impl Required {
 
     /// Adds a resource that is dropped.
     fn add_drop(&mut self, id: TypeId) -> Result<(), AllocError>
-        ensures { (imports : List ImportView) (i : ImportView) → dropped_resource i ≡ Some id.0
-            → AreRequired imports self.old
-            → OnOk result (AreRequired (imports ++ i ∷ []) self.new) }
+        ensures { (i : ImportView) → dropped_resource i ≡ Some id.0
+            → AddsImportsOnOk result self.old self.new (i ∷ []) }
     {
         self.drops.insert(id)?;
         Ok(())
@@ -134,8 +126,7 @@ impl Required {
 
     /// Adds what an import is.
     fn add_import(&mut self, alloc: Global, import: &Import) -> Result<(), AllocError>
-        ensures { (imports : List ImportView) → AreRequired imports self.old
-            → OnOk result (AreRequired (imports ++ import_view import.now ∷ []) self.new) }
+        ensures { AddsImportsOnOk result self.old self.new (import_view import.now ∷ []) }
     {
         if let Some((interface, name, abi)) = called_function(import) {
             return self.add_function(alloc, interface, name, abi);
@@ -154,10 +145,8 @@ impl Required {
         name: &str,
         is_async: bool,
     ) -> Result<bool, AllocError>
-        ensures { (imports : List ImportView) → AreRequired imports self.now
-            → IfOk result (λ b. b ≡ list_any
-            (is_import_of (option_map id_of_interface interface) name.now (import_abi is_async))
-            imports) }
+        ensures { ForRequired self.now (λ imports. IfOk result (λ b. b ≡ is_imported
+            (interface_index interface) name.now (import_abi is_async) imports)) }
     {
         if is_async {
             has_name(alloc, &self.async_functions, interface, name)
@@ -168,8 +157,7 @@ impl Required {
 
     /// Whether the drop of a resource is imported.
     pub(crate) fn has_drop(&self, id: TypeId) -> bool
-        ensures { (imports : List ImportView) → AreRequired imports self.now
-            → result ≡ list_any (is_drop_of id.0) imports }
+        ensures { ForRequired self.now (λ imports. result ≡ list_any (is_drop_of id.0) imports) }
     {
         self.drops.contains(&id)
     }
@@ -177,8 +165,8 @@ impl Required {
 
 /// Adds what the imports of a module are.
 fn add_module(alloc: Global, required: &mut Required, imports: &ImportMap) -> Result<(), AllocError>
-    ensures { (passed : List ImportView) → AreRequired passed required.old
-        → OnOk result (AreRequired (passed ++ imports_of (imports_in imports.now)) required.new) }
+    ensures { AddsImportsOnOk result required.old required.new
+        (imports_of (imports_in imports.now)) }
 {
     for (_module, _name, import) in imports.imports() {
         required.add_import(alloc, import)?;
@@ -193,7 +181,7 @@ pub(crate) fn required_by<'a>(
     adapters: &IndexMap<&'a str, WorldAdapter<'a>>,
 ) -> Result<Required, AllocError>
     ensures { IfOk result (AreRequired (imports_of (all_imports (module_record main.now)
-        (map adapter_entry adapters.now.entries)))) }
+        (adapters_view adapters.now)))) }
 {
     let mut required = Required::new(alloc);
     add_module(alloc, &mut required, &main.imports)?;

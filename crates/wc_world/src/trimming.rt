@@ -9,7 +9,7 @@ ghost use Rattle.wc_encoder.specs.Dependencies.{AreItemsIn};
 ghost use Rattle.wc_encoder.specs.Entries.{entries_of};
 ghost use Rattle.wc_world.specs.Adapters.{HasNames, exports_function, has_function, is_needed, main_page_size, main_realloc, page_size, required_names, trim_exponent};
 ghost use Rattle.wc_gc.specs.Liveness.{names_of};
-ghost use Rattle.wc_validate.specs.ImportMaps.{required_entry};
+ghost use Rattle.wc_world.specs.WorldViews.{required_view};
 
 use indexmap::{IndexMap, IndexSet};
 use std::alloc::{AllocError, Global};
@@ -90,7 +90,7 @@ fn add_name(alloc: Global, names: &mut IndexSet<String>, name: &str) -> Result<(
     Ok(())
 }
 
-/// The names of the exports that are wanted of an adapter: of the functions that the main module imports, and of the
+/// The names of the exports that are required of an adapter: of the functions that the main module imports, and of the
 /// exports that are recorded.
 pub(crate) fn required_names(
     alloc: Global,
@@ -98,7 +98,7 @@ pub(crate) fn required_names(
     exports: &ExportMap,
 ) -> Result<IndexSet<String>, AllocError>
     ensures { IfOk result (λ names. names_of names.keys
-        ≡ required_names (map required_entry required.now.entries) exports.now) }
+        ≡ required_names (required_view required.now) exports.now) }
 {
     let mut names = IndexSet::new(alloc);
     for (name, _ty) in required.iter() {
@@ -153,7 +153,7 @@ pub(crate) fn is_needed(
 ) -> bool
     requires { AreItemsIn resolve.now (entries_of exports.now) }
     ensures { result ≡ is_needed resolve.now (entries_of exports.now) (adapter_view adapter.now)
-        (map required_entry required.now.entries) }
+        (required_view required.now) }
 {
     adapter.library_info.is_some()
         || !required.is_empty()

@@ -1,14 +1,13 @@
 //! The exported interfaces on which exported interfaces depend.
 
-ghost use Rattle.std.specs.Prelude.{◌≡◌, ◌↔◌, ◌<◌, ◌||◌, ◌++◌, ◌∷◌, [], ℕ, All, Contains, IfOk, IsTrue, List, OnOk, length};
-ghost use Rattle.wc_resolve.specs.World.{ResolveView};
+ghost use Rattle.std.specs.Prelude.{◌≡◌, ◌<◌, ◌||◌, ◌++◌, ◌∷◌, [], ℕ, All, IfOk, List, OnOk, length};
 ghost use Rattle.wc_resolve.specs.WellFormed.{IsMatchingKey};
 ghost use Rattle.wc_encoder.specs.Dependencies.{AreDependenciesBefore, AreItemsIn};
 ghost use Rattle.wc_encoder.specs.EncoderParts.{world_exports};
-ghost use Rattle.wc_encoder.specs.Entries.{Entries, entries_of};
+ghost use Rattle.wc_encoder.specs.Entries.{entries_of};
 ghost use Rattle.wc_resolve.specs.Ranges.{IsItemIn};
-ghost use Rattle.wc_resolve.specs.Views.{KeyView, item_view};
-ghost use Rattle.wc_world.specs.Used.{AreUsed, Gathers, HasUsedSet, HasUsedSets, IsReady, IsUsedSet, exported_dependencies, has_interface, is_exported_itself, used_view};
+ghost use Rattle.wc_resolve.specs.Views.{item_view};
+ghost use Rattle.wc_world.specs.Used.{AddsUsedSetOnOk, AreUsed, ForDependent, HasDependencySets, HasUsedPart, IsReady, IsUsedSet, has_interface, is_exported_itself, used_view};
 
 use indexmap::IndexMap;
 use std::alloc::{AllocError, Global};
@@ -40,11 +39,9 @@ fn add_with_used(
     used: &HashMap<InterfaceId, HashSet<InterfaceId>>,
     id: InterfaceId,
 ) -> Result<(), AllocError>
-    ensures { (r : ResolveView) (exports : Entries) (i : ℕ) (passed : List ℕ)
-        → HasUsedSet r exports (used_view used.now) id.0
-        → Contains (exported_dependencies r exports i) id.0
-        → Gathers r exports i passed (has_interface set.old)
-        → OnOk result (Gathers r exports i (passed ++ id.0 ∷ []) (has_interface set.new)) }
+    ensures { ForDependent (used_view used.now) id.0 (λ d. (passed : List ℕ)
+        → HasUsedPart d passed set.old
+        → OnOk result (HasUsedPart d (passed ++ id.0 ∷ []) set.new)) }
 {
     if set.contains(&id) {
         return Ok(());
@@ -65,9 +62,8 @@ fn used_by(
     id: InterfaceId,
 ) -> Result<HashSet<InterfaceId>, AllocError>
     requires there { id.0 < length resolve.now.interfaces }
-    requires known { (d : ℕ)
-        → Contains (exported_dependencies resolve.now (entries_of exports.now) id.0) d
-        → HasUsedSet resolve.now (entries_of exports.now) (used_view used.now) d }
+    requires known { HasDependencySets resolve.now (entries_of exports.now)
+        (used_view used.now) id.0 }
     ensures { IfOk result (λ set.
         IsUsedSet resolve.now (entries_of exports.now) id.0 (has_interface set)) }
 {
@@ -92,10 +88,8 @@ fn add_export(
     requires there { IsItemIn resolve.now (item_view item.now) }
     requires ready { IsReady resolve.now (entries_of exports.now) (used_view used.now)
         (item_view item.now) }
-    ensures { (passed : Entries) (key : KeyView)
-        → HasUsedSets resolve.now (entries_of exports.now) passed (used_view used.old)
-        → OnOk result (HasUsedSets resolve.now (entries_of exports.now)
-        (passed ++ (key, item_view item.now) ∷ []) (used_view used.new)) }
+    ensures { AddsUsedSetOnOk result resolve.now (entries_of exports.now)
+        (item_view item.now) used.old used.new }
 {
     match item {
         WorldItem::Interface { id, .. } => {

@@ -1,14 +1,13 @@
 //! The world of a component.
 
-ghost use Rattle.std.specs.Prelude.{◌≡◌, ◌↔◌, ◌⊎◌, IfErr, IfOk, IsTrue, OnOk, map};
+ghost use Rattle.std.specs.Prelude.{◌≡◌, ◌↔◌, ◌⊎◌, IfErr, IfOk, IsTrue, OnOk};
 ghost use Rattle.std.specs.List.{list_any};
 ghost use Rattle.wc_names.specs.Views.{import_view};
-ghost use Rattle.wc_validate.specs.ImportMaps.{imports_in};
-ghost use Rattle.wc_validate.specs.Validated.{IsRecordOf, main_job, module_record};
+ghost use Rattle.wc_validate.specs.Validated.{module_record};
 ghost use Rattle.wc_world.specs.Causes.{HasNoCause, IsCause, IsMemory};
-ghost use Rattle.wc_world.specs.Slots.{IsSlot1Used, uses_slot_1};
-ghost use Rattle.wc_world.specs.World.{AreAdapters, IsWorldOf};
-ghost use Rattle.wc_world.specs.WorldViews.{adapter_entry, world_view};
+ghost use Rattle.wc_world.specs.Slots.{IsSlot1Used, module_uses_slot_1, uses_slot_1};
+ghost use Rattle.wc_world.specs.World.{AreAdapters, IsMainRecord, IsWorldOf};
+ghost use Rattle.wc_world.specs.WorldViews.{adapters_view, world_view};
 
 use crate::adapter::WorldAdapter;
 use crate::adapters::adapters_of;
@@ -61,7 +60,7 @@ fn uses_slot_1(import: &Import) -> bool
 
 /// Whether one of these imports does.
 fn one_uses_slot_1(imports: &ImportMap) -> bool
-    ensures { result ≡ list_any (λ x. uses_slot_1 x.1.1) (imports_in imports.now) }
+    ensures { result ≡ module_uses_slot_1 imports.now }
 {
     for (_module, _name, import) in imports.imports() {
         if uses_slot_1(import) {
@@ -73,8 +72,8 @@ fn one_uses_slot_1(imports: &ImportMap) -> bool
 
 /// Whether an import of one of these adapters does.
 fn adapter_uses_slot_1<'a>(adapters: &IndexMap<&'a str, WorldAdapter<'a>>) -> bool
-    ensures { result ≡ list_any (λ a. list_any (λ x. uses_slot_1 x.1.1)
-        (imports_in a.1.info.imports)) (map adapter_entry adapters.now.entries) }
+    ensures { result ≡ list_any (λ a. module_uses_slot_1 a.1.info.imports)
+        (adapters_view adapters.now) }
 {
     for (_name, adapter) in adapters.iter() {
         if one_uses_slot_1(&adapter.info.imports) {
@@ -86,8 +85,7 @@ fn adapter_uses_slot_1<'a>(adapters: &IndexMap<&'a str, WorldAdapter<'a>>) -> bo
 
 /// What the main module of an encoder imports and exports.
 fn main_record(alloc: Global, encoder: &ComponentEncoder) -> Result<ValidatedModule, WorldFault>
-    ensures recorded { IfOk result (λ v. IsRecordOf (main_job encoder.now
-        encoder.now.module_import_map) encoder.now.module_bytes (module_record v)) }
+    ensures recorded { IfOk result (λ v. IsMainRecord encoder.now (module_record v)) }
     ensures fault { IfErr result (λ f. IsMemory encoder.now f ⊎ IsCause encoder.now f) }
 {
     match validate_module(
@@ -109,10 +107,9 @@ fn world_with<'a, O: ImportOptions>(
     info: ValidatedModule,
     adapters: IndexMap<&'a str, WorldAdapter<'a>>,
 ) -> Result<ComponentWorld<'a>, AllocError>
-    requires recorded { IsRecordOf (main_job encoder.now encoder.now.module_import_map)
-        encoder.now.module_bytes (module_record info) }
-    requires made { AreAdapters encoder.now (module_record info)
-        (map adapter_entry adapters.entries) }
+    requires recorded { IsMainRecord encoder.now (module_record info) }
+    requires is_adapter { AreAdapters encoder.now (module_record info)
+        (adapters_view adapters) }
     ensures { IfOk result (λ w. IsWorldOf (O.options_of options.now) encoder.now (world_view w)) }
 {
     let import_map = import_map_of(alloc, encoder, options, &info, &adapters)?;
@@ -133,8 +130,8 @@ fn world_with<'a, O: ImportOptions>(
 impl<'a> ComponentWorld<'a> {
     /// The world of a component, made of what an encoder has: its main module is validated; of its adapters those that
     /// the main module imports functions from, or that have to export functions, are validated, trimmed to what is
-    /// wanted of them, and validated again; libraries are validated alone, and their bytes borrowed. Adapters that are
-    /// not needed are not read. `options` says which canonical options lowered functions need.
+    /// required of them, and validated again; libraries are validated alone, and their bytes borrowed. Adapters that
+    /// are not needed are not read. `options` says which canonical options lowered functions need.
     ///
     /// # Errors
     ///

@@ -17,19 +17,19 @@ use Rattle.wc_write.proofs.ValueTypeLemmas.{val_type_spelled, val_type_some}
 use Rattle.wc_write.proofs.VectorTextLemmas.{front_shorter, back_shorter, items_spelled, vector_spelled}
 use Rattle.wc_write.proofs.OperatorTextLemmas.{instr_spelled}
 
--- few locals are in runs of few
-abbrev IsFew : Locals → Type 0
-IsFew l = l.count < 2 ^ 32
+-- locals whose count fits u32 are in runs whose counts do
+abbrev CountFitsU32 : Locals → Type 0
+CountFitsU32 l = l.count < 2 ^ 32
 
-runs_few : (ls : List Locals) → local_count ls < 2 ^ 32 → All IsFew ls
-runs_few [] few = All-nil IsFew
-runs_few (l ∷ ls) few = All-cons IsFew l ls (omega arith) (runs_few ls (omega arith))
+runs_bounded : (ls : List Locals) → local_count ls < 2 ^ 32 → All CountFitsU32 ls
+runs_bounded [] bounded = All-nil CountFitsU32
+runs_bounded (l ∷ ls) bounded = All-cons CountFitsU32 l ls (omega arith) (runs_bounded ls (omega arith))
 
 abbrev IsRun : Locals → Type 0
-IsRun l = IsFew l × IsValType l.ty
+IsRun l = CountFitsU32 l × IsValType l.ty
 
-runs_are : (ls : List Locals) → All IsFew ls → All (λ l. IsValType l.ty) ls → All IsRun ls
-runs_are ls few fit = λ k d within. (few k d within, fit k d within)
+runs_are : (ls : List Locals) → All CountFitsU32 ls → All (λ l. IsValType l.ty) ls → All IsRun ls
+runs_are ls bounded fit = λ k d within. (bounded k d within, fit k d within)
 
 locals_spelled : (l : Locals) → IsRun l → SpellsLocals (locals_text l) l
 locals_spelled l h = (number_text l.count, val_type_text l.ty, refl, number_32 l.count h.0, val_type_spelled l.ty h.1)
@@ -44,9 +44,9 @@ body_spelled b h short = record {
   code = flat_map instr_text b.operators;
   cut = refl;
   has_locals = vector_spelled SpellsLocals locals_text IsRun (λ l h _. locals_spelled l h) locals_some b.locals
-      (runs_are b.locals (runs_few b.locals h.few_locals) h.has_locals)
+      (runs_are b.locals (runs_bounded b.locals h.locals_fit_u32) h.has_locals)
       (front_shorter (vector_text locals_text b.locals) (flat_map instr_text b.operators) _ short);
-  few_locals = h.few_locals;
+  locals_fit_u32 = h.locals_fit_u32;
   has_operators = items_spelled SpellsInstr instr_text IsInstr instr_spelled b.operators h.has_operators (back_shorter (vector_text locals_text b.locals) (flat_map instr_text b.operators) _ short);
   nests = h.nests;
 }

@@ -83,13 +83,13 @@ sections_after_more position id (Some content) bytes ss producers other known le
 
 -- the custom section of producers, after all
 
-few : (bs : List ℕ) → AllByRecursion (λ b. b < 128) bs → (i : ℕ) → slice_index bs i < 128
-few [] h i = omega arith
-few (b ∷ bs) h zero = h.0
-few (b ∷ bs) h (suc i) = few bs h.1 i
+bounded : (bs : List ℕ) → AllByRecursion (λ b. b < 128) bs → (i : ℕ) → slice_index bs i < 128
+bounded [] h i = omega arith
+bounded (b ∷ bs) h zero = h.0
+bounded (b ∷ bs) h (suc i) = bounded bs h.1 i
 
 producers_named : SpellsName (name_text producers_text) producers_text
-producers_named = (number_text 9, refl, number_32 9 (omega arith), IsUtf8-from_ascii producers_text (few producers_text (omega arith, (omega arith, (omega arith, (omega arith, (omega arith, (omega arith, (omega arith, (omega arith, (omega arith, tt)))))))))))
+producers_named = (number_text 9, refl, number_32 9 (omega arith), IsUtf8-from_ascii producers_text (bounded producers_text (omega arith, (omega arith, (omega arith, (omega arith, (omega arith, (omega arith, (omega arith, (omega arith, (omega arith, tt)))))))))))
 
 abbrev producers_section : List ℕ → SectionValue
 producers_section bytes = record { id = 0; content = producers_content bytes }

@@ -95,7 +95,7 @@ runs_are bytes ls s all = items_are SpellsLocals locals_text (λ (l : Locals). I
 
 pub body_is : (bytes : List ℕ) (b : BodyValue) → AreBytes bytes → SpellsBody bytes b → IsBody b
 body_is bytes b all s = record {
-  few_locals = s.few_locals;
+  locals_fit_u32 = s.locals_fit_u32;
   has_locals = runs_are s.runs b.locals s.has_locals (front_bytes s.runs s.code (rw s.cut at all));
   has_operators = items_are SpellsInstr instr_text IsInstr instr_is s.code b.operators s.has_operators (back_bytes s.runs s.code (rw s.cut at all));
   nests = s.nests;

@@ -17,7 +17,7 @@ use Rattle.wc_write.specs.BuiltValues.{IsInitialiser, IsBuilt, IsReadBody, IsRea
 abbrev pub NumberIsSpelled : Type 0
 NumberIsSpelled = (bits n : ℕ) → bits ≤ 64 → n < 2 ^ bits → SpellsNumber bits (number_text n) n
 
--- and by no shorter bytes
+-- no bytes that spell a number of at most 64 bits are shorter than its text
 abbrev pub NumberIsShortest : Type 0
 NumberIsShortest = (bits n : ℕ) (bytes : List ℕ) → AreBytes bytes → SpellsNumber bits bytes n →
     length (number_text n) ≤ length bytes
@@ -26,7 +26,7 @@ NumberIsShortest = (bits n : ℕ) (bytes : List ℕ) → AreBytes bytes → Spel
 abbrev pub ImportIsSpelled : Type 0
 ImportIsSpelled = (i : ImportValue) → IsImport i → SpellsImport (import_text i) i
 
--- so are fewer than 2^32 of them, as the content of an import section
+-- fewer than 2^32 imports that can be spelled are spelled by their text, as the content of an import section
 abbrev pub ImportsAreSpelled : Type 0
 ImportsAreSpelled = (is : List ImportValue) → IsU32 (length is) → All IsImport is → SpellsImports (imports_text is) is
 
@@ -44,7 +44,7 @@ ImportsAreShortest = (bytes : List ℕ) (is : List ImportValue) → AreBytes byt
 abbrev pub SectionIsSpelled : Type 0
 SectionIsSpelled = (s : SectionValue) → FitsSize s.content → SpellsSection (section_text s.id s.content) s
 
--- and by no shorter bytes
+-- no bytes that spell a section are shorter than its text
 abbrev pub SectionIsShortest : Type 0
 SectionIsShortest = (bytes : List ℕ) (s : SectionValue) → AreBytes bytes → SpellsSection bytes s →
     length (section_text s.id s.content) ≤ length bytes

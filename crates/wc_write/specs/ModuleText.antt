@@ -52,7 +52,7 @@ built_value_by view b = record {
 abbrev pub built_value : Built Body → BuiltValue
 built_value b = built_value_by body_value b
 
--- its imports: memories, tables, globals and functions, each group in the order of its index space
+-- the imports of a built module: memories, tables, globals and functions, each group in the order of its index space
 abbrev pub built_imports : BuiltValue → List ImportValue
 built_imports b =
     imports_of Memory b.memories

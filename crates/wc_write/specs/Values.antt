@@ -112,7 +112,7 @@ pub record IsInstr (i : InstrValue) : Type 0 where
 
 -- a body: fewer than 2^32 locals, and operators in which blocks nest
 pub record IsBody (b : BodyValue) : Type 0 where
-  pub few_locals : IsU32 (local_count b.locals)
+  pub locals_fit_u32 : IsU32 (local_count b.locals)
   pub has_locals : All (λ l. IsValType l.ty) b.locals
   pub has_operators : All IsInstr b.operators
   pub nests : IsExpression (tokens b.operators)

@@ -1,5 +1,5 @@
-//! `wctrim`: renames the repeated imports of a core WebAssembly module, trims an adapter to the exports that are wanted
-//! of it, or lists a module's imports and exports.
+//! `wctrim`: renames the repeated imports of a core WebAssembly module, trims an adapter to the exports that are
+//! required of it, or lists a module's imports and exports.
 //!
 //! What it does is proved in `wc_tool`. Here it gets its arguments, its files and its standard output.
 #![tactic(auto)]

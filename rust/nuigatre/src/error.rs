@@ -8,7 +8,7 @@ use std::fmt::{self, Display, Formatter};
 pub enum Error {
     /// An allocation failed.
     Memory,
-    /// No export is wanted, or the exponent of a page size is more than 16.
+    /// No export is required, or the exponent of a page size is more than 16.
     BadArgument,
     /// The imports of the module could not be renamed.
     Dedupe(DedupeFault),
@@ -74,7 +74,7 @@ pub enum DedupeFault {
 pub enum GcFault {
     /// The bytes are no module.
     Read(ReadFault),
-    /// The first of the wanted names that the adapter does not export.
+    /// The first of the required names that the adapter does not export.
     MissingExport(String),
     /// The adapter has a start function, or a section of elements, data or a data count.
     UnsupportedSection,
@@ -90,7 +90,7 @@ pub enum GcFault {
     LocalMemory,
     /// An imported realloc is of another type.
     ReallocType,
-    /// A realloc grows memory, and no memory is reached that has 32 bits and pages of the wanted size.
+    /// A realloc grows memory, and no memory is reached that has 32 bits and pages of the required size.
     ReallocMemory,
     /// A count or a size of the trimmed module is no number of 32 bits.
     TooLarge,

@@ -2,7 +2,7 @@
 
 ghost use Rattle.std.specs.Prelude.{◌≡◌, ◌≢◌, [], ◌∷◌, Some, codes};
 ghost use Rattle.wc_calls.specs.Answers.{IsPut, done};
-ghost use Rattle.wc_calls.specs.Required.{wanted_of};
+ghost use Rattle.wc_calls.specs.Required.{trim_input_of};
 ghost use Rattle.wc_calls.specs.Trimming.{IsRun, with_realloc};
 
 use std::alloc::Global;
@@ -12,7 +12,7 @@ use wc_calls::{Answer, trim};
 /// `realloc`.
 pub(crate) fn trim_to_write(alloc: Global, adapter: &[u8], out: &mut [u8]) -> Answer
     ensures done { result.status ≡ done → IsPut (IsRun (with_realloc (codes "realloc"))
-        (wanted_of adapter.now (codes "write" ∷ []))) result.length out.old out.new }
+        (trim_input_of adapter.now (codes "write" ∷ []))) result.length out.old out.new }
     ensures unchanged { result.status ≢ done → out.new ≡ out.old }
 {
     trim(alloc, adapter, &[b"write"], Some(b"realloc"), 16, out)

@@ -3,7 +3,7 @@
 ghost use Rattle.std.specs.Prelude.{◌≡◌, ◌≢◌, ◌↔◌, [], IfOk, IsTrue};
 ghost use Rattle.wc_read.specs.Modules.{ModuleValue, SpellsModule};
 ghost use Rattle.wc_gc.specs.Decoded.{DecodedModule};
-ghost use Rattle.wc_gc.specs.Liveness.{IsLive, names_of, wanted};
+ghost use Rattle.wc_gc.specs.Liveness.{IsLive, names_of, trim_input};
 ghost use Rattle.wc_gc.specs.Traces.{HasCut};
 
 use indexmap::IndexSet;
@@ -13,7 +13,7 @@ use wc_gc::{GcFault, LiveSet, liveness_counted, run};
 use wc_read::Space;
 use wc_write::laws::slices_are_bytes;
 
-/// Whether the wanted exports of an adapter reach its first memory.
+/// Whether the required exports of an adapter reach its first memory.
 pub(crate) fn reaches_memory(
     alloc: Global,
     adapter: &[u8],
@@ -36,8 +36,8 @@ pub(crate) fn trim_both(
 ) -> Result<(Vec<u8>, Vec<u8>), GcFault>
     requires { required.now.keys ≢ [] }
     ensures { IfOk result (λ both. (c : DecodedModule)
-        → HasCut (wanted first.now required.now.keys) c
-        → HasCut (wanted second.now required.now.keys) c
+        → HasCut (trim_input first.now required.now.keys) c
+        → HasCut (trim_input second.now required.now.keys) c
         → both.0.items ≡ both.1.items) }
 {
     no_trace();

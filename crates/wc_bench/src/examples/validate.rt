@@ -1,8 +1,8 @@
 //! An example of `wc_validate`.
 
 ghost use Rattle.std.specs.Prelude.{◌≡◌, IfOk, None};
-ghost use Rattle.wc_validate.specs.ImportMaps.{memory_in};
-ghost use Rattle.wc_validate.specs.Validated.{IsRecordOf, ModuleRecord, main_job};
+ghost use Rattle.wc_validate.specs.Imports.Map.{memory_in};
+ghost use Rattle.wc_validate.specs.Validated.{IsRecordOf, ModuleRecord, main_input};
 
 use std::alloc::Global;
 use wc_encoder::ComponentEncoder;
@@ -16,7 +16,7 @@ pub(crate) fn imported_memory(
     bytes: &[u8],
 ) -> Result<Option<MemoryType>, ValidateFault>
     ensures { IfOk result (λ memory. (r : ModuleRecord)
-        × IsRecordOf (main_job encoder.now None) bytes.now r × (memory ≡ memory_in r.imports)) }
+        × IsRecordOf (main_input encoder.now None) bytes.now r × (memory ≡ memory_in r.imports)) }
 {
     let validated = validate_module(alloc, encoder, bytes, None)?;
     Ok(validated.imports.imported_memory())

@@ -16,23 +16,25 @@ abbrev pub Gives : {X A : Type 0} → (X → A) → Result X ReadFault → List 
 Gives view (Ok x) rest read = read ≡ Some (view x, rest)
 Gives view (Err e) rest read = (e ≢ memory_fault → read ≡ None) × (e ≢ component_fault)
 
--- the same of a reader that takes no memory: its fault is never Memory, so nothing can be read where it comes
+-- what a reader that takes no memory returned, seen by view, with the bytes that it left, is what reading gives: its
+-- fault is never Memory, so nothing can be read where it comes
 abbrev pub GivesWithoutMemory : {X A : Type 0} → (X → A) → Result X ReadFault → List ℕ → Option (A × List ℕ) → Type 0
 GivesWithoutMemory view (Ok x) rest read = read ≡ Some (view x, rest)
 GivesWithoutMemory view (Err e) rest read = (read ≡ None) × (e ≢ memory_fault) × (e ≢ component_fault)
 
 -- what a reader found, or that there is nothing at the front; only memory refuses
-abbrev pub Finds : {X A : Type 0} → (X → A) → Result (Option X) ReadFault → List ℕ → Option (A × List ℕ) → Type 0
-Finds view (Ok (Some x)) rest read = read ≡ Some (view x, rest)
-Finds view (Ok None) rest read = read ≡ None
-Finds view (Err e) rest read = e ≡ memory_fault
+abbrev pub ReadsOption : {X A : Type 0} → (X → A) → Result (Option X) ReadFault → List ℕ → Option (A × List ℕ) → Type 0
+ReadsOption view (Ok (Some x)) rest read = read ≡ Some (view x, rest)
+ReadsOption view (Ok None) rest read = read ≡ None
+ReadsOption view (Err e) rest read = e ≡ memory_fault
 
 -- what a function over all of some bytes returned, seen by view, is what reading gives, unless memory ran out
 abbrev pub Answers : {X A : Type 0} → (X → A) → Result X ReadFault → Option A → Type 0
 Answers view (Ok x) read = read ≡ Some (view x)
 Answers view (Err e) read = (e ≢ memory_fault → read ≡ None) × (e ≢ component_fault)
 
--- the same of a function that takes no memory: its fault is never Memory
+-- what a function over all of some bytes that takes no memory returned, seen by view, is what reading gives: its fault
+-- is never Memory
 abbrev pub AnswersWithoutMemory : {X A : Type 0} → (X → A) → Result X ReadFault → Option A → Type 0
 AnswersWithoutMemory view (Ok x) read = read ≡ Some (view x)
 AnswersWithoutMemory view (Err e) read = (read ≡ None) × (e ≢ memory_fault) × (e ≢ component_fault)

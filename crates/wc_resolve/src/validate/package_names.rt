@@ -35,9 +35,9 @@ pub(crate) fn distinct_package_names(
     alloc: Global,
     parts: &Parts,
 ) -> Result<Option<IndexSet<PackageName>>, AllocError>
-    ensures { IfOk result (λ o. MatchOption o (¬ ArePackagesDistinct (parts_view parts.now))
-        (λ names. ArePackagesDistinct (parts_view parts.now)
-        × AreNamesOf (parts_view parts.now).packages names.keys)) }
+    ensures { let view = parts_view parts.now in IfOk result (λ o. MatchOption o
+        (¬ ArePackagesDistinct view)
+        (λ names. ArePackagesDistinct view × AreNamesOf view.packages names.keys)) }
 {
     distinct_names(alloc, &parts.packages)
 }

@@ -1,6 +1,6 @@
 use Rattle.std.proofs.Common.{arith}
 use Rattle.wc_write.proofs.VectorLemmas.{items_end}
-use Rattle.wc_gc.specs.MachineOperators.{operator_text}
+use Rattle.wc_gc.specs.Private.MachineOperators.{operator_text}
 use Rattle.wc_gc.proofs.added_code.append_code.Goals as goal
 
 pub returns : goal.returns

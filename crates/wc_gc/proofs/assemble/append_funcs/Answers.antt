@@ -1,7 +1,7 @@
 use Rattle.std.proofs.Common.{sym, ◌∙◌, ap, ◌++◌, ◌∷◌, [], map, append_assoc}
 use Rattle.std.specs.List.{enumerate_from}
 use Rattle.wc_read.specs.Items.{item_value}
-use Rattle.wc_gc.specs.Edits.{edited_at, new_edited, written_funcs}
+use Rattle.wc_gc.specs.Private.Edits.{edited_at, new_edited, written_funcs}
 use Rattle.wc_gc.specs.Decoded.{func_code}
 use Rattle.wc_gc.specs.Image.{kept_items}
 use Rattle.wc_gc.specs.NewBodies.{body_written}

@@ -1,6 +1,6 @@
 use Rattle.std.proofs.Common.{◌≡◌, ◌++◌, map}
 use Rattle.std.specs.List.{enumerate_from}
-use Rattle.wc_gc.specs.Edits.{edited_at, written_funcs}
+use Rattle.wc_gc.specs.Private.Edits.{edited_at, written_funcs}
 use Rattle.wc_gc.specs.Image.{kept_items}
 use Rattle.wc_gc.proofs.assemble.append_funcs.Given as goal
 

@@ -3,19 +3,19 @@ use Rattle.std.specs.Vec.{with_items}
 use Rattle.std.proofs.lemmas.List.{with_items_is}
 use Rattle.wc_read.specs.Items.{table_value}
 use Rattle.wc_read.specs.Exports.{export_value}
-use Rattle.wc_gc.specs.FuncGroups.{is_in_group}
+use Rattle.wc_gc.specs.Private.FuncGroups.{is_in_group}
 use Rattle.wc_gc.specs.LiveSets.{has_item}
-use Rattle.wc_gc.specs.Edits.{settings_of}
+use Rattle.wc_gc.specs.Private.Edits.{settings_of}
 use Rattle.wc_gc.proofs.EditedImageLemmas.{edited_image_is, group_coded}
 use Rattle.wc_gc.proofs.assemble.image.Goals as goal
 
 pub new_funcs-requires-clause-imports : goal.new_funcs-requires-clause-imports
 new_funcs-requires-clause-imports g c =
-    rw c.deref-2.ensures.value (group_coded c.args.adapter.now (g.L.LiveSet.has c.args.live.now.funcs) (is_in_group (settings_of c.args.edit) true) (g.L.LiveSet.has c.args.groups.now.imports) c.requires.sound c.requires.groups.imports)
+    rw c.deref-2.ensures.value (group_coded c.args.adapter.now (g.L.LiveSet.has c.args.live.now.funcs) (is_in_group (settings_of c.args.edit) true) (g.L.LiveSet.has c.args.groups.now.imports) c.requires.in_range c.requires.groups.imports)
 
 pub new_funcs-requires-clause-defined : goal.new_funcs-requires-clause-defined
 new_funcs-requires-clause-defined g c =
-    rw c.deref-2.ensures.value (group_coded c.args.adapter.now (g.L.LiveSet.has c.args.live.now.funcs) (is_in_group (settings_of c.args.edit) false) (g.L.LiveSet.has c.args.groups.now.defined) c.requires.sound c.requires.groups.defined)
+    rw c.deref-2.ensures.value (group_coded c.args.adapter.now (g.L.LiveSet.has c.args.live.now.funcs) (is_in_group (settings_of c.args.edit) false) (g.L.LiveSet.has c.args.groups.now.defined) c.requires.in_range c.requires.groups.defined)
 
 pub returns : goal.returns
 returns g c =

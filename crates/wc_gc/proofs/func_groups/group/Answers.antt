@@ -1,5 +1,5 @@
 use Rattle.std.proofs.Common.{◌≡◌, ◌&&◌, ◌≤◌, length, arith}
-use Rattle.wc_gc.specs.FuncGroups.{has_func, is_in_group}
+use Rattle.wc_gc.specs.Private.FuncGroups.{has_func, is_in_group}
 use Rattle.wc_gc.specs.Parts.{settings_value}
 use Rattle.wc_gc.proofs.GroupLemmas.{filled_more, filled_end, none_past}
 use Rattle.wc_gc.proofs.func_groups.group.Goals as goal

@@ -1,6 +1,6 @@
 use Rattle.std.proofs.Common.{◌≡◌, ℕ, ◌&&◌}
 use Rattle.std.specs.Prelude.{nat_lt}
-use Rattle.wc_gc.specs.FuncGroups.{has_func, is_in_group}
+use Rattle.wc_gc.specs.Private.FuncGroups.{has_func, is_in_group}
 use Rattle.wc_gc.specs.Parts.{settings_value}
 use Rattle.wc_gc.proofs.func_groups.group.Given as goal
 

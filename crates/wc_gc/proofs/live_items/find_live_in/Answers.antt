@@ -1,7 +1,7 @@
 use Rattle.std.proofs.Common.{◌∙◌, refl}
 use Rattle.std.proofs.lemmas.Result.{err_from_is_err_and}
 use Rattle.wc_read.specs.Modules.{module_value}
-use Rattle.wc_gc.specs.Gathering.{gathers}
+use Rattle.wc_gc.specs.Gathering.{has_or_aside}
 use Rattle.wc_gc.specs.LiveSets.{has_item}
 use Rattle.wc_gc.specs.Liveness.{names_of}
 use Rattle.wc_gc.proofs.LivenessLemmas.{roots_there, liveness_is, live_fault, same_live}
@@ -18,6 +18,6 @@ returns-in_err-turns-clause-fault g c =
 
 pub returns-clause-live : goal.returns-clause-live
 returns-clause-live g c =
-    same_live (names_of c.args.required.now.keys) (module_value c.args.adapter.now) (has_item g.L.LiveSet.has c.in_ok-live.live) (has_item (gathers g.L.LiveSet.has) c.reach_all.new.self.live) c.in_ok-turns.turns c.in_ok-live.ensures
-    (liveness_is c.args.adapter.now (names_of c.args.required.now.keys) c.deref.result.now (has_item (gathers g.L.LiveSet.has) c.reach_all.new.self.live) c.in_ok-turns.turns (c.deref.ensures.value ∙ c.in_ok-roots.ensures.found)
-    (c.in_ok-turns.ensures.reached refl) c.in_ok-turns.ensures.counted (c.in_ok-turns.ensures.sound refl) (c.in_ok-roots.ensures.supported refl))
+    same_live (names_of c.args.required.now.keys) (module_value c.args.adapter.now) (has_item g.L.LiveSet.has c.in_ok-live.live) (has_item (has_or_aside g.L.LiveSet.has) c.reach_all.new.self.live) c.in_ok-turns.turns c.in_ok-live.ensures
+    (liveness_is c.args.adapter.now (names_of c.args.required.now.keys) c.deref.result.now (has_item (has_or_aside g.L.LiveSet.has) c.reach_all.new.self.live) c.in_ok-turns.turns (c.deref.ensures.value ∙ c.in_ok-roots.ensures.found)
+    (c.in_ok-turns.ensures.reached refl) c.in_ok-turns.ensures.counted (c.in_ok-turns.ensures.in_range refl) (c.in_ok-roots.ensures.supported refl))

@@ -1,6 +1,6 @@
 use Rattle.std.proofs.Common.{◌-◌, ◌≤◌, ◌<◌, ℕ, length, get_or}
 use Rattle.wc_gc.specs.Ranges.{AreRanges, in_ranges}
-use Rattle.wc_gc.specs.Merging.{BeginBy, HasAppended}
+use Rattle.wc_gc.specs.Private.Merging.{BeginBy, HasAppended}
 use Rattle.wc_gc.proofs.merging.append_rest.Given as goal
 
 abbrev pub invariant-loop-next : goal.invariant-loop-next

@@ -1,6 +1,6 @@
 use Rattle.std.proofs.Common.{◌≡◌, ◌≤◌, ◌<◌, ◌||◌, ℕ, take, length, get_or}
 use Rattle.wc_gc.specs.Ranges.{AreRanges, holds, in_ranges}
-use Rattle.wc_gc.specs.Merging.{BeginBy}
+use Rattle.wc_gc.specs.Private.Merging.{BeginBy}
 use Rattle.wc_gc.proofs.merging.merged.Given as goal
 
 abbrev pub invariant-loop-number : goal.invariant-loop-number

@@ -1,6 +1,6 @@
 use Rattle.std.proofs.Common.{Some}
 use Rattle.wc_names.specs.Exports.{is_export}
-use Rattle.wc_names.proofs.AlikeExportLemmas.{export_kept, fixed_export_plain}
+use Rattle.wc_names.proofs.SameExportLemmas.{export_kept, fixed_export_plain}
 use Rattle.wc_names.proofs.laws.exports_alike.Goals as goal
 
 pub returns-clause-meaning : goal.returns-clause-meaning

@@ -3,7 +3,7 @@ use Rattle.wc_plan.specs.EncoderFaults.{IsEncoderFault, IsLowered}
 use Rattle.wc_plan.specs.Progress.{IsPlanFault}
 use Rattle.wc_plan.proofs.EncoderLemmas.{each_fault, plan_fault, planned, world_fault}
 use Rattle.wc_plan.proofs.LoweredLemmas.{fault_is_lowered}
-use Rattle.wc_plan.proofs.ProgressLemmas.{passed_on}
+use Rattle.wc_world.proofs.FaultLemmas.{passed_on}
 use Rattle.wc_plan.proofs.encoder.plan_encoder.Goals as goal
 
 pub returns-in_err-world-clause-fault : goal.returns-in_err-world-clause-fault
@@ -17,7 +17,7 @@ plan-requires g c = c.worlds_nameable.ensures (g.O.ImportOptions.options_of c.ar
 pub returns-clause-plan : goal.returns-clause-plan
 returns-clause-plan g c =
     planned (g.O.ImportOptions.options_of c.args.options.now) c.args.encoder.now (world_view c.in_ok-world.world) c.in_ok-world.ensures.world
-    c.plan.result c.plan.ensures.plan c.plan.ensures.sound
+    c.plan.result c.plan.ensures.plan c.plan.ensures.servable
 
 pub returns-clause-fault : goal.returns-clause-fault
 returns-clause-fault g c =

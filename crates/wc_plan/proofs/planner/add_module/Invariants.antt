@@ -1,7 +1,7 @@
 use Rattle.std.proofs.Common.{All, List, ℕ}
 use Rattle.wc_names.specs.Views.{ImportView}
-use Rattle.wc_validate.specs.ImportMaps.{imports_in}
-use Rattle.wc_validate.specs.SingleImports.{imports_left}
+use Rattle.wc_validate.specs.Imports.Map.{imports_in}
+use Rattle.wc_validate.specs.Imports.Iter.{imports_left}
 use Rattle.wc_world.specs.Slots.{imports_of}
 use Rattle.wc_plan.specs.Calls.{IsNameable, Wanted}
 use Rattle.wc_plan.specs.Progress.{IsCounted, IsPlanned, world_in}

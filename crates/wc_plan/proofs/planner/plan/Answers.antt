@@ -2,20 +2,26 @@ use Rattle.std.proofs.Common.{map}
 use Rattle.wc_world.specs.WorldViews.{world_view}
 use Rattle.wc_plan.specs.PlanViews.{use_view}
 use Rattle.wc_plan.specs.Progress.{IsPlanFault, seen_view}
-use Rattle.wc_plan.proofs.ProgressLemmas.{passed_on, planned_start, progress_end}
+use Rattle.wc_plan.proofs.ProgressLemmas.{planned_start, progress_end}
+use Rattle.wc_world.proofs.FaultLemmas.{passed_on}
 use Rattle.wc_plan.proofs.planner.plan.Goals as goal
 
 pub returns-in_err-add_modules-clause-fault : goal.returns-in_err-add_modules-clause-fault
 returns-in_err-add_modules-clause-fault c =
     passed_on (IsPlanFault (world_view c.args.world.now)) c.from_residual.result _ c.from_residual.ensures.1
-    (c.in_err-add_modules.ensures.fault (planned_start (world_view c.args.world.now) c.new.result.keys c.new-2.result.items c.new.ensures.empty c.new-2.ensures.items))
+    (c.in_err-add_modules.ensures.fault
+    (planned_start (world_view c.args.world.now) c.new.result.keys c.new-2.result.items c.new.ensures.empty c.new-2.ensures.items))
 
 pub returns-clause-plan : goal.returns-clause-plan
 returns-clause-plan c =
-    (progress_end (world_view c.args.world.now) (map seen_view c.add_modules.new.planner.seen.keys) (map use_view c.add_modules.new.planner.uses.items) c.add_modules.new.planner.slots
-    (c.in_ok-add_modules.ensures.made (planned_start (world_view c.args.world.now) c.new.result.keys c.new-2.result.items c.new.ensures.empty c.new-2.ensures.items))).0
+    (progress_end (world_view c.args.world.now) (map seen_view c.add_modules.new.planner.seen.keys)
+    (map use_view c.add_modules.new.planner.uses.items) c.add_modules.new.planner.slots
+    (c.in_ok-add_modules.ensures.made (planned_start
+    (world_view c.args.world.now) c.new.result.keys c.new-2.result.items c.new.ensures.empty c.new-2.ensures.items))).0
 
-pub returns-clause-sound : goal.returns-clause-sound
-returns-clause-sound c =
-    (progress_end (world_view c.args.world.now) (map seen_view c.add_modules.new.planner.seen.keys) (map use_view c.add_modules.new.planner.uses.items) c.add_modules.new.planner.slots
-    (c.in_ok-add_modules.ensures.made (planned_start (world_view c.args.world.now) c.new.result.keys c.new-2.result.items c.new.ensures.empty c.new-2.ensures.items))).1
+pub returns-clause-servable : goal.returns-clause-servable
+returns-clause-servable c =
+    (progress_end (world_view c.args.world.now) (map seen_view c.add_modules.new.planner.seen.keys)
+    (map use_view c.add_modules.new.planner.uses.items) c.add_modules.new.planner.slots
+    (c.in_ok-add_modules.ensures.made (planned_start
+    (world_view c.args.world.now) c.new.result.keys c.new-2.result.items c.new.ensures.empty c.new-2.ensures.items))).1

@@ -8,10 +8,10 @@ returns-in_err-locals-clause-refused c =
     let p = err_from_is_err_and c.from_residual.result c.from_residual.ensures.1 in
     rw (p.1, p.2) (λ real v s. no_locals _ (c.in_err-locals.ensures.0 real) v (rw c.new-reader.ensures s))
 
-pub returns-then-not-are_few-clause-refused : goal.returns-then-not-are_few-clause-refused
-returns-then-not-are_few-clause-refused c =
+pub returns-then-not-counts_fit_u32-clause-refused : goal.returns-then-not-counts_fit_u32-clause-refused
+returns-then-not-counts_fit_u32-clause-refused c =
     let read = rw map-id at c.in_ok-locals.ensures in
-    λ _ v s. too_many _ _ _ read (rw c.deref.ensures.value at c.if-not-are_few.ensures) v (rw c.new-reader.ensures s)
+    λ _ v s. too_many _ _ _ read (rw c.deref.ensures.value at c.if-not-counts_fit_u32.ensures) v (rw c.new-reader.ensures s)
 
 pub returns-in_err-operators-clause-refused : goal.returns-in_err-operators-clause-refused
 returns-in_err-operators-clause-refused c =
@@ -28,6 +28,6 @@ returns-then-not-branch-clause-refused c =
 pub returns-clause-found : goal.returns-clause-found
 returns-clause-found c =
     let read = rw map-id at c.in_ok-locals.ensures in
-    let few = rw c.deref.ensures.value at c.if-not-are_few.ensures in
+    let bounded = rw c.deref.ensures.value at c.if-not-counts_fit_u32.ensures in
     let nested = rw (c.if-not-branch.false, c.deref-2.ensures.value) at c.in_ok-nests.ensures in
-    rw c.new-reader.ensures at (body_is _ _ _ read few _ c.in_ok-operators.ensures.found nested)
+    rw c.new-reader.ensures at (body_is _ _ _ read bounded _ c.in_ok-operators.ensures.found nested)

@@ -1,6 +1,6 @@
 use Rattle.std.proofs.Common.{◌*◌, ◌-◌, rules, w64, SFits}
 use Rattle.std.proofs.lemmas.Int.{to_z-of_z}
-use Rattle.wc_read.specs.TextSizes.{without_sign}
+use Rattle.wc_read.specs.Private.TextSizes.{without_sign}
 use Rattle.wc_read.proofs.ShortestTextLemmas.{shifted_out}
 use Rattle.wc_read.proofs.text_sizes.is_shortest_signed.Goals as goal
 

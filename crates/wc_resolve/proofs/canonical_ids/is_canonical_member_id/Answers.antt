@@ -4,7 +4,7 @@ use Rattle.wc_resolve.specs.Characters.{at_sign, colon, slash}
 use Rattle.wc_resolve.specs.Names.{track}
 use Rattle.wc_resolve.specs.Queries.{joined_id, member_text}
 use Rattle.wc_resolve.specs.Views.{package_name_view}
-use Rattle.wc_resolve.proofs.CanonicalIdLemmas.{is_after_front, member_begins, refused, text_front, two_marks_front, version_front, versioned_member}
+use Rattle.wc_resolve.proofs.CanonicalIdLemmas.{is_after_front, member_begins, refused, text_front, two_separators_front, version_front, versioned_member}
 use Rattle.wc_resolve.proofs.canonical_ids.is_canonical_member_id.Goals as goal
 
 pub returns-in-Some-after : goal.returns-in-Some-after
@@ -26,7 +26,7 @@ returns-in-None-after c =
     let both : joined_id namespace member (name ++ c.in-Some.rest.now) ≡ joined_id namespace member (name ++ (at_sign ∷ shown)) =
     sym c.in-Some.ensures ∙ (e ∙ versioned_member c.args.package.now name c.in-Some-version.version c.in-Some-version.is) in
     c.in-None-after.ensures shown (text_front name c.in-Some.rest.now (at_sign ∷ shown)
-    (two_marks_front namespace member colon slash (name ++ c.in-Some.rest.now) (name ++ (at_sign ∷ shown)) both)))
+    (two_separators_front namespace member colon slash (name ++ c.in-Some.rest.now) (name ++ (at_sign ∷ shown)) both)))
 
 pub returns-in-None : goal.returns-in-None
 returns-in-None c =

@@ -4,7 +4,7 @@ use Rattle.std.proofs.lemmas.List.Elements.{Contains-get_or}
 use Rattle.wc_resolve.specs.Views.{type_view}
 use Rattle.wc_resolve.specs.World.{kind_at}
 use Rattle.wc_resolve.specs.Contents.{text_flag, text_rule}
-use Rattle.wc_resolve.proofs.ContentLemmas.{texts_start, texts_turn, texts_end}
+use Rattle.wc_resolve.proofs.ContentLemmas.{texts_start, texts_step, texts_end}
 use Rattle.wc_resolve.proofs.contents.find_texts.Goals as goal
 
 pub loop-index-init : goal.loop-index-init
@@ -26,7 +26,7 @@ loop-index-preserved c =
     let bound : get_or c.args.order.now c.loop-index.index-index 0 < length (map type_view c.args.types.now) = c.requires.within (get_or c.args.order.now c.loop-index.index-index 0) (Contains-get_or c.args.order.now c.loop-index.index-index 0 c.loop-index-test.true) in
     let made : c.has_text_at.result ≡ text_rule c.args.lists (text_flag c.loop-index.flags.items) (get_or c.args.order.now c.loop-index.index-index 0) (kind_at (map type_view c.args.types.now) (get_or c.args.order.now c.loop-index.index-index 0)) =
     c.has_text_at.ensures ∙ ap (λ m. text_rule c.args.lists (text_flag m) (get_or c.args.order.now c.loop-index.index-index 0) (kind_at (map type_view c.args.types.now) (get_or c.args.order.now c.loop-index.index-index 0))) c.deref.ensures.value in
-    texts_turn c.args.lists (map type_view c.args.types.now) c.args.order.now c.loop-index.flags.items c.loop-index.index-index (get_or c.args.order.now c.loop-index.index-index 0) c.has_text_at.result
+    texts_step c.args.lists (map type_view c.args.types.now) c.args.order.now c.loop-index.flags.items c.loop-index.index-index (get_or c.args.order.now c.loop-index.index-index 0) c.has_text_at.result
     c.requires c.loop-index-test.true refl bound made c.loop-index.invariant
 
 pub returns : goal.returns

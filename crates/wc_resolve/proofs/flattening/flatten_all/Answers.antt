@@ -6,7 +6,7 @@ use Rattle.wc_resolve.specs.declared.flat.WasmType.{WasmType}
 use Rattle.wc_resolve.specs.Flat.{flat_entry, flat_rule, flat_types_kept, lists}
 use Rattle.wc_resolve.specs.Views.{type_view}
 use Rattle.wc_resolve.specs.World.{kind_at}
-use Rattle.wc_resolve.proofs.FlatTableLemmas.{FlatsOf, flats_start, flats_turn, flats_end, lists-set}
+use Rattle.wc_resolve.proofs.FlatTableLemmas.{FlatsOf, flats_start, flats_step, flats_end, lists-set}
 use Rattle.wc_resolve.proofs.flattening.flatten_all.Goals as goal
 
 pub loop-index-init : goal.loop-index-init
@@ -30,7 +30,7 @@ loop-index-preserved c =
     c.in_ok-flat.ensures ∙ ap (λ z. take flat_types_kept (flat_rule (flat_entry (lists z)) (get_or c.args.order.now c.loop-index.index-index 0) (kind_at (map type_view c.args.types.now) (get_or c.args.order.now c.loop-index.index-index 0)))) c.deref.ensures.value in
     subst (λ (z : List (List WasmType)). FlatsOf (map type_view c.args.types.now) z (take (c.loop-index.index-index + 1) c.args.order.now))
     (sym (lists-set c.loop-index.flats.items (get_or c.args.order.now c.loop-index.index-index 0) c.in_ok-flat.flat))
-    (flats_turn (map type_view c.args.types.now) c.args.order.now (lists c.loop-index.flats.items) c.loop-index.index-index (get_or c.args.order.now c.loop-index.index-index 0) c.in_ok-flat.flat.items
+    (flats_step (map type_view c.args.types.now) c.args.order.now (lists c.loop-index.flats.items) c.loop-index.index-index (get_or c.args.order.now c.loop-index.index-index 0) c.in_ok-flat.flat.items
     c.requires c.loop-index-test.true refl bound made c.loop-index.invariant)
 
 pub returns : goal.returns

@@ -4,7 +4,7 @@ use Rattle.std.proofs.lemmas.List.Elements.{Contains-get_or}
 use Rattle.wc_resolve.specs.declared.futures.FuturesEntry.{FuturesEntry}
 use Rattle.wc_resolve.specs.Futures.{EntryView, IsEntryFor, entry_view}
 use Rattle.wc_resolve.specs.Views.{type_view}
-use Rattle.wc_resolve.proofs.FuturesEntryLemmas.{EntriesOf, entries_start, entries_turn, entries_end, entries-set}
+use Rattle.wc_resolve.proofs.FuturesEntryLemmas.{EntriesOf, entries_start, entries_step, entries_end, entries-set}
 use Rattle.wc_resolve.proofs.futures.futures_entries.Goals as goal
 
 pub loop-index-init : goal.loop-index-init
@@ -28,7 +28,7 @@ loop-index-preserved c =
     subst (λ (z : List FuturesEntry). IsEntryFor (map entry_view z) (map type_view c.args.types.now) (get_or c.args.order.now c.loop-index.index-index 0) (entry_view c.in_ok-entry.entry)) c.deref.ensures.value c.in_ok-entry.ensures in
     subst (λ (z : List EntryView). EntriesOf (map type_view c.args.types.now) z (take (c.loop-index.index-index + 1) c.args.order.now))
     (sym (entries-set c.loop-index.entries.items (get_or c.args.order.now c.loop-index.index-index 0) c.in_ok-entry.entry))
-    (entries_turn (map type_view c.args.types.now) c.args.order.now (map entry_view c.loop-index.entries.items) c.loop-index.index-index (get_or c.args.order.now c.loop-index.index-index 0) (entry_view c.in_ok-entry.entry)
+    (entries_step (map type_view c.args.types.now) c.args.order.now (map entry_view c.loop-index.entries.items) c.loop-index.index-index (get_or c.args.order.now c.loop-index.index-index 0) (entry_view c.in_ok-entry.entry)
     c.requires c.loop-index-test.true refl bound made c.loop-index.invariant)
 
 pub returns : goal.returns

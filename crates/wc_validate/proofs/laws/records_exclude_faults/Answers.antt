@@ -4,4 +4,6 @@ use Rattle.wc_validate.proofs.ExclusionLemmas.{records_exclude}
 use Rattle.wc_validate.proofs.laws.records_exclude_faults.Goals as goal
 
 pub returns : goal.returns
-returns c = records_exclude c.args.encoder.now (subst MeaningsUnique c.metadata-metadata.ensures.resolve c.meanings_unique.ensures) c.exports_unique.ensures c.modules_unique.ensures
+returns c =
+    records_exclude c.args.encoder.now (subst MeaningsUnique c.metadata-metadata.ensures.resolve c.meanings_unique.ensures)
+    c.exports_unique.ensures c.modules_unique.ensures

@@ -1,8 +1,8 @@
 use Rattle.std.proofs.Common.{List, map}
 use Rattle.wc_resolve.specs.Views.{key_view, world_entry}
 use Rattle.wc_names.specs.Exports.{CoreExport}
-use Rattle.wc_validate.specs.ExportMaps.{ExportRecord}
-use Rattle.wc_validate.specs.ExportedFunctions.{AreNamesOf}
+use Rattle.wc_validate.specs.Exports.Map.{ExportRecord}
+use Rattle.wc_validate.specs.Private.ExportedFunctions.{AreNamesOf}
 use Rattle.wc_validate.specs.Requirements.{key_requirements}
 use Rattle.wc_validate.proofs.RequirementLemmas.{NeedsLeft}
 use Rattle.wc_validate.proofs.requirements.check_keys.Given as goal
@@ -10,4 +10,5 @@ use Rattle.wc_validate.proofs.requirements.check_keys.Given as goal
 abbrev pub invariant-loop-key : goal.invariant-loop-key
 invariant-loop-key l =
     (xs : List CoreExport) (recorded : ExportRecord) → AreNamesOf l.functions.keys recorded
-    → NeedsLeft l.resolve xs recorded (key_requirements (map world_entry l.exports.entries) (map key_view l.keys.keys)) (key_requirements (map world_entry l.exports.entries) (map key_view l.key-iterator))
+    → NeedsLeft l.resolve xs recorded (key_requirements (map world_entry l.exports.entries) (map key_view l.keys.keys))
+    (key_requirements (map world_entry l.exports.entries) (map key_view l.key-iterator))

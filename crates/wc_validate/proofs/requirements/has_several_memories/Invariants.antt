@@ -1,5 +1,5 @@
 use Rattle.std.proofs.Common.{map}
-use Rattle.wc_validate.specs.ExportMaps.{export_entry}
+use Rattle.wc_validate.specs.Exports.Map.{export_entry}
 use Rattle.wc_validate.proofs.RequirementLemmas.{MemoriesLeft}
 use Rattle.wc_validate.proofs.requirements.has_several_memories.Given as goal
 

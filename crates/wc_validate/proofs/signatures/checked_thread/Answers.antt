@@ -4,7 +4,7 @@ use Rattle.wc_validate.proofs.SignatureLemmas.{same_some, same_type}
 use Rattle.wc_validate.proofs.signatures.checked_thread.Goals as goal
 
 pub returns-then-has_thread_type : goal.returns-then-has_thread_type
-returns-then-has_thread_type c = λ wanted is. (refl, same_type (sym (c.has_thread_type.ensures.0 c.if-has_thread_type.true) ∙ is))
+returns-then-has_thread_type c = λ required_type is. (refl, same_type (sym (c.has_thread_type.ensures.0 c.if-has_thread_type.true) ∙ is))
 
 pub returns-else-has_thread_type : goal.returns-else-has_thread_type
-returns-else-has_thread_type c = λ wanted is. (refl, λ e. not_so _ _ c.has_thread_type.ensures c.if-has_thread_type.false (is ∙ same_some (sym e)))
+returns-else-has_thread_type c = λ required_type is. (refl, λ e. not_so _ _ c.has_thread_type.ensures c.if-has_thread_type.false (is ∙ same_some (sym e)))

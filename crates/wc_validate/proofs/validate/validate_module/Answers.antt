@@ -1,4 +1,9 @@
+use Rattle.std.proofs.Common.{OnOk, option_copied, subst}
+use Rattle.wc_validate.specs.Private.ValidationInputs.{main_input_requiring}
+use Rattle.wc_validate.specs.Validated.{HasNoCause}
 use Rattle.wc_validate.proofs.validate.validate_module.Goals as goal
 
 pub returns-clause-no_cause : goal.returns-clause-no_cause
-returns-clause-no_cause c = rw c.main_module_exports-keys.ensures at rw c.new-required.ensures.empty at c.validate_bytes.ensures.no_cause
+returns-clause-no_cause c =
+    subst (λ z. OnOk c.validate_main.result (HasNoCause (main_input_requiring c.args.encoder.now (option_copied c.args.import_map) z) c.args.bytes.now))
+    c.new-functions.ensures.empty c.validate_main.ensures.no_cause

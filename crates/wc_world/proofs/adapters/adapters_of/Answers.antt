@@ -1,9 +1,9 @@
 use Rattle.std.proofs.Common.{◌≡◌, ◌++◌, ◌∷◌, ◌⊎◌, [], All, map, subst, sym}
-use Rattle.wc_encoder.specs.Adapters.{adapter_view as given_view}
+use Rattle.wc_encoder.specs.Adapters.{adapter_view as input_view}
 use Rattle.wc_validate.specs.Validated.{module_record}
 use Rattle.wc_world.specs.Adapters.{HasOtherName}
 use Rattle.wc_world.specs.Causes.{IsFirstStop}
-use Rattle.wc_world.specs.World.{AreMade}
+use Rattle.wc_world.specs.World.{AreAdaptersAmong}
 use Rattle.wc_world.specs.WorldViews.{adapter_entry}
 use Rattle.wc_world.specs.declared.fault.WorldFault.{WorldFault}
 use Rattle.wc_world.specs.declared.fault.WorldFault.TheVariants.{Memory}
@@ -14,7 +14,7 @@ use Rattle.wc_world.proofs.adapters.adapters_of.Goals as goal
 pub loop-name-preserved : goal.loop-name-preserved
 loop-name-preserved c =
     walk_next c.args.encoder.now (module_record c.args.main.now) c.loop-name.name-iterator c.next.new.self (c.in-Some.name.now, c.in-Some.adapter.now) (map adapter_entry c.loop-name.found.entries) (map adapter_entry c.add_adapter.new.found.entries) c.in-Some.ensures.steps
-    (λ passed others h. subst (λ n. AreMade c.args.encoder.now (module_record c.args.main.now) (passed ++ (n, given_view c.in-Some.adapter.now) ∷ []) (map adapter_entry c.add_adapter.new.found.entries)) c.deref.ensures (c.in_ok-add_adapter.ensures.made passed (subst (λ n. All (HasOtherName n) passed) (sym c.deref.ensures) others) h))
+    (λ passed others h. subst (λ n. AreAdaptersAmong c.args.encoder.now (module_record c.args.main.now) (passed ++ (n, input_view c.in-Some.adapter.now) ∷ []) (map adapter_entry c.add_adapter.new.found.entries)) c.deref.ensures (c.in_ok-add_adapter.ensures.is_adapter passed (subst (λ n. All (HasOtherName n) passed) (sym c.deref.ensures) others) h))
     c.loop-name.invariant
 
 pub returns-in_err-add_adapter-clause-fault : goal.returns-in_err-add_adapter-clause-fault

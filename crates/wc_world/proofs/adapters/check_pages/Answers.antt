@@ -5,5 +5,5 @@ use Rattle.wc_world.proofs.adapters.check_pages.Goals as goal
 
 pub returns-clause-fault : goal.returns-clause-fault
 returns-clause-fault c =
-    page_fault c.args.given.now (module_record c.args.info.now) c.in_ok-from_str.field-0 c.in-Some.memory c.page_size-own.result c.main_page_size-main.result c.in_ok-from_str.ensures.ok (sym c.imported_memory.ensures ∙ c.in-Some.is) c.page_size-own.ensures
+    page_fault c.args.input.now (module_record c.args.info.now) c.in_ok-from_str.field-0 c.in-Some.memory c.page_size-own.result c.main_page_size-main.result c.in_ok-from_str.ensures.ok (sym c.imported_memory.ensures ∙ c.in-Some.is) c.page_size-own.ensures
     c.main_page_size-main.ensures c.if-own-main.false

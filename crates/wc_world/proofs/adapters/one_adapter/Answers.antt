@@ -1,15 +1,15 @@
 use Rattle.std.proofs.Common.{refl}
-use Rattle.wc_world.specs.Given.{IsGivenFault}
+use Rattle.wc_world.specs.Private.AdapterInput.{IsInputFault}
 use Rattle.wc_world.specs.WorldViews.{adapter_view}
 use Rattle.wc_world.proofs.FaultLemmas.{passed_on}
 use Rattle.wc_world.proofs.adapters.one_adapter.Goals as goal
 
 pub returns-in_err-adapter-clause-fault : goal.returns-in_err-adapter-clause-fault
-returns-in_err-adapter-clause-fault c = passed_on (IsGivenFault c.args.given.now) c.from_residual.result _ c.from_residual.ensures.1 c.in_err-adapter.ensures.fault
+returns-in_err-adapter-clause-fault c = passed_on (IsInputFault c.args.input.now) c.from_residual.result _ c.from_residual.ensures.1 c.in_err-adapter.ensures.fault
 
 pub returns-in_err-check_pages-clause-fault : goal.returns-in_err-check_pages-clause-fault
 returns-in_err-check_pages-clause-fault c =
-    passed_on (IsGivenFault c.args.given.now) c.from_residual-in_err-check_pages.result _ c.from_residual-in_err-check_pages.ensures.1 (c.in_err-check_pages.ensures.fault (adapter_view c.in_ok-adapter.adapter) refl c.in_ok-adapter.ensures.made)
+    passed_on (IsInputFault c.args.input.now) c.from_residual-in_err-check_pages.result _ c.from_residual-in_err-check_pages.ensures.1 (c.in_err-check_pages.ensures.fault (adapter_view c.in_ok-adapter.adapter) refl c.in_ok-adapter.ensures.is_adapter)
 
-pub returns-clause-made : goal.returns-clause-made
-returns-clause-made c = record { named = refl; library = c.in_ok-adapter.ensures.library; made = c.in_ok-adapter.ensures.made; paged = c.in_ok-check_pages.ensures.paged }
+pub returns-clause-is_adapter : goal.returns-clause-is_adapter
+returns-clause-is_adapter c = record { named = refl; library = c.in_ok-adapter.ensures.library; is_adapter = c.in_ok-adapter.ensures.is_adapter; paged = c.in_ok-check_pages.ensures.paged }

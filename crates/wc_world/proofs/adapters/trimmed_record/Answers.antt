@@ -2,12 +2,12 @@ use Rattle.std.proofs.Common.{None, ap, refl, sym}
 use Rattle.std.specs.Option.{option_map}
 use Rattle.wc_encoder.specs.Adapters.{library_view}
 use Rattle.wc_validate.specs.Validated.{module_record}
-use Rattle.wc_world.proofs.FaultLemmas.{minimized_refused, recorded_given}
+use Rattle.wc_world.proofs.FaultLemmas.{minimized_refused, recorded_input}
 use Rattle.wc_world.proofs.adapters.trimmed_record.Goals as goal
 
 pub returns-in-Ok-clause-recorded : goal.returns-in-Ok-clause-recorded
-returns-in-Ok-clause-recorded c = recorded_given c.args.given.now c.requires.needed None (sym (ap (option_map library_view) c.requires.trims)) c.args.bytes.now c.args.bytes.now (module_record c.in-Ok.record) refl c.in-Ok.ensures.recorded
+returns-in-Ok-clause-recorded c = recorded_input c.args.input.now c.requires.needed None (sym (ap (option_map library_view) c.requires.trims)) c.args.bytes.now c.args.bytes.now (module_record c.in-Ok.record) refl c.in-Ok.ensures.recorded
 
 pub returns-in-Err-clause-fault : goal.returns-in-Err-clause-fault
 returns-in-Err-clause-fault c = λ first trim.
-    minimized_refused c.args.given.now c.requires.needed None (sym (ap (option_map library_view) c.requires.trims)) c.args.bytes.now c.in-Err.fault c.minimized_fault.result first c.trimmed_is_restricted.ensures.collides trim c.in-Err.ensures.fault c.minimized_fault.ensures
+    minimized_refused c.args.input.now c.requires.needed None (sym (ap (option_map library_view) c.requires.trims)) c.args.bytes.now c.in-Err.fault c.minimized_fault.result first c.trimmed_is_restricted.ensures.collides trim c.in-Err.ensures.fault c.minimized_fault.ensures

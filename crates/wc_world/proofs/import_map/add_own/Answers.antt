@@ -1,14 +1,15 @@
 use Rattle.std.proofs.Common.{◌≡◌, ◌++◌, ◌∷◌, [], None, map, subst, sym}
 use Rattle.std.specs.Result.{OnOk}
 use Rattle.wc_resolve.specs.Views.{world_entry}
-use Rattle.wc_world.specs.Lowered.{AreEntriesDistinct, ImportEntry, Lowerer, lowerer_of, own_entry}
+use Rattle.wc_world.specs.Lowered.{AreEntriesDistinct, ImportEntry, Lowerer, own_entry}
 use Rattle.wc_world.specs.WorldViews.{imported_entry, imported_view}
+use Rattle.wc_world.specs.Private.LoweringContext.{lowerer_in}
 use Rattle.wc_world.proofs.ImportEntryLemmas.{own_is}
 use Rattle.wc_world.proofs.import_map.add_own.Goals as goal
 
 pub returns : goal.returns
 returns g c = λ imports a keys distinct.
-    let l : Lowerer = lowerer_of c.args.context.now.resolve.now (g.O.ImportOptions.options_of c.args.context.now.options.now) c.args.context.now.has_memory imports in
+    let l : Lowerer = lowerer_in g.O.ImportOptions.options_of c.args.context.now imports in
     let same : own_entry l (map world_entry c.args.items.now.entries) ≡ (None, imported_view c.in_ok-imported.imported) =
     own_is l (map world_entry c.args.items.now.entries) (imported_view c.in_ok-imported.imported) (c.in_ok-imported.ensures.lowerings imports a keys) c.in_ok-imported.ensures.interface
     c.in_ok-imported.ensures.implements c.in_ok-imported.ensures.external in

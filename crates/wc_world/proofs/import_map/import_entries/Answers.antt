@@ -1,9 +1,10 @@
 use Rattle.std.proofs.Common.{ap, map, subst, sym}
 use Rattle.wc_resolve.specs.Views.{item_view, key_view, world_entry}
 use Rattle.wc_encoder.specs.Entries.{Entries}
-use Rattle.wc_world.specs.Lowered.{IsImportable, Lowerer, lowerer_of}
+use Rattle.wc_world.specs.Lowered.{IsImportable, Lowerer}
 use Rattle.wc_world.specs.Views.{ImportMapView}
 use Rattle.wc_world.specs.WorldViews.{imported_entry}
+use Rattle.wc_world.specs.Private.LoweringContext.{lowerer_in}
 use Rattle.wc_world.proofs.ImportEntryLemmas.{AreAll, add_interface, add_nothing, add_own}
 use Rattle.wc_world.proofs.LoweringLemmas.{all_rest}
 use Rattle.wc_world.proofs.import_map.import_entries.Goals as goal
@@ -12,7 +13,7 @@ pub loop-key-preserved-in-Continue-1 : goal.loop-key-preserved-in-Continue-1
 loop-key-preserved-in-Continue-1 g c = (
   all_rest (λ e. IsImportable c.args.context.now.resolve.now (world_entry e)) c.loop-key.key-iterator c.next.new.self (c.in-Some.key.now, c.in-Some.item.now) c.in-Some.ensures.steps c.loop-key.invariant.0,
   λ imports a keys distinct.
-      add_interface (lowerer_of c.args.context.now.resolve.now (g.O.ImportOptions.options_of c.args.context.now.options.now) c.args.context.now.has_memory imports) (map world_entry c.args.items.now.entries) distinct
+      add_interface (lowerer_in g.O.ImportOptions.options_of c.args.context.now imports) (map world_entry c.args.items.now.entries) distinct
       (map imported_entry c.loop-key.entries.entries) (map world_entry c.loop-key.key-iterator) (map world_entry c.next.new.self) (key_view c.in-Some.key.now) (item_view c.in-Some.item.now) (ap (map world_entry) c.in-Some.ensures.steps)
       c.loop-key.has_own c.in-Some-interface_of.id.0 (map imported_entry c.add_interface.new.entries.entries) (sym c.in-Some-interface_of.ensures) (c.in_ok-add_interface.ensures imports a) (c.loop-key.invariant.1 imports a keys distinct),
 )
@@ -21,7 +22,7 @@ pub loop-key-preserved-then-not-has_own : goal.loop-key-preserved-then-not-has_o
 loop-key-preserved-then-not-has_own g c = (
   all_rest (λ e. IsImportable c.args.context.now.resolve.now (world_entry e)) c.loop-key.key-iterator c.next.new.self (c.in-Some.key.now, c.in-Some.item.now) c.in-Some.ensures.steps c.loop-key.invariant.0,
   λ imports a keys distinct.
-      let l : Lowerer = lowerer_of c.args.context.now.resolve.now (g.O.ImportOptions.options_of c.args.context.now.options.now) c.args.context.now.has_memory imports in
+      let l : Lowerer = lowerer_in g.O.ImportOptions.options_of c.args.context.now imports in
       let all : Entries = map world_entry c.args.items.now.entries in
       let found : ImportMapView = map imported_entry c.loop-key.entries.entries in
       add_own l all distinct found (map world_entry c.loop-key.key-iterator) (map world_entry c.next.new.self) (key_view c.in-Some.key.now) (item_view c.in-Some.item.now) (ap (map world_entry) c.in-Some.ensures.steps)
@@ -33,7 +34,7 @@ pub loop-key-preserved : goal.loop-key-preserved
 loop-key-preserved g c = (
   all_rest (λ e. IsImportable c.args.context.now.resolve.now (world_entry e)) c.loop-key.key-iterator c.next.new.self (c.in-Some.key.now, c.in-Some.item.now) c.in-Some.ensures.steps c.loop-key.invariant.0,
   λ imports a keys distinct.
-      let l : Lowerer = lowerer_of c.args.context.now.resolve.now (g.O.ImportOptions.options_of c.args.context.now.options.now) c.args.context.now.has_memory imports in
+      let l : Lowerer = lowerer_in g.O.ImportOptions.options_of c.args.context.now imports in
       let all : Entries = map world_entry c.args.items.now.entries in
       let found : ImportMapView = map imported_entry c.loop-key.entries.entries in
       subst (λ b. AreAll l all found b (map world_entry c.next.new.self)) (sym c.if-not-has_own.false)

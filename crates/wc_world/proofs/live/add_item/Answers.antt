@@ -4,7 +4,7 @@ use Rattle.wc_resolve.specs.Live.{AddsListings}
 use Rattle.wc_resolve.specs.Ranges.{IsItemIn}
 use Rattle.wc_resolve.specs.Roots.{item_roots}
 use Rattle.wc_resolve.specs.Views.{ItemView, item_view}
-use Rattle.wc_names.proofs.ResolveLemmas.{item_viewed}
+use Rattle.wc_names.proofs.KeyLemmas.{item_viewed}
 use Rattle.wc_world.proofs.live.add_item.Goals as goal
 
 pub add_world_item-requires : goal.add_world_item-requires

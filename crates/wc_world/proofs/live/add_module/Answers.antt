@@ -4,8 +4,8 @@ use Rattle.wc_resolve.specs.Live.{AddsListings}
 use Rattle.wc_resolve.specs.Views.{world_view}
 use Rattle.wc_names.specs.Laws.{IsImportIn}
 use Rattle.wc_names.specs.Views.{ImportView, import_view}
-use Rattle.wc_validate.specs.ImportMaps.{imports_in}
-use Rattle.wc_validate.specs.SingleImports.{imports_left}
+use Rattle.wc_validate.specs.Imports.Map.{imports_in}
+use Rattle.wc_validate.specs.Imports.Iter.{imports_left}
 use Rattle.wc_world.specs.Live.{import_roots, imported_types}
 use Rattle.wc_world.proofs.LiveWalkLemmas.{live_end, live_has, live_next, live_start}
 use Rattle.wc_world.proofs.live.add_module.Goals as goal

@@ -1,8 +1,8 @@
 use Rattle.std.proofs.Common.{List, ℕ}
 use Rattle.wc_resolve.specs.Views.{world_view}
 use Rattle.wc_names.specs.Views.{ImportView}
-use Rattle.wc_validate.specs.ImportMaps.{imports_in}
-use Rattle.wc_validate.specs.SingleImports.{imports_left}
+use Rattle.wc_validate.specs.Imports.Map.{imports_in}
+use Rattle.wc_validate.specs.Imports.Iter.{imports_left}
 use Rattle.wc_world.specs.Live.{import_roots, imported_types}
 use Rattle.wc_world.proofs.LiveWalkLemmas.{LiveWalk}
 use Rattle.wc_world.proofs.live.add_module.Given as goal

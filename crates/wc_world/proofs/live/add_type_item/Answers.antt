@@ -2,7 +2,7 @@ use Rattle.std.proofs.Common.{OnOk, sym, subst}
 use Rattle.std.specs.Option.{option_to_list}
 use Rattle.wc_resolve.specs.Live.{AddsListings}
 use Rattle.wc_resolve.specs.Views.{item_view}
-use Rattle.wc_names.specs.Lookups.{as_type}
+use Rattle.wc_names.specs.Keys.{as_type}
 use Rattle.wc_world.proofs.live.add_type_item.Goals as goal
 
 pub returns-in-TypeItem : goal.returns-in-TypeItem

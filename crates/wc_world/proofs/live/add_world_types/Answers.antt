@@ -3,7 +3,7 @@ use Rattle.std.specs.Option.{option_to_list}
 use Rattle.wc_resolve.specs.Live.{AddsListings}
 use Rattle.wc_resolve.specs.Ranges.{IsItemIn}
 use Rattle.wc_resolve.specs.Views.{ItemView, KeyView, world_entry}
-use Rattle.wc_names.specs.Lookups.{as_type}
+use Rattle.wc_names.specs.Keys.{as_type}
 use Rattle.wc_world.proofs.LiveWalkLemmas.{adds_none, each_listed, live_end, live_has, live_next, live_start}
 use Rattle.wc_world.proofs.live.add_world_types.Goals as goal
 

@@ -1,7 +1,7 @@
 use Rattle.std.proofs.Common.{[], map}
 use Rattle.std.specs.Option.{option_to_list}
 use Rattle.wc_resolve.specs.Views.{ItemView, KeyView, world_entry}
-use Rattle.wc_names.specs.Lookups.{as_type}
+use Rattle.wc_names.specs.Keys.{as_type}
 use Rattle.wc_world.proofs.LiveWalkLemmas.{LiveWalk}
 use Rattle.wc_world.proofs.live.add_world_types.Given as goal
 

@@ -5,8 +5,9 @@ use Rattle.wc_resolve.specs.Views.{FunctionView, function_entry, interface_view,
 use Rattle.wc_resolve.specs.WellFormed.{IsUsable}
 use Rattle.wc_resolve.proofs.ViewedLemmas.{all_unviewed}
 use Rattle.wc_resolve.proofs.WellFormedLemmas.{interface_functions_usable, interface_types_in}
-use Rattle.wc_world.specs.Lowered.{Lowerer, function_lowerings, interface_lowerings, lowerer_of, type_lowerings}
+use Rattle.wc_world.specs.Lowered.{Lowerer, function_lowerings, interface_lowerings, type_lowerings}
 use Rattle.wc_world.specs.WorldViews.{lowering_entry}
+use Rattle.wc_world.specs.Private.LoweringContext.{lowerer_in}
 use Rattle.wc_world.proofs.UsedLemmas.{on_ok}
 use Rattle.wc_world.proofs.lowering.push_interface.Goals as goal
 
@@ -22,7 +23,7 @@ push_functions-requires g c =
 
 pub returns : goal.returns
 returns g c = λ imports a.
-    let l : Lowerer = lowerer_of c.args.context.now.resolve.now (g.O.ImportOptions.options_of c.args.context.now.options.now) c.args.context.now.has_memory imports in
+    let l : Lowerer = lowerer_in g.O.ImportOptions.options_of c.args.context.now imports in
     on_ok c.push_functions.result (c.push_functions.ensures imports a) (λ h.
     h ∙ (ap (λ z. z ++ flat_map (λ e. function_lowerings l (Some c.args.id.0) e.1) (map function_entry c.interface-interface.result.now.functions.entries)) (c.in_ok-push_types.ensures imports a)
     ∙ (append_assoc (map lowering_entry c.args.lowerings.now.items) (flat_map (λ e. type_lowerings l e.1) (map type_entry c.interface-interface.result.now.types.entries))

@@ -1,6 +1,6 @@
 use Rattle.wc_names.specs.Views.{import_view}
-use Rattle.wc_validate.specs.ImportMaps.{imports_in}
-use Rattle.wc_validate.specs.SingleImports.{imports_left}
+use Rattle.wc_validate.specs.Imports.Map.{imports_in}
+use Rattle.wc_validate.specs.Imports.Iter.{imports_left}
 use Rattle.wc_world.proofs.RequiredLemmas.{imports_end, imports_next}
 use Rattle.wc_world.proofs.required.add_module.Goals as goal
 

@@ -1,8 +1,8 @@
 use Rattle.std.proofs.Common.{List}
 use Rattle.wc_names.specs.Views.{ImportView}
-use Rattle.wc_validate.specs.ImportMaps.{imports_in}
-use Rattle.wc_validate.specs.SingleImports.{imports_left}
-use Rattle.wc_world.specs.Required.{AreRequired}
+use Rattle.wc_validate.specs.Imports.Map.{imports_in}
+use Rattle.wc_validate.specs.Imports.Iter.{imports_left}
+use Rattle.wc_world.specs.Private.Required.{AreRequired}
 use Rattle.wc_world.proofs.RequiredLemmas.{ImportWalk}
 use Rattle.wc_world.proofs.required.add_module.Given as goal
 

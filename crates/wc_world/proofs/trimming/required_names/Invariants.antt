@@ -1,8 +1,8 @@
 use Rattle.std.proofs.Common.{[], List, map, ℕ}
 use Rattle.wc_read.specs.Types.{FuncTypeValue}
 use Rattle.wc_names.specs.ExportViews.{ExportView}
-use Rattle.wc_validate.specs.ImportMaps.{required_entry}
-use Rattle.wc_validate.specs.SingleExports.{exports_left}
+use Rattle.wc_validate.specs.Imports.Map.{required_entry}
+use Rattle.wc_validate.specs.Exports.Iter.{exports_left}
 use Rattle.wc_world.proofs.NameLemmas.{NameWalk}
 use Rattle.wc_world.proofs.trimming.required_names.Given as goal
 

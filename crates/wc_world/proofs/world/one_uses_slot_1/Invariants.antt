@@ -1,8 +1,8 @@
 use Rattle.std.proofs.Common.{◌≡◌, ℕ, List}
 use Rattle.std.specs.List.{list_any}
 use Rattle.wc_names.specs.Views.{ImportView}
-use Rattle.wc_validate.specs.ImportMaps.{imports_in}
-use Rattle.wc_validate.specs.SingleImports.{imports_left}
+use Rattle.wc_validate.specs.Imports.Map.{imports_in}
+use Rattle.wc_validate.specs.Imports.Iter.{imports_left}
 use Rattle.wc_world.specs.Slots.{uses_slot_1}
 use Rattle.wc_world.proofs.world.one_uses_slot_1.Given as goal
 

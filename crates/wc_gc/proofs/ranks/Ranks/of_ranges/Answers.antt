@@ -2,7 +2,7 @@ use Rattle.std.proofs.Common.{◌≡◌, ◌<◌, ◌+◌, ◌-◌, ℕ, List, l
 use Rattle.wc_gc.specs.Ranges.{in_ranges}
 use Rattle.wc_gc.specs.Counts.{count_below}
 use Rattle.wc_gc.proofs.RangeRankLemmas.{none_first, first_rank, total_more, each_more, IsTotal}
-use Rattle.wc_gc.proofs.RankLemmas.{few_below}
+use Rattle.wc_gc.proofs.RankLemmas.{bounded_below}
 use Rattle.wc_gc.proofs.ranks.Ranks.of_ranges.Goals as goal
 
 pub loop-range-init : goal.loop-range-init
@@ -16,21 +16,21 @@ pub overflow_cast-total : goal.overflow_cast-total
 overflow_cast-total c =
     let v = c.loop-range.invariant in
     let first = first_rank c.args.ranges.now c.requires c.loop-range.range-index c.loop-range.total (0, 0) c.loop-range-test.true v.counted in
-    let few = few_below (in_ranges c.args.ranges.now) (get_or c.args.ranges.now c.loop-range.range-index (0, 0)).0 in
+    let bounded = bounded_below (in_ranges c.args.ranges.now) (get_or c.args.ranges.now c.loop-range.range-index (0, 0)).0 in
     let small = c.first_of-first.type_inv in
     let is = c.first_of-first.ensures in
-    omega (arith, first, few, small, is)
+    omega (arith, first, bounded, small, is)
 
 pub overflow_add-total-in-loop-range : goal.overflow_add-total-in-loop-range
 overflow_add-total-in-loop-range c =
     let v = c.loop-range.invariant in
     let first = first_rank c.args.ranges.now c.requires c.loop-range.range-index c.loop-range.total (0, 0) c.loop-range-test.true v.counted in
-    let few = few_below (in_ranges c.args.ranges.now) (get_or c.args.ranges.now c.loop-range.range-index (0, 0)).0 in
+    let bounded = bounded_below (in_ranges c.args.ranges.now) (get_or c.args.ranges.now c.loop-range.range-index (0, 0)).0 in
     let small = c.first_of-first.type_inv in
     let is = c.first_of-first.ensures in
     let large = c.last_of.type_inv in
     let from = c.from.ensures in
-    omega (arith, first, few, small, is, large, from)
+    omega (arith, first, bounded, small, is, large, from)
 
 pub loop-range-preserved : goal.loop-range-preserved
 loop-range-preserved c =

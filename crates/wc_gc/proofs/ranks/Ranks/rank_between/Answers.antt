@@ -1,7 +1,7 @@
 use Rattle.std.proofs.Common.{arith, ◌∙◌}
 use Rattle.wc_gc.specs.Ranges.{in_ranges}
 use Rattle.wc_gc.proofs.RangeRankLemmas.{read_rank, total_rank}
-use Rattle.wc_gc.proofs.RankLemmas.{few_below}
+use Rattle.wc_gc.proofs.RankLemmas.{bounded_below}
 use Rattle.wc_gc.proofs.ranks.Ranks.rank_between.Goals as goal
 
 pub returns-in-Some : goal.returns-in-Some
@@ -15,8 +15,8 @@ overflow_cast-result c =
     let past = rw c.deref.ensures.value at c.in-None.ensures.lookup.3 in
     let s = c.args.self.now in
     let is = total_rank s.ranges.items s.total c.args.index c.args.x s.whole (omega (arith, past, s.long)) c.requires.before in
-    let few = few_below (in_ranges s.ranges.items) c.args.x in
-    omega (arith, few, is)
+    let bounded = bounded_below (in_ranges s.ranges.items) c.args.x in
+    omega (arith, bounded, is)
 
 pub returns-in-None : goal.returns-in-None
 returns-in-None c =

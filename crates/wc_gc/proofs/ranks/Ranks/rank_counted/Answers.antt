@@ -2,7 +2,7 @@ use Rattle.std.proofs.Common.{◌<◌, ◌+◌, ◌-◌, ◌/◌, ℕ, length, a
 use Rattle.wc_gc.specs.Ranges.{in_ranges}
 use Rattle.wc_gc.specs.Counts.{count_below}
 use Rattle.wc_gc.proofs.RangeRankLemmas.{probe_less, probe_more, probe_counted, probe_found, found_rank}
-use Rattle.wc_gc.proofs.RankLemmas.{few_below}
+use Rattle.wc_gc.proofs.RankLemmas.{bounded_below}
 use Rattle.wc_gc.proofs.ranks.Ranks.rank_counted.Goals as goal
 
 pub overflow_add-probes : goal.overflow_add-probes
@@ -62,6 +62,6 @@ overflow_add-result c =
     let lt : c.loop-low.low + (c.loop-low.high - c.loop-low.low) / 2 < length s.ranges.items = omega (arith, v.within) in
     let found = probe_found s.ranges.items s.before.items s.long s.each (c.loop-low.low + (c.loop-low.high - c.loop-low.low) / 2) c.args.x c.index.result.now c.index.ensures lt c.if-x-first.false c.if-last-x.false in
     let is = found_rank s.before.items (c.loop-low.low + (c.loop-low.high - c.loop-low.low) / 2) c.index-else-last-x.result.now (c.args.x - c.index.result.now.0) (count_below (in_ranges s.ranges.items) c.args.x) (omega (arith, lt, s.long)) c.index-else-last-x.ensures found in
-    let few = few_below (in_ranges s.ranges.items) c.args.x in
+    let bounded = bounded_below (in_ranges s.ranges.items) c.args.x in
     let x = c.ranges.x.fits in
-    omega (arith, few, is, x)
+    omega (arith, bounded, is, x)

@@ -1,12 +1,12 @@
 use Rattle.std.proofs.Common.{◌-◌, take}
 use Rattle.wc_gc.specs.Decoded.{decoded_module}
-use Rattle.wc_gc.specs.Searches.{Finds, finds}
+use Rattle.wc_gc.specs.Private.Searches.{FindsItems, finds}
 use Rattle.wc_gc.proofs.ReachLemmas.{IsAt}
 use Rattle.wc_gc.proofs.ItemCountLemmas.{total}
 use Rattle.wc_gc.proofs.search.Search.reach_all.Given as goal
 
 abbrev pub invariant-loop-root : goal.invariant-loop-root
-invariant-loop-root g l = Finds g.L.LiveSet.has l.initial.self l.self (take l.root-index l.roots)
+invariant-loop-root g l = FindsItems g.L.LiveSet.has l.initial.self l.self (take l.root-index l.roots)
 
 abbrev pub invariant-loop-next : goal.invariant-loop-next
 invariant-loop-next g l = IsAt (decoded_module l.adapter) l.roots (finds g.L.LiveSet.has l.self) l.self.order.items l.next

@@ -1,7 +1,7 @@
 use Rattle.std.proofs.Common.{ap, refl, Some, None}
 use Rattle.std.proofs.lemmas.Option.{slice_get_read}
 use Rattle.wc_gc.specs.Decoded.{decoded_module}
-use Rattle.wc_gc.specs.Soundness.{is_sound_entry}
+use Rattle.wc_gc.specs.InRange.{is_entry_in_range}
 use Rattle.wc_gc.proofs.ReachLemmas.{type_at, func_at, no_func_at, table_at, global_at, no_global_at, no_item, finds_none}
 use Rattle.wc_gc.proofs.search.Search.reach_from.Goals as goal
 
@@ -20,10 +20,10 @@ returns-in-Some-get-clause-found g c =
     let at = rw c.deref-in-Funcs.ensures.value at (slice_get_read _ _ _ _ refl c.in-Some-get.ensures.lookup.3.0 c.in-Some-get.ensures.lookup.1) in
     rw (func_at c.args.adapter.now c.args.item c.in-Some-get.func.now c.in-Funcs.is at) c.reach_func.ensures.found
 
-pub returns-in-Some-get-clause-sound : goal.returns-in-Some-get-clause-sound
-returns-in-Some-get-clause-sound g c =
+pub returns-in-Some-get-clause-in_range : goal.returns-in-Some-get-clause-in_range
+returns-in-Some-get-clause-in_range g c =
     let at = rw c.deref-in-Funcs.ensures.value at (slice_get_read _ _ _ _ refl c.in-Some-get.ensures.lookup.3.0 c.in-Some-get.ensures.lookup.1) in
-    rw (func_at c.args.adapter.now c.args.item c.in-Some-get.func.now c.in-Funcs.is at) c.reach_func.ensures.sound
+    rw (func_at c.args.adapter.now c.args.item c.in-Some-get.func.now c.in-Funcs.is at) c.reach_func.ensures.in_range
 
 pub returns-in-Some-get-clause-fault : goal.returns-in-Some-get-clause-fault
 returns-in-Some-get-clause-fault g c =
@@ -35,10 +35,10 @@ returns-in-None-get-clause-found g c =
     let past = rw c.deref-in-Funcs.ensures.value at c.in-None-get.ensures.lookup.0 in
     rw (no_func_at c.args.adapter.now c.args.item c.in-Funcs.is (no_item _ _ past)) (finds_none g.L.LiveSet.has c.args.self.now)
 
-pub returns-in-None-get-clause-sound : goal.returns-in-None-get-clause-sound
-returns-in-None-get-clause-sound g c =
+pub returns-in-None-get-clause-in_range : goal.returns-in-None-get-clause-in_range
+returns-in-None-get-clause-in_range g c =
     let past = rw c.deref-in-Funcs.ensures.value at c.in-None-get.ensures.lookup.0 in
-    λ _. ap (is_sound_entry (decoded_module c.args.adapter.now)) (no_func_at c.args.adapter.now c.args.item c.in-Funcs.is (no_item _ _ past))
+    λ _. ap (is_entry_in_range (decoded_module c.args.adapter.now)) (no_func_at c.args.adapter.now c.args.item c.in-Funcs.is (no_item _ _ past))
 
 pub returns-in_ok-reach_table-in-Some-get-2-clause-found : goal.returns-in_ok-reach_table-in-Some-get-2-clause-found
 returns-in_ok-reach_table-in-Some-get-2-clause-found g c =

@@ -1,7 +1,7 @@
 use Rattle.std.proofs.Common.{sym}
 use Rattle.wc_resolve.specs.Views.{world_view}
 use Rattle.wc_names.specs.Contexts.{context_scope}
-use Rattle.wc_names.proofs.ResolveLemmas.{type_in_range}
+use Rattle.wc_names.proofs.KeyLemmas.{type_in_range}
 use Rattle.wc_names.proofs.payloads.PayloadLookupContext.resource.Goals as goal
 
 pub if_resource-requires : goal.if_resource-requires

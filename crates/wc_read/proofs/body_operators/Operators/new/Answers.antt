@@ -4,7 +4,7 @@ use Rattle.wc_read.specs.Decoding.{operators_left}
 use Rattle.wc_read.specs.Reading.Bytes.{vector_at}
 use Rattle.wc_read.specs.Reading.Bodies.{locals_at}
 use Rattle.wc_read.proofs.DecodingLemmas.{body_after_locals, body_with_locals}
-use Rattle.wc_read.proofs.LocalRunsLemmas.{refused_locals, front_runs, keeps_read, keeps_text, keeps_no_types, few_enough, rest_within}
+use Rattle.wc_read.proofs.LocalRunsLemmas.{refused_locals, front_runs, keeps_read, keeps_text, keeps_no_types, small_enough, rest_within}
 use Rattle.wc_read.proofs.body_operators.Operators.new.Goals as goal
 
 pub returns-in_err-is_shortest-clause-refused : goal.returns-in_err-is_shortest-clause-refused
@@ -21,14 +21,14 @@ pub returns-clause-found : goal.returns-clause-found
 unfolding operators_left
 returns-clause-found c =
     let p = rw c.new-reader.ensures at c.in_ok-is_shortest.ensures in
-    rw c.of_body.ensures (sym (body_after_locals _ _ _ p.1 (few_enough _ p.2)))
+    rw c.of_body.ensures (sym (body_after_locals _ _ _ p.1 (small_enough _ p.2)))
 
 pub returns-clause-body : goal.returns-clause-body
 unfolding operators_left
 returns-clause-body c =
     let p = rw c.new-reader.ensures at c.in_ok-is_shortest.ensures in
     let runs = front_runs c.split_at.result.0.now c.args.slice.now c.pass_locals.new.self.rest.now p.0 c.split_at.ensures.front p.1 in
-    rw (c.of_body.ensures, runs) (body_with_locals _ _ _ p.1 (few_enough _ p.2))
+    rw (c.of_body.ensures, runs) (body_with_locals _ _ _ p.1 (small_enough _ p.2))
 
 pub returns-clause-keeps_locals : goal.returns-clause-keeps_locals
 returns-clause-keeps_locals c =

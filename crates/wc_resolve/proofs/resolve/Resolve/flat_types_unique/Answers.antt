@@ -4,7 +4,7 @@ use Rattle.wc_resolve.specs.World.{ResolveView}
 use Rattle.wc_resolve.specs.Tables.{IsOrder}
 use Rattle.wc_resolve.specs.Flat.{flat_rule}
 use Rattle.wc_resolve.proofs.TypeRuleLemmas.{value_by_rule_alone, value_by_rule_follows}
-use Rattle.wc_resolve.proofs.AlikeFlatteningLemmas.{flat_looks_down}
+use Rattle.wc_resolve.proofs.FlatteningAgreementLemmas.{flat_looks_down}
 use Rattle.wc_resolve.proofs.resolve.Resolve.flat_types_unique.Goals as goal
 
 pub returns-clause-made : goal.returns-clause-made

@@ -4,7 +4,7 @@ use Rattle.std.proofs.lemmas.List.Elements.{Contains-get_or}
 use Rattle.wc_resolve.specs.Views.{type_view}
 use Rattle.wc_resolve.specs.World.{kind_at}
 use Rattle.wc_resolve.specs.Resources.{is_resource_kind}
-use Rattle.wc_resolve.proofs.ResourceFlagLemmas.{resource_flags_start, resource_flags_turn, resource_flags_end}
+use Rattle.wc_resolve.proofs.ResourceFlagLemmas.{resource_flags_start, resource_flags_step, resource_flags_end}
 use Rattle.wc_resolve.proofs.validate.resources.find_resources.Goals as goal
 
 pub loop-index-init : goal.loop-index-init
@@ -25,7 +25,7 @@ loop-index-preserved c =
     let bound : get_or c.args.order.now c.loop-index.index-index 0 < length c.args.types.now = c.requires.within (get_or c.args.order.now c.loop-index.index-index 0) (Contains-get_or c.args.order.now c.loop-index.index-index 0 c.loop-index-test.true) in
     let made : c.is_resource.result ≡ is_resource_kind c.loop-index.resource_flags.items (kind_at (map type_view c.args.types.now) (get_or c.args.order.now c.loop-index.index-index 0)) =
     c.is_resource.ensures ∙ ap (λ m. is_resource_kind m (kind_at (map type_view c.args.types.now) (get_or c.args.order.now c.loop-index.index-index 0))) c.deref.ensures.value in
-    resource_flags_turn (map type_view c.args.types.now) c.args.order.now c.loop-index.resource_flags.items c.loop-index.index-index (get_or c.args.order.now c.loop-index.index-index 0) c.is_resource.result
+    resource_flags_step (map type_view c.args.types.now) c.args.order.now c.loop-index.resource_flags.items c.loop-index.index-index (get_or c.args.order.now c.loop-index.index-index 0) c.is_resource.result
     c.requires.first c.loop-index-test.true refl (rw (length-map c.args.types.now type_view) bound) made c.loop-index.invariant
 
 pub returns : goal.returns

@@ -6,7 +6,7 @@ use Rattle.wc_world.proofs.RequiredLemmas.{drop_no_call, drop_required, no_call}
 use Rattle.wc_world.proofs.required.Required.add_drop.Goals as goal
 
 pub returns : goal.returns
-returns c = λ imports i is a. record {
+returns c = λ i is imports a. record {
   functions = no_call imports i GuestImport c.args.self.now.functions.keys (drop_no_call i c.args.id.0 is) a.functions;
   async_functions = no_call imports i GuestImportAsync c.args.self.now.async_functions.keys (drop_no_call i c.args.id.0 is) a.async_functions;
   drops = drop_required imports i c.args.id.0 c.args.self.now.drops.keys c.insert.new.self.keys is (ap indices c.in_ok-insert.ensures.keys ∙ inserted c.args.self.now.drops.keys c.args.id) a.drops;

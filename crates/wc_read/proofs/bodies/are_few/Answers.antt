@@ -1,5 +1,0 @@
-use Rattle.wc_read.proofs.LocalCountLemmas.{counted_end}
-use Rattle.wc_read.proofs.bodies.are_few.Goals as goal
-
-pub returns : goal.returns
-returns c = counted_end _ _ _ c.loop-run.invariant c.loop-run-test.false

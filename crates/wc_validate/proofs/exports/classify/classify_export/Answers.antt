@@ -1,0 +1,27 @@
+use Rattle.std.proofs.Common.{inl, inr, refl}
+use Rattle.wc_names.specs.Schemes.{legacy, standard}
+use Rattle.wc_validate.specs.Private.Externs.{extern_view}
+use Rattle.wc_validate.specs.NameScopes.{name_scope_of}
+use Rattle.wc_validate.proofs.ExportKindLemmas.{by_any_type, by_none, by_scheme_read, legacy_rejected}
+use Rattle.wc_validate.proofs.exports.classify.classify_export.Goals as goal
+
+pub returns-in-Some : goal.returns-in-Some
+returns-in-Some c =
+    by_any_type (name_scope_of c.args.context.now.names) c.args.context.now.standard.keys c.args.name.now (extern_view c.args.ty)
+    c.in-Some.export c.in-Some.ensures.0 c.in-Some.ensures.1 c.in-Some.ensures.2
+
+pub returns-in-Some-after : goal.returns-in-Some-after
+returns-in-Some-after c =
+    by_scheme_read (name_scope_of c.args.context.now.names) c.args.context.now.standard.keys c.args.name.now (extern_view c.args.ty)
+    c.in_default.ensures standard c.in-Some-after.rest.now _ (inl (c.in-Some-after.ensures, refl)) c.export_by.ensures
+
+pub returns-then-names : goal.returns-then-names
+returns-then-names c =
+    by_none (name_scope_of c.args.context.now.names) c.args.context.now.standard.keys c.args.name.now (extern_view c.args.ty) c.in_default.ensures
+    (legacy_rejected (name_scope_of c.args.context.now.names) c.args.name.now c.in_default-after.ensures c.if-names.true)
+
+pub returns : goal.returns
+returns c =
+    by_scheme_read (name_scope_of c.args.context.now.names) c.args.context.now.standard.keys c.args.name.now (extern_view c.args.ty) c.in_default.ensures
+    (legacy c.args.context.now.names.task_hook.now) c.args.name.now _
+    (inr (c.in_default-after.ensures, c.if-names.false, refl, refl)) (rw c.requires.has_keys at c.export_by-2.ensures)

@@ -1,6 +1,0 @@
-use Rattle.wc_validate.proofs.FirstExportLemmas.{HasPassed}
-use Rattle.wc_validate.proofs.FirstPositionLemmas.{Placed}
-use Rattle.wc_validate.proofs.first_exports.FirstExports.among.Given as goal
-
-abbrev pub invariant-loop-name : goal.invariant-loop-name
-invariant-loop-name l = Placed HasPassed l.names.entries l._name-iterator l.first l.position

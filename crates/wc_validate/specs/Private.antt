@@ -1,0 +1,7 @@
+-- Words of contracts of private functions. No contract of a public function cites these, directly or through others.
+pub mod ExportedFunctions
+pub mod Exports
+pub mod Externs
+pub mod Imports
+pub mod RequiredExports
+pub mod ValidationInputs

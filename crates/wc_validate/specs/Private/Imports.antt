@@ -1,0 +1,10 @@
+pub mod Arguments
+pub mod Builtins
+pub mod Contexts
+pub mod Functions
+pub mod Interface
+pub mod Intrinsics
+pub mod Kinds
+pub mod Lookups
+pub mod Recorder
+pub mod Required

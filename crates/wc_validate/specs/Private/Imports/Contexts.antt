@@ -1,0 +1,95 @@
+-- What imports are recorded by, as the code has it, and how far imports are recorded.
+use Rattle.std.specs.Prelude.{ℕ, ◌<◌, All, List, [], length, map, Option, Result, option_copied, IfErr, IfOk, OnOk}
+use Rattle.std.specs.Option.{IfSome}
+use Rattle.wc_read.specs.declared.core_module.Module.{Module}
+use Rattle.wc_read.specs.declared.types.Import.{Import}
+use Rattle.wc_read.specs.declared.types.ImportType.{ImportType}
+use Rattle.wc_read.specs.Imports.{ImportValue, import_value, import_values}
+use Rattle.wc_read.specs.Spaces.{func_of}
+use Rattle.wc_read.specs.Types.{func_type_value}
+use Rattle.wc_encoder.specs.Adapters.{LibraryView}
+use Rattle.wc_names.specs.declared.imports.Import.{Import as ClassifiedImport}
+use Rattle.wc_names.specs.Imports.{CoreImport}
+use Rattle.wc_validate.specs.declared.fault.ValidateFault.{ValidateFault}
+use Rattle.wc_validate.specs.declared.fault.ValidateFault.TheVariants.{Memory}
+use Rattle.wc_validate.specs.declared.imports.record.ImportContext.{ImportContext}
+use Rattle.wc_validate.specs.declared.imports.recorder.Recorder.{Recorder}
+use Rattle.wc_validate.specs.Private.Imports.Arguments.{HasArgumentsOf}
+use Rattle.wc_validate.specs.Imports.Entries.{Entry}
+use Rattle.wc_validate.specs.Imports.Record.{ImportScope, IsCoreImport, IsEntry, AreEntries, IsFaultOfImport, IsImportFault}
+use Rattle.wc_validate.specs.Private.Imports.Recorder.{IsRecordedAfter, IsRecorderOf}
+use Rattle.wc_validate.specs.Imports.Classify.{IsClassified}
+use Rattle.wc_validate.specs.NameScopes.{name_scope_of}
+
+-- what imports are recorded by in a context, for a module that is this library
+abbrev pub import_scope : ImportContext → Option LibraryView → ImportScope
+import_scope c library = record {
+  name_scope = name_scope_of c.names;
+  library = library;
+  renames = option_copied c.renames;
+  types = map func_type_value c.types.now;
+}
+
+-- the type of a function has an index below this
+abbrev pub IsTypeIn : ℕ → ImportType → Type 0
+IsTypeIn count ty = IfSome (func_of ty) (λ index. index < count)
+
+-- the types of a module's imported functions have indices below the number of its types
+abbrev pub HasTypedImports : Module → Type 0
+HasTypedImports m = All (λ (i : Import). IsTypeIn (length m.types.items) i.ty) m.imports.items
+
+-- an import was recorded after entries
+abbrev pub IsImportRecorded : ImportScope → List Entry → ImportValue → Recorder → Type 0
+IsImportRecorded s before i r = (x : Entry) × IsEntry s i x × IsRecordedAfter before x r
+
+-- why an import was not recorded after entries
+abbrev pub IsImportRefusal : ImportScope → List Entry → ImportValue → ValidateFault → Type 0
+IsImportRefusal s before i Memory = Unit {0}
+IsImportRefusal s before i f = IsFaultOfImport s before i f
+
+-- all imports are recorded
+abbrev pub AreRecorded : ImportScope → List ImportValue → Recorder → Type 0
+AreRecorded s is r = (xs : List Entry) × AreEntries s [] is xs × IsRecorderOf r xs
+
+-- why the imports of a module are not recorded
+abbrev pub IsImportsRefusal : ImportScope → List ImportValue → ValidateFault → Type 0
+IsImportsRefusal s is Memory = Unit {0}
+IsImportsRefusal s is f = IsImportFault s [] is f
+
+-- the module is this library, if it is one
+abbrev pub HasLibrary : ImportContext → Option LibraryView → Type 0
+HasLibrary c library = HasArgumentsOf c.arguments library
+
+-- an import of the code's was recorded after entries, or why that import was not
+abbrev pub IsRecordedIn : ImportContext → Option LibraryView → List Entry → Import → Recorder → Type 0
+IsRecordedIn c library before i r = IsImportRecorded (import_scope c library) before (import_value i) r
+
+abbrev pub IsRefusedIn : ImportContext → Option LibraryView → List Entry → Import → ValidateFault → Type 0
+IsRefusedIn c library before i f = IsImportRefusal (import_scope c library) before (import_value i) f
+
+-- all imports of the code's are recorded, or why they are not all
+abbrev pub AreRecordedIn : ImportContext → Option LibraryView → List Import → Recorder → Type 0
+AreRecordedIn c library is r = AreRecorded (import_scope c library) (import_values is) r
+
+abbrev pub AreRefusedIn : ImportContext → Option LibraryView → List Import → ValidateFault → Type 0
+AreRefusedIn c library is f = IsImportsRefusal (import_scope c library) (import_values is) f
+
+-- what an import of the code's is, by its original name
+abbrev pub IsClassifiedIn : ImportContext → Option LibraryView → Import → Result ClassifiedImport ValidateFault → Type 0
+IsClassifiedIn c library i result = (a : CoreImport) × IsCoreImport (import_scope c library) (import_value i) a × IsClassified (name_scope_of c.names) a result
+
+-- an import was recorded by a recorder after the entries that it has, or why it was not; by whichever library the module is
+abbrev pub IsOneRecorded : {T F : Type 0} → ImportContext → Recorder → Import → Recorder → Result T F → Type 0
+IsOneRecorded c old i new result =
+    (library : Option LibraryView) (before : List Entry) → HasLibrary c library → IsRecorderOf old before → OnOk result (IsRecordedIn c library before i new)
+
+abbrev pub IsOneRefused : {T : Type 0} → ImportContext → Recorder → Import → Result T ValidateFault → Type 0
+IsOneRefused c old i result =
+    (library : Option LibraryView) (before : List Entry) → HasLibrary c library → IsRecorderOf old before → IfErr result (IsRefusedIn c library before i)
+
+-- all imports were recorded by a recorder, or why they were not all
+abbrev pub AreAllRecorded : {F : Type 0} → ImportContext → List Import → Result Recorder F → Type 0
+AreAllRecorded c is result = (library : Option LibraryView) → HasLibrary c library → IfOk result (AreRecordedIn c library is)
+
+abbrev pub AreAllRefused : {T : Type 0} → ImportContext → List Import → Result T ValidateFault → Type 0
+AreAllRefused c is result = (library : Option LibraryView) → HasLibrary c library → IfErr result (AreRefusedIn c library is)

@@ -1,0 +1,160 @@
+//! What the imports of a core module are recorded as.
+
+ghost use Rattle.std.specs.Prelude.{◌≡◌, ◌∷◌, [], IfErr, IfOk, OnOk, map};
+ghost use Rattle.wc_encoder.specs.Adapters.{which_view};
+ghost use Rattle.wc_names.specs.Views.{import_view};
+ghost use Rattle.wc_validate.specs.Imports.Entries.{all_of};
+ghost use Rattle.wc_validate.specs.Imports.Instances.{IsFree, IsInstanceFault, IsPutFault, import_entry, instance_entry, instance_view, IsPutAs, IsPutWhole, IsRecordedAs, IsRefusedWhole};
+
+use crate::ValidateFault;
+use indexmap::IndexMap;
+use std::alloc::{AllocError, Global};
+use wc_encoder::MainOrAdapter;
+use wc_names::Import;
+
+/// What is imported from a module: a module of the component, all of it, or single imports by their names.
+#[derive(Drop)]
+pub enum ImportInstance {
+    Whole(MainOrAdapter),
+    Names(IndexMap<String, Import>),
+}
+
+/// The one import of a module.
+fn one_import(
+    alloc: Global,
+    name: &str,
+    import: Import,
+) -> Result<IndexMap<String, Import>, ValidateFault>
+    ensures ok { IfOk result (λ names. map import_entry names.entries
+        ≡ (name.now, import_view import) ∷ []) }
+    ensures memory { IfErr result (λ f. f ≡ ValidateFault.Memory) }
+{
+    let name = String::from_str(alloc, name)?;
+    Ok(one_entry(alloc, name, import)?)
+}
+
+/// A map of one entry.
+pub(crate) fn one_entry<V: Drop>(
+    alloc: Global,
+    name: String,
+    value: V,
+) -> Result<IndexMap<String, V>, AllocError>
+    ensures { IfOk result (λ names. names.entries ≡ (name, value) ∷ []) }
+{
+    let mut names = IndexMap::new(alloc);
+    names.insert(name, value)?;
+    Ok(names)
+}
+
+/// Records an import after the others of its module.
+///
+/// # Errors
+///
+/// - `Mixed`: all of another module is recorded for this one.
+/// - `DuplicateImport`: the name is recorded already.
+/// - `Memory`: an allocation failed.
+pub(crate) fn put_import(
+    alloc: Global,
+    instances: &mut IndexMap<String, ImportInstance>,
+    module_name: &str,
+    name: &str,
+    import: Import,
+) -> Result<(), ValidateFault>
+    ensures put { OnOk result (IsPutAs instances.old.entries instances.new.entries module_name.now
+        name.now import) }
+    ensures free { OnOk result (IsFree (map instance_entry instances.old.entries) module_name.now
+        name.now) }
+    ensures fault { IfErr result (IsPutFault (map instance_entry instances.old.entries)
+        module_name.now name.now) }
+{
+    if let Some(instance) = instances.get_mut(module_name) {
+        return match instance {
+            ImportInstance::Whole(_) => Err(ValidateFault::Mixed),
+            ImportInstance::Names(names) => {
+                if names.contains_key(name) {
+                    return Err(ValidateFault::DuplicateImport);
+                }
+                names.insert(String::from_str(alloc, name)?, import)?;
+                Ok(())
+            }
+        };
+    }
+    let names = one_import(alloc, name, import)?;
+    instances.insert(
+        String::from_str(alloc, module_name)?,
+        ImportInstance::Names(names),
+    )?;
+    Ok(())
+}
+
+/// Records an import as the entry after these.
+///
+/// # Errors
+///
+/// - `Mixed`: all of another module is recorded for its module.
+/// - `DuplicateImport`: its name is recorded already.
+/// - `Memory`: an allocation failed.
+pub(crate) fn record_import(
+    alloc: Global,
+    instances: &mut IndexMap<String, ImportInstance>,
+    module_name: &str,
+    name: &str,
+    import: Import,
+) -> Result<(), ValidateFault>
+    ensures recorded { IsRecordedAs instances.old.entries instances.new.entries module_name.now
+        name.now import result }
+    ensures free { OnOk result (IsFree (map instance_entry instances.old.entries) module_name.now
+        name.now) }
+    ensures fault { IfErr result (IsPutFault (map instance_entry instances.old.entries)
+        module_name.now name.now) }
+{
+    put_import(alloc, instances, module_name, name, import)
+}
+
+/// Whether all of this module of the component is recorded of a module.
+///
+/// # Errors
+///
+/// - `WholeDiffers`: all of another one is.
+/// - `Mixed`: single imports are.
+fn check_whole(instance: &ImportInstance, which: &MainOrAdapter) -> Result<(), ValidateFault>
+    ensures same { OnOk result (instance_view instance.now ≡ all_of (which_view which.now)) }
+    ensures fault { IfErr result (IsInstanceFault (instance_view instance.now)
+        (which_view which.now)) }
+{
+    match instance {
+        ImportInstance::Whole(other) => {
+            if other == which {
+                Ok(())
+            } else {
+                Err(ValidateFault::WholeDiffers)
+            }
+        }
+        ImportInstance::Names(_) => Err(ValidateFault::Mixed),
+    }
+}
+
+/// Records that all of a module of the component is imported from a module.
+///
+/// # Errors
+///
+/// - `WholeDiffers`: all of another one is recorded for the module.
+/// - `Mixed`: single imports of the module are recorded.
+/// - `Memory`: an allocation failed.
+pub(crate) fn put_whole(
+    alloc: Global,
+    instances: &mut IndexMap<String, ImportInstance>,
+    module_name: &str,
+    which: &MainOrAdapter,
+) -> Result<(), ValidateFault>
+    ensures put { OnOk result (IsPutWhole instances.old.entries instances.new.entries
+        module_name.now which.now) }
+    ensures fault { IfErr result (IsRefusedWhole instances.old.entries module_name.now which.now) }
+{
+    if let Some(instance) = instances.get(module_name) {
+        return check_whole(instance, which);
+    }
+    let instance = ImportInstance::Whole(which.clone(alloc)?);
+    instances.insert(String::from_str(alloc, module_name)?, instance)?;
+    Ok(())
+}

@@ -1,0 +1,125 @@
+//! The imports of a core module, classified and recorded.
+
+ghost use Rattle.std.specs.Prelude.{◌≡◌, All, Option, Some, length, map, option_copied};
+ghost use Rattle.wc_read.specs.Types.{func_type_value};
+ghost use Rattle.wc_encoder.specs.Adapters.{LibraryView};
+ghost use Rattle.wc_validate.specs.Private.Imports.Contexts.{IsClassifiedIn, IsTypeIn, AreAllRecorded, AreAllRefused, IsOneRecorded, IsOneRefused};
+ghost use Rattle.wc_validate.specs.Private.Externs.{extern_view};
+ghost use Rattle.wc_validate.specs.Imports.Record.{extern_type, original_name};
+ghost use Rattle.wc_validate.specs.NameScopes.{AreInterfacesOf, HasItsWorld, name_scope_of};
+
+use crate::ValidateFault;
+use crate::externs::Extern;
+use crate::imports::arguments::{Arguments, PassedArgument};
+use crate::imports::classify::classify;
+use crate::imports::items::ImportedItem;
+use crate::imports::recorder::Recorder;
+use crate::name_scope::{Interfaces, Names};
+use std::alloc::Global;
+use wc_dedupe::ModuleImportMap;
+use wc_names::Import;
+use wc_read::{FuncType, ImportType};
+
+/// What imports are recorded by: what names are looked up in, and the interfaces of its world; what the module is
+/// passed, if it is a library; the original names of its imports, if some were renamed; and its types.
+#[derive(Drop)]
+pub(crate) struct ImportContext<'a> {
+    pub(crate) names: Names<'a>,
+    pub(crate) interfaces: Interfaces<'a>,
+    pub(crate) arguments: Arguments<'a>,
+    pub(crate) renames: Option<&'a ModuleImportMap>,
+    pub(crate) types: &'a [FuncType],
+}
+
+/// The type of an import; that of a function by its index.
+fn extern_of<'a>(types: &'a [FuncType], ty: ImportType) -> Extern<'a>
+    requires { IsTypeIn (length types.now) ty }
+    ensures { extern_type (map func_type_value types.now) ty ≡ Some (extern_view result) }
+{
+    match ty {
+        ImportType::Func(index) => Extern::Func(&types[index as usize]),
+        ImportType::Table(ty) => Extern::Table(ty),
+        ImportType::Memory(ty) => Extern::Memory(ty),
+        ImportType::Global(ty) => Extern::Global(ty),
+    }
+}
+
+/// The name that an import had before it was renamed.
+fn original_name<'a>(renames: Option<&'a ModuleImportMap>, import: &wc_read::Import<'a>) -> &'a str
+    ensures { result.now ≡ original_name (option_copied renames.entry) import.now.module.now
+        import.now.name.now }
+{
+    match renames {
+        Some(map) => map.original_name(import).unwrap_or(import.name),
+        None => import.name,
+    }
+}
+
+/// What an import is, by its original name.
+fn classify_import(
+    alloc: Global,
+    context: &ImportContext<'_>,
+    import: &wc_read::Import<'_>,
+) -> Result<Import, ValidateFault>
+    requires world { HasItsWorld (name_scope_of context.now.names) }
+    requires interfaces { AreInterfacesOf (name_scope_of context.now.names) context.now.interfaces }
+    requires typed { IsTypeIn (length context.now.types.now) import.now.ty }
+    ensures { (library : Option LibraryView) → IsClassifiedIn context.now library
+        import.now result }
+{
+    let name = original_name(context.renames, import);
+    let item = ImportedItem {
+        module_name: import.module,
+        name,
+        ty: extern_of(context.types, import.ty),
+    };
+    classify(alloc, &context.names, &context.interfaces, item)
+}
+
+/// Records an import: as the library is passed it, or else as what it is.
+fn record_one(
+    recorder: &mut Recorder,
+    alloc: Global,
+    context: &ImportContext<'_>,
+    import: &wc_read::Import<'_>,
+) -> Result<(), ValidateFault>
+    requires world { HasItsWorld (name_scope_of context.now.names) }
+    requires interfaces { AreInterfacesOf (name_scope_of context.now.names) context.now.interfaces }
+    requires typed { IsTypeIn (length context.now.types.now) import.now.ty }
+    ensures recorded { IsOneRecorded context.now recorder.old import.now recorder.new result }
+    ensures fault { IsOneRefused context.now recorder.old import.now result }
+{
+    match context
+        .arguments
+        .passed_argument(import.module, import.name)
+    {
+        Some(PassedArgument::Whole(which)) => recorder.record_whole(alloc, import.module, which),
+        Some(PassedArgument::Item(item)) => {
+            let own = Import::Item(item.clone(alloc)?);
+            recorder.record_single(alloc, import.module, import.name, own)
+        }
+        None => {
+            let own = classify_import(alloc, context, import)?;
+            recorder.record_single(alloc, import.module, import.name, own)
+        }
+    }
+}
+
+/// The imports of a module, recorded in their order.
+pub(crate) fn record_imports(
+    alloc: Global,
+    context: &ImportContext<'_>,
+    imports: &[wc_read::Import<'_>],
+) -> Result<Recorder, ValidateFault>
+    requires world { HasItsWorld (name_scope_of context.now.names) }
+    requires interfaces { AreInterfacesOf (name_scope_of context.now.names) context.now.interfaces }
+    requires typed { All (λ i. IsTypeIn (length context.now.types.now) i.ty) imports.now }
+    ensures recorded { AreAllRecorded context.now imports.now result }
+    ensures fault { AreAllRefused context.now imports.now result }
+{
+    let mut recorder = Recorder::new(alloc);
+    for import in imports {
+        record_one(&mut recorder, alloc, context, import)?;
+    }
+    Ok(recorder)
+}

@@ -1,0 +1,155 @@
+//! The imports of a core module, recorded one after another.
+
+ghost use Rattle.std.specs.Prelude.{◌≡◌, ◌↔◌, [], IfErr, IfOk, IsTrue, OnOk, false, map};
+ghost use Rattle.wc_encoder.specs.Adapters.{which_view};
+ghost use Rattle.wc_names.specs.Views.{import_view};
+ghost use Rattle.wc_validate.specs.Imports.AdapterTypes.{IsNotedAfter, first_some, noted_type, type_entry};
+ghost use Rattle.wc_validate.specs.Imports.Entries.{adapter_type_in, memory_type_of, single, whole};
+ghost use Rattle.wc_validate.specs.Private.Imports.Recorder.{AgreesIn, IsNoteFault, IsOneMemory, IsRecorderOf, IsSecondMemory, types_in, AreTypesNoted, IsEntryRecorded, IsEntryRefused};
+
+use crate::ValidateFault;
+use crate::imports::adapter_types::note_type;
+use crate::imports::instances::{ImportInstance, put_whole, record_import};
+use indexmap::IndexMap;
+use std::alloc::{AllocError, Global};
+use wc_encoder::MainOrAdapter;
+use wc_names::Import;
+use wc_read::{FuncType, MemoryType};
+
+/// The imports that are recorded so far: by modules; the memory, if it is one of them; and of each function of an
+/// adapter the type with which it was imported first.
+#[derive(Drop)]
+pub(crate) struct Recorder {
+    pub(crate) instances: IndexMap<String, ImportInstance>,
+    pub(crate) memory: Option<MemoryType>,
+    adapter_types: IndexMap<(String, String), FuncType>,
+}
+
+/// The type of the memory, if an import is the main module's memory.
+fn memory_type(import: &Import) -> Option<MemoryType>
+    ensures { result ≡ memory_type_of (import_view import.now) }
+{
+    match import {
+        Import::MainModuleMemory(ty) => Some(*ty),
+        _ => None,
+    }
+}
+
+/// Whether an import is no second memory; the memory is noted.
+fn note_memory(memory: &mut Option<MemoryType>, import: &Import) -> bool
+    ensures noted { IsTrue result
+        → memory.new ≡ first_some memory.old (memory_type_of (import_view import.now)) }
+    ensures one { IsTrue result → IsOneMemory memory.old (import_view import.now) }
+    ensures second { result ≡ false → IsSecondMemory memory.old (import_view import.now) }
+{
+    let Some(ty) = memory_type(import) else {
+        return true;
+    };
+    if memory.is_some() {
+        return false;
+    }
+    *memory = Some(ty);
+    true
+}
+
+/// Whether an import that is a function of an adapter has the type with which that was imported first; the first type
+/// is noted.
+fn note_adapter_type(
+    alloc: Global,
+    types: &mut IndexMap<(String, String), FuncType>,
+    import: &Import,
+) -> Result<bool, AllocError>
+    ensures agrees { IfOk result (λ b. IsTrue b
+        ↔ AgreesIn (noted_type (map type_entry types.old.entries)) (import_view import.now)) }
+    ensures noted { OnOk result (IsNotedAfter types.old.entries
+        (λ adapter function. adapter_type_in adapter function (import_view import.now))
+        types.new.entries) }
+{
+    match import {
+        Import::AdapterExport { adapter, func, ty } => note_type(alloc, types, adapter, func, ty),
+        _ => Ok(true),
+    }
+}
+
+impl Recorder {
+    /// A recorder of no imports.
+    pub(crate) fn new(alloc: Global) -> Recorder
+        ensures { IsRecorderOf result [] }
+    {
+        Recorder {
+            instances: IndexMap::new(alloc),
+            memory: None,
+            adapter_types: IndexMap::new(alloc),
+        }
+    }
+
+    /// Whether an import that is a function of an adapter has the type with which that was imported first. The type and
+    /// the memory are noted.
+    fn note(&mut self, alloc: Global, import: &Import) -> Result<bool, ValidateFault>
+        ensures instances { self.new.instances ≡ self.old.instances }
+        ensures memory { OnOk result (self.new.memory
+            ≡ first_some self.old.memory (memory_type_of (import_view import.now))) }
+        ensures one { OnOk result (IsOneMemory self.old.memory (import_view import.now)) }
+        ensures agrees { IfOk result (λ b. IsTrue b
+            ↔ AgreesIn (types_in self.old) (import_view import.now)) }
+        ensures types { OnOk result (AreTypesNoted self.old self.new (import_view import.now)) }
+        ensures fault { IfErr result (IsNoteFault self.old.memory (import_view import.now)) }
+    {
+        if !note_memory(&mut self.memory, import) {
+            return Err(ValidateFault::SeveralMemoryImports);
+        }
+        let agrees = note_adapter_type(alloc, &mut self.adapter_types, import)?;
+        Ok(agrees)
+    }
+
+    /// Records an import of a module under a name.
+    ///
+    /// # Errors
+    ///
+    /// - `SeveralMemoryImports`: it is a second memory of the main module.
+    /// - `Mixed`: all of another module is recorded for its module.
+    /// - `DuplicateImport`: its name is recorded already.
+    /// - `AdapterTypesDiffer`: it is a function of an adapter that was imported with another type.
+    /// - `Memory`: an allocation failed.
+    pub(crate) fn record_single(
+        &mut self,
+        alloc: Global,
+        module_name: &str,
+        name: &str,
+        import: Import,
+    ) -> Result<(), ValidateFault>
+        ensures recorded { IsEntryRecorded self.old self.new
+            (single module_name.now name.now (import_view import)) result }
+        ensures fault { IsEntryRefused self.old (single module_name.now name.now
+            (import_view import)) result }
+    {
+        let agrees = self.note(alloc, &import)?;
+        record_import(alloc, &mut self.instances, module_name, name, import)?;
+        if agrees {
+            Ok(())
+        } else {
+            Err(ValidateFault::AdapterTypesDiffer)
+        }
+    }
+
+    /// Records that all of a module of the component is imported.
+    ///
+    /// # Errors
+    ///
+    /// - `WholeDiffers`: all of another one is recorded for the module.
+    /// - `Mixed`: single imports are recorded of the module.
+    /// - `Memory`: an allocation failed.
+    pub(crate) fn record_whole(
+        &mut self,
+        alloc: Global,
+        module_name: &str,
+        which: &MainOrAdapter,
+    ) -> Result<(), ValidateFault>
+        ensures recorded { IsEntryRecorded self.old self.new
+            (whole module_name.now (which_view which.now)) result }
+        ensures fault { IsEntryRefused self.old (whole module_name.now (which_view which.now))
+            result }
+    {
+        put_whole(alloc, &mut self.instances, module_name, which)
+    }
+}
