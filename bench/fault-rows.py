@@ -33,6 +33,7 @@ CALLS = {
     "example printed_plan": "PlanFault",
     "execute": "ToolFault", "execute_failing": "ToolFault", "each_put_failing": "ToolFault",
     "writer_sink": "PutFailed", "run_program": "RunFault", "parse": "Usage",
+    "wcplan": "ProgramFault", "wcplan_failing": "ProgramFault", "parse_wcplan": "ArgumentFault",
 }
 # What no row of any input can reach, and why.
 BARRED = {
@@ -41,6 +42,8 @@ BARRED = {
     ("GcFault", "TooLarge"): "a section of 2^32 bytes",
     ("ValidateFault", "WholeDiffers"): "of the arguments of a name the first counts",
     ("ValidateFault", "Mixed"): "of the arguments of a name the first counts",
+    ("Problem", "NotABool"): "no member of a document is a truth value",
+    ("ProgramFault", "Output"): "no fault is printed then; wcplan.rows: an_output_that_fails_at_once",
 }
 FAILED = "where an allocation fails"
 
@@ -72,8 +75,21 @@ def run_fault(text):
 def written(name, text):
     """The variants of an enum whose `Display` writes a text of its own for each, or what it carries."""
     shown = re.findall(r'%s::(\w+) => f\.write_str\("(.*?)"\)' % name, text)
+    named = re.findall(r'%s::(\w+)\(\w+\) => (?:\{\s*)?write!\(f, "(.*?)"\)' % name, text)
     carried = re.findall(r"%s::(\w+) \{ path, (\w+) \} =>" % name, text)
-    return [(own, words, []) for own, words in shown] + [(own, "{0}", [field.capitalize()]) for own, field in carried]
+    found = [(own, words, []) for own, words in shown] + [(own, "{0}", [field.capitalize()]) for own, field in carried]
+    return found + [(own, re.sub(r"\{\w+\}", "{0}", words), ["String"]) for own, words in named]
+
+
+def program_fault(text):
+    """The variants of `ProgramFault`, which has no `Display`: the texts that its function `text` makes."""
+    body = re.search(r"pub enum ProgramFault.*?\{(.*?)\n\}", text, re.S).group(1)
+    fields = {name: [field] for name, field in re.findall(r"^ +(\w+)\((?:&'a )?(\w+)", body, re.M)}
+    shown = re.findall(r'ProgramFault::(\w+)(?:\(\w+\))? => (?:String::from_str|format!)\((?:in )?alloc[;,] "(.*?)"\)', text)
+    carried = re.findall(r'ProgramFault::(\w+)\(fault\) => carried_text\(alloc, "(\w+)", fault\)', text)
+    texts = {name: re.sub(r"\{\w+\}", "{0}", words) for name, words in shown}
+    texts.update({name: words + ": {0}" for name, words in carried})
+    return [(name, texts[name], fields.get(name, [])) for name in re.findall(r"^    (\w+)[(,]", body, re.M)]
 
 
 def faults():
@@ -83,6 +99,10 @@ def faults():
         for name, body in re.findall(r"pub enum (\w*Fault)\b[^{]*\{(.*?)\n\}", text, re.S):
             if "#[error" in body:
                 found[name] = (crate, variants_of(body))
+            elif name == "ProgramFault":
+                found[name] = (crate, program_fault(text))
+            elif name == "ArgumentFault":
+                found[name] = (crate, [(own, own, []) for own in re.findall(r"^    (\w+),", body, re.M)])
             else:
                 found[name] = (crate, run_fault(text) if name == "RunFault" else written(name, text))
         if "pub enum Problem {" in text:
@@ -140,13 +160,15 @@ def texts(call, lines):
     for line in lines:
         if call == "run_program" and line.startswith("printed wctrim: "):
             yield line[len("printed wctrim: "):]
+        elif call in ("wcplan", "wcplan_failing") and line.startswith("printed wcplan: "):
+            yield line[len("printed wcplan: "):]
         elif call == "parse" and line == "usage":
             yield line
         elif call == "writer_sink" and line.startswith("fault "):
             yield line[len("fault "):].split(",")[0]
         else:
             match = re.match(r"(?:.*[:,] )?fault (.*)", line)
-            if match and call not in ("run_program", "parse", "writer_sink"):
+            if match and call not in ("run_program", "parse", "writer_sink", "wcplan", "wcplan_failing"):
                 yield match.group(1)
 
 

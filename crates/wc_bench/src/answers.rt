@@ -1,7 +1,7 @@
 //! A row's answer, from the library whose call it names.
 
 use crate::component::{calls as component_calls, plans as plan_calls};
-use crate::{examples, json_calls, library_calls};
+use crate::{examples, json_calls, library_calls, plan_tool_calls};
 use std::alloc::{AllocError, Global};
 use wc_fixtures::{encoder_calls, resolve_calls};
 use wc_module_rows::names::calls as name_calls;
@@ -58,10 +58,10 @@ fn answer_on_worlds(alloc: Global, row: &Row<'_>, out: &mut Lines) -> Result<boo
     if validate_calls::answer(alloc, row, out)? {
         return Ok(true);
     }
-    if component_calls::answer(alloc, row, out)? {
+    if component_calls::answer(alloc, row, out)? || plan_calls::answer(alloc, row, out)? {
         return Ok(true);
     }
-    plan_calls::answer(alloc, row, out)
+    plan_tool_calls::answer(alloc, row, out)
 }
 
 /// The laws, sinks and examples. False where the call is none.

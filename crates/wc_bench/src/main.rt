@@ -6,6 +6,7 @@ mod component;
 mod examples;
 mod json_calls;
 mod library_calls;
+mod plan_tool_calls;
 mod program;
 
 use std::process::ExitCode;

@@ -3,7 +3,7 @@ use Rattle.std.specs.Prelude.{◌≡◌, ℕ, List, [], ◌∷◌, ◌++◌, ⊤
 use Rattle.json.specs.declared.error.Error.{Error}
 use Rattle.json.specs.declared.error.Error.TheVariants.{Invalid, OutOfMemory, TooLong, DuplicateKey}
 use Rattle.wc_json.specs.declared.fault.Problem.{Problem}
-use Rattle.wc_json.specs.declared.fault.Problem.TheVariants.{Missing, NotAnObject, NotOneMember, NotAList, NotAText, NotAnIndex, Unknown, LeftOut, Outdated, NotAPackageName}
+use Rattle.wc_json.specs.declared.fault.Problem.TheVariants.{Missing, NotAnObject, NotOneMember, NotAList, NotAText, NotAnIndex, Unknown, LeftOut, Outdated, NotAPackageName, NotABool}
 use Rattle.wc_json.specs.declared.fault.JsonFault.{JsonFault}
 use Rattle.wc_json.specs.declared.fault.JsonFault.TheVariants.{Memory, NotJson, RepeatedMember, Wrong}
 
@@ -74,6 +74,7 @@ problem_text Unknown = codes "unknown"
 problem_text LeftOut = codes "kind of type that is left out"
 problem_text Outdated = codes "member of an older form"
 problem_text NotAPackageName = codes "not a package name"
+problem_text NotABool = codes "not a truth value"
 
 -- a path, a colon, a space and a problem; of the empty path the problem alone
 abbrev pub path_and_problem_text : List ℕ → List ℕ → List ℕ

@@ -3,8 +3,10 @@ use Rattle.std.specs.Prelude.{ℕ, List, cond, codes, length, take, drop, Option
 use Rattle.std.specs.Str.{bytes_eq}
 use Rattle.std.specs.Str.Parse.{without_leading_plus}
 use Rattle.wc_resolve.specs.Views.{KeyView, plain_key, interface_key}
-use Rattle.wc_json.specs.Faults.{Reading}
+use Rattle.json.specs.Json.{Json, string}
+use Rattle.wc_json.specs.Faults.{Reading, refusal}
 use Rattle.wc_json.specs.Ids.{index_of_digits}
+use Rattle.wc_json.specs.declared.fault.Problem.TheVariants.{NotAText}
 
 -- what comes after a prefix
 abbrev pub rest_after : List ℕ → List ℕ → Option (List ℕ)
@@ -30,3 +32,7 @@ key_of_rest text (Some digits) = key_of_index text (canonical_index digits)
 -- `interface-3` is the key of the interface 3, any other text a plain key
 abbrev pub world_key : List ℕ → KeyView
 world_key text = key_of_rest text (rest_after (codes "interface-") text)
+
+abbrev pub key : Json → Reading KeyView
+key (string s) = Ok (world_key s)
+key j = refusal NotAText

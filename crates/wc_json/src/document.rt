@@ -7,6 +7,7 @@ ghost use Rattle.wc_json.specs.Document.{IsCause, IsDocument, document_of, docum
 ghost use Rattle.wc_json.specs.Faults.{Reads};
 
 use crate::JsonFault;
+use crate::from_json::FromJson;
 use crate::members::required_member;
 use indexmap::IndexMap;
 use json::{Scratch, Value};
@@ -69,6 +70,20 @@ fn document_of(alloc: Global, value: &Value<'_>) -> Result<Document, JsonFault>
         world_packages,
         package_worlds,
     })
+}
+
+impl FromJson for Document {
+    ghost use Rattle.wc_json.specs.Document.{DocumentView, document_of, document_view};
+
+    ghost View = { DocumentView };
+
+    ghost view = { document_view };
+
+    ghost reading = { document_of };
+
+    fn from_json(alloc: Global, value: &Value<'_>) -> Result<Document, JsonFault> {
+        document_of(alloc, value)
+    }
 }
 
 /// Reads a resolved world from JSON: the serde form of wit-parser's `Resolve`, as

@@ -31,6 +31,8 @@ pub enum Problem {
     Outdated,
     /// The text is neither `namespace:name` nor `namespace:name@version`.
     NotAPackageName,
+    /// The value is neither true nor false.
+    NotABool,
 }
 
 impl fmt::Display for Problem {
@@ -50,6 +52,7 @@ impl fmt::Display for Problem {
             Problem::LeftOut => f.write_str("kind of type that is left out"),
             Problem::Outdated => f.write_str("member of an older form"),
             Problem::NotAPackageName => f.write_str("not a package name"),
+            Problem::NotABool => f.write_str("not a truth value"),
         }
     }
 }

@@ -1,18 +1,19 @@
-//! The trait of what is read from JSON values, and its impls for texts, values that may be null, and
-//! lists.
+//! The trait of what is read from JSON values, and its impls for truth values, texts, values that may
+//! be null, and lists; and a value read from a text.
 
-ghost use Rattle.std.specs.Prelude.{◌≡◌};
-ghost use Rattle.json.specs.Json.{Json};
+ghost use Rattle.std.specs.Prelude.{◌≡◌, IfErr, IfOk};
+ghost use Rattle.json.specs.Json.{Json, document};
 ghost use Rattle.json.specs.Value.{value_view};
 ghost use Rattle.wc_json.specs.Faults.{Reading, Reads};
+ghost use Rattle.wc_json.specs.FromJson.{IsCauseOf, IsReadFrom};
 
 use crate::paths::{at_index, fault_here};
 use crate::{JsonFault, Problem};
-use json::Value;
+use json::{Scratch, Value};
 use std::alloc::Global;
 
 /// A type whose values are read from JSON values.
-pub(crate) trait FromJson: Drop {
+pub trait FromJson: Drop {
     // What contracts see of a value of this type.
     ghost View: { Type 0 };
 
@@ -29,6 +30,24 @@ pub(crate) trait FromJson: Drop {
     /// - `Memory`: an allocation failed.
     fn from_json(alloc: Global, value: &Value<'_>) -> Result<Self, JsonFault>
         ensures { Reads view result (reading (value_view value.now)) };
+}
+
+impl FromJson for bool {
+    ghost use Rattle.std.specs.Prelude.{Bool};
+    ghost use Rattle.wc_json.specs.FromJson.{truth};
+
+    ghost View = { Bool };
+
+    ghost view = { λ b. b };
+
+    ghost reading = { truth };
+
+    fn from_json(alloc: Global, value: &Value<'_>) -> Result<bool, JsonFault> {
+        match value.as_bool() {
+            Some(truth) => Ok(truth),
+            None => Err(fault_here(alloc, Problem::NotABool)),
+        }
+    }
 }
 
 impl FromJson for String {
@@ -91,4 +110,22 @@ impl<T: FromJson> FromJson for Vec<T> {
         }
         Ok(list)
     }
+}
+
+/// Reads a value from a text. Reading ends on any text, and needs no more of the stack than 128 nested
+/// values do.
+///
+/// # Errors
+///
+/// - `NotJson`: the text is not JSON (RFC 8259), or it nests deeper than 128.
+/// - `RepeatedMember`: an object has two members of one name, also one that would be passed over.
+/// - `Wrong`: the first value that isn't what it has to be; the path leads to it.
+/// - `Memory`: an allocation failed. It may come in place of any other.
+pub fn value_from_json<T: FromJson>(alloc: Global, text: &str) -> Result<T, JsonFault>
+    ensures ok { IfOk result (λ value. IsReadFrom T.view T.reading (document text.now) value) }
+    ensures fault { IfErr result (IsCauseOf T.reading (document text.now)) }
+{
+    let mut scratch = Scratch::new(alloc);
+    let value = Value::parse_strict(alloc, text, &mut scratch)?;
+    T::from_json(alloc, &value)
 }

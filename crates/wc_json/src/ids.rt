@@ -1,4 +1,4 @@
-//! Ids: indices in the lists of the text.
+//! Numbers below 2^32, and ids: indices in the lists of the text.
 
 ghost use Rattle.std.specs.Prelude.{◌≡◌, ℕ};
 ghost use Rattle.json.specs.Value.{value_view};
@@ -22,6 +22,21 @@ fn index(alloc: Global, value: &Value<'_>) -> Result<u32, JsonFault>
     match u32::try_from(number) {
         Ok(index) => Ok(index),
         Err(_) => Err(fault_here(alloc, Problem::NotAnIndex)),
+    }
+}
+
+impl FromJson for u32 {
+    ghost use Rattle.std.specs.Prelude.{ℕ};
+    ghost use Rattle.wc_json.specs.Ids.{index};
+
+    ghost View = { ℕ };
+
+    ghost view = { λ n. n };
+
+    ghost reading = { index };
+
+    fn from_json(alloc: Global, value: &Value<'_>) -> Result<u32, JsonFault> {
+        index(alloc, value)
     }
 }
 

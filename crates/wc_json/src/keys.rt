@@ -5,6 +5,10 @@ ghost use Rattle.std.specs.Option.{option_map};
 ghost use Rattle.wc_resolve.specs.Views.{key_view};
 ghost use Rattle.wc_json.specs.Keys.{canonical_index, rest_after, world_key};
 
+use crate::from_json::FromJson;
+use crate::paths::fault_here;
+use crate::{JsonFault, Problem};
+use json::Value;
 use std::alloc::{AllocError, Global};
 use wc_resolve::{InterfaceId, WorldKey};
 
@@ -42,4 +46,22 @@ pub(crate) fn world_key(alloc: Global, text: &str) -> Result<WorldKey, AllocErro
         }
     }
     Ok(WorldKey::Name(String::from_str(alloc, text)?))
+}
+
+impl FromJson for WorldKey {
+    ghost use Rattle.wc_resolve.specs.Views.{KeyView, key_view};
+    ghost use Rattle.wc_json.specs.Keys.{key};
+
+    ghost View = { KeyView };
+
+    ghost view = { key_view };
+
+    ghost reading = { key };
+
+    fn from_json(alloc: Global, value: &Value<'_>) -> Result<WorldKey, JsonFault> {
+        match value.as_str() {
+            Some(text) => Ok(world_key(alloc, text)?),
+            None => Err(fault_here(alloc, Problem::NotAText)),
+        }
+    }
 }

@@ -10,6 +10,10 @@
 //!
 //! Whether the parts are well-formed is left to `wc_resolve::Resolve::build`; no id is known to be in
 //! range before.
+//!
+//! Other texts that hold a resolved world are read in the same way: `FromJson` is what is read,
+//! `value_from_json` reads it from a text, and its members are read by `required_member` and
+//! `optional_member`.
 #![tactic(auto, using(crate::proofs::FaultLemmas::IsFaultOf_bind, crate::proofs::PathLemmas::Reads_at_step))]
 
 mod document;
@@ -31,3 +35,6 @@ mod worlds;
 
 pub use document::{Document, document_from_json};
 pub use fault::{JsonFault, Problem};
+pub use from_json::{FromJson, value_from_json};
+pub use members::{optional_member, required_member};
+pub use paths::{at_member, fault_here};

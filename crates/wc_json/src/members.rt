@@ -29,7 +29,7 @@ fn find_member<'v, 'a>(
 }
 
 /// Reads the member of this name of an object, which has to be there.
-pub(crate) fn required_member<T: FromJson>(
+pub fn required_member<T: FromJson>(
     alloc: Global,
     object: &Value<'_>,
     name: &str,
@@ -43,7 +43,7 @@ pub(crate) fn required_member<T: FromJson>(
 }
 
 /// Reads the member of this name of an object; `None` where it is missing or null.
-pub(crate) fn optional_member<T: FromJson>(
+pub fn optional_member<T: FromJson>(
     alloc: Global,
     object: &Value<'_>,
     name: &str,

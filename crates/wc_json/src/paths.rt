@@ -10,7 +10,7 @@ use std::alloc::{AllocError, Global};
 
 /// The fault of a value itself, whose path has no step yet.
 #[cold]
-pub(crate) fn fault_here(alloc: Global, problem: Problem) -> JsonFault
+pub fn fault_here(alloc: Global, problem: Problem) -> JsonFault
     ensures { IsFault result (fault_here problem) }
 {
     JsonFault::Wrong {
@@ -74,11 +74,7 @@ fn fault_at_key(alloc: Global, key: &str, fault: JsonFault) -> JsonFault
 
 /// What the member of this name was read as.
 #[inline(always)]
-pub(crate) fn at_member<T>(
-    alloc: Global,
-    name: &str,
-    read: Result<T, JsonFault>,
-) -> Result<T, JsonFault>
+pub fn at_member<T>(alloc: Global, name: &str, read: Result<T, JsonFault>) -> Result<T, JsonFault>
     ensures { IsReadAt name.now read result }
 {
     match read {

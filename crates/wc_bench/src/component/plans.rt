@@ -9,6 +9,7 @@ use wc_fixtures::resolve_calls::argument_words;
 use wc_fixtures::stop::Stop;
 use wc_plan::laws::worlds_nameable;
 use wc_plan::{Plan, PlanFault, plan, plan_encoder, write_plan};
+use wc_record::plan_to_json;
 use wc_rows::lines::Lines;
 use wc_rows::rows::Row;
 use wc_validate::ValidateFault;
@@ -86,6 +87,29 @@ fn put_plan(
     Ok(())
 }
 
+/// A plan as JSON; or why there is none.
+fn put_record(
+    alloc: Global,
+    plan: &Result<Plan, PlanFault>,
+    out: &mut Lines,
+) -> Result<(), AllocError> {
+    match plan {
+        Ok(plan) => put_json(alloc, plan, out),
+        Err(fault) => {
+            put_fault(fault, out);
+            Ok(())
+        }
+    }
+}
+
+fn put_json(alloc: Global, plan: &Plan, out: &mut Lines) -> Result<(), AllocError> {
+    let bytes = plan_to_json(alloc, plan)?;
+    if let Ok(text) = str::from_utf8(&bytes) {
+        writeln!(out, "{text}");
+    }
+    Ok(())
+}
+
 /// The plan of the encoder's world, all of whose lowerings are taken away.
 fn plan_without_lowerings(alloc: Global, encoder: &ComponentEncoder) -> Result<Plan, PlanFault> {
     let mut world = ComponentWorld::new(alloc, encoder, &PlainOptions)?;
@@ -140,13 +164,18 @@ fn answered<'a>(alloc: Global, row: &'a Row<'a>, out: &mut Lines) -> Result<(), 
     } else {
         plan_encoder(alloc, &encoder, &PlainOptions)
     };
-    put_plan(alloc, &plan, puts, out)?;
+    if row.call == "plan_json" {
+        put_record(alloc, &plan, out)?;
+    } else {
+        put_plan(alloc, &plan, puts, out)?;
+    }
     Ok(())
 }
 
 /// The calls of `wc_plan`.
-const OWN: [&str; 4] = [
+const OWN: [&str; 5] = [
     "plan",
+    "plan_json",
     "plan_failing",
     "plan_without_lowerings",
     "plan_faults",

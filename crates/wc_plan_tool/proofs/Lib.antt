@@ -1,0 +1,12 @@
+mod PairLemmas
+mod OptionLemmas
+mod TextsLemmas
+mod AddedLemmas
+mod CommandLemmas
+mod TestLemmas
+mod ListLemmas
+mod SelectionLemmas
+mod KeyListLemmas
+mod FirstLemmas
+mod ProgramLemmas
+mod RunLemmas

@@ -1,0 +1,192 @@
+-- A command that could not be run, which was printed; and files that are written one after another.
+use Rattle.std.proofs.Common.{◌≡◌, ◌≢◌, ℕ, ◌+◌, Bool, false, List, [], ◌∷◌, ◌++◌, map, String, Global, Option, Some, None, refl, sym, ◌∙◌, ap, subst, append_assoc, string_bytes, string_eq, length, take, get_or, zero, suc, ◌<◌, Contains, inl, inr, arith}
+use Rattle.std.specs.Borrow.{Bor}
+use Rattle.std.specs.Option.{option_map}
+use Rattle.wc_encoder.specs.EncoderParts.{EncoderView}
+use Rattle.wc_encoder.specs.Fault.{IsCause as IsEncoderCause}
+use Rattle.wc_encoder.specs.declared.fault.EncoderFault.{EncoderFault}
+use Rattle.wc_encoder.specs.declared.fault.EncoderFault.TheVariants.{Memory as encoder_memory}
+use Rattle.wc_json.specs.Document.{DocumentView}
+use Rattle.wc_resolve.specs.Faults.{IsCause as IsResolveCause}
+use Rattle.wc_resolve.specs.Views.{key_view}
+use Rattle.wc_resolve.specs.WellFormed.{IsWellFormed as IsResolve}
+use Rattle.wc_resolve.specs.declared.fault.ResolveFault.{ResolveFault}
+use Rattle.wc_resolve.specs.declared.fault.ResolveFault.TheVariants.{Memory as resolve_memory}
+use Rattle.wc_plan_tool.specs.Selection.{IsSelected}
+use Rattle.wc_plan_tool.specs.declared.faults.SelectionFault.{SelectionFault}
+use Rattle.wc_plan_tool.specs.declared.faults.SelectionFault.TheVariants.{Memory as selection_memory}
+use Rattle.wc_plan_tool.proofs.ListLemmas.{passed_more}
+use Rattle.std.proofs.lemmas.List.{map-append}
+use Rattle.std.specs.List.{AllPairs, AllZip}
+use Rattle.std.proofs.lemmas.Bool.{cases_Bool}
+use Rattle.std.proofs.lemmas.List.Elements.{All-contains}
+use Rattle.indexmap.specs.IndexMap.{insert_entry}
+use Rattle.wc_dedupe.specs.Dedupe.{IsCause as IsDedupeCause}
+use Rattle.wc_dedupe.specs.declared.fault.DedupeFault.{DedupeFault}
+use Rattle.wc_dedupe.specs.declared.fault.DedupeFault.TheVariants.{Memory as dedupe_memory}
+use Rattle.wc_encoder.specs.Adapters.{AdapterView, adapter_entry, library_view}
+use Rattle.wc_encoder.specs.declared.adapters.Adapter.{Adapter}
+use Rattle.wc_encoder.proofs.PairLemmas.{pairs_head, pairs_tail}
+use Rattle.wc_resolve.proofs.KeyLemmas.{texts_law}
+use Rattle.wc_resolve.proofs.SearchLemmas.{contains_cons, contains_head, contains_none, contains_tail}
+use Rattle.wc_plan_tool.specs.Faults.{of_dedupe, of_encoder, of_resolve, of_selection}
+use Rattle.wc_plan_tool.specs.RequiredExports.{IsNamesCause, NamedKey, export_keys, first_parts, required_keys, second_parts}
+use Rattle.std.proofs.lemmas.Bool.{false≢true}
+use Rattle.std.specs.Io.KnownBytes.{Appends}
+use Rattle.wc_tool.specs.Files.{Held, Holds}
+use Rattle.wc_tool.specs.Program.{HandsOn}
+use Rattle.wc_plan_tool.specs.Arguments.{CommandValue, text_pair}
+use Rattle.wc_plan_tool.specs.Program.{EndsInFault, HasPut, IsAdapterIn, IsAdaptersCause, IsChosen, IsDocumentIn, IsMainCause, IsModulesCause, IsPartsOf, IsPartsWith, IsPlanCause, IsPrintedOf, IsReadFault, IsRunCause, fault_line}
+use Rattle.wc_plan_tool.specs.declared.faults.ProgramFault.{ProgramFault}
+use Rattle.wc_plan_tool.specs.declared.faults.ProgramFault.TheVariants.{Memory, CannotRead, Dedupe, Output}
+
+-- bytes, and then more
+appends_more : (a b c : Option (List ℕ)) (xs ys : List ℕ) → Appends a b xs → Appends b c ys → Appends a c (xs ++ ys)
+appends_more None b c xs ys h k = tt
+appends_more (Some xa) None c xs ys h k = absurd h
+appends_more (Some xa) (Some bs) None xs ys h k = absurd k
+appends_more (Some xa) (Some bs) (Some cs) xs ys h k = k ∙ ap (λ (zs : List ℕ). zs ++ ys) h ∙ append_assoc xa xs ys
+
+hands_on_more : (a b c s : Option (List ℕ)) (xs ys : List ℕ) → Appends a b xs → HandsOn b c s ys → HandsOn a c s (xs ++ ys)
+hands_on_more a b c s xs ys h k = record { put = appends_more a b c xs ys h k.put; sent = appends_more a b s xs ys h k.sent }
+
+-- lines were put where the output did not fail
+put_of : (puts : List ℕ → Type 0) (failed : Bool) (lines : List ℕ) (fault : ProgramFault) → HasPut puts failed lines fault → failed ≡ false
+    → (fault ≢ Output) × puts lines
+put_of puts failed lines Output h works = absurd (false≢true (sym works ∙ h))
+put_of puts failed lines fault h works = (λ e. absurd cc, h)
+
+pub ends_in_fault : (c : CommandValue) (before after : Option Held) (written put more sent : Option (List ℕ)) (failed now : Bool) (fault : ProgramFault)
+    → ((lines : List ℕ) × IsRunCause c before after lines fault × HasPut (Appends written put) failed lines fault)
+    → (now ≡ false → (text : List ℕ) × IsPrintedOf fault text × HandsOn put more sent (fault_line text)) → (now ≡ false → failed ≡ false)
+    → EndsInFault c before after (HandsOn written more sent) now
+ends_in_fault c before after written put more sent failed now fault h printed works = (
+  fault,
+  h.0,
+  h.1,
+  λ ok. let p = put_of (Appends written put) failed h.0 fault h.2 (works ok) in
+      let line = printed ok in
+      record { text = line.0; is_text = line.1; is_put = p.0; printed = hands_on_more written put more sent h.0 (fault_line line.0) p.1 line.2 },
+)
+
+-- a fault of renaming is the cause of a fault of the main module
+pub main_cause : (before : Option Held) (path bytes : List ℕ) (f : DedupeFault) → Holds before path bytes → IsDedupeCause bytes f
+    → IsMainCause before path (of_dedupe f)
+main_cause before path bytes dedupe_memory read cause = tt
+main_cause before path bytes f read cause = (bytes, read, (λ e. cc), cause)
+
+-- adapters that are put into a map under their names, which differ
+
+abbrev Pairs : Type 0
+Pairs = List (Bor (List ℕ) × Bor (List ℕ))
+
+abbrev NotEqual : List ℕ → List ℕ → Type 0
+NotEqual a b = a ≢ b
+
+same_names : (before : Option Held) (c : CommandValue) (keys : List NamedKey) (xs : List (List ℕ × List ℕ)) (ys : List (List ℕ × AdapterView))
+    → AllZip (IsAdapterIn before c keys) xs ys → map (λ (y : List ℕ × AdapterView). y.0) ys ≡ first_parts xs
+same_names before c keys [] [] h = refl
+same_names before c keys [] (y ∷ ys) h = absurd h
+same_names before c keys (x ∷ xs) [] h = absurd h
+same_names before c keys (x ∷ xs) (y ∷ ys) h = (λ i. h.0.name i ∷ same_names before c keys xs ys h.1 i)
+
+name_at : (pairs : Pairs) (k : ℕ) (d : Bor (List ℕ) × Bor (List ℕ)) → k < length pairs → Contains (first_parts (map text_pair pairs)) (get_or pairs k d).0.now
+name_at [] k d lt = absurd (omega arith)
+name_at (y ∷ ys) zero d lt = contains_head (first_parts (map text_pair ys)) y.0.now
+name_at (y ∷ ys) (suc k) d lt = contains_tail y.0.now (first_parts (map text_pair ys)) (get_or ys k d).0.now (name_at ys k d (omega arith))
+
+pub name_fresh : (pairs : Pairs) (k : ℕ) (d : Bor (List ℕ) × Bor (List ℕ)) → k < length pairs → AllPairs NotEqual (first_parts (map text_pair pairs))
+    → Contains (first_parts (map text_pair (take k pairs))) (get_or pairs k d).0.now → ⊥
+name_fresh [] k d lt distinct has = absurd (omega arith)
+name_fresh (y ∷ ys) zero d lt distinct has = contains_none y.0.now has
+name_fresh (y ∷ ys) (suc k) d lt distinct has = elim (contains_cons y.0.now (first_parts (map text_pair (take k ys))) (get_or ys k d).0.now has) [
+  | inl same ↦ All-contains (NotEqual y.0.now) (first_parts (map text_pair ys)) (get_or ys k d).0.now
+      (pairs_head NotEqual y.0.now (first_parts (map text_pair ys)) distinct) (name_at ys k d (omega arith)) same
+  | inr later ↦ name_fresh ys k d (omega arith) (pairs_tail NotEqual y.0.now (first_parts (map text_pair ys)) distinct) later
+]
+
+insert_new : (entries : List (String Global × Adapter)) (name : String Global) (adapter : Adapter)
+    → (Contains (map (λ (y : List ℕ × AdapterView). y.0) (map adapter_entry entries)) (string_bytes name) → ⊥)
+    → insert_entry string_eq entries name adapter ≡ entries ++ (name, adapter) ∷ []
+insert_new [] name adapter fresh = refl
+insert_new (e ∷ es) name adapter fresh = elim (cases_Bool (string_eq name e.0)) [
+  | inl same ↦ absurd (fresh (subst (Contains (map (λ (y : List ℕ × AdapterView). y.0) (map adapter_entry (e ∷ es)))) (sym ((texts_law name e.0).0 same))
+      (contains_head (map (λ (y : List ℕ × AdapterView). y.0) (map adapter_entry es)) (string_bytes e.0))))
+  | inr other ↦ rw other (ap (λ l. e ∷ l) (insert_new es name adapter
+      (λ has. fresh (contains_tail (string_bytes e.0) (map (λ (y : List ℕ × AdapterView). y.0) (map adapter_entry es)) (string_bytes name) has))))
+]
+
+path_at : (pairs : Pairs) (k : ℕ) (d : Bor (List ℕ) × Bor (List ℕ)) → k < length pairs → Contains (second_parts (map text_pair pairs)) (get_or pairs k d).1.now
+path_at [] k d lt = absurd (omega arith)
+path_at (y ∷ ys) zero d lt = contains_head (second_parts (map text_pair ys)) y.1.now
+path_at (y ∷ ys) (suc k) d lt = contains_tail y.1.now (second_parts (map text_pair ys)) (get_or ys k d).1.now (path_at ys k d (omega arith))
+
+-- an adapter that could not be read
+pub path_cause : (c : CommandValue) (pairs : Pairs) (k : ℕ) (d : Bor (List ℕ) × Bor (List ℕ)) → k < length pairs → map text_pair pairs ≡ c.adapters
+    → (f : ProgramFault) → IsReadFault (get_or pairs k d).1.now f → IsAdaptersCause c f
+path_cause c pairs k d lt is (CannotRead path) h =
+    subst (Contains (second_parts c.adapters)) (sym h) (subst (λ (l : List (List ℕ × List ℕ)). Contains (second_parts l) (get_or pairs k d).1.now) is
+    (path_at pairs k d lt))
+path_cause c pairs k d lt is f h = absurd h
+
+zip_push : {A B : Type 0} (R : A → B → Type 0) (xs : List A) (ys : List B) (x : A) (y : B) → AllZip R xs ys → R x y → AllZip R (xs ++ x ∷ []) (ys ++ y ∷ [])
+zip_push R [] [] x y h r = (r, tt)
+zip_push R [] (b ∷ ys) x y h r = absurd h
+zip_push R (a ∷ xs) [] x y h r = absurd h
+zip_push R (a ∷ xs) (b ∷ ys) x y h r = (h.0, zip_push R xs ys x y h.1 r)
+
+-- one more adapter
+pub adapters_more : (before : Option Held) (c : CommandValue) (keys : List NamedKey) (pairs : Pairs) (k : ℕ) (d : Bor (List ℕ) × Bor (List ℕ))
+    (entries after : List (String Global × Adapter)) (name : String Global) (adapter : Adapter)
+    → k < length pairs → AllPairs NotEqual (first_parts (map text_pair pairs)) → string_bytes name ≡ (get_or pairs k d).0.now
+    → Holds before (get_or pairs k d).1.now adapter.wasm.items
+    → map key_view adapter.required_exports.keys ≡ required_keys c (Some (get_or pairs k d).0.now) keys → adapter.library_info ≡ None
+    → after ≡ insert_entry string_eq entries name adapter
+    → AllZip (IsAdapterIn before c keys) (map text_pair (take k pairs)) (map adapter_entry entries)
+    → AllZip (IsAdapterIn before c keys) (map text_pair (take (k + 1) pairs)) (map adapter_entry after)
+adapters_more before c keys pairs k d entries after name adapter lt distinct named holds required none put alike =
+    let same = same_names before c keys (map text_pair (take k pairs)) (map adapter_entry entries) alike in
+    let fresh : Contains (map (λ (y : List ℕ × AdapterView). y.0) (map adapter_entry entries)) (string_bytes name)
+    → ⊥ = λ has. name_fresh pairs k d lt distinct (subst (Contains (first_parts (map text_pair (take k pairs)))) named
+    (subst (λ (l : List (List ℕ)). Contains l (string_bytes name)) same has)) in
+    let grown = ap (map adapter_entry) (put ∙ insert_new entries name adapter fresh) ∙ map-append adapter_entry entries ((name, adapter) ∷ []) in
+    let here : IsAdapterIn before c keys (text_pair (get_or pairs k d)) (adapter_entry (name, adapter)) =
+    record { name = named; wasm = holds; required = required; library = ap (option_map library_view) none } in
+    let pushed = zip_push (IsAdapterIn before c keys) (map text_pair (take k pairs)) (map adapter_entry entries) (text_pair (get_or pairs k d))
+    (adapter_entry (name, adapter)) alike here in
+    subst (λ ys. AllZip (IsAdapterIn before c keys) (map text_pair (take (k + 1) pairs)) ys) (sym grown)
+    (subst (λ xs. AllZip (IsAdapterIn before c keys) xs (map adapter_entry entries ++ adapter_entry (name, adapter) ∷ []))
+    (sym (passed_more text_pair pairs k d lt)) pushed)
+
+-- causes of faults that come before there is an encoder
+
+pub resolve_cause : (c : CommandValue) (before : Option Held) (d : DocumentView) (world : ℕ) (f : ResolveFault) → IsDocumentIn before c.worlds d
+    → IsSelected d c.world world → IsResolveCause d.parts f → IsPlanCause c before (of_resolve f)
+resolve_cause c before d world resolve_memory document selected cause = tt
+resolve_cause c before d world f document selected cause = (d, world, document, selected, (λ e. cc), cause)
+
+pub names_cause : (c : CommandValue) (before : Option Held) (d : DocumentView) (world : ℕ) (f : SelectionFault) → IsDocumentIn before c.worlds d
+    → IsSelected d c.world world → IsResolve d.parts → IsNamesCause c (export_keys d.parts world) f → IsPlanCause c before (of_selection f)
+names_cause c before d world selection_memory document selected formed cause = tt
+names_cause c before d world f document selected formed cause = (d, document, inr (world, selected, formed, cause))
+
+pub modules_cause : (c : CommandValue) (before : Option Held) (d : DocumentView) (world : ℕ) (f : ProgramFault) → IsChosen c before d world
+    → IsModulesCause c before f → IsPlanCause c before f
+modules_cause c before d world Memory chosen h = tt
+modules_cause c before d world (CannotRead path) chosen h = inr ((d, world, chosen), h)
+modules_cause c before d world (Dedupe f) chosen h = ((d, world, chosen), h)
+modules_cause c before d world f chosen h = absurd h
+
+pub encoder_cause : (c : CommandValue) (before : Option Held) (e : EncoderView) (f : EncoderFault) → IsPartsOf c before e → IsEncoderCause e f
+    → IsPlanCause c before (of_encoder f)
+encoder_cause c before e encoder_memory parts cause = tt
+encoder_cause c before e f parts cause = (e, parts, (λ e. cc), cause)
+
+pub parts_of : (c : CommandValue) (before : Option Held) (d : DocumentView) (world : ℕ) (keys : List NamedKey) (e : EncoderView) → IsChosen c before d world
+    → e.world ≡ world → e.resolve ≡ d.parts → keys ≡ export_keys d.parts world → IsPartsWith c before keys e → IsPartsOf c before e
+parts_of c before d world keys e chosen at is keyed parts = record {
+  document = d;
+  chosen = subst (IsChosen c before d) (sym at) chosen;
+  resolve = is;
+  parts = subst (λ (k : List NamedKey). IsPartsWith c before k e) (keyed ∙ (λ i. export_keys (sym is i) (sym at i))) parts;
+}

@@ -1,0 +1,21 @@
+use Rattle.wc_world.specs.Options.{plain_options}
+use Rattle.wc_world.specs.WorldViews.{world_view}
+use Rattle.wc_plan_tool.specs.Arguments.{command_value}
+use Rattle.wc_plan_tool.specs.Faults.{of_world}
+use Rattle.wc_plan_tool.proofs.RunLemmas.{quiet, world_cause}
+use Rattle.wc_plan_tool.proofs.program.run_encoder.Goals as goal
+
+pub run_world-requires-clause-made : goal.run_world-requires-clause-made
+run_world-requires-clause-made g c = record { encoder = c.args.encoder.now; encodes = c.requires; world = c.in-Ok.ensures.world }
+
+pub run_world-requires-clause-nameable : goal.run_world-requires-clause-nameable
+run_world-requires-clause-nameable g c = c.worlds_nameable.ensures plain_options (world_view c.in-Ok.world) c.in-Ok.ensures.world
+
+pub returns-in-Err-clause-fault : goal.returns-in-Err-clause-fault
+returns-in-Err-clause-fault g c =
+    let command = command_value c.args.command.now in
+    let before = g.F.FileStore.held c.args.files.now in
+    let written = g.O.Sink.written c.args.out.now in
+    let failed = g.O.Sink.is_failed c.args.out.now in
+    let cause = world_cause command before c.args.encoder.now c.in-Err.fault c.requires c.in-Err.ensures.fault in
+    rw c.from.ensures (quiet command before written failed (of_world c.in-Err.fault) cause)

@@ -1,0 +1,83 @@
+-- The fault for the fault of a call inside; and the texts of faults.
+use Rattle.std.specs.Prelude.{◌≡◌, ℕ, List, ◌++◌, codes, string_bytes}
+use Rattle.wc_tool.specs.FaultTexts.{memory_text}
+use Rattle.wc_json.specs.Faults.{json_fault_text}
+use Rattle.wc_dedupe.specs.declared.fault.DedupeFault.{DedupeFault}
+use Rattle.wc_dedupe.specs.declared.fault.DedupeFault.TheVariants.{Memory as dedupe_memory}
+use Rattle.wc_encoder.specs.declared.fault.EncoderFault.{EncoderFault}
+use Rattle.wc_encoder.specs.declared.fault.EncoderFault.TheVariants.{Memory as encoder_memory}
+use Rattle.wc_json.specs.declared.fault.JsonFault.{JsonFault}
+use Rattle.wc_json.specs.declared.fault.JsonFault.TheVariants.{Memory as json_memory}
+use Rattle.wc_plan.specs.declared.fault.PlanFault.{PlanFault}
+use Rattle.wc_plan.specs.declared.fault.PlanFault.TheVariants.{Memory as plan_memory, Output as plan_output}
+use Rattle.wc_resolve.specs.declared.fault.ResolveFault.{ResolveFault}
+use Rattle.wc_resolve.specs.declared.fault.ResolveFault.TheVariants.{Memory as resolve_memory}
+use Rattle.wc_world.specs.declared.fault.WorldFault.{WorldFault}
+use Rattle.wc_world.specs.declared.fault.WorldFault.TheVariants.{Memory as world_memory}
+use Rattle.wc_plan_tool.specs.declared.faults.SelectionFault.{SelectionFault}
+use Rattle.wc_plan_tool.specs.declared.faults.SelectionFault.TheVariants.{Memory as selection_memory, PackageRange, UnknownWorld, SeveralWorlds, RepeatedAdapter, UnknownAdapter, MainFile, UnknownKey, RepeatedKey}
+use Rattle.wc_plan_tool.specs.declared.faults.ProgramFault.{ProgramFault}
+use Rattle.wc_plan_tool.specs.declared.faults.ProgramFault.TheVariants.{Memory, CannotRead, NotText, Json, Selection, Resolve, Dedupe, Encoder, World, Plan, Output, CannotWrite}
+
+abbrev pub of_json : JsonFault → ProgramFault
+of_json json_memory = Memory
+of_json f = Json f
+
+abbrev pub of_selection : SelectionFault → ProgramFault
+of_selection selection_memory = Memory
+of_selection f = Selection f
+
+abbrev pub of_resolve : ResolveFault → ProgramFault
+of_resolve resolve_memory = Memory
+of_resolve f = Resolve f
+
+abbrev pub of_dedupe : DedupeFault → ProgramFault
+of_dedupe dedupe_memory = Memory
+of_dedupe f = Dedupe f
+
+abbrev pub of_encoder : EncoderFault → ProgramFault
+of_encoder encoder_memory = Memory
+of_encoder f = Encoder f
+
+abbrev pub of_world : WorldFault → ProgramFault
+of_world world_memory = Memory
+of_world f = World f
+
+abbrev pub of_plan : PlanFault → ProgramFault
+of_plan plan_memory = Memory
+of_plan plan_output = Output
+of_plan f = Plan f
+
+-- a name in quotes, between two texts
+abbrev pub quoted : List ℕ → List ℕ → List ℕ → List ℕ
+quoted before name after = before ++ (name ++ after)
+
+abbrev pub selection_fault_text : SelectionFault → List ℕ
+selection_fault_text selection_memory = memory_text
+selection_fault_text PackageRange = codes "package of a world out of range"
+selection_fault_text (UnknownWorld name) = quoted (codes "no world `") name.now (codes "`")
+selection_fault_text (SeveralWorlds name) = quoted (codes "several worlds `") name.now (codes "`")
+selection_fault_text (RepeatedAdapter name) = quoted (codes "adapter `") name.now (codes "` twice")
+selection_fault_text (UnknownAdapter name) = quoted (codes "no adapter `") name.now (codes "`")
+selection_fault_text (MainFile name) = quoted (codes "adapter `") name.now (codes "` in the main module's file")
+selection_fault_text (UnknownKey key) = quoted (codes "no export `") key.now (codes "`")
+selection_fault_text (RepeatedKey key) = quoted (codes "export `") key.now (codes "` twice")
+
+-- the name of a fault, and what `Display` writes of the fault that it carries
+abbrev pub IsCarried : List ℕ → List ℕ → Type 0
+IsCarried name text = (inside : List ℕ) × (text ≡ name ++ (codes ": " ++ inside))
+
+-- the text of a fault. It is open what `Display` writes of the faults of other libraries, but for those of JSON
+abbrev pub IsTextOf : ProgramFault → List ℕ → Type 0
+IsTextOf Memory text = text ≡ memory_text
+IsTextOf (CannotRead path) text = text ≡ codes "cannot read " ++ path.now
+IsTextOf NotText text = text ≡ codes "Json: not UTF-8"
+IsTextOf (Json f) text = text ≡ codes "Json: " ++ json_fault_text f
+IsTextOf (Selection f) text = text ≡ selection_fault_text f
+IsTextOf (Resolve f) text = IsCarried (codes "Resolve") text
+IsTextOf (Dedupe f) text = IsCarried (codes "Dedupe") text
+IsTextOf (Encoder f) text = IsCarried (codes "Encoder") text
+IsTextOf (World f) text = IsCarried (codes "World") text
+IsTextOf (Plan f) text = IsCarried (codes "Plan") text
+IsTextOf Output text = text ≡ codes "Output"
+IsTextOf (CannotWrite path) text = text ≡ codes "cannot write " ++ string_bytes path

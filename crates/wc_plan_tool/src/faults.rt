@@ -1,0 +1,271 @@
+//! Why the program could not do what its arguments say.
+
+ghost use Rattle.std.specs.Prelude.{◌≡◌, IfOk, Some, string_bytes};
+ghost use Rattle.wc_plan_tool.specs.Faults.{IsCarried, IsTextOf};
+
+use std::alloc::{AllocError, AllocFailed, Global};
+use std::error::Error as StdError;
+use std::fmt;
+use wc_dedupe::DedupeFault;
+use wc_encoder::EncoderFault;
+use wc_json::JsonFault;
+use wc_plan::PlanFault;
+use wc_resolve::ResolveFault;
+use wc_world::WorldFault;
+use wc_write::PutFailed;
+
+/// Why no world is selected, or why modules can't export what the arguments say. Of several causes the first in this
+/// order is named; `Memory` may come in place of any.
+#[derive(Clone, Copy, Debug, PartialEq, Eq)]
+pub enum SelectionFault<'a> {
+    /// An allocation failed.
+    Memory,
+    /// The package that a world says to be of is not in range.
+    PackageRange,
+    /// No world has this name.
+    UnknownWorld(&'a str),
+    /// Several worlds have this name.
+    SeveralWorlds(&'a str),
+    /// Two adapters have this name.
+    RepeatedAdapter(&'a str),
+    /// No adapter has the name of one that has to export something.
+    UnknownAdapter(&'a str),
+    /// This adapter would be written to the file of the main module.
+    MainFile(&'a str),
+    /// The world has no export with this key.
+    UnknownKey(&'a str),
+    /// This key of an export is given twice.
+    RepeatedKey(&'a str),
+}
+
+impl fmt::Display for SelectionFault<'_> {
+    ghost use Rattle.wc_plan_tool.specs.Faults.{selection_fault_text};
+
+    ghost output = { λ fault. Some (selection_fault_text fault) };
+
+    fn fmt<W: fmt::Write>(&self, f: &mut fmt::Formatter<W>) -> fmt::Result {
+        match self {
+            SelectionFault::Memory => f.write_str("out of memory"),
+            SelectionFault::PackageRange => f.write_str("package of a world out of range"),
+            SelectionFault::UnknownWorld(name) => write!(f, "no world `{name}`"),
+            SelectionFault::SeveralWorlds(name) => write!(f, "several worlds `{name}`"),
+            SelectionFault::RepeatedAdapter(name) => write!(f, "adapter `{name}` twice"),
+            SelectionFault::UnknownAdapter(name) => write!(f, "no adapter `{name}`"),
+            SelectionFault::MainFile(name) => {
+                write!(f, "adapter `{name}` in the main module's file")
+            }
+            SelectionFault::UnknownKey(key) => write!(f, "no export `{key}`"),
+            SelectionFault::RepeatedKey(key) => write!(f, "export `{key}` twice"),
+        }
+    }
+}
+
+impl StdError for SelectionFault<'_> {}
+
+impl From<AllocError> for SelectionFault<'_> {
+    ghost use Rattle.wc_plan_tool.specs.declared.faults.SelectionFault.TheVariants.{Memory};
+
+    ghost from_gives = { λ _ e. e ≡ Memory };
+
+    fn from(_e: AllocError) -> Self {
+        SelectionFault::Memory
+    }
+}
+
+impl<T: Drop> From<AllocFailed<T>> for SelectionFault<'_> {
+    ghost use Rattle.wc_plan_tool.specs.declared.faults.SelectionFault.TheVariants.{Memory};
+
+    ghost from_gives = { λ _ e. e ≡ Memory };
+
+    fn from(_e: AllocFailed<T>) -> Self {
+        SelectionFault::Memory
+    }
+}
+
+/// Why the program could not do what its arguments say. `run_command` says which of several causes is named; `Memory`
+/// may come in place of any.
+#[derive(Debug, Drop)]
+pub enum ProgramFault<'a> {
+    /// An allocation failed.
+    Memory,
+    /// The file of this path could not be read.
+    CannotRead(&'a str),
+    /// The file of the worlds is not text.
+    NotText,
+    /// The worlds could not be read. It carries why, never `Memory`.
+    Json(JsonFault),
+    /// The arguments name a world, a key or an adapter that isn't there, or one of them twice. It carries why, never
+    /// `Memory`.
+    Selection(SelectionFault<'a>),
+    /// The worlds are not well-formed. It carries why, never `Memory`.
+    Resolve(ResolveFault),
+    /// The imports of the main module could not be renamed. It carries why, never `Memory`.
+    Dedupe(DedupeFault),
+    /// Modules can't be encoded for the world. It carries why, never `Memory`.
+    Encoder(EncoderFault),
+    /// The component has no world. It carries why, never `Memory` itself.
+    World(WorldFault),
+    /// The component's world has no plan. It carries why, never `Memory`.
+    Plan(PlanFault),
+    /// The lines could not be written.
+    Output,
+    /// The file of this path could not be written.
+    CannotWrite(String),
+}
+
+impl ProgramFault<'_> {
+    /// The text of the fault, which the program prints: a path after what could not be done with it, the text of a
+    /// `SelectionFault`, or the name of a fault, `: `, and what `Display` writes of the one that it carries.
+    ///
+    /// # Errors
+    ///
+    /// `AllocError`: an allocation failed.
+    pub fn text(&self, alloc: Global) -> Result<String, AllocError>
+        ensures { IfOk result (λ text. IsTextOf self.now (string_bytes text)) }
+    {
+        match self {
+            ProgramFault::Memory => String::from_str(alloc, "out of memory"),
+            ProgramFault::CannotRead(path) => format!(in alloc; "cannot read {path}"),
+            ProgramFault::NotText => String::from_str(alloc, "Json: not UTF-8"),
+            ProgramFault::Json(fault) => format!(in alloc; "Json: {fault}"),
+            ProgramFault::Selection(fault) => format!(in alloc; "{fault}"),
+            ProgramFault::Resolve(fault) => carried_text(alloc, "Resolve", fault),
+            ProgramFault::Dedupe(fault) => carried_text(alloc, "Dedupe", fault),
+            ProgramFault::Encoder(fault) => carried_text(alloc, "Encoder", fault),
+            ProgramFault::World(fault) => carried_text(alloc, "World", fault),
+            ProgramFault::Plan(fault) => carried_text(alloc, "Plan", fault),
+            ProgramFault::Output => String::from_str(alloc, "Output"),
+            ProgramFault::CannotWrite(path) => format!(in alloc; "cannot write {path}"),
+        }
+    }
+}
+
+/// The name of a fault, `: `, and what `Display` writes of the fault that it carries.
+fn carried_text<F: fmt::Display>(alloc: Global, name: &str, fault: &F) -> Result<String, AllocError>
+    ensures { IfOk result (λ text. IsCarried name.now (string_bytes text)) }
+{
+    let text = fault.to_string(alloc)?;
+    format!(in alloc; "{name}: {text}")
+}
+
+impl From<AllocError> for ProgramFault<'_> {
+    ghost use Rattle.wc_plan_tool.specs.declared.faults.ProgramFault.TheVariants.{Memory};
+
+    ghost from_gives = { λ _ e. e ≡ Memory };
+
+    fn from(_e: AllocError) -> Self {
+        ProgramFault::Memory
+    }
+}
+
+impl<T: Drop> From<AllocFailed<T>> for ProgramFault<'_> {
+    ghost use Rattle.wc_plan_tool.specs.declared.faults.ProgramFault.TheVariants.{Memory};
+
+    ghost from_gives = { λ _ e. e ≡ Memory };
+
+    fn from(_e: AllocFailed<T>) -> Self {
+        ProgramFault::Memory
+    }
+}
+
+impl From<JsonFault> for ProgramFault<'_> {
+    ghost use Rattle.wc_plan_tool.specs.Faults.{of_json};
+
+    ghost from_gives = { λ f e. e ≡ of_json f };
+
+    fn from(e: JsonFault) -> Self {
+        match e {
+            JsonFault::Memory => ProgramFault::Memory,
+            _ => ProgramFault::Json(e),
+        }
+    }
+}
+
+impl<'a> From<SelectionFault<'a>> for ProgramFault<'a> {
+    ghost use Rattle.wc_plan_tool.specs.Faults.{of_selection};
+
+    ghost from_gives = { λ f e. e ≡ of_selection f };
+
+    fn from(e: SelectionFault<'a>) -> ProgramFault<'a> {
+        match e {
+            SelectionFault::Memory => ProgramFault::Memory,
+            _ => ProgramFault::Selection(e),
+        }
+    }
+}
+
+impl From<ResolveFault> for ProgramFault<'_> {
+    ghost use Rattle.wc_plan_tool.specs.Faults.{of_resolve};
+
+    ghost from_gives = { λ f e. e ≡ of_resolve f };
+
+    fn from(e: ResolveFault) -> Self {
+        match e {
+            ResolveFault::Memory => ProgramFault::Memory,
+            _ => ProgramFault::Resolve(e),
+        }
+    }
+}
+
+impl From<DedupeFault> for ProgramFault<'_> {
+    ghost use Rattle.wc_plan_tool.specs.Faults.{of_dedupe};
+
+    ghost from_gives = { λ f e. e ≡ of_dedupe f };
+
+    fn from(e: DedupeFault) -> Self {
+        match e {
+            DedupeFault::Memory => ProgramFault::Memory,
+            _ => ProgramFault::Dedupe(e),
+        }
+    }
+}
+
+impl From<EncoderFault> for ProgramFault<'_> {
+    ghost use Rattle.wc_plan_tool.specs.Faults.{of_encoder};
+
+    ghost from_gives = { λ f e. e ≡ of_encoder f };
+
+    fn from(e: EncoderFault) -> Self {
+        match e {
+            EncoderFault::Memory => ProgramFault::Memory,
+            _ => ProgramFault::Encoder(e),
+        }
+    }
+}
+
+impl From<WorldFault> for ProgramFault<'_> {
+    ghost use Rattle.wc_plan_tool.specs.Faults.{of_world};
+
+    ghost from_gives = { λ f e. e ≡ of_world f };
+
+    fn from(e: WorldFault) -> Self {
+        match e {
+            WorldFault::Memory => ProgramFault::Memory,
+            _ => ProgramFault::World(e),
+        }
+    }
+}
+
+impl From<PlanFault> for ProgramFault<'_> {
+    ghost use Rattle.wc_plan_tool.specs.Faults.{of_plan};
+
+    ghost from_gives = { λ f e. e ≡ of_plan f };
+
+    fn from(e: PlanFault) -> Self {
+        match e {
+            PlanFault::Memory => ProgramFault::Memory,
+            PlanFault::Output => ProgramFault::Output,
+            _ => ProgramFault::Plan(e),
+        }
+    }
+}
+
+impl From<PutFailed> for ProgramFault<'_> {
+    ghost use Rattle.wc_plan_tool.specs.declared.faults.ProgramFault.TheVariants.{Output};
+
+    ghost from_gives = { λ _ e. e ≡ Output };
+
+    fn from(_e: PutFailed) -> Self {
+        ProgramFault::Output
+    }
+}

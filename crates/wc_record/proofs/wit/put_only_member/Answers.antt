@@ -1,0 +1,7 @@
+use Rattle.wc_record.proofs.ShapeLemmas.{no_fields, field_then, object_written}
+use Rattle.wc_record.proofs.wit.put_only_member.Goals as goal
+
+pub returns : goal.returns
+returns g c =
+    object_written _ _ c.in_ok-begin_object.ensures
+    (field_then c.in_ok-put_member.ensures no_fields) c.end_object.ensures

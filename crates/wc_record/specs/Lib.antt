@@ -1,0 +1,11 @@
+pub mod CoreTypes
+pub mod Exports
+pub mod Imports
+pub mod Libraries
+pub mod Modules
+pub mod Plans
+pub mod Shapes
+pub mod Texts
+pub mod Wit
+pub mod Worlds
+pub mod Private

@@ -1,0 +1,170 @@
+//! The exported interfaces that exported interfaces use, as lists.
+
+ghost use Rattle.std.specs.Prelude.{◌≡◌, ◌∷◌, ◌++◌, [], IfOk, OnOk, filter, map};
+ghost use Rattle.std.specs.List.{cons_option};
+ghost use Rattle.wc_encoder.specs.Distinct.{exported_interfaces, item_interface};
+ghost use Rattle.wc_encoder.specs.EncoderParts.{world_exports};
+ghost use Rattle.wc_encoder.specs.Entries.{entries_of};
+ghost use Rattle.wc_resolve.specs.Dependencies.{interface_ids};
+ghost use Rattle.wc_resolve.specs.Views.{item_view};
+ghost use Rattle.wc_world.specs.Used.{has_interface, used_view};
+ghost use Rattle.wc_record.specs.Private.UsedInterfaces.{used_interface_view};
+ghost use Rattle.wc_record.specs.Worlds.{used_interface, used_interfaces};
+
+use crate::objects::{begin_object, end_object, put_member};
+use crate::to_json::ToJson;
+use indexmap::IndexMap;
+use json::Writer;
+use std::alloc::{AllocError, Global};
+use std::collections::{HashMap, HashSet};
+use wc_encoder::ComponentEncoder;
+use wc_resolve::{InterfaceId, WorldItem, WorldKey};
+
+/// An exported interface, and the exported interfaces that it uses.
+#[derive(Drop)]
+pub(crate) struct UsedInterfaces {
+    pub interface: InterfaceId,
+    pub uses: Vec<InterfaceId>,
+}
+
+impl ToJson for UsedInterfaces {
+    ghost use Rattle.wc_record.specs.Private.UsedInterfaces.{used_interface_view};
+    ghost use Rattle.wc_record.specs.Worlds.{UsedInterface, used_interface_json};
+
+    ghost View = { UsedInterface };
+
+    ghost view = { used_interface_view };
+
+    ghost json = { used_interface_json };
+
+    fn write(&self, out: &mut Writer) -> Result<(), AllocError> {
+        begin_object(out)?;
+        put_member(out, "interface", &self.interface)?;
+        put_member(out, "uses", &self.uses)?;
+        end_object(out)
+    }
+}
+
+/// Adds the interface that an item is, if it is one.
+fn add_interface(interfaces: &mut Vec<InterfaceId>, item: &WorldItem) -> Result<(), AllocError>
+    ensures { OnOk result (interface_ids interfaces.new.items
+        ≡ interface_ids interfaces.old.items ++ cons_option (item_interface (item_view item.now)) []) }
+{
+    match item {
+        WorldItem::Interface { id, .. } => interfaces.push(*id)?,
+        WorldItem::Function(_) => {}
+        WorldItem::TypeItem { .. } => {}
+    }
+    Ok(())
+}
+
+/// The interfaces among what a world exports, in order.
+fn interfaces_among(
+    alloc: Global,
+    exports: &IndexMap<WorldKey, WorldItem>,
+) -> Result<Vec<InterfaceId>, AllocError>
+    ensures { IfOk result (λ ids. interface_ids ids.items
+        ≡ exported_interfaces (entries_of exports.now)) }
+{
+    let mut interfaces = Vec::new(alloc);
+    for (_key, item) in exports.iter() {
+        add_interface(&mut interfaces, item)?;
+    }
+    Ok(interfaces)
+}
+
+/// The interfaces that the world of an encoder exports, in order.
+fn exported_interfaces(
+    alloc: Global,
+    encoder: &ComponentEncoder,
+) -> Result<Vec<InterfaceId>, AllocError>
+    ensures { IfOk result (λ ids. interface_ids ids.items
+        ≡ exported_interfaces (world_exports encoder.now)) }
+{
+    encoder.well_formedness();
+    let metadata = encoder.metadata();
+    interfaces_among(alloc, &metadata.resolve.world(metadata.world).exports)
+}
+
+/// Adds an interface, if it is in a set.
+fn add_member(
+    members: &mut Vec<InterfaceId>,
+    set: &HashSet<InterfaceId>,
+    id: InterfaceId,
+) -> Result<(), AllocError>
+    ensures { OnOk result (interface_ids members.new.items ≡ interface_ids members.old.items
+        ++ filter (has_interface set.now) (id.0 ∷ [])) }
+{
+    if set.contains(&id) {
+        members.push(id)?;
+    }
+    Ok(())
+}
+
+/// The interfaces of a list that are in a set.
+fn members_of(
+    alloc: Global,
+    set: &HashSet<InterfaceId>,
+    interfaces: &[InterfaceId],
+) -> Result<Vec<InterfaceId>, AllocError>
+    ensures { IfOk result (λ ids. interface_ids ids.items
+        ≡ filter (has_interface set.now) (interface_ids interfaces.now)) }
+{
+    let mut members = Vec::new(alloc);
+    for id in interfaces {
+        add_member(&mut members, set, *id)?;
+    }
+    Ok(members)
+}
+
+/// Adds an interface with those of a list that are in its set, if it has one.
+fn add_used(
+    alloc: Global,
+    list: &mut Vec<UsedInterfaces>,
+    interfaces: &[InterfaceId],
+    used: &HashMap<InterfaceId, HashSet<InterfaceId>>,
+    id: InterfaceId,
+) -> Result<(), AllocError>
+    ensures { OnOk result (map used_interface_view list.new.items
+        ≡ map used_interface_view list.old.items ++ cons_option
+        (used_interface (interface_ids interfaces.now) (used_view used.now) id.0) []) }
+{
+    if let Some(set) = used.get(&id) {
+        let uses = members_of(alloc, set, interfaces)?;
+        list.push(UsedInterfaces {
+            interface: id,
+            uses,
+        })?;
+    }
+    Ok(())
+}
+
+/// Of each interface of a list that has a set, those of the list that are in it.
+fn used_among(
+    alloc: Global,
+    interfaces: &[InterfaceId],
+    used: &HashMap<InterfaceId, HashSet<InterfaceId>>,
+) -> Result<Vec<UsedInterfaces>, AllocError>
+    ensures { IfOk result (λ list. map used_interface_view list.items
+        ≡ used_interfaces (interface_ids interfaces.now) (used_view used.now)) }
+{
+    let mut list = Vec::new(alloc);
+    for id in interfaces {
+        add_used(alloc, &mut list, interfaces, used, *id)?;
+    }
+    Ok(list)
+}
+
+/// Of each interface that the world of an encoder exports, the exported interfaces that it uses, in the order of the
+/// world's exports.
+pub(crate) fn used_interfaces(
+    alloc: Global,
+    encoder: &ComponentEncoder,
+    used: &HashMap<InterfaceId, HashSet<InterfaceId>>,
+) -> Result<Vec<UsedInterfaces>, AllocError>
+    ensures { IfOk result (λ list. map used_interface_view list.items
+        ≡ used_interfaces (exported_interfaces (world_exports encoder.now)) (used_view used.now)) }
+{
+    let interfaces = exported_interfaces(alloc, encoder)?;
+    used_among(alloc, &interfaces, used)
+}
