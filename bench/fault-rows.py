@@ -33,7 +33,7 @@ CALLS = {
     "example printed_plan": "PlanFault",
     "execute": "ToolFault", "execute_failing": "ToolFault", "each_put_failing": "ToolFault",
     "writer_sink": "PutFailed", "run_program": "RunFault", "parse": "Usage",
-    "wcplan": "ProgramFault", "wcplan_failing": "ProgramFault", "parse_wcplan": "ArgumentFault",
+    "wcplan": "ProgramFault", "wcplan_failing": "ProgramFault", "parse_wcplan": "ArgumentFault", "world_into": "MessageFault",
 }
 # What no row of any input can reach, and why.
 BARRED = {
@@ -42,7 +42,7 @@ BARRED = {
     ("GcFault", "TooLarge"): "a section of 2^32 bytes",
     ("ValidateFault", "WholeDiffers"): "of the arguments of a name the first counts",
     ("ValidateFault", "Mixed"): "of the arguments of a name the first counts",
-    ("Problem", "NotABool"): "no member of a document is a truth value",
+    ("MessageFault", "NotText"): "a row is text",
     ("ProgramFault", "Output"): "no fault is printed then; wcplan.rows: an_output_that_fails_at_once",
 }
 FAILED = "where an allocation fails"
@@ -155,8 +155,19 @@ def rows():
             yield row
 
 
+def texts_in_buffer(lines):
+    """The text of a fault in the front of a buffer that has room for it."""
+    numbers = re.match(r"status 1 fault \d+ length (\d+) ", lines[0])
+    buffer = bytes.fromhex("".join(line[len("buffer "):] for line in lines if line.startswith("buffer ")))
+    if numbers and int(numbers.group(1)) <= len(buffer):
+        yield buffer[:int(numbers.group(1))].decode()
+
+
 def texts(call, lines):
     """The texts of faults among a row's lines of answer."""
+    if call == "world_into":
+        yield from texts_in_buffer(lines)
+        return
     for line in lines:
         if call == "run_program" and line.startswith("printed wctrim: "):
             yield line[len("printed wctrim: "):]

@@ -18,6 +18,7 @@ TOP = pathlib.Path(__file__).resolve().parent.parent
 REACHED = {
     "wc_calls::dedupe": "dedupe_into",
     "wc_calls::trim": "trim_into",
+    "wc_calls::world": "world_into",
     "wc_dedupe::ModuleImportMap::new": "dedupe",
     "wc_encoder::ComponentEncoder::build": "encoder_build",
     "wc_encoder::Item::clone": "item_clone",
@@ -64,7 +65,7 @@ REACHED = {
     "wc_read::read_init": "read_init",
     "wc_read::read_module": "read_module",
     "wc_record::plan_to_json": "plan_json",
-    "wc_record::world_to_json": "wcplan",
+    "wc_record::world_to_json": "world_into",
     "wc_resolve::Function::clone": "function_clone",
     "wc_resolve::Function::find_futures_and_streams": "find_futures_and_streams",
     "wc_resolve::Function::legacy_core_export_name": "legacy_core_export_name",
@@ -108,7 +109,7 @@ REACHED = {
 
 
 # Functions whose status says that memory ran out.
-OTHERS = {("wc_tool", "run"), ("wc_calls", "dedupe"), ("wc_calls", "trim")}
+OTHERS = {("wc_tool", "run"), ("wc_calls", "dedupe"), ("wc_calls", "trim"), ("wc_calls", "world")}
 
 
 def functions():

@@ -14,13 +14,14 @@ ghost use Rattle.std.specs.Option.{option_map};
 ghost use Rattle.wc_read.specs.Sections.{IsComponent};
 ghost use Rattle.wc_dedupe.specs.Dedupe.{IsDeduped};
 ghost use Rattle.wc_calls.specs.Answers.{IsPut, IsTooLong, done, failed, too_small, same, bad_argument};
+ghost use Rattle.wc_calls.specs.ComponentWorlds.{IsFaultOf, IsWorldAnswer};
 ghost use Rattle.wc_calls.specs.Renaming.{IsRenamed, IsRenamingFault};
 ghost use Rattle.wc_calls.specs.Required.{texts, trim_input_of};
 ghost use Rattle.wc_calls.specs.Trimming.{AreArguments, IsRun, IsTrimmingFault};
 ghost use Rattle.nuigatre.specs.Arguments.{optional_name, settings_of};
 
 use std::alloc::Global;
-use wc_calls::{Answer, dedupe, trim};
+use wc_calls::{Answer, dedupe, trim, world};
 
 /// Renames the imports of a module so that no two share a module and a name: `wc_calls::dedupe`.
 #[unsafe(no_mangle)]
@@ -71,6 +72,27 @@ pub extern "C" fn nuigatre_trim(
 {
     let realloc = optional_name(has_realloc, realloc);
     trim(alloc, wasm, required, realloc, page_size_log2, out)
+}
+
+/// Makes the world of a component, which the message describes in JSON: `wc_calls::world`.
+#[unsafe(no_mangle)]
+pub extern "C" fn nuigatre_world(
+    alloc: Global,
+    message: &[u8],
+    modules: &[u8],
+    out: &mut [u8],
+) -> Answer
+    ensures done { result.status ≡ done → IsPut (IsWorldAnswer message.now modules.now
+        result.module_length) result.length out.old out.new }
+    ensures too_small { result.status ≡ too_small → IsTooLong
+        (IsWorldAnswer message.now modules.now result.module_length) result.length out.old }
+    ensures fault { result.status ≡ failed → IsFaultOf message.now modules.now
+        result out.old out.new }
+    ensures unchanged { result.status ≢ done → result.status ≢ failed → out.new ≡ out.old }
+    ensures statuses { (result.status ≤ 5) × (result.status ≢ same)
+        × (result.status ≢ bad_argument) }
+{
+    world(alloc, message, modules, out)
 }
 
 /// The name, where there is one.

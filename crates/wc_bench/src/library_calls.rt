@@ -2,7 +2,7 @@
 
 use crate::examples::calls::trim_to_write;
 use std::alloc::{AllocError, Global};
-use wc_calls::{Answer, MEMORY, dedupe, trim};
+use wc_calls::{Answer, MEMORY, dedupe, trim, world};
 use wc_rows::input::{Stop, answered, bad_row, bytes_of};
 use wc_rows::lines::Lines;
 use wc_rows::rows::Row;
@@ -23,6 +23,8 @@ fn answer_call(alloc: Global, row: &Row<'_>, out: &mut Lines) -> Result<bool, St
         answer_trim(alloc, row, out)?;
     } else if row.call == "trim_to_write" {
         answer_trim_to_write(alloc, row, out)?;
+    } else if row.call == "world_into" {
+        answer_world(alloc, row, out)?;
     } else {
         return Ok(false);
     }
@@ -81,6 +83,39 @@ fn answer_trim_to_write(alloc: Global, row: &Row<'_>, out: &mut Lines) -> Result
     let answer = trim_to_write(alloc, &wasm, &mut buffer);
     put_answer(&answer, &buffer, out);
     Ok(())
+}
+
+/// `world_into ROOM LINES`: the world of a component, in a buffer of so many bytes. So many lines of input are the
+/// message, and the others the bytes of modules.
+fn answer_world(alloc: Global, row: &Row<'_>, out: &mut Lines) -> Result<(), Stop> {
+    let Some((message, bytes)) = parts_of(row) else {
+        return Err(bad_row(out, "no message", row.call));
+    };
+    let message = text_of(alloc, message)?;
+    let modules = bytes_of(alloc, bytes, out)?;
+    let mut buffer = buffer_of(alloc, row, out)?;
+    let answer = world(alloc, message.as_bytes(), &modules, &mut buffer);
+    put_answer(&answer, &buffer, out);
+    Ok(())
+}
+
+/// The lines of a message, whose number is the second argument, and those after them.
+fn parts_of<'r, 'a>(row: &'r Row<'a>) -> Option<(&'r [&'a str], &'r [&'a str])> {
+    let count = row.arguments.get(1)?.parse::<usize>().ok()?;
+    if count > row.input.len() {
+        return None;
+    }
+    Some(row.input.split_at(count))
+}
+
+/// These lines as one text, with a line feed after each.
+fn text_of(alloc: Global, lines: &[&str]) -> Result<String, AllocError> {
+    let mut text = String::new(alloc);
+    for line in lines {
+        text.push_str(line)?;
+        text.push('\n')?;
+    }
+    Ok(text)
 }
 
 fn exponent_of(row: &Row<'_>) -> Option<u32> {

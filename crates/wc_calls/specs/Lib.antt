@@ -1,5 +1,11 @@
 pub mod Answers
+pub mod ComponentWorlds
+pub mod Encoders
 pub mod FaultNumbers
+pub mod Libraries
+pub mod MessageFaults
+pub mod Messages
+pub mod Private
 pub mod Renames
 pub mod Renaming
 pub mod Required

@@ -6,7 +6,8 @@ ghost use Rattle.wc_calls.specs.Answers.{IsFront, done, too_small, failed};
 /// The answer is in the front of the buffer, and the rest of the buffer is as it was.
 pub const DONE: u32 = 0;
 
-/// There is no answer, for the reason whose number the answer has. The buffer is as it was.
+/// There is no answer, for the reason whose number the answer has. The buffer is as it was, or begins with the text of
+/// the reason (`world`).
 pub const FAULT: u32 = 1;
 
 /// The buffer is too small for the answer, and is as it was.
@@ -29,9 +30,10 @@ pub struct Answer {
     pub status: u32,
     /// With `FAULT` the number of the fault; else 0.
     pub fault: u32,
-    /// With `DONE` and `TOO_SMALL` how many bytes the answer has; else 0.
+    /// With `DONE` and `TOO_SMALL` how many bytes the answer has; with `FAULT` of `world` how many the fault's text has;
+    /// else 0.
     pub length: usize,
-    /// How many of these bytes are a module; they are the first ones.
+    /// How many of these bytes are modules; they are the first ones.
     pub module_length: usize,
     /// With `FAULT`, where an export is missing, the position of its name among those that were passed; else 0.
     pub position: usize,

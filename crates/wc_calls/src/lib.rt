@@ -1,6 +1,7 @@
 //! The calls on modules as calls on slices, for a caller that shares no other types: `dedupe` renames the repeated
-//! imports of a module, and `trim` cuts an adapter to what its exports reach. Each writes its answer to the front of a
-//! buffer of the caller's, and returns an `Answer`, which is numbers alone. No call requires anything of its arguments.
+//! imports of a module, `trim` cuts an adapter to what its exports reach, and `world` makes the world of a component, which
+//! is described in JSON. Each writes its answer to the front of a buffer of the caller's, and returns an `Answer`, which
+//! is numbers alone. No call requires anything of its arguments.
 //!
 //! ```rust
 //! use std::alloc::Global;
@@ -21,13 +22,24 @@
 #![tactic(auto)]
 
 mod answers;
+mod component_worlds;
+mod encoders;
 mod fault_numbers;
+mod libraries;
+mod message_fault;
+mod messages;
 mod renames;
 mod renaming;
 mod required;
 mod trimming;
 
 pub use answers::{Answer, BAD_ARGUMENT, DONE, FAULT, MEMORY, SAME, TOO_SMALL};
-pub use fault_numbers::{dedupe_fault_number, gc_fault_number, read_fault_number};
+pub use component_worlds::world;
+pub use fault_numbers::{
+    dedupe_fault_number, encoder_fault_number, gc_fault_number, json_fault_number,
+    message_fault_number, problem_number, read_fault_number, resolve_fault_number,
+    validate_fault_number, world_fault_number,
+};
+pub use message_fault::MessageFault;
 pub use renaming::dedupe;
 pub use trimming::trim;

@@ -477,13 +477,13 @@ fn print_description<O: Output>(description: &Description<'_>, out: &mut O) -> R
 }
 
 /// Prints a record in a line, and flushes.
-fn print_record<O: Output>(record: &[u8], out: &mut O) -> Result<(), PutFailed>
+fn print_record<O: Output>(text: &[u8], out: &mut O) -> Result<(), PutFailed>
     ensures printed { OnOk result (HandsOn (O.written out.old) (O.written out.new)
-        (O.sent out.new) (record.now ++ codes "\n")) }
+        (O.sent out.new) (text.now ++ codes "\n")) }
     ensures works { OnOk result (O.is_failed out.new ≡ false) }
     ensures fails { OnErr result (O.is_failed out.new ≡ true) }
 {
-    out.put(record)?;
+    out.put(text)?;
     out.put(LINE_FEED)?;
     out.flush()
 }

@@ -14,6 +14,20 @@ pub enum Error {
     Dedupe(DedupeFault),
     /// The adapter could not be trimmed.
     Trim(GcFault),
+    /// There is no world of the component.
+    World(WorldFault),
+}
+
+/// Why a component has no world.
+#[derive(Clone, Debug, PartialEq, Eq)]
+pub struct WorldFault {
+    /// Its number. In the lowest byte is the step: 2 the message is not what it has to be, 3 no world has the name,
+    /// 4 the modules have another length, 5 the worlds are not well-formed, 6 two adapters have one name, 7 the main
+    /// module's imports could not be renamed, 8 the parts are no encoder's, 9 a module is refused. In the bytes above are
+    /// the numbers of the faults that it carries, each its position in its enum.
+    pub number: u32,
+    /// Its text, with the names and the path that it carries.
+    pub text: String,
 }
 
 /// Why bytes are no module.
@@ -199,7 +213,14 @@ impl Display for Error {
             }
             Error::Dedupe(fault) => write!(f, "Dedupe: {fault}"),
             Error::Trim(fault) => write!(f, "Trim: {fault}"),
+            Error::World(fault) => write!(f, "{fault}"),
         }
+    }
+}
+
+impl Display for WorldFault {
+    fn fmt(&self, f: &mut Formatter<'_>) -> fmt::Result {
+        f.write_str(&self.text)
     }
 }
 
@@ -236,10 +257,12 @@ impl error::Error for Error {
             Error::Memory | Error::BadArgument => None,
             Error::Dedupe(fault) => Some(fault),
             Error::Trim(fault) => Some(fault),
+            Error::World(fault) => Some(fault),
         }
     }
 }
 
+impl error::Error for WorldFault {}
 impl error::Error for ReadFault {}
 impl error::Error for DedupeFault {}
 impl error::Error for GcFault {}

@@ -49,6 +49,15 @@ unsafe extern "C" {
         out: *mut u8,
         out_length: usize,
     ) -> Answer;
+
+    fn nuigatre_world(
+        message: *const u8,
+        message_length: usize,
+        modules: *const u8,
+        modules_length: usize,
+        out: *mut u8,
+        out_length: usize,
+    ) -> Answer;
 }
 
 /// How a trim is asked for.
@@ -62,15 +71,20 @@ pub(crate) struct TrimArguments<'a> {
 
 /// What a call answers, where memory did not run out and the arguments are such.
 pub(crate) enum Answered {
-    /// These bytes, the first of which are a module.
+    /// These bytes, the first of which are modules.
     Bytes {
         bytes: Vec<u8>,
         module_length: usize,
     },
     /// The input itself.
     Same,
-    /// The fault of this number. Where an export is missing, `position` is where its name is among those passed.
-    Fault { number: u32, position: usize },
+    /// The fault of this number. Where an export is missing, `position` is where its name is among those passed. `text`
+    /// is that of a fault of a component's world.
+    Fault {
+        number: u32,
+        position: usize,
+        text: String,
+    },
 }
 
 impl<'a> Slice<'a> {
@@ -120,6 +134,23 @@ pub(crate) fn trim(arguments: TrimArguments<'_>, room: usize) -> Result<Answered
     })
 }
 
+/// Makes the world of a component. The answer has the bytes of its modules, and then its record as JSON.
+pub(crate) fn world(message: &[u8], modules: &[u8], room: usize) -> Result<Answered, Error> {
+    answered(room, |out| {
+        // SAFETY: as above.
+        unsafe {
+            nuigatre_world(
+                message.as_ptr(),
+                message.len(),
+                modules.as_ptr(),
+                modules.len(),
+                out.as_mut_ptr(),
+                out.len(),
+            )
+        }
+    })
+}
+
 /// Calls with a buffer of `room` bytes; once more, with one as long as the answer, where that is too small.
 fn answered(room: usize, call: impl Fn(&mut [u8]) -> Answer) -> Result<Answered, Error> {
     let mut room = room;
@@ -138,10 +169,13 @@ fn answered(room: usize, call: impl Fn(&mut [u8]) -> Answer) -> Result<Answered,
             }
             TOO_SMALL => room = answer.length,
             SAME => return Ok(Answered::Same),
+            // the text of the fault had no room
+            FAULT if answer.length > bytes.len() => room = answer.length,
             FAULT => {
                 return Ok(Answered::Fault {
                     number: answer.fault,
                     position: answer.position,
+                    text: String::from_utf8_lossy(&bytes[..answer.length]).into_owned(),
                 });
             }
             BAD_ARGUMENT => return Err(Error::BadArgument),

@@ -44,7 +44,9 @@ pub fn run(
     match ffi::trim(arguments, room)? {
         Answered::Bytes { bytes, .. } => Ok(bytes),
         Answered::Same => unreachable!("a trim always has bytes of its own"),
-        Answered::Fault { number, position } => {
+        Answered::Fault {
+            number, position, ..
+        } => {
             let fault = GcFault::from_number(number, required.get(position).copied());
             Err(Error::Trim(fault.expect("a fault of trimming")))
         }

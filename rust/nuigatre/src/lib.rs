@@ -1,9 +1,9 @@
 //! Core WebAssembly modules made ready to be parts of a component: repeated imports renamed
-//! ([`ModuleImportMap`]), adapters trimmed to what is used of them ([`gc::run`]). The names are those of the Rust crate
-//! `wit-component`, and so is what they do.
+//! ([`ModuleImportMap`]), adapters trimmed to what is used of them ([`gc::run`]), and all of that for the world of a
+//! component ([`ComponentWorld`]). The names are those of the Rust crate `wit-component`, and so is what they do.
 //!
 //! The work is done by `libnuigatre.a`, whose functions are proved: each ends on all bytes, and answers what its
-//! contract says. This crate is the way there, and is tested: a heap, two calls, and the reading of their answers. It
+//! contract says. This crate is the way there, and is tested: a heap, three calls, and the reading of their answers. It
 //! has no dependency but the standard library. Calls keep nothing, and may run on several threads at once.
 //!
 //! ```
@@ -26,17 +26,35 @@
 #![deny(unsafe_code)]
 #![warn(missing_docs)]
 
+mod core_types;
+mod encoder;
 mod error;
+mod exports;
 #[allow(unsafe_code)]
 mod ffi;
 pub mod gc;
 #[allow(unsafe_code)]
 mod heap;
+mod ids;
+mod imports;
+mod json;
 mod module_import_map;
+mod ordered_map;
+mod read;
 mod renames;
+mod world;
 
 #[cfg(test)]
 mod allocation_tests;
 
-pub use error::{DedupeFault, Error, GcFault, ReadFault};
+pub use core_types::{ExportKind, FuncType, MemoryType, ValType, WasmSignature, WasmType};
+pub use encoder::{Adapter, ComponentEncoder, Instance, Item, LibraryInfo, MainOrAdapter, World};
+pub use error::{DedupeFault, Error, GcFault, ReadFault, WorldFault};
+pub use exports::{Export, ExportMap};
+pub use ids::{AbiVariant, InterfaceId, StringEncoding, TypeId, WorldKey};
+pub use imports::{Import, ImportInstance, ImportMap, PayloadInfo, PayloadType};
 pub use module_import_map::{ModuleImportMap, Rename};
+pub use ordered_map::OrderedMap;
+pub use world::{
+    ComponentWorld, ImportedInterface, Lowering, RequiredOptions, ValidatedModule, WorldAdapter,
+};

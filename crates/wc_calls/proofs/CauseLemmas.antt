@@ -1,0 +1,115 @@
+-- Causes of faults, step by step.
+use Rattle.std.proofs.Common.{◌≡◌, ◌≢◌, ℕ, ◌+◌, ◌<◌, Bool, false, List, [], ◌++◌, map, length, sum, ◌∷◌, Option, unwrap_or, Result, Ok, Err, IfErr, ap, ◌∙◌, arith}
+use Rattle.std.proofs.lemmas.List.{length-append}
+use Rattle.std.proofs.lemmas.List.Sums.{sum_by-cons}
+use Rattle.json.specs.Json.{document}
+use Rattle.wc_dedupe.specs.Dedupe.{IsCause as IsDedupeCause, IsDeduped, renames_in}
+use Rattle.wc_dedupe.specs.Renaming.{RenameValue}
+use Rattle.wc_dedupe.specs.declared.fault.DedupeFault.{DedupeFault}
+use Rattle.wc_dedupe.specs.declared.fault.DedupeFault.TheVariants.{Memory as dedupe_memory}
+use Rattle.wc_encoder.specs.Adapters.{AdapterView}
+use Rattle.wc_encoder.specs.EncoderParts.{EncoderView}
+use Rattle.wc_encoder.specs.Fault.{IsCause as IsEncoderCause}
+use Rattle.wc_encoder.specs.declared.fault.EncoderFault.{EncoderFault}
+use Rattle.wc_encoder.specs.declared.fault.EncoderFault.TheVariants.{Memory as encoder_memory}
+use Rattle.wc_json.specs.FromJson.{IsCauseOf}
+use Rattle.wc_json.specs.declared.fault.JsonFault.{JsonFault}
+use Rattle.wc_json.specs.declared.fault.JsonFault.TheVariants.{Memory as json_memory}
+use Rattle.wc_resolve.specs.Views.{KeyView}
+use Rattle.wc_resolve.specs.World.{ResolveView}
+use Rattle.wc_resolve.specs.Faults.{IsCause as IsResolveCause}
+use Rattle.wc_resolve.specs.declared.fault.ResolveFault.{ResolveFault}
+use Rattle.wc_resolve.specs.declared.fault.ResolveFault.TheVariants.{Memory as resolve_memory}
+use Rattle.wc_calls.specs.Encoders.{AreAdaptersOf, AreChosen, IsMessage, IsPartsOf, key_set}
+use Rattle.wc_calls.specs.MessageFaults.{IsAdaptersCause, IsMessageCause, IsPartsCause, IsRenamingCause, of_dedupe, of_encoder, of_json, of_resolve, sizes}
+use Rattle.wc_calls.specs.Messages.{AdapterMessageView, MessageView, message}
+use Rattle.wc_calls.specs.declared.message_fault.MessageFault.{MessageFault}
+use Rattle.wc_calls.specs.declared.message_fault.MessageFault.TheVariants.{Memory, NotText, Json, Lengths, AdapterTwice, Dedupe, Encoder, World}
+
+sum_cons : (n : ℕ) (ns : List ℕ) → sum (n ∷ ns) ≡ n + sum ns
+sum_cons n ns = sum_by-cons (λ k. k) n ns
+
+-- a fault of renaming
+pub renaming_cause : (bytes : List ℕ) (f : DedupeFault) → IsDedupeCause bytes f → IsRenamingCause bytes (of_dedupe f)
+renaming_cause bytes dedupe_memory h = tt
+renaming_cause bytes f h = h
+
+-- faults of the parts of an encoder
+
+pub resolve_cause : (m : MessageView) (modules : List ℕ) (f : ResolveFault) → IsResolveCause m.document.parts f → IsPartsCause m modules (of_resolve f)
+resolve_cause m modules resolve_memory h = tt
+resolve_cause m modules f h = h
+
+pub fewer_bytes : (m : MessageView) (modules : List ℕ) → length modules < m.size → sizes m ≢ length modules
+fewer_bytes m modules fewer same = omega (arith, fewer, same, sum_cons m.size (map (λ (a : AdapterMessageView). a.size) m.adapters))
+
+pub adapters_cause : (m : MessageView) (modules main others : List ℕ) (f : MessageFault) → modules ≡ main ++ others → length main ≡ m.size
+    → IsAdaptersCause m.adapters others f → IsPartsCause m modules f
+adapters_cause m modules main others Memory cut size h = tt
+adapters_cause m modules main others Lengths cut size h = λ same.
+    let whole : length modules ≡ length main + length others = ap length cut ∙ length-append main others in
+    h (omega (arith, whole, sum_cons m.size (map (λ (a : AdapterMessageView). a.size) m.adapters), size, same))
+adapters_cause m modules main others (AdapterTwice name) cut size h = h
+adapters_cause m modules main others f cut size h = absurd h
+
+pub main_cause : (m : MessageView) (modules main others : List ℕ) (f : MessageFault) → modules ≡ main ++ others → length main ≡ m.size → IsRenamingCause main f
+    → IsPartsCause m modules f
+main_cause m modules main others Memory cut size h = tt
+main_cause m modules main others (Dedupe f) cut size h = (main, others, cut, size, h)
+main_cause m modules main others f cut size h = absurd h
+
+pub encoder_cause : (m : MessageView) (modules : List ℕ) (e : EncoderView) (f : EncoderFault) → IsPartsOf m modules e → IsEncoderCause e f
+    → IsPartsCause m modules (of_encoder f)
+encoder_cause m modules e encoder_memory is h = tt
+encoder_cause m modules e f is h = (e, is, h)
+
+-- the parts of an encoder
+pub parts_of : (m : MessageView) (modules main others : List ℕ) (world : ℕ) (wasm : List ℕ) (renames : Option (List RenameValue)) (resolve : ResolveView)
+    (keys : List KeyView) (adapters : List (List ℕ × AdapterView)) (rejects grows : Bool) (hook : List ℕ) → AreChosen m modules world main others
+    → IsDeduped main wasm (renames_in renames) → resolve ≡ m.document.parts → keys ≡ key_set m.exports → AreAdaptersOf m.adapters others adapters
+    → rejects ≡ unwrap_or m.reject_legacy_names false → grows ≡ unwrap_or m.realloc_via_memory_grow false → hook ≡ unwrap_or m.task_hook []
+    → IsPartsOf m modules (record {
+      module_bytes = wasm;
+      module_import_map = renames;
+      resolve = resolve;
+      world = world;
+      main_module_exports = keys;
+      adapters = adapters;
+      reject_legacy_names = rejects;
+      realloc_via_memory_grow = grows;
+      task_hook = hook;
+    })
+parts_of m modules main others world wasm renames resolve keys adapters rejects grows hook chosen deduped resolved keyed adapted rejecting growing hooked = record {
+  main = main;
+  others = others;
+  cut = chosen.cut;
+  size = chosen.size;
+  renamed = deduped;
+  resolve = resolved;
+  world = chosen.named;
+  exports = keyed;
+  adapters = adapted;
+  rejects = rejecting;
+  grows = growing;
+  hook = hooked;
+}
+
+-- faults of a message
+
+pub json_cause : (text modules : List ℕ) (f : JsonFault) → IsCauseOf message (document text) f → IsMessageCause text modules (of_json f)
+json_cause text modules json_memory h = tt
+json_cause text modules f h = h
+
+pub parts_cause : (text modules : List ℕ) (m : MessageView) (f : MessageFault) → IsMessage text m → IsPartsCause m modules f → IsMessageCause text modules f
+parts_cause text modules m Memory is h = tt
+parts_cause text modules m NotText is h = absurd h
+parts_cause text modules m (Json f) is h = absurd h
+parts_cause text modules m (World f) is h = absurd h
+parts_cause text modules m (Dedupe f) is h = (m, is, h.0, h.1, h.2, h.3, h.4)
+parts_cause text modules m (Encoder f) is h = (m, is, h.0, h.1, h.2)
+parts_cause text modules m f is h = (m, is, h)
+
+pub message_causes : {X : Type 0} (text modules : List ℕ) (m : MessageView) (r : Result X MessageFault) → IsMessage text m → IfErr r (IsPartsCause m modules)
+    → IfErr r (IsMessageCause text modules)
+message_causes text modules m (Ok x) is h = tt
+message_causes text modules m (Err f) is h = parts_cause text modules m f is h

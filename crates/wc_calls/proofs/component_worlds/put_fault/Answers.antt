@@ -1,0 +1,18 @@
+use Rattle.std.proofs.Common.{List, ℕ, length, ◌≡◌, ◌≤◌, ◌<◌, ◌∙◌, ap, refl, subst}
+use Rattle.wc_calls.specs.Answers.{IsFront}
+use Rattle.wc_calls.proofs.ComponentWorldLemmas.{put_or_longer}
+use Rattle.wc_calls.proofs.component_worlds.put_fault.Goals as goal
+
+pub returns : goal.returns
+returns c =
+    let old = c.args.out.now in
+    let new = c.put-answer.new.out in
+    let p = put_or_longer c.put-answer.result.status c.put-answer.result.length c.as_bytes.result.now old new c.put-answer.ensures.length c.put-answer.ensures.done
+    c.put-answer.ensures.too_small c.put-answer.ensures.unchanged c.put-answer.ensures.statuses in
+    record {
+      status = refl;
+      number = c.message_fault_number.ensures;
+      size = c.put-answer.ensures.length ∙ ap length c.as_bytes.ensures.value;
+      put = subst (λ (t : List ℕ). length t ≤ length old → IsFront t old new) c.as_bytes.ensures.value p.0;
+      longer = subst (λ (t : List ℕ). length old < length t → new ≡ old) c.as_bytes.ensures.value p.1;
+    }

@@ -1,0 +1,87 @@
+-- Why a message has no component's world.
+use Rattle.std.specs.Prelude.{◌≡◌, ◌≢◌, ◌++◌, ℕ, List, ◌∷◌, map, length, sum, None, ⊤}
+use Rattle.std.specs.Str.{IsUtf8}
+use Rattle.json.specs.Json.{document}
+use Rattle.wc_dedupe.specs.Dedupe.{IsCause as IsDedupeCause}
+use Rattle.wc_dedupe.specs.declared.fault.DedupeFault.{DedupeFault}
+use Rattle.wc_dedupe.specs.declared.fault.DedupeFault.TheVariants.{Memory as dedupe_memory}
+use Rattle.wc_encoder.specs.EncoderParts.{EncoderView}
+use Rattle.wc_encoder.specs.Fault.{IsCause as IsEncoderCause}
+use Rattle.wc_encoder.specs.declared.fault.EncoderFault.{EncoderFault}
+use Rattle.wc_encoder.specs.declared.fault.EncoderFault.TheVariants.{Memory as encoder_memory}
+use Rattle.wc_json.specs.FromJson.{IsCauseOf}
+use Rattle.wc_json.specs.declared.fault.JsonFault.{JsonFault}
+use Rattle.wc_json.specs.declared.fault.JsonFault.TheVariants.{Memory as json_memory}
+use Rattle.wc_resolve.specs.Faults.{IsCause as IsResolveCause}
+use Rattle.wc_resolve.specs.declared.fault.ResolveFault.{ResolveFault}
+use Rattle.wc_resolve.specs.declared.fault.ResolveFault.TheVariants.{Memory as resolve_memory}
+use Rattle.wc_plan.specs.EncoderFaults.{IsWorldCause}
+use Rattle.wc_world.specs.declared.fault.WorldFault.{WorldFault}
+use Rattle.wc_world.specs.declared.fault.WorldFault.TheVariants.{Memory as world_memory}
+use Rattle.wc_calls.specs.Encoders.{AreNamesDistinct, IsEncoderOf, IsMessage, IsPartsOf, world_of}
+use Rattle.wc_calls.specs.Messages.{AdapterMessageView, MessageView, message}
+use Rattle.wc_calls.specs.declared.message_fault.MessageFault.{MessageFault}
+use Rattle.wc_calls.specs.declared.message_fault.MessageFault.TheVariants.{Memory, NotText, Json, UnknownWorld, Lengths, Resolve, AdapterTwice, Dedupe, Encoder, World}
+
+-- faults that are carried; that of memory as the own one
+
+abbrev pub of_json : JsonFault → MessageFault
+of_json json_memory = Memory
+of_json f = Json f
+
+abbrev pub of_resolve : ResolveFault → MessageFault
+of_resolve resolve_memory = Memory
+of_resolve f = Resolve f
+
+abbrev pub of_dedupe : DedupeFault → MessageFault
+of_dedupe dedupe_memory = Memory
+of_dedupe f = Dedupe f
+
+abbrev pub of_encoder : EncoderFault → MessageFault
+of_encoder encoder_memory = Memory
+of_encoder f = Encoder f
+
+abbrev pub of_world : WorldFault → MessageFault
+of_world world_memory = Memory
+of_world f = World f
+
+-- how many bytes the modules of a message have
+abbrev pub sizes : MessageView → ℕ
+sizes m = sum (m.size ∷ map (λ (a : AdapterMessageView). a.size) m.adapters)
+
+-- the cause of each fault, for the bytes of a message and of modules
+abbrev pub IsMessageCause : List ℕ → List ℕ → MessageFault → Type 0
+IsMessageCause text modules Memory = ⊤
+IsMessageCause text modules NotText = ¬ IsUtf8 text
+IsMessageCause text modules (Json f) = IsCauseOf message (document text) f
+IsMessageCause text modules UnknownWorld = (m : MessageView) × IsMessage text m × (world_of m.document.parts.worlds m.world ≡ None)
+IsMessageCause text modules Lengths = (m : MessageView) × IsMessage text m × (sizes m ≢ length modules)
+IsMessageCause text modules (Resolve f) = (m : MessageView) × IsMessage text m × IsResolveCause m.document.parts f
+IsMessageCause text modules (AdapterTwice name) = (m : MessageView) × IsMessage text m × (¬ AreNamesDistinct m.adapters)
+IsMessageCause text modules (Dedupe f) =
+    (m : MessageView) × IsMessage text m × (main : List ℕ) × (rest : List ℕ) × (modules ≡ main ++ rest) × (length main ≡ m.size) × IsDedupeCause main f
+IsMessageCause text modules (Encoder f) = (m : MessageView) × IsMessage text m × (e : EncoderView) × IsPartsOf m modules e × IsEncoderCause e f
+IsMessageCause text modules (World f) = (e : EncoderView) × IsEncoderOf text modules e × IsWorldCause e f
+
+-- why a step of the encoder's making fails, for a message that is read
+abbrev pub IsPartsCause : MessageView → List ℕ → MessageFault → Type 0
+IsPartsCause m modules Memory = ⊤
+IsPartsCause m modules UnknownWorld = world_of m.document.parts.worlds m.world ≡ None
+IsPartsCause m modules Lengths = sizes m ≢ length modules
+IsPartsCause m modules (Resolve f) = IsResolveCause m.document.parts f
+IsPartsCause m modules (AdapterTwice name) = ¬ AreNamesDistinct m.adapters
+IsPartsCause m modules (Dedupe f) = (main : List ℕ) × (rest : List ℕ) × (modules ≡ main ++ rest) × (length main ≡ m.size) × IsDedupeCause main f
+IsPartsCause m modules (Encoder f) = (e : EncoderView) × IsPartsOf m modules e × IsEncoderCause e f
+IsPartsCause m modules f = ⊥
+
+-- the adapters' bytes have other lengths, or two adapters have one name
+abbrev pub IsAdaptersCause : List AdapterMessageView → List ℕ → MessageFault → Type 0
+IsAdaptersCause ms bytes Memory = ⊤
+IsAdaptersCause ms bytes Lengths = sum (map (λ (a : AdapterMessageView). a.size) ms) ≢ length bytes
+IsAdaptersCause ms bytes (AdapterTwice name) = ¬ AreNamesDistinct ms
+IsAdaptersCause ms bytes f = ⊥
+
+abbrev pub IsRenamingCause : List ℕ → MessageFault → Type 0
+IsRenamingCause bytes Memory = ⊤
+IsRenamingCause bytes (Dedupe f) = IsDedupeCause bytes f
+IsRenamingCause bytes f = ⊥

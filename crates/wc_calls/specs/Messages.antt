@@ -1,0 +1,103 @@
+-- Messages, and how they are read from JSON values.
+use Rattle.std.specs.Prelude.{ℕ, Bool, List, map, Option, Ok, codes, string_bytes}
+use Rattle.std.specs.Option.{option_map}
+use Rattle.json.specs.Json.{Json, string}
+use Rattle.wc_encoder.specs.Adapters.{LibraryView}
+use Rattle.wc_json.specs.Document.{DocumentView, document_of, document_view}
+use Rattle.wc_json.specs.Faults.{Reading, ◌>>=◌}
+use Rattle.wc_json.specs.FromJson.{list, text, truth}
+use Rattle.wc_json.specs.Ids.{index}
+use Rattle.wc_json.specs.Keys.{key}
+use Rattle.wc_json.specs.Members.{optional_member, required_member}
+use Rattle.wc_resolve.specs.Views.{KeyView, key_view}
+use Rattle.wc_calls.specs.Libraries.{library, library_message_view}
+use Rattle.wc_calls.specs.declared.messages.AdapterMessage.{AdapterMessage}
+use Rattle.wc_calls.specs.declared.messages.Message.{Message}
+use Rattle.wc_calls.specs.declared.messages.WorldName.{WorldName}
+use Rattle.wc_calls.specs.declared.messages.WorldName.TheVariants.{Index, Name}
+
+-- the world at an index, or the first of a name
+pub data WorldNameView : Type 0 where
+  at_index : ℕ → WorldNameView
+  of_name : List ℕ → WorldNameView
+
+abbrev pub world_name_view : WorldName → WorldNameView
+world_name_view (Index id) = at_index id.0
+world_name_view (Name name) = of_name (string_bytes name)
+
+abbrev pub world_index : Json → Reading WorldNameView
+world_index j = index j >>= (λ n. Ok (at_index n))
+
+-- a text is a name
+abbrev pub world_name : Json → Reading WorldNameView
+world_name (string s) = Ok (of_name s)
+world_name j = world_index j
+
+-- an adapter or a library: its name, how many bytes it has, the keys that it has to export, and how it is instantiated, if
+-- it is a library
+pub record AdapterMessageView : Type 0 where
+  pub name : List ℕ
+  pub size : ℕ
+  pub exports : List KeyView
+  pub library_info : Option LibraryView
+
+abbrev pub adapter_message_view : AdapterMessage → AdapterMessageView
+adapter_message_view a = record {
+  name = string_bytes a.name;
+  size = a.length;
+  exports = map key_view a.exports.items;
+  library_info = option_map library_message_view a.library_info;
+}
+
+abbrev pub adapter_message : Json → Reading AdapterMessageView
+adapter_message j = do
+  name ← required_member (codes "name") text j
+  size ← required_member (codes "length") index j
+  exports ← required_member (codes "exports") (list key) j
+  library_info ← optional_member (codes "library_info") library j
+  Ok (record { name = name; size = size; exports = exports; library_info = library_info })
+
+-- the worlds, interfaces, types and packages; the world; flags, which may be missing, and the name of the task hook; how
+-- many bytes the main module has, and the keys that it has to export; and the adapters
+pub record MessageView : Type 0 where
+  pub document : DocumentView
+  pub world : WorldNameView
+  pub reject_legacy_names : Option Bool
+  pub realloc_via_memory_grow : Option Bool
+  pub task_hook : Option (List ℕ)
+  pub size : ℕ
+  pub exports : List KeyView
+  pub adapters : List AdapterMessageView
+
+abbrev pub message_view : Message → MessageView
+message_view m = record {
+  document = document_view m.document;
+  world = world_name_view m.world;
+  reject_legacy_names = m.reject_legacy_names;
+  realloc_via_memory_grow = m.realloc_via_memory_grow;
+  task_hook = option_map string_bytes m.task_hook;
+  size = m.length;
+  exports = map key_view m.exports.items;
+  adapters = map adapter_message_view m.adapters.items;
+}
+
+abbrev pub message : Json → Reading MessageView
+message j = do
+  document ← required_member (codes "resolve") document_of j
+  world ← required_member (codes "world") world_name j
+  reject_legacy_names ← optional_member (codes "reject_legacy_names") truth j
+  realloc_via_memory_grow ← optional_member (codes "realloc_via_memory_grow") truth j
+  task_hook ← optional_member (codes "task_hook") text j
+  size ← required_member (codes "length") index j
+  exports ← required_member (codes "exports") (list key) j
+  adapters ← required_member (codes "adapters") (list adapter_message) j
+  Ok (record {
+    document = document;
+    world = world;
+    reject_legacy_names = reject_legacy_names;
+    realloc_via_memory_grow = realloc_via_memory_grow;
+    task_hook = task_hook;
+    size = size;
+    exports = exports;
+    adapters = adapters;
+  })

@@ -1,0 +1,150 @@
+//! The call that makes a component's world.
+
+ghost use Rattle.std.specs.Prelude.{◌≡◌, ◌≢◌, ◌++◌, ◌≤◌, ◌⊎◌, IfErr, IfOk, List, length, ℕ};
+ghost use Rattle.wc_world.specs.WorldViews.{world_view};
+ghost use Rattle.wc_calls.specs.Answers.{IsPut, IsTooLong, bad_argument, done, failed, out_of_memory, same, too_small};
+ghost use Rattle.wc_record.specs.Texts.{world_text};
+ghost use Rattle.wc_calls.specs.ComponentWorlds.{IsFaultAnswer, IsFaultOf, IsWorldAnswer, modules_text};
+ghost use Rattle.wc_calls.specs.Private.EncoderAnswers.{IsAnswerFor, IsFaultFor};
+ghost use Rattle.wc_calls.specs.MessageFaults.{IsMessageCause};
+
+use crate::answers::{Answer, FAULT, MEMORY, answer_without_bytes, put};
+use crate::encoders::encoder_from;
+use crate::fault_numbers::message_fault_number;
+use crate::message_fault::MessageFault;
+use std::alloc::{AllocError, Global};
+use wc_encoder::ComponentEncoder;
+use wc_record::world_to_json;
+use wc_world::{ComponentWorld, PlainOptions};
+
+/// The bytes of a component's modules, and its world as JSON.
+#[derive(Drop)]
+struct WorldAnswer {
+    modules: Vec<u8>,
+    json: Vec<u8>,
+}
+
+/// The bytes of the main module and of the adapters, one after another.
+fn modules_of(alloc: Global, world: &ComponentWorld<'_>) -> Result<Vec<u8>, AllocError>
+    ensures { IfOk result (λ bytes. bytes.items ≡ modules_text (world_view world.now)) }
+{
+    let mut modules = Vec::from_slice(alloc, world.encoder.module())?;
+    for (_name, adapter) in world.adapters.iter() {
+        modules.extend_from_slice(adapter.wasm.as_slice())?;
+    }
+    Ok(modules)
+}
+
+/// What a message is answered.
+fn answer_to(alloc: Global, message: &[u8], modules: &[u8]) -> Result<WorldAnswer, MessageFault>
+    ensures answer { IfOk result (λ a. IsWorldAnswer message.now modules.now
+        (length a.modules.items) (a.modules.items ++ a.json.items)) }
+    ensures fault { IfErr result (IsMessageCause message.now modules.now) }
+{
+    let encoder = encoder_from(alloc, message, modules)?;
+    answer_of_encoder(alloc, &encoder)
+}
+
+/// What is answered for an encoder.
+fn answer_of_encoder(alloc: Global, encoder: &ComponentEncoder) -> Result<WorldAnswer, MessageFault>
+    ensures answer { IfOk result (λ a. IsAnswerFor encoder.now
+        (length a.modules.items) (a.modules.items ++ a.json.items)) }
+    ensures fault { IfErr result (IsFaultFor encoder.now) }
+{
+    match ComponentWorld::new(alloc, encoder, &PlainOptions) {
+        Ok(world) => answer_of_world(alloc, &world),
+        Err(fault) => Err(MessageFault::from(fault)),
+    }
+}
+
+/// What is answered for a component's world.
+fn answer_of_world(alloc: Global, world: &ComponentWorld<'_>) -> Result<WorldAnswer, MessageFault>
+    ensures modules { IfOk result (λ a. a.modules.items ≡ modules_text (world_view world.now)) }
+    ensures json { IfOk result (λ a. a.json.items ≡ world_text (world_view world.now)) }
+    ensures fault { IfErr result (λ f. f ≡ MessageFault.Memory) }
+{
+    Ok(WorldAnswer {
+        modules: modules_of(alloc, world)?,
+        json: world_to_json(alloc, world)?,
+    })
+}
+
+/// The text of a fault, as it is printed.
+fn fault_text(alloc: Global, fault: &MessageFault) -> Result<String, AllocError> {
+    format!(in alloc; "{fault}")
+}
+
+/// Writes the text of a fault to the front of the buffer, if it has room.
+fn put_fault(fault: &MessageFault, text: &str, out: &mut [u8]) -> Answer
+    ensures { IsFaultAnswer fault.now text.now result out.old out.new }
+{
+    let answer = put(&[], text.as_bytes(), out);
+    Answer {
+        status: FAULT,
+        fault: message_fault_number(fault),
+        length: answer.length,
+        module_length: 0,
+        position: 0,
+    }
+}
+
+/// Answers a fault.
+fn answer_fault(alloc: Global, fault: &MessageFault, out: &mut [u8]) -> Answer
+    ensures fault { result.status ≡ failed → (text : List ℕ)
+        × IsFaultAnswer fault.now text result out.old out.new }
+    ensures memory { fault.now ≡ MessageFault.Memory → result.status ≢ failed }
+    ensures unchanged { result.status ≢ failed → out.new ≡ out.old }
+    ensures statuses { (result.status ≡ failed) ⊎ (result.status ≡ out_of_memory) }
+{
+    if let MessageFault::Memory = fault {
+        return answer_without_bytes(MEMORY);
+    }
+    match fault_text(alloc, fault) {
+        Ok(text) => put_fault(fault, &text, out),
+        Err(_) => answer_without_bytes(MEMORY),
+    }
+}
+
+/// Makes the world of a component, as `ComponentWorld::new` of `wc_world` does with `PlainOptions`. The message is JSON:
+/// an object with the members
+///
+/// - `resolve`: worlds, interfaces, types and packages, as `wc_json` reads them;
+/// - `world`: the index of a world, or its name (of several worlds of that name it is the first);
+/// - `reject_legacy_names` and `realloc_via_memory_grow`, true or false, and `task_hook`, the name of the task hook; each
+///   of them may be missing, which is false and the empty name;
+/// - `length`: how many bytes the main module has;
+/// - `exports`: the keys of the world's exports that it has to export, a list of texts as they are in `resolve`
+///   (`interface-3`, or a plain name);
+/// - `adapters`: a list of objects with `name`, `length` and `exports`, and `library_info`, missing or null for one that is
+///   no library, else as `wc_record` writes it.
+///
+/// `modules` has the bytes of the main module and of the adapters, one after another. Repeated imports of the main module
+/// are renamed first, as by `dedupe`.
+///
+/// - `DONE`: the front of `out` has `module_length` bytes of modules, one after another: the main module with its renamed
+///   imports, and the adapters and libraries of the component's world in their order. After them it has that world as
+///   JSON, as `wc_record::world_to_json` writes it, with the length of each adapter. `length` is how many bytes both have.
+/// - `TOO_SMALL`: the same would have `length` bytes, and `out` has fewer.
+/// - `FAULT`: why there is no component's world, by its number (`message_fault_number`), never `Memory`. Its text, as it
+///   is printed, has `length` bytes; it is in the front of `out`, if `out` has so many. Of a message that is not what it
+///   has to be, it has the path to what is wrong, as `Json: adapters[0].length: not an index`.
+/// - `MEMORY`: an allocation failed.
+///
+/// It is never `SAME` or `BAD_ARGUMENT`. `out` is as it was but for what is said here, and then after the first `length`
+/// bytes.
+pub fn world(alloc: Global, message: &[u8], modules: &[u8], out: &mut [u8]) -> Answer
+    ensures done { result.status ≡ done → IsPut (IsWorldAnswer message.now modules.now
+        result.module_length) result.length out.old out.new }
+    ensures too_small { result.status ≡ too_small → IsTooLong
+        (IsWorldAnswer message.now modules.now result.module_length) result.length out.old }
+    ensures fault { result.status ≡ failed → IsFaultOf message.now modules.now
+        result out.old out.new }
+    ensures unchanged { result.status ≢ done → result.status ≢ failed → out.new ≡ out.old }
+    ensures statuses { (result.status ≤ 5) × (result.status ≢ same)
+        × (result.status ≢ bad_argument) }
+{
+    match answer_to(alloc, message, modules) {
+        Ok(answer) => put(&answer.modules, &answer.json, out),
+        Err(fault) => answer_fault(alloc, &fault, out),
+    }
+}

@@ -1,0 +1,264 @@
+//! Encoders out of messages and the bytes of their modules.
+
+ghost use Rattle.std.specs.Prelude.{◌≡◌, ◌++◌, ◌<◌, [], IfErr, IfNone, IfOk, IfSome, List, length, map, string_bytes, unwrap_or, ℕ};
+ghost use Rattle.std.specs.Cow.{cow_slice_items};
+ghost use Rattle.std.specs.List.{position};
+ghost use Rattle.std.specs.Option.{option_map};
+ghost use Rattle.std.specs.Str.{bytes_eq};
+ghost use Rattle.wc_dedupe.specs.Dedupe.{IsDeduped, renames_in};
+ghost use Rattle.wc_encoder.specs.Adapters.{adapter_entry, adapter_view, library_view};
+ghost use Rattle.wc_encoder.specs.EncoderParts.{parts_view};
+ghost use Rattle.wc_encoder.specs.WellFormed.{IsWellFormed};
+ghost use Rattle.wc_resolve.specs.Views.{key_view, world_view};
+ghost use Rattle.wc_calls.specs.Encoders.{AreAdaptersOf, AreChosen, IsEncoderOf, IsPartsOf, key_set, small_index, world_of};
+ghost use Rattle.wc_calls.specs.Libraries.{library_message_view};
+ghost use Rattle.wc_calls.specs.MessageFaults.{IsAdaptersCause, IsMessageCause, IsPartsCause, IsRenamingCause};
+ghost use Rattle.wc_calls.specs.Messages.{adapter_message_view, message_view, of_name, world_name_view};
+
+use crate::libraries::LibraryMessage;
+use crate::message_fault::MessageFault;
+use crate::messages::{AdapterMessage, Message, WorldName};
+use indexmap::{IndexMap, IndexSet};
+use std::alloc::{AllocError, Global};
+use std::borrow::CowSlice;
+use std::str;
+use wc_dedupe::ModuleImportMap;
+use wc_encoder::{Adapter, ComponentEncoder, EncoderParts, LibraryInfo, Metadata};
+use wc_json::value_from_json;
+use wc_resolve::{Resolve, World, WorldId, WorldKey};
+
+/// The position of the first world of this name.
+fn position_named(worlds: &[World], name: &str) -> Option<usize>
+    ensures { result ≡ position (λ w. bytes_eq (world_view w).name name.now) worlds.now }
+{
+    worlds.iter().position(|world| world.name.as_str() == name)
+}
+
+/// The id of the world at a position, if it is below 2^32.
+fn small_id(position: usize) -> Option<WorldId>
+    ensures { option_map (λ id. id.0) result ≡ small_index position }
+{
+    match u32::try_from(position) {
+        Ok(index) => Some(WorldId(index)),
+        Err(_) => None,
+    }
+}
+
+/// The id of the first world of this name.
+fn first_named(worlds: &[World], name: &str) -> Option<WorldId>
+    ensures { option_map (λ id. id.0) result
+        ≡ world_of (map world_view worlds.now) (of_name name.now) }
+{
+    match position_named(worlds, name) {
+        Some(position) => small_id(position),
+        None => None,
+    }
+}
+
+/// The id of the world that a message names. An index may be out of range.
+fn world_of(worlds: &[World], name: &WorldName) -> Option<WorldId>
+    ensures { option_map (λ id. id.0) result
+        ≡ world_of (map world_view worlds.now) (world_name_view name.now) }
+{
+    match name {
+        WorldName::Index(id) => Some(*id),
+        WorldName::Name(name) => first_named(worlds, name),
+    }
+}
+
+/// Keys as a set.
+fn key_set(alloc: Global, keys: Vec<WorldKey>) -> Result<IndexSet<WorldKey>, AllocError>
+    ensures { IfOk result (λ set. map key_view set.keys ≡ key_set (map key_view keys.items)) }
+{
+    let mut set = IndexSet::new(alloc);
+    for key in keys {
+        set.insert(key)?;
+    }
+    Ok(set)
+}
+
+/// So many of the first bytes, and the others; `None` where there are fewer.
+fn split(bytes: &[u8], count: u32) -> Option<(&[u8], &[u8])>
+    ensures cut { IfSome result (λ p. bytes.now ≡ p.0.now ++ p.1.now) }
+    ensures size { IfSome result (λ p. length p.0.now ≡ count) }
+    ensures fewer { IfNone result (length bytes.now < count) }
+{
+    let count = count as usize;
+    if bytes.len() < count {
+        return None;
+    }
+    Some(bytes.split_at(count))
+}
+
+/// The library information of a message, if there is some.
+fn library_of(library: Option<LibraryMessage>) -> Option<LibraryInfo>
+    ensures { option_map library_view result ≡ option_map library_message_view library }
+{
+    match library {
+        Some(library) => Some(library.0),
+        None => None,
+    }
+}
+
+/// The adapter with these bytes, keys and library information.
+fn adapter_with(
+    alloc: Global,
+    wasm: &[u8],
+    exports: Vec<WorldKey>,
+    library: Option<LibraryMessage>,
+) -> Result<Adapter, AllocError>
+    ensures wasm { IfOk result (λ a. (adapter_view a).wasm ≡ wasm.now) }
+    ensures required { IfOk result (λ a. (adapter_view a).required_exports
+        ≡ key_set (map key_view exports.items)) }
+    ensures library { IfOk result (λ a. (adapter_view a).library_info
+        ≡ option_map library_message_view library) }
+{
+    let wasm = Vec::from_slice(alloc, wasm)?;
+    let required_exports = key_set(alloc, exports)?;
+    Ok(Adapter {
+        wasm,
+        required_exports,
+        library_info: library_of(library),
+    })
+}
+
+/// The adapters of messages, with these bytes one after another.
+fn adapters_of(
+    alloc: Global,
+    messages: Vec<AdapterMessage>,
+    bytes: &[u8],
+) -> Result<IndexMap<String, Adapter>, MessageFault>
+    ensures adapters { IfOk result (λ m. AreAdaptersOf
+        (map adapter_message_view messages.items) bytes.now (map adapter_entry m.entries)) }
+    ensures fault { IfErr result (IsAdaptersCause
+        (map adapter_message_view messages.items) bytes.now) }
+{
+    let mut adapters = IndexMap::new(alloc);
+    let mut rest = bytes;
+    for message in messages {
+        let Some((wasm, others)) = split(rest, message.length) else {
+            return Err(MessageFault::Lengths);
+        };
+        rest = others;
+        if adapters.contains_key(message.name.as_str()) {
+            return Err(MessageFault::AdapterTwice(message.name));
+        }
+        let adapter = adapter_with(alloc, wasm, message.exports, message.library_info)?;
+        adapters.insert(message.name, adapter)?;
+    }
+    if !rest.is_empty() {
+        return Err(MessageFault::Lengths);
+    }
+    Ok(adapters)
+}
+
+/// The bytes, copied where they are borrowed.
+fn owned(alloc: Global, bytes: CowSlice<'_, u8>) -> Result<Vec<u8>, AllocError>
+    ensures { IfOk result (λ v. v.items ≡ cow_slice_items bytes.entry) }
+{
+    match bytes {
+        CowSlice::Owned(bytes) => Ok(bytes),
+        CowSlice::Borrowed(bytes) => Vec::from_slice(alloc, bytes),
+    }
+}
+
+/// The main module with its repeated imports renamed, and the original names of these.
+fn renamed(alloc: Global, bytes: &[u8]) -> Result<(Vec<u8>, Option<ModuleImportMap>), MessageFault>
+    ensures renamed { IfOk result (λ r. IsDeduped bytes.now r.0.items (renames_in r.1)) }
+    ensures fault { IfErr result (IsRenamingCause bytes.now) }
+{
+    let (wasm, renames) = ModuleImportMap::new(alloc, CowSlice::Borrowed(bytes))?;
+    let wasm = owned(alloc, wasm)?;
+    Ok((wasm, renames))
+}
+
+/// The text, or the empty one.
+fn text_or_empty(alloc: Global, text: Option<String>) -> String
+    ensures { string_bytes result ≡ unwrap_or (option_map string_bytes text) [] }
+{
+    match text {
+        Some(text) => text,
+        None => String::new(alloc),
+    }
+}
+
+/// The encoder of a message, for the world at an index, with the bytes of the main module and those of the others.
+fn encoder_for(
+    alloc: Global,
+    message: Message,
+    world: WorldId,
+    main: &[u8],
+    others: &[u8],
+) -> Result<ComponentEncoder, MessageFault>
+    ensures parts { (modules : List ℕ)
+        → AreChosen (message_view message) modules world.0 main.now others.now
+        → IfOk result (IsPartsOf (message_view message) modules) }
+    ensures formed { IfOk result IsWellFormed }
+    ensures fault { (modules : List ℕ)
+        → AreChosen (message_view message) modules world.0 main.now others.now
+        → IfErr result (IsPartsCause (message_view message) modules) }
+{
+    let Message {
+        document,
+        world: _named,
+        reject_legacy_names,
+        realloc_via_memory_grow,
+        task_hook,
+        length: _length,
+        exports,
+        adapters,
+    } = message;
+    let resolve = Resolve::build(alloc, document.parts)?;
+    let adapters = adapters_of(alloc, adapters, others)?;
+    let (wasm, renames) = renamed(alloc, main)?;
+    let main_module_exports = key_set(alloc, exports)?;
+    let rejects = reject_legacy_names.unwrap_or(false);
+    let grows = realloc_via_memory_grow.unwrap_or(false);
+    let hook = text_or_empty(alloc, task_hook);
+    let parts = EncoderParts {
+        module: wasm,
+        module_import_map: renames,
+        metadata: Metadata { resolve, world },
+        main_module_exports,
+        adapters,
+        reject_legacy_names: rejects,
+        realloc_via_memory_grow: grows,
+        task_hook: hook,
+    };
+    Ok(ComponentEncoder::build(alloc, parts)?)
+}
+
+/// The encoder of a message, with the bytes of its modules one after another, the main module first.
+fn encoder_with(
+    alloc: Global,
+    message: Message,
+    modules: &[u8],
+) -> Result<ComponentEncoder, MessageFault>
+    ensures parts { IfOk result (IsPartsOf (message_view message) modules.now) }
+    ensures formed { IfOk result IsWellFormed }
+    ensures fault { IfErr result (IsPartsCause (message_view message) modules.now) }
+{
+    let Some(world) = world_of(&message.document.parts.worlds, &message.world) else {
+        return Err(MessageFault::UnknownWorld);
+    };
+    let Some((main, others)) = split(modules, message.length) else {
+        return Err(MessageFault::Lengths);
+    };
+    encoder_for(alloc, message, world, main, others)
+}
+
+/// The encoder of the text of a message, with the bytes of its modules.
+pub(crate) fn encoder_from(
+    alloc: Global,
+    message: &[u8],
+    modules: &[u8],
+) -> Result<ComponentEncoder, MessageFault>
+    ensures encoder { IfOk result (IsEncoderOf message.now modules.now) }
+    ensures fault { IfErr result (IsMessageCause message.now modules.now) }
+{
+    let Ok(text) = str::from_utf8(message) else {
+        return Err(MessageFault::NotText);
+    };
+    let message: Message = value_from_json(alloc, text)?;
+    encoder_with(alloc, message, modules)
+}

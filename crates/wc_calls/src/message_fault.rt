@@ -1,0 +1,129 @@
+//! Why a message has no component's world.
+
+ghost use Rattle.std.specs.Prelude.{◌≡◌};
+ghost use Rattle.wc_calls.specs.declared.message_fault.MessageFault.TheVariants.{Memory};
+
+use std::alloc::{AllocError, AllocFailed};
+use thiserror::Error;
+use wc_dedupe::DedupeFault;
+use wc_encoder::EncoderFault;
+use wc_json::JsonFault;
+use wc_resolve::ResolveFault;
+use wc_world::WorldFault;
+
+/// Why a message has no component's world. Of several causes the first in this order is named; `Memory` may come in
+/// place of any. None carries a `Memory` of its own but by the step that it is of.
+#[derive(Debug, Drop, Error)]
+pub enum MessageFault {
+    /// An allocation failed.
+    #[error("out of memory")]
+    Memory,
+    /// The message is not text, in UTF-8.
+    #[error("NotText")]
+    NotText,
+    /// The message is not what it has to be; the fault has the path to what is wrong.
+    #[error("Json: {0}")]
+    Json(JsonFault),
+    /// No world has the name that the message has.
+    #[error("UnknownWorld")]
+    UnknownWorld,
+    /// The modules have not as many bytes as the message says.
+    #[error("Lengths")]
+    Lengths,
+    /// The worlds, interfaces, types and packages are not well-formed.
+    #[error("Resolve: {0}")]
+    Resolve(ResolveFault),
+    /// Two adapters have this name.
+    #[error("AdapterTwice `{0}`")]
+    AdapterTwice(String),
+    /// The main module's imports could not be renamed.
+    #[error("Dedupe: {0}")]
+    Dedupe(DedupeFault),
+    /// There is no encoder of these parts.
+    #[error("Encoder: {0}")]
+    Encoder(EncoderFault),
+    /// The component of the encoder has no world.
+    #[error("World: {0}")]
+    World(WorldFault),
+}
+
+impl From<AllocError> for MessageFault {
+    ghost from_gives = { λ _ e. e ≡ Memory };
+
+    fn from(_e: AllocError) -> MessageFault {
+        MessageFault::Memory
+    }
+}
+
+impl<T: Drop> From<AllocFailed<T>> for MessageFault {
+    ghost from_gives = { λ _ e. e ≡ Memory };
+
+    fn from(_e: AllocFailed<T>) -> MessageFault {
+        MessageFault::Memory
+    }
+}
+
+impl From<JsonFault> for MessageFault {
+    ghost use Rattle.wc_calls.specs.MessageFaults.{of_json};
+
+    ghost from_gives = { λ f e. e ≡ of_json f };
+
+    fn from(e: JsonFault) -> MessageFault {
+        match e {
+            JsonFault::Memory => MessageFault::Memory,
+            _ => MessageFault::Json(e),
+        }
+    }
+}
+
+impl From<ResolveFault> for MessageFault {
+    ghost use Rattle.wc_calls.specs.MessageFaults.{of_resolve};
+
+    ghost from_gives = { λ f e. e ≡ of_resolve f };
+
+    fn from(e: ResolveFault) -> MessageFault {
+        match e {
+            ResolveFault::Memory => MessageFault::Memory,
+            _ => MessageFault::Resolve(e),
+        }
+    }
+}
+
+impl From<DedupeFault> for MessageFault {
+    ghost use Rattle.wc_calls.specs.MessageFaults.{of_dedupe};
+
+    ghost from_gives = { λ f e. e ≡ of_dedupe f };
+
+    fn from(e: DedupeFault) -> MessageFault {
+        match e {
+            DedupeFault::Memory => MessageFault::Memory,
+            _ => MessageFault::Dedupe(e),
+        }
+    }
+}
+
+impl From<EncoderFault> for MessageFault {
+    ghost use Rattle.wc_calls.specs.MessageFaults.{of_encoder};
+
+    ghost from_gives = { λ f e. e ≡ of_encoder f };
+
+    fn from(e: EncoderFault) -> MessageFault {
+        match e {
+            EncoderFault::Memory => MessageFault::Memory,
+            _ => MessageFault::Encoder(e),
+        }
+    }
+}
+
+impl From<WorldFault> for MessageFault {
+    ghost use Rattle.wc_calls.specs.MessageFaults.{of_world};
+
+    ghost from_gives = { λ f e. e ≡ of_world f };
+
+    fn from(e: WorldFault) -> MessageFault {
+        match e {
+            WorldFault::Memory => MessageFault::Memory,
+            _ => MessageFault::World(e),
+        }
+    }
+}

@@ -1,0 +1,113 @@
+//! Messages: what a component is encoded from, as JSON, but for the bytes of its modules.
+#![tactic(auto, using(wc_json::proofs::FaultLemmas::IsFaultOf_bind, wc_json::proofs::PathLemmas::Reads_at_step))]
+
+use crate::libraries::LibraryMessage;
+use json::Value;
+use std::alloc::Global;
+use wc_json::{Document, FromJson, JsonFault, optional_member, required_member};
+use wc_resolve::{WorldId, WorldKey};
+
+/// Which world a component is encoded for: that at an index, or the first of a name.
+#[derive(Drop)]
+pub(crate) enum WorldName {
+    Index(WorldId),
+    Name(String),
+}
+
+impl FromJson for WorldName {
+    ghost use Rattle.wc_calls.specs.Messages.{WorldNameView, world_name, world_name_view};
+
+    ghost View = { WorldNameView };
+
+    ghost view = { world_name_view };
+
+    ghost reading = { world_name };
+
+    fn from_json(alloc: Global, value: &Value<'_>) -> Result<WorldName, JsonFault> {
+        match value.as_str() {
+            Some(name) => Ok(WorldName::Name(String::from_str(alloc, name)?)),
+            None => Ok(WorldName::Index(WorldId::from_json(alloc, value)?)),
+        }
+    }
+}
+
+/// An adapter or a library.
+#[derive(Drop)]
+pub(crate) struct AdapterMessage {
+    pub name: String,
+    /// How many bytes its module has.
+    pub length: u32,
+    /// The keys of the world's exports that it has to export.
+    pub exports: Vec<WorldKey>,
+    /// How it is instantiated, if it is a library.
+    pub library_info: Option<LibraryMessage>,
+}
+
+impl FromJson for AdapterMessage {
+    ghost use Rattle.wc_calls.specs.Messages.{AdapterMessageView, adapter_message, adapter_message_view};
+
+    ghost View = { AdapterMessageView };
+
+    ghost view = { adapter_message_view };
+
+    ghost reading = { adapter_message };
+
+    fn from_json(alloc: Global, value: &Value<'_>) -> Result<AdapterMessage, JsonFault> {
+        let name = required_member(alloc, value, "name")?;
+        let length = required_member(alloc, value, "length")?;
+        let exports = required_member(alloc, value, "exports")?;
+        let library_info = optional_member(alloc, value, "library_info")?;
+        Ok(AdapterMessage {
+            name,
+            length,
+            exports,
+            library_info,
+        })
+    }
+}
+
+/// What a component is encoded from, but for the bytes of its modules.
+#[derive(Drop)]
+pub(crate) struct Message {
+    pub document: Document,
+    pub world: WorldName,
+    pub reject_legacy_names: Option<bool>,
+    pub realloc_via_memory_grow: Option<bool>,
+    pub task_hook: Option<String>,
+    /// How many bytes the main module has.
+    pub length: u32,
+    /// The keys of the world's exports that the main module has to export.
+    pub exports: Vec<WorldKey>,
+    pub adapters: Vec<AdapterMessage>,
+}
+
+impl FromJson for Message {
+    ghost use Rattle.wc_calls.specs.Messages.{MessageView, message, message_view};
+
+    ghost View = { MessageView };
+
+    ghost view = { message_view };
+
+    ghost reading = { message };
+
+    fn from_json(alloc: Global, value: &Value<'_>) -> Result<Message, JsonFault> {
+        let document = required_member(alloc, value, "resolve")?;
+        let world = required_member(alloc, value, "world")?;
+        let reject_legacy_names = optional_member(alloc, value, "reject_legacy_names")?;
+        let realloc_via_memory_grow = optional_member(alloc, value, "realloc_via_memory_grow")?;
+        let task_hook = optional_member(alloc, value, "task_hook")?;
+        let length = required_member(alloc, value, "length")?;
+        let exports = required_member(alloc, value, "exports")?;
+        let adapters = required_member(alloc, value, "adapters")?;
+        Ok(Message {
+            document,
+            world,
+            reject_legacy_names,
+            realloc_via_memory_grow,
+            task_hook,
+            length,
+            exports,
+            adapters,
+        })
+    }
+}
