@@ -2,6 +2,7 @@
 """Compares trimmed adapters with those that another linker makes of the same adapters.
 
     bench/adapters.py [PROGRAM]
+    bench/adapters.py --cut EXPORT FILE
 
 Rust's `wasm-component-ld` carries three WASI adapters, and puts into a component what its programs use of them; it
 rests on the Rust crate `wit-component`. The script takes the adapters out of each toolchain's linker, links programs
@@ -23,6 +24,8 @@ SOURCES = os.path.join(TOP, "bench", "c", "wasi")
 LIBRARIES = "/usr/lib/wasm32-wasi"
 HEADER = b"\0asm\1\0\0\0"
 FEATURES = ["--enable-multi-memory", "--enable-memory64", "--enable-extended-const"]
+# a toolchain's linker for components
+INSIDE = "lib/rustlib/*/bin/wasm-component-ld"
 # the positions that ids of sections have in the order of sections; custom sections have none
 ORDER = {1: 1, 2: 2, 3: 3, 4: 4, 5: 5, 6: 6, 7: 7, 8: 8, 9: 9, 12: 10, 10: 11, 11: 12}
 
@@ -107,10 +110,17 @@ def compared(module):
 
 
 def linkers():
-    inside = "lib/rustlib/*/bin/wasm-component-ld"
     homes = [os.environ.get("RUSTUP_HOME", os.path.expanduser("~/.rustup"))]
-    found = [path for home in homes for path in sorted(glob.glob(os.path.join(home, "toolchains/*", inside)))]
+    found = [path for home in homes for path in sorted(glob.glob(os.path.join(home, "toolchains/*", INSIDE)))]
     return found or [path for path in [shutil.which("wasm-component-ld")] if path]
+
+
+def linkers_of_rustc():
+    """The linker of the toolchain of the rustc on PATH."""
+    if not shutil.which("rustc"):
+        return []
+    asked = subprocess.run(["rustc", "--print", "sysroot"], capture_output=True, text=True)
+    return sorted(glob.glob(os.path.join(glob.escape(asked.stdout.strip()), INSIDE))) if asked.returncode == 0 else []
 
 
 def read(path):
@@ -169,7 +179,26 @@ def compare(program, source, name, path):
     return None
 
 
+def cut(export, target):
+    """Writes the first adapter with this export to the file `target`."""
+    seen = linkers_of_rustc() + linkers()
+    for linker in seen:
+        for module in modules_inside(read(linker)):
+            if export in exports(module):
+                with open(target, "wb") as file:
+                    file.write(module)
+                print("%s: %d bytes, of %s" % (target, len(module), linker))
+                return 0
+    if seen:
+        print("no adapter with the export %s in %s" % (export, " ".join(seen)), file=sys.stderr)
+    else:
+        print("there is no wasm-component-ld: rustup's toolchains have it, and wasi-sdk", file=sys.stderr)
+    return 1
+
+
 def main():
+    if sys.argv[1:2] == ["--cut"]:
+        return cut(*sys.argv[2:])
     program = sys.argv[1] if len(sys.argv) > 1 else os.path.join(TOP, "crates", "wctrim", "out", "wctrim")
     shutil.rmtree(MADE, ignore_errors=True)
     os.makedirs(MADE)
