@@ -25,7 +25,8 @@ CRATE = os.path.join(adapters.TOP, "rust", "nuigatre")
 def built_example():
     command = ["cargo", "build", "--offline", "--release", "--quiet", "--example", "trim"]
     subprocess.run(command, cwd=CRATE, check=True)
-    return os.path.join(CRATE, "target", "release", "examples", "trim")
+    target = os.environ.get("CARGO_TARGET_DIR", os.path.join(CRATE, "target"))
+    return os.path.join(target, "release", "examples", "trim")
 
 
 def choices(names):

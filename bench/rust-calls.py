@@ -1,7 +1,7 @@
 #!/usr/bin/env python3
-"""Times the trimming of adapters from Rust, beside processes that do the same, in one run.
+"""Times calls from Rust, and beside the trimming of adapters processes that do the same, in one run.
 
-    bench/rust-calls.py [--program PROGRAM] [--rounds N]
+    bench/rust-calls.py [--program PROGRAM] [--rounds N] [--folder FOLDER] [--most N]
 
 The adapters have 3, 1,000 and 100,000 functions; the larger two are those of the shape `chain` of bench/trimming.py,
 every second function of which goes. For each a line says its bytes and those that are left, and then the fastest time
@@ -9,7 +9,11 @@ of a call of `gc::run` through the crate of rust/nuigatre, of a process of PROGR
 another is given), and of a process of `wasm-metadce`, where binaryen is installed. A call is timed inside of the
 process that makes it, a process from its start to its end, by the clock; N is 5 unless another number is given, and
 the calls on small adapters are repeated until they take a tenth of a second. The program has to leave as many bytes
-as the call.
+as the call. Where PROGRAM is not there, calls alone are timed.
+
+Then worlds of 1,000, 10,000 and 40,000 functions are made, or of those of N at most, as many of which an adapter
+exports, and all of which the main module imports; and with a FOLDER that of bench/rust-world.py. For each a line says
+the time of a call of `ComponentWorld::new`, and of looking each import of the main module up in it.
 """
 import argparse
 import json
@@ -23,7 +27,7 @@ import time
 
 from adapters import TOP
 from trimming import TYPES, body, call, chain, exports, functions, module
-from generate import section, vector
+from generate import name, section, vector
 
 CRATE = os.path.join(TOP, "rust", "nuigatre")
 
@@ -34,10 +38,59 @@ def three(_):
     return module(TYPES, functions(3), exports([("b", 0), ("a", 1)]), bodies), ["a"]
 
 
-def built_example():
-    command = ["cargo", "build", "--offline", "--release", "--quiet", "--example", "time_trim"]
+def built_example(name):
+    command = ["cargo", "build", "--offline", "--release", "--quiet", "--example", name]
     subprocess.run(command, cwd=CRATE, check=True)
-    return os.path.join(CRATE, "target", "release", "examples", "time_trim")
+    target = os.environ.get("CARGO_TARGET_DIR", os.path.join(CRATE, "target"))
+    return os.path.join(target, "release", "examples", name)
+
+
+def demo_world(count):
+    """A world that imports an interface of so many functions, a module that imports these and as many of an adapter, and
+    that adapter."""
+    functions_of_it = {"f%d" % i: {"name": "f%d" % i, "kind": "freestanding", "result": None,
+                                   "params": [{"name": "x", "type": "u32"}]} for i in range(count)}
+    world = {"name": "demo", "imports": {"interface-0": {"interface": {"id": 0}}}, "exports": {}, "package": 0}
+    host = {"name": "host", "types": {}, "package": 0, "functions": functions_of_it}
+    package = {"name": "my:demo", "interfaces": {"host": 0}, "worlds": {"demo": 0}}
+    worlds = {"worlds": [world], "interfaces": [host], "types": [], "packages": [package]}
+    types_of_it = section(1, bytes.fromhex("0260017f00600000"))
+    imports = [name("my:demo/host") + name("f%d" % i) + b"\0\0" for i in range(count)]
+    imports += [name("old") + name("g%d" % i) + b"\0\1" for i in range(count)]
+    bodies = section(10, vector([body([], b"")] * count))
+    exported = exports([("g%d" % i, i) for i in range(count)])
+    adapter = module(section(1, bytes.fromhex("01600000")), functions(count), exported, bodies)
+    return json.dumps(worlds), module(types_of_it, section(2, vector(imports))), adapter
+
+
+def world_call(example, arguments, adapter, rounds):
+    """The fastest call, and the fastest looking up of all imports."""
+    command = [example, *arguments, str(rounds), *adapter]
+    ran = subprocess.run(command, capture_output=True, text=True, check=True)
+    call_time, asked, found = (int(word) for word in ran.stdout.split())
+    return "call %s, %d looked up in %s" % (shown(call_time), found, shown(asked))
+
+
+def time_worlds(folder, most, rounds, real):
+    example = built_example("time_world")
+    paths = [os.path.join(folder, part) for part in ("worlds.json", "main.wasm", "old.wasm")]
+    for count in 1_000, 10_000, 40_000:
+        if count > most:
+            continue
+        worlds, main_module, adapter = demo_world(count)
+        pathlib.Path(paths[0]).write_text(worlds)
+        pathlib.Path(paths[1]).write_bytes(main_module)
+        pathlib.Path(paths[2]).write_bytes(adapter)
+        arguments = [paths[0], "demo", paths[1]]
+        answer = world_call(example, arguments, ["old=" + paths[2]], rounds)
+        print("a world of %d functions and %d of an adapter: %s" % (count, count, answer), flush=True)
+    if real:
+        worlds, main_module, adapter = (os.path.join(real, "wasi-" + part) for part in
+                                        ("command.json", "hello.wasm", "command-adapter.wasm"))
+        (key,) = json.loads(pathlib.Path(worlds).read_text())["worlds"][0]["exports"]
+        adapter = ["wasi_snapshot_preview1=" + adapter, key]
+        answer = world_call(example, [worlds, "command", main_module], adapter, 10 * rounds)
+        print("the world of a real program: %s" % answer, flush=True)
 
 
 def called(example, source, names, rounds):
@@ -73,7 +126,7 @@ def metadce(source, names, folder):
 
 def shown(nanoseconds):
     if nanoseconds is None:
-        return "not installed"
+        return "not there"
     return "%.1f us" % (nanoseconds / 1e3) if nanoseconds < 1e6 else "%.1f ms" % (nanoseconds / 1e6)
 
 
@@ -81,22 +134,28 @@ def main():
     parser = argparse.ArgumentParser(description=__doc__, formatter_class=argparse.RawDescriptionHelpFormatter)
     parser.add_argument("--program", default=os.path.join(TOP, "crates", "wctrim", "out", "wctrim"))
     parser.add_argument("--rounds", type=int, default=5)
+    parser.add_argument("--folder")
+    parser.add_argument("--most", type=int, default=40_000)
     options = parser.parse_args()
-    example, status = built_example(), 0
+    example, status = built_example("time_trim"), 0
+    has_program = os.path.exists(options.program)
     with tempfile.TemporaryDirectory() as folder:
         source, target = os.path.join(folder, "in.wasm"), os.path.join(folder, "out.wasm")
         for count, make in (3, three), (1_000, chain), (100_000, chain):
             adapter, names = make(count)
             pathlib.Path(source).write_bytes(adapter)
             call_time, left = called(example, source, names, options.rounds)
-            process = fastest([options.program, "trim", source, target, *names], options.rounds)
-            if os.path.getsize(target) != left:
-                print("%d functions: the program leaves %d bytes" % (count, os.path.getsize(target)))
-                status = 1
+            process = None
+            if has_program:
+                process = fastest([options.program, "trim", source, target, *names], options.rounds)
+                if os.path.getsize(target) != left:
+                    print("%d functions: the program leaves %d bytes" % (count, os.path.getsize(target)))
+                    status = 1
             command = metadce(source, names, folder)
             beside = fastest(command, min(options.rounds, 3)) if command else None
             print("%d functions: %d bytes to %d, call %s, process %s, wasm-metadce %s"
                   % (count, len(adapter), left, shown(call_time), shown(process), shown(beside)), flush=True)
+        time_worlds(folder, options.most, options.rounds, options.folder)
     return status
 
 

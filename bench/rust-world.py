@@ -23,7 +23,8 @@ ADAPTER = "wasi_snapshot_preview1"
 def built_example():
     command = ["cargo", "build", "--offline", "--release", "--quiet", "--example", "world"]
     subprocess.run(command, cwd=CRATE, check=True)
-    return os.path.join(CRATE, "target", "release", "examples", "world")
+    target = os.environ.get("CARGO_TARGET_DIR", os.path.join(CRATE, "target"))
+    return os.path.join(target, "release", "examples", "world")
 
 
 def exported_key(worlds):

@@ -1,22 +1,74 @@
-//! Links `libnuigatre.a`: that of the folder `NUIGATRE_LIB_DIR`, or the one that `rt lib` makes in `crates/nuigatre`.
+//! Links `libnuigatre.a`: that of the folder `NUIGATRE_LIB_DIR`; else the one that `rt lib` makes in `crates/nuigatre`;
+//! else the one that `rust/check --unproved` makes. Nothing fails here where there is none, since `cargo check` and
+//! `cargo doc` need none: a warning says what makes it, and the linker fails.
 
-use std::env;
 use std::path::{Path, PathBuf};
+use std::{env, fs};
+
+const ARCHIVE: &str = "libnuigatre.a";
+
+/// A symbol that only a library has that was compiled without its proof.
+const UNPROVED: &[u8] = b"nuigatre_unproved";
 
 fn main() {
     println!("cargo::rerun-if-env-changed=NUIGATRE_LIB_DIR");
-    let folder = match env::var_os("NUIGATRE_LIB_DIR") {
-        Some(folder) => PathBuf::from(folder),
-        None => Path::new(env!("CARGO_MANIFEST_DIR")).join("../../crates/nuigatre/out"),
-    };
-    let archive = folder.join("libnuigatre.a");
-    println!("cargo::rerun-if-changed={}", archive.display());
-    if !archive.is_file() {
+    if !is_supported() {
         println!(
-            "cargo::error={} is missing: run `rt lib` in crates/nuigatre",
-            archive.display()
+            "cargo::warning=libnuigatre.a is for 64-bit Linux on x86: no program can be linked for {}",
+            env::var("TARGET").unwrap_or_default()
         );
+        return;
+    }
+    let Some(folder) = folder() else { return };
+    let archive = folder.join(ARCHIVE);
+    println!("cargo::rerun-if-changed={}", archive.display());
+    match fs::read(&archive) {
+        Ok(bytes) if bytes.windows(UNPROVED.len()).any(|at| at == UNPROVED) => println!(
+            "cargo::warning={} is compiled without its proof, and slower: `rust/check` proves it",
+            archive.display()
+        ),
+        Ok(_) => {}
+        Err(_) => println!(
+            "cargo::warning={} is missing, so nothing can be linked: `rust/check --unproved` makes it in some \
+             minutes without its proof, `rt lib` in crates/nuigatre with it",
+            archive.display()
+        ),
     }
     println!("cargo::rustc-link-search=native={}", folder.display());
     println!("cargo::rustc-link-lib=static=nuigatre");
+}
+
+/// Whether the library can be linked for the target.
+fn is_supported() -> bool {
+    let is = |name: &str, value: &str| env::var(name).is_ok_and(|it| it == value);
+    is("CARGO_CFG_TARGET_OS", "linux")
+        && is("CARGO_CFG_TARGET_ARCH", "x86_64")
+        && is("CARGO_CFG_TARGET_POINTER_WIDTH", "64")
+}
+
+/// The folder of the library; `None` where the variable names none.
+fn folder() -> Option<PathBuf> {
+    if let Some(folder) = env::var_os("NUIGATRE_LIB_DIR") {
+        let folder = PathBuf::from(folder);
+        if folder.is_absolute() {
+            return Some(folder);
+        }
+        // this runs in the folder of the package, and not in the one where cargo was called
+        println!(
+            "cargo::error=NUIGATRE_LIB_DIR has to be an absolute path, and is `{}` (in .cargo/config.toml a relative \
+             one can be written, with `relative = true`)",
+            folder.display()
+        );
+        return None;
+    }
+    let package = PathBuf::from(env::var_os("CARGO_MANIFEST_DIR")?);
+    let rust = package.parent()?;
+    let unproved = rust.join("unproved");
+    let proved = rust.parent()?.join("crates/nuigatre/out");
+    let is_there = |folder: &Path| folder.join(ARCHIVE).is_file();
+    Some(if is_there(&unproved) && !is_there(&proved) {
+        unproved
+    } else {
+        proved
+    })
 }

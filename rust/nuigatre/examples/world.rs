@@ -53,12 +53,9 @@ fn encoder(asked: &Asked) -> ComponentEncoder<'_> {
     encoder.main_module_exports = asked.exports.iter().map(String::as_str).collect();
     for (name, wasm) in &asked.adapters {
         let keys = asked.adapter_exports.iter().filter(|it| it.0 == *name);
-        encoder.adapters.push(Adapter {
-            name,
-            wasm,
-            required_exports: keys.map(|it| it.1.as_str()).collect(),
-            library_info: None,
-        });
+        let mut adapter = Adapter::new(name, wasm);
+        adapter.required_exports = keys.map(|it| it.1.as_str()).collect();
+        encoder.adapters.push(adapter);
     }
     encoder
 }

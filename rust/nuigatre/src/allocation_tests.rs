@@ -1,10 +1,49 @@
-//! Each allocation of a call failing in turn: the answer is that memory ran out, and nothing stays allocated.
+//! Each allocation of a call failing in turn, those of the archive and those of this crate: the answer is that memory
+//! ran out, the process goes on, and nothing stays allocated.
 
 use crate::error::Error;
-use crate::heap::counts::{fail_after, held};
-use crate::{ModuleImportMap, gc};
+use crate::heap::counts::{add, fail_after, held, may_allocate};
+use crate::{
+    Adapter, ComponentEncoder, ComponentWorld, ExportKind, Instance, Item, LibraryInfo,
+    MainOrAdapter, ModuleImportMap, World, gc,
+};
+use std::alloc::{GlobalAlloc, Layout, System};
 use std::borrow::Cow;
 use std::fmt::Debug;
+use std::ptr;
+
+/// The system's heap, which counts as the archive's does.
+struct Counted;
+
+#[global_allocator]
+static COUNTED: Counted = Counted;
+
+// SAFETY: all calls go to the system's heap, but for those that answer that there is no memory.
+unsafe impl GlobalAlloc for Counted {
+    unsafe fn alloc(&self, layout: Layout) -> *mut u8 {
+        if !may_allocate() {
+            return ptr::null_mut();
+        }
+        // SAFETY: as is required of the caller.
+        let block = unsafe { System.alloc(layout) };
+        add(i64::from(!block.is_null()));
+        block
+    }
+
+    unsafe fn realloc(&self, block: *mut u8, layout: Layout, size: usize) -> *mut u8 {
+        if !may_allocate() {
+            return ptr::null_mut();
+        }
+        // SAFETY: as is required of the caller.
+        unsafe { System.realloc(block, layout, size) }
+    }
+
+    unsafe fn dealloc(&self, block: *mut u8, layout: Layout) {
+        add(-1);
+        // SAFETY: as is required of the caller.
+        unsafe { System.dealloc(block, layout) }
+    }
+}
 
 /// Three functions, of which `b` reaches two.
 const THREE: &[u8] = b"\0asm\x01\0\0\0\x01\x04\x01\x60\0\0\x03\x04\x03\0\0\0\x07\x09\x02\x01a\0\0\x01b\0\x01\x0a\x0c\x03\x02\0\x0b\x04\0\x10\x02\x0b\x02\0\x0b";
@@ -15,32 +54,102 @@ const REALLOC: &[u8] = b"\0asm\x01\0\0\0\x01\x0c\x02\x60\x04\x7f\x7f\x7f\x7f\x01
 /// Two modules, from each of which a name is imported three times.
 const REPEATS: &[u8] = b"\0asm\x01\0\0\0\x01\x04\x01\x60\0\0\x02\x25\x06\x01a\x01f\0\0\x01a\x01f\0\0\x01b\x01g\0\0\x01a\x01f\0\0\x01b\x01g\0\0\x01b\x01g\0\0";
 
+/// A world that imports the interface `my:demo/host`, which has the function `hello: func(x: u32)`.
+const WORLDS: &str = r#"{
+    "worlds": [{"name": "demo", "imports": {"interface-0": {"interface": {"id": 0}}}, "exports": {}, "package": 0}],
+    "interfaces": [{"name": "host", "types": {}, "package": 0, "functions": {"hello": {
+        "name": "hello", "kind": "freestanding", "params": [{"name": "x", "type": "u32"}], "result": null}}}],
+    "types": [],
+    "packages": [{"name": "my:demo", "interfaces": {"host": 0}, "worlds": {"demo": 0}}]
+}"#;
+
+/// Imports `hello` of `my:demo/host` twice, and `b` of `old`.
+const MAIN: &[u8] = b"\0asm\x01\0\0\0\x01\x08\x02\x60\x01\x7f\0\x60\0\0\x02\x33\x03\x0cmy:demo/host\x05hello\0\0\x0cmy:demo/host\x05hello\0\0\x03old\x01b\0\x01";
+
+/// Imports `b` of `old`.
+const LIBRARY: &[u8] = b"\0asm\x01\0\0\0\x01\x04\x01\x60\0\0\x02\x09\x01\x03old\x01b\0\0";
+
 /// How many allocations had to fail, one in each run, before all succeeded.
 fn failures<T: Debug + PartialEq>(call: impl Fn() -> Result<T, Error>) -> u64 {
     let wanted = call();
-    assert!(held() == 0 && wanted != Err(Error::Memory));
+    assert!(wanted != Err(Error::Memory));
     for count in 0.. {
+        let before = held();
         fail_after(count);
         let answer = call();
         fail_after(u64::MAX);
-        assert_eq!(held(), 0, "blocks that were not given back");
-        if answer == wanted {
+        let is_wanted = answer == wanted;
+        let is_memory = answer == Err(Error::Memory);
+        drop(answer);
+        assert_eq!(held(), before, "blocks that were not given back");
+        if is_wanted {
             return count;
         }
-        assert_eq!(answer, Err(Error::Memory), "the allocation after {count}");
+        assert!(is_memory, "the allocation after {count}");
     }
     unreachable!("a call has an end")
 }
 
-fn deduped(wasm: &[u8]) -> Result<(Vec<u8>, usize), Error> {
-    let (bytes, map) = ModuleImportMap::new(Cow::Borrowed(wasm))?;
-    Ok((bytes.into_owned(), map.map_or(0, |map| map.renames().len())))
+type Deduped<'a> = (Cow<'a, [u8]>, Option<ModuleImportMap>);
+
+fn deduped(wasm: &[u8]) -> Result<Deduped<'_>, Error> {
+    ModuleImportMap::new(Cow::Borrowed(wasm))
+}
+
+/// A module that imports `a.f` so many times.
+fn repeats(count: u8) -> Vec<u8> {
+    let import = b"\x01a\x01f\0\0";
+    let length = 1 + import.len() * usize::from(count);
+    let mut module = b"\0asm\x01\0\0\0\x01\x04\x01\x60\0\0\x02".to_vec();
+    module.extend([(length % 128) as u8 | 128, (length / 128) as u8, count]);
+    module.extend(import.repeat(count.into()));
+    module
+}
+
+fn encoder() -> ComponentEncoder<'static> {
+    let mut encoder = ComponentEncoder::new(WORLDS, World::Name("demo"), MAIN);
+    encoder.adapters.push(Adapter::new("old", THREE));
+    let which = MainOrAdapter::Adapter("old \"x\"".to_owned());
+    let item = Item {
+        alias: "b".to_owned(),
+        kind: ExportKind::Func,
+        which: which.clone(),
+        name: "c\n".to_owned(),
+    };
+    let mut library = Adapter::new("library", LIBRARY);
+    library.library_info = Some(LibraryInfo {
+        arguments: vec![
+            ("all".to_owned(), Instance::MainOrAdapter(which)),
+            ("old".to_owned(), Instance::Items(vec![item])),
+        ],
+        instantiate_after_shims: true,
+    });
+    encoder.adapters.push(library);
+    encoder
+}
+
+/// How many allocations of a world that is refused had to fail.
+#[track_caller]
+fn refused(change: impl Fn(&mut ComponentEncoder<'static>)) -> u64 {
+    let mut encoder = encoder();
+    change(&mut encoder);
+    assert!(matches!(
+        ComponentWorld::new(&encoder),
+        Err(Error::World(_))
+    ));
+    failures(|| ComponentWorld::new(&encoder))
 }
 
 #[test]
 fn renaming() {
-    assert_eq!(deduped(REPEATS).map(|it| it.1), Ok(4));
-    assert!(failures(|| deduped(REPEATS)) > 10);
+    let count = |answer: Result<Deduped<'_>, Error>| {
+        answer.map(|it| it.1.map_or(0, |map| map.renames().len()))
+    };
+    assert_eq!(count(deduped(REPEATS)), Ok(4));
+    assert!(failures(|| deduped(REPEATS)) > 20);
+    let many = repeats(20);
+    assert_eq!(count(deduped(&many)), Ok(19));
+    assert!(failures(|| deduped(&many)) > 60);
     assert!(failures(|| deduped(&REPEATS[..21])) > 0);
 }
 
@@ -51,4 +160,26 @@ fn trimming() {
     assert!(failures(|| gc::run(REALLOC, &["f"], Some("realloc"), 16)) > 20);
     // one whose fault carries a name
     assert!(failures(|| gc::run(THREE, &["b", "x"], None, 16)) > 5);
+}
+
+#[test]
+fn worlds() {
+    let encoder = encoder();
+    assert!(failures(|| ComponentWorld::new(&encoder)) > 200);
+}
+
+#[test]
+fn refused_worlds() {
+    assert!(refused(|it| it.resolve = "{},\"world\":1") > 0);
+    assert!(refused(|it| it.resolve = "{") > 0);
+    assert!(refused(|it| it.resolve = "{}") > 10);
+    assert!(refused(|it| it.world = World::Name("other")) > 50);
+    assert!(refused(|it| it.adapters[1].name = "old") > 50);
+    assert!(refused(|it| it.module = b"") > 50);
+    assert!(refused(|it| it.main_module_exports.push("run")) > 50);
+    assert!(refused(|it| it.adapters[0].name = "new") > 50);
+    assert!(refused(|it| it.adapters[0].required_exports.push("run")) > 50);
+    assert!(refused(|it| it.adapters[0].wasm = LIBRARY) > 50);
+    assert!(refused(|it| it.adapters[0].wasm = &THREE[..20]) > 50);
+    assert!(refused(|it| it.reject_legacy_names = true) > 50);
 }

@@ -1,11 +1,13 @@
 //! Types of core modules, and core signatures of functions.
 
 use crate::json::Value;
-use crate::read::{Read, member, optional_member};
+use crate::memory::OutOfMemory;
+use crate::read::{Read, Unread, member, optional_member};
 
 /// A value type.
-#[derive(Clone, Copy, Debug, PartialEq, Eq)]
+#[derive(Clone, Copy, Debug, PartialEq, Eq, Hash)]
 #[allow(missing_docs)]
+#[non_exhaustive]
 pub enum ValType {
     I32,
     I64,
@@ -20,7 +22,7 @@ pub enum ValType {
 }
 
 /// A function type.
-#[derive(Clone, Debug, PartialEq, Eq)]
+#[derive(Clone, Debug, PartialEq, Eq, Hash)]
 pub struct FuncType {
     /// The types of the parameters.
     pub params: Vec<ValType>,
@@ -29,7 +31,8 @@ pub struct FuncType {
 }
 
 /// A memory type. `initial` and `maximum` count pages.
-#[derive(Clone, Copy, Debug, PartialEq, Eq)]
+#[derive(Clone, Copy, Debug, PartialEq, Eq, Hash)]
+#[non_exhaustive]
 pub struct MemoryType {
     /// Whether addresses have 64 bits.
     pub memory64: bool,
@@ -44,8 +47,9 @@ pub struct MemoryType {
 }
 
 /// What is exported.
-#[derive(Clone, Copy, Debug, PartialEq, Eq)]
+#[derive(Clone, Copy, Debug, PartialEq, Eq, Hash)]
 #[allow(missing_docs)]
+#[non_exhaustive]
 pub enum ExportKind {
     Func,
     Table,
@@ -54,8 +58,9 @@ pub enum ExportKind {
 }
 
 /// The type of a core parameter or result of a function.
-#[derive(Clone, Copy, Debug, PartialEq, Eq)]
+#[derive(Clone, Copy, Debug, PartialEq, Eq, Hash)]
 #[allow(missing_docs)]
+#[non_exhaustive]
 pub enum WasmType {
     I32,
     I64,
@@ -67,7 +72,8 @@ pub enum WasmType {
 }
 
 /// The core function type of a function.
-#[derive(Clone, Debug, PartialEq, Eq)]
+#[derive(Clone, Debug, PartialEq, Eq, Hash)]
+#[non_exhaustive]
 pub struct WasmSignature {
     /// The core parameters.
     pub params: Vec<WasmType>,
@@ -79,15 +85,30 @@ pub struct WasmSignature {
     pub retptr: bool,
 }
 
+impl FuncType {
+    pub(crate) fn try_clone(&self) -> Result<FuncType, OutOfMemory> {
+        let copy = |types: &[ValType]| {
+            let mut copy = Vec::new();
+            copy.try_reserve_exact(types.len())?;
+            copy.extend_from_slice(types);
+            Ok::<_, OutOfMemory>(copy)
+        };
+        Ok(FuncType {
+            params: copy(&self.params)?,
+            results: copy(&self.results)?,
+        })
+    }
+}
+
 impl Read for ValType {
-    fn read(value: &Value) -> Option<Self> {
-        let Some(name) = value.as_str() else {
-            return Some(ValType::TypeRef {
+    fn read(value: &Value<'_>) -> Result<Self, Unread> {
+        let Ok(name) = value.as_str() else {
+            return Ok(ValType::TypeRef {
                 nullable: member(value, "nullable")?,
                 index: member(value, "index")?,
             });
         };
-        Some(match name {
+        Ok(match name {
             "i32" => ValType::I32,
             "i64" => ValType::I64,
             "f32" => ValType::F32,
@@ -97,14 +118,14 @@ impl Read for ValType {
             "externref" => ValType::ExternRef,
             "non-null-funcref" => ValType::FuncRefNonNull,
             "non-null-externref" => ValType::ExternRefNonNull,
-            _ => return None,
+            _ => return Err(Unread::Unknown),
         })
     }
 }
 
 impl Read for FuncType {
-    fn read(value: &Value) -> Option<Self> {
-        Some(FuncType {
+    fn read(value: &Value<'_>) -> Result<Self, Unread> {
+        Ok(FuncType {
             params: member(value, "params")?,
             results: member(value, "results")?,
         })
@@ -112,8 +133,8 @@ impl Read for FuncType {
 }
 
 impl Read for MemoryType {
-    fn read(value: &Value) -> Option<Self> {
-        Some(MemoryType {
+    fn read(value: &Value<'_>) -> Result<Self, Unread> {
+        Ok(MemoryType {
             memory64: member(value, "memory64")?,
             shared: member(value, "shared")?,
             initial: member(value, "initial")?,
@@ -124,13 +145,13 @@ impl Read for MemoryType {
 }
 
 impl Read for ExportKind {
-    fn read(value: &Value) -> Option<Self> {
-        Some(match value.as_str()? {
+    fn read(value: &Value<'_>) -> Result<Self, Unread> {
+        Ok(match value.as_str()? {
             "func" => ExportKind::Func,
             "table" => ExportKind::Table,
             "memory" => ExportKind::Memory,
             "global" => ExportKind::Global,
-            _ => return None,
+            _ => return Err(Unread::Unknown),
         })
     }
 }
@@ -148,8 +169,8 @@ impl ExportKind {
 }
 
 impl Read for WasmType {
-    fn read(value: &Value) -> Option<Self> {
-        Some(match value.as_str()? {
+    fn read(value: &Value<'_>) -> Result<Self, Unread> {
+        Ok(match value.as_str()? {
             "i32" => WasmType::I32,
             "i64" => WasmType::I64,
             "f32" => WasmType::F32,
@@ -157,14 +178,14 @@ impl Read for WasmType {
             "pointer" => WasmType::Pointer,
             "pointer-or-i64" => WasmType::PointerOrI64,
             "length" => WasmType::Length,
-            _ => return None,
+            _ => return Err(Unread::Unknown),
         })
     }
 }
 
 impl Read for WasmSignature {
-    fn read(value: &Value) -> Option<Self> {
-        Some(WasmSignature {
+    fn read(value: &Value<'_>) -> Result<Self, Unread> {
+        Ok(WasmSignature {
             params: member(value, "params")?,
             results: member(value, "results")?,
             indirect_params: member(value, "indirect_params")?,

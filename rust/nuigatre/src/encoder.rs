@@ -1,12 +1,15 @@
 //! What a component is encoded from.
 
 use crate::core_types::ExportKind;
-use crate::json::{Value, put_list, put_string};
-use crate::read::{Read, member};
-use std::fmt::Write;
+use crate::error::Error;
+use crate::json::{Value, is_one_value, put_list, put_string};
+use crate::memory::{OutOfMemory, Text, concat};
+use crate::read::{Read, Unread, list, member};
+use crate::world_error::WorldError;
+use std::borrow::Cow;
 
 /// The main module, or the adapter of this name.
-#[derive(Clone, Debug, PartialEq, Eq)]
+#[derive(Clone, Debug, PartialEq, Eq, Hash)]
 pub enum MainOrAdapter {
     /// The main module.
     Main,
@@ -15,7 +18,7 @@ pub enum MainOrAdapter {
 }
 
 /// An export of a module, as a library gets it.
-#[derive(Clone, Debug, PartialEq, Eq)]
+#[derive(Clone, Debug, PartialEq, Eq, Hash)]
 pub struct Item {
     /// The name by which the library imports it.
     pub alias: String,
@@ -28,7 +31,7 @@ pub struct Item {
 }
 
 /// What a library gets under a module's name.
-#[derive(Clone, Debug, PartialEq, Eq)]
+#[derive(Clone, Debug, PartialEq, Eq, Hash)]
 pub enum Instance {
     /// All exports of a module.
     MainOrAdapter(MainOrAdapter),
@@ -37,7 +40,7 @@ pub enum Instance {
 }
 
 /// How a library is instantiated.
-#[derive(Clone, Debug, Default, PartialEq, Eq)]
+#[derive(Clone, Debug, Default, PartialEq, Eq, Hash)]
 pub struct LibraryInfo {
     /// What it gets, under the name of each module that it imports from.
     pub arguments: Vec<(String, Instance)>,
@@ -47,6 +50,7 @@ pub struct LibraryInfo {
 
 /// An adapter or a library.
 #[derive(Clone, Debug)]
+#[non_exhaustive]
 pub struct Adapter<'a> {
     /// Its name.
     pub name: &'a str,
@@ -58,8 +62,21 @@ pub struct Adapter<'a> {
     pub library_info: Option<LibraryInfo>,
 }
 
+impl<'a> Adapter<'a> {
+    /// An adapter of this name and module, which has to export nothing.
+    #[must_use]
+    pub fn new(name: &'a str, wasm: &'a [u8]) -> Self {
+        Adapter {
+            name,
+            wasm,
+            required_exports: Vec::new(),
+            library_info: None,
+        }
+    }
+}
+
 /// Which world a component is encoded for.
-#[derive(Clone, Copy, Debug)]
+#[derive(Clone, Copy, Debug, PartialEq, Eq, Hash)]
 pub enum World<'a> {
     /// That at an index.
     Index(u32),
@@ -69,6 +86,7 @@ pub enum World<'a> {
 
 /// What a component is encoded from: worlds, a main module, and adapters and libraries beside it.
 #[derive(Clone, Debug)]
+#[non_exhaustive]
 pub struct ComponentEncoder<'a> {
     /// The worlds, as JSON: the serde form of wit-parser's `Resolve`, which `serde_json::to_string(&resolve)` makes, and
     /// `wasm-tools component wit --json` prints.
@@ -86,12 +104,13 @@ pub struct ComponentEncoder<'a> {
     pub reject_legacy_names: bool,
     /// Whether adapters grow memory for themselves, in place of calling the main module's realloc.
     pub realloc_via_memory_grow: bool,
-    /// The name of the export that is the task hook; empty for none.
-    pub task_hook: &'a str,
+    /// The name of the export that is the task hook, if one may be.
+    pub task_hook: Option<&'a str>,
 }
 
 impl<'a> ComponentEncoder<'a> {
     /// An encoder for this world, without adapters and flags, whose main module has to export nothing.
+    #[must_use]
     pub fn new(resolve: &'a str, world: World<'a>, module: &'a [u8]) -> Self {
         ComponentEncoder {
             resolve,
@@ -101,122 +120,133 @@ impl<'a> ComponentEncoder<'a> {
             adapters: Vec::new(),
             reject_legacy_names: false,
             realloc_via_memory_grow: false,
-            task_hook: "",
+            task_hook: None,
         }
     }
 
     /// The message for the archive.
-    pub(crate) fn message(&self) -> String {
-        let mut out = String::new();
-        // writing to a `String` does not fail
-        let _ = write!(out, "{{\"resolve\":{},\"world\":", self.resolve);
-        match self.world {
-            World::Index(index) => {
-                let _ = write!(out, "{index}");
-            }
-            World::Name(name) => put_string(&mut out, name),
+    pub(crate) fn message(&self) -> Result<String, Error> {
+        // so that the worlds can't say what comes after them
+        if !is_one_value(self.resolve) {
+            return Err(Error::World(WorldError::not_json()?));
         }
-        let _ = write!(
-            out,
+        let mut out = Text::default();
+        out.0
+            .try_reserve(self.resolve.len() + 512)
+            .map_err(OutOfMemory::from)?;
+        self.put_message(&mut out)?;
+        Ok(out.0)
+    }
+
+    fn put_message(&self, out: &mut Text) -> Result<(), OutOfMemory> {
+        out.put("{\"resolve\":")?;
+        out.put(self.resolve)?;
+        out.put(",\"world\":")?;
+        match self.world {
+            World::Index(index) => out.put_args(format_args!("{index}"))?,
+            World::Name(name) => put_string(out, name)?,
+        }
+        out.put_args(format_args!(
             ",\"reject_legacy_names\":{},\"realloc_via_memory_grow\":{},\"task_hook\":",
             self.reject_legacy_names, self.realloc_via_memory_grow
-        );
-        put_string(&mut out, self.task_hook);
-        let _ = write!(out, ",\"length\":{},\"exports\":", self.module.len());
-        put_list(&mut out, &self.main_module_exports, |out, key| {
-            put_string(out, key)
-        });
-        out.push_str(",\"adapters\":");
-        put_list(&mut out, &self.adapters, put_adapter);
-        out.push('}');
-        out
+        ))?;
+        put_string(out, self.task_hook.unwrap_or_default())?;
+        put_exports(out, self.module, &self.main_module_exports)?;
+        out.put(",\"adapters\":")?;
+        put_list(out, &self.adapters, put_adapter)?;
+        out.put("}")
     }
 
-    /// The bytes of all modules, one after another, the main module first.
-    pub(crate) fn modules(&self) -> Vec<u8> {
+    /// The bytes of all modules, one after another, the main module first. Where the others have none it is not copied.
+    pub(crate) fn modules(&self) -> Result<Cow<'a, [u8]>, OutOfMemory> {
+        if self.adapters.iter().all(|adapter| adapter.wasm.is_empty()) {
+            return Ok(Cow::Borrowed(self.module));
+        }
         let adapters = self.adapters.iter().map(|adapter| adapter.wasm);
-        std::iter::once(self.module)
-            .chain(adapters)
-            .collect::<Vec<_>>()
-            .concat()
+        Ok(Cow::Owned(concat(
+            std::iter::once(self.module).chain(adapters),
+        )?))
     }
 }
 
-fn put_adapter(out: &mut String, adapter: &Adapter<'_>) {
-    out.push_str("{\"name\":");
-    put_string(out, adapter.name);
-    let _ = write!(out, ",\"length\":{},\"exports\":", adapter.wasm.len());
-    put_list(out, &adapter.required_exports, |out, key| {
-        put_string(out, key)
-    });
+fn put_exports(out: &mut Text, module: &[u8], exports: &[&str]) -> Result<(), OutOfMemory> {
+    out.put_args(format_args!(",\"length\":{},\"exports\":", module.len()))?;
+    put_list(out, exports, |out, key| put_string(out, key))
+}
+
+fn put_adapter(out: &mut Text, adapter: &Adapter<'_>) -> Result<(), OutOfMemory> {
+    out.put("{\"name\":")?;
+    put_string(out, adapter.name)?;
+    put_exports(out, adapter.wasm, &adapter.required_exports)?;
     if let Some(library) = &adapter.library_info {
-        out.push_str(",\"library_info\":");
-        put_library(out, library);
+        out.put(",\"library_info\":")?;
+        put_library(out, library)?;
     }
-    out.push('}');
+    out.put("}")
 }
 
-fn put_library(out: &mut String, library: &LibraryInfo) {
-    out.push_str("{\"arguments\":");
+fn put_library(out: &mut Text, library: &LibraryInfo) -> Result<(), OutOfMemory> {
+    out.put("{\"arguments\":")?;
     put_list(out, &library.arguments, |out, (name, instance)| {
-        out.push_str("{\"name\":");
-        put_string(out, name);
-        out.push_str(",\"instance\":");
-        put_instance(out, instance);
-        out.push('}');
-    });
+        out.put("{\"name\":")?;
+        put_string(out, name)?;
+        out.put(",\"instance\":")?;
+        put_instance(out, instance)?;
+        out.put("}")
+    })?;
     let after_shims = library.instantiate_after_shims;
-    let _ = write!(out, ",\"instantiate_after_shims\":{after_shims}}}");
+    out.put_args(format_args!(",\"instantiate_after_shims\":{after_shims}}}"))
 }
 
-fn put_instance(out: &mut String, instance: &Instance) {
+fn put_instance(out: &mut Text, instance: &Instance) -> Result<(), OutOfMemory> {
     match instance {
         Instance::MainOrAdapter(which) => {
-            out.push_str("{\"kind\":\"module\",\"which\":");
-            put_which(out, which);
+            out.put("{\"kind\":\"module\",\"which\":")?;
+            put_which(out, which)?;
         }
         Instance::Items(items) => {
-            out.push_str("{\"kind\":\"items\",\"items\":");
-            put_list(out, items, put_item);
+            out.put("{\"kind\":\"items\",\"items\":")?;
+            put_list(out, items, put_item)?;
         }
     }
-    out.push('}');
+    out.put("}")
 }
 
-fn put_which(out: &mut String, which: &MainOrAdapter) {
+fn put_which(out: &mut Text, which: &MainOrAdapter) -> Result<(), OutOfMemory> {
     match which {
-        MainOrAdapter::Main => out.push_str("{\"kind\":\"main\"}"),
+        MainOrAdapter::Main => out.put("{\"kind\":\"main\"}"),
         MainOrAdapter::Adapter(name) => {
-            out.push_str("{\"kind\":\"adapter\",\"name\":");
-            put_string(out, name);
-            out.push('}');
+            out.put("{\"kind\":\"adapter\",\"name\":")?;
+            put_string(out, name)?;
+            out.put("}")
         }
     }
 }
 
-fn put_item(out: &mut String, item: &Item) {
-    out.push_str("{\"alias\":");
-    put_string(out, &item.alias);
-    let _ = write!(out, ",\"kind\":\"{}\",\"which\":", item.kind.name());
-    put_which(out, &item.which);
-    out.push_str(",\"name\":");
-    put_string(out, &item.name);
-    out.push('}');
+fn put_item(out: &mut Text, item: &Item) -> Result<(), OutOfMemory> {
+    out.put("{\"alias\":")?;
+    put_string(out, &item.alias)?;
+    let kind = item.kind.name();
+    out.put_args(format_args!(",\"kind\":\"{kind}\",\"which\":"))?;
+    put_which(out, &item.which)?;
+    out.put(",\"name\":")?;
+    put_string(out, &item.name)?;
+    out.put("}")
 }
 
 impl Read for MainOrAdapter {
-    fn read(value: &Value) -> Option<Self> {
-        Some(match value.get("kind")?.as_str()? {
+    fn read(value: &Value<'_>) -> Result<Self, Unread> {
+        Ok(match value.kind()? {
             "main" => MainOrAdapter::Main,
             "adapter" => MainOrAdapter::Adapter(member(value, "name")?),
-            _ => return None,
+            _ => return Err(Unread::Unknown),
         })
     }
 }
 
 impl Read for Item {
-    fn read(value: &Value) -> Option<Self> {
-        Some(Item {
+    fn read(value: &Value<'_>) -> Result<Self, Unread> {
+        Ok(Item {
             alias: member(value, "alias")?,
             kind: member(value, "kind")?,
             which: member(value, "which")?,
@@ -226,21 +256,20 @@ impl Read for Item {
 }
 
 impl Read for Instance {
-    fn read(value: &Value) -> Option<Self> {
-        Some(match value.get("kind")?.as_str()? {
+    fn read(value: &Value<'_>) -> Result<Self, Unread> {
+        Ok(match value.kind()? {
             "module" => Instance::MainOrAdapter(member(value, "which")?),
             "items" => Instance::Items(member(value, "items")?),
-            _ => return None,
+            _ => return Err(Unread::Unknown),
         })
     }
 }
 
 impl Read for LibraryInfo {
-    fn read(value: &Value) -> Option<Self> {
-        let arguments = value.get("arguments")?.as_array()?;
-        let argument = |it: &Value| Some((member(it, "name")?, member(it, "instance")?));
-        Some(LibraryInfo {
-            arguments: arguments.iter().map(argument).collect::<Option<_>>()?,
+    fn read(value: &Value<'_>) -> Result<Self, Unread> {
+        let argument = |it: &Value<'_>| Ok((member(it, "name")?, member(it, "instance")?));
+        Ok(LibraryInfo {
+            arguments: list(value, "arguments", argument)?,
             instantiate_after_shims: member(value, "instantiate_after_shims")?,
         })
     }

@@ -2,12 +2,15 @@
 
 use crate::core_types::MemoryType;
 use crate::ids::{AbiVariant, InterfaceId, TypeId, WorldKey};
+use crate::index::Index;
 use crate::json::Value;
-use crate::read::{Read, list, member};
+use crate::ordered_map::{Iter, OrderedMap};
+use crate::read::{Read, Unread, map, member};
 
 /// What an export of a core module is, by its name.
-#[derive(Clone, Debug, PartialEq, Eq)]
+#[derive(Clone, Debug, PartialEq, Eq, Hash)]
 #[allow(missing_docs)]
+#[non_exhaustive]
 pub enum Export {
     WorldFunc(WorldKey, String, AbiVariant),
     WorldFuncPostReturn(WorldKey),
@@ -27,8 +30,8 @@ pub enum Export {
 }
 
 impl Read for Export {
-    fn read(value: &Value) -> Option<Self> {
-        Some(match value.get("kind")?.as_str()? {
+    fn read(value: &Value<'_>) -> Result<Self, Unread> {
+        Ok(match value.kind()? {
             "world-func" => Export::WorldFunc(
                 member(value, "key")?,
                 member(value, "name")?,
@@ -57,128 +60,195 @@ impl Read for Export {
             }
             "indirect-function-table" => Export::IndirectFunctionTable,
             "wasm-task-hook" => Export::WasmTaskHook,
-            _ => return None,
+            _ => return Err(Unread::Unknown),
         })
     }
 }
 
-/// The exports of a core module, by their names, in order. Of what is looked up, the first is found.
-#[derive(Clone, Debug, Default, PartialEq, Eq)]
-pub struct ExportMap {
-    names: Vec<(String, Export)>,
+/// What an export is looked up by. The name of a function is left out where the key is that of the function.
+#[derive(Clone, Copy, PartialEq, Eq, Hash)]
+enum Role<'a> {
+    Function(&'a WorldKey, &'a str),
+    PostReturn(&'a WorldKey, Option<&'a str>),
+    Callback(&'a WorldKey, Option<&'a str>),
+    Memory,
+    Other(&'a Export),
 }
 
+impl Role<'_> {
+    fn of(export: &Export) -> Role<'_> {
+        match export {
+            Export::WorldFunc(key, name, _) | Export::InterfaceFunc(key, _, name, _) => {
+                Role::Function(key, name)
+            }
+            Export::WorldFuncPostReturn(key) => Role::PostReturn(key, None),
+            Export::InterfaceFuncPostReturn(key, name) => Role::PostReturn(key, Some(name)),
+            Export::WorldFuncCallback(key) => Role::Callback(key, None),
+            Export::InterfaceFuncCallback(key, name) => Role::Callback(key, Some(name)),
+            Export::Memory(_) => Role::Memory,
+            other => Role::Other(other),
+        }
+    }
+}
+
+/// The exports of a core module, by their names, in order. Of what is looked up, the first is found.
+#[derive(Clone, Debug, Default)]
+pub struct ExportMap {
+    names: OrderedMap<String, Export>,
+    roles: Index,
+}
+
+impl PartialEq for ExportMap {
+    fn eq(&self, other: &Self) -> bool {
+        self.names == other.names
+    }
+}
+
+impl Eq for ExportMap {}
+
 impl ExportMap {
-    pub(crate) fn read(value: &Value, name: &str) -> Option<Self> {
-        let names = list(value, name, |entry| {
-            Some((member(entry, "name")?, member(entry, "export")?))
+    pub(crate) fn read(value: &Value<'_>, name: &str) -> Result<Self, Unread> {
+        let names: OrderedMap<String, Export> = map(value, name, |entry| {
+            Ok((member(entry, "name")?, member(entry, "export")?))
         })?;
-        Some(ExportMap { names })
+        let role = |position| names.get_index(position).map(|it| Role::of(it.1));
+        let roles = Index::of(names.len(), role)?;
+        Ok(ExportMap { names, roles })
+    }
+
+    /// All exports by their names, in order.
+    #[must_use]
+    pub fn exports(&self) -> &OrderedMap<String, Export> {
+        &self.names
     }
 
     /// All exports with their names, in order.
-    pub fn iter(&self) -> impl Iterator<Item = (&str, &Export)> {
-        self.names
-            .iter()
-            .map(|(name, export)| (name.as_str(), export))
+    pub fn iter(&self) -> Iter<'_, String, Export> {
+        self.names.iter()
     }
 
-    fn first(&self, is_wanted: impl Fn(&Export) -> bool) -> Option<(&str, &Export)> {
-        self.iter().find(|(_, export)| is_wanted(export))
+    /// What the export of this name is.
+    #[must_use]
+    pub fn get(&self, name: &str) -> Option<&Export> {
+        self.names.get(name)
     }
 
-    fn first_name(&self, is_wanted: impl Fn(&Export) -> bool) -> Option<&str> {
-        Some(self.first(is_wanted)?.0)
+    /// The position of the first export with a role.
+    fn position(&self, role: Role<'_>) -> Option<usize> {
+        let at = |position| self.names.get_index(position).map(|it| Role::of(it.1));
+        let is_at = |position| at(position) == Some(role);
+        self.roles.find(&Some(role), self.names.len(), is_at)
     }
 
-    fn own_or_general(&self, own: Export) -> Option<&str> {
-        self.first_name(|export| *export == own)
+    /// The first export with a role.
+    fn first(&self, role: Role<'_>) -> Option<(&str, &Export)> {
+        let (name, export) = self.names.get_index(self.position(role)?)?;
+        Some((name, export))
+    }
+
+    fn name(&self, role: Role<'_>) -> Option<&str> {
+        Some(self.first(role)?.0)
+    }
+
+    /// The name of the first export with one of two roles.
+    fn name_of_either(&self, one: Role<'_>, other: Role<'_>) -> Option<&str> {
+        let positions = [self.position(one), self.position(other)];
+        let position = positions.into_iter().flatten().min()?;
+        Some(self.names.get_index(position)?.0)
+    }
+
+    fn own_or_general(&self, own: &Export) -> Option<&str> {
+        self.name(Role::Other(own))
             .or_else(|| self.general_purpose_realloc())
     }
 
     /// The name of what runs after a function has returned: of the world, of this key, or of this name of the interface
     /// of the key.
+    #[must_use]
     pub fn post_return(&self, key: &WorldKey, func: &str) -> Option<&str> {
-        self.first_name(|export| match export {
-            Export::WorldFuncPostReturn(other) => other == key,
-            Export::InterfaceFuncPostReturn(other, name) => other == key && name == func,
-            _ => false,
-        })
+        self.name_of_either(
+            Role::PostReturn(key, None),
+            Role::PostReturn(key, Some(func)),
+        )
     }
 
     /// The name of the callback of a function: of the world, of this key, or of this name of the interface of the key.
+    #[must_use]
     pub fn callback(&self, key: &WorldKey, func: &str) -> Option<&str> {
-        self.first_name(|export| match export {
-            Export::WorldFuncCallback(other) => other == key,
-            Export::InterfaceFuncCallback(other, name) => other == key && name == func,
-            _ => false,
-        })
+        self.name_of_either(Role::Callback(key, None), Role::Callback(key, Some(func)))
     }
 
     /// How the function of this name, under this key, is lifted.
+    #[must_use]
     pub fn abi(&self, key: &WorldKey, func: &str) -> Option<AbiVariant> {
-        self.iter().find_map(|(_, export)| match export {
-            Export::WorldFunc(other, name, abi) | Export::InterfaceFunc(other, _, name, abi)
-                if other == key && name == func =>
-            {
-                Some(*abi)
-            }
+        match self.first(Role::Function(key, func))?.1 {
+            Export::WorldFunc(_, _, abi) | Export::InterfaceFunc(_, _, _, abi) => Some(*abi),
             _ => None,
-        })
+        }
     }
 
     /// The name of the realloc for all purposes that have none of their own.
+    #[must_use]
     pub fn general_purpose_realloc(&self) -> Option<&str> {
-        self.first_name(|export| *export == Export::GeneralPurposeRealloc)
+        self.name(Role::Other(&Export::GeneralPurposeRealloc))
     }
 
     /// The name of the realloc for the parameters of exports, else of that for all purposes. The function makes no
     /// difference.
+    #[must_use]
     pub fn export_realloc_for(&self, _key: &WorldKey, _func: &str) -> Option<&str> {
-        self.own_or_general(Export::GeneralPurposeExportRealloc)
+        self.own_or_general(&Export::GeneralPurposeExportRealloc)
     }
 
     /// The name of the realloc for the results of imports, else of that for all purposes.
+    #[must_use]
     pub fn import_realloc_fallback(&self) -> Option<&str> {
-        self.own_or_general(Export::GeneralPurposeImportRealloc)
+        self.own_or_general(&Export::GeneralPurposeImportRealloc)
     }
 
     /// The same. The function makes no difference.
+    #[must_use]
     pub fn import_realloc_for(&self, _interface: Option<InterfaceId>, _func: &str) -> Option<&str> {
         self.import_realloc_fallback()
     }
 
     /// The name of the realloc for adapters, else of that for all purposes.
+    #[must_use]
     pub fn realloc_to_import_into_adapter(&self) -> Option<&str> {
-        self.own_or_general(Export::ReallocForAdapter)
+        self.own_or_general(&Export::ReallocForAdapter)
     }
 
     /// The name and the type of the memory.
+    #[must_use]
     pub fn memory(&self) -> Option<(&str, MemoryType)> {
-        self.iter().find_map(|(name, export)| match export {
-            Export::Memory(ty) => Some((name, *ty)),
+        match self.first(Role::Memory)? {
+            (name, Export::Memory(ty)) => Some((name, *ty)),
             _ => None,
-        })
+        }
     }
 
     /// The name of the table of functions.
+    #[must_use]
     pub fn indirect_function_table(&self) -> Option<&str> {
-        self.first_name(|export| *export == Export::IndirectFunctionTable)
+        self.name(Role::Other(&Export::IndirectFunctionTable))
     }
 
     /// The name of what is called as tasks begin and end.
+    #[must_use]
     pub fn wasm_task_hook(&self) -> Option<&str> {
-        self.first_name(|export| *export == Export::WasmTaskHook)
+        self.name(Role::Other(&Export::WasmTaskHook))
     }
 
     /// The name of what is called before all others.
+    #[must_use]
     pub fn initialize(&self) -> Option<&str> {
-        self.first_name(|export| *export == Export::Initialize)
+        self.name(Role::Other(&Export::Initialize))
     }
 
     /// The name of the destructor of a resource.
+    #[must_use]
     pub fn resource_dtor(&self, ty: TypeId) -> Option<&str> {
-        self.first_name(|export| *export == Export::ResourceDtor(ty))
+        self.name(Role::Other(&Export::ResourceDtor(ty)))
     }
 
     /// The names of the reallocs that a canonical option can name, in order. A realloc for adapters is none.
@@ -191,6 +261,15 @@ impl ExportMap {
                     | Export::GeneralPurposeImportRealloc
             )
         });
-        reallocs.map(|(name, _)| name)
+        reallocs.map(|(name, _)| name.as_str())
+    }
+}
+
+impl<'a> IntoIterator for &'a ExportMap {
+    type Item = (&'a String, &'a Export);
+    type IntoIter = Iter<'a, String, Export>;
+
+    fn into_iter(self) -> Iter<'a, String, Export> {
+        self.names.iter()
     }
 }

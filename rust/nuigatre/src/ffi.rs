@@ -2,7 +2,9 @@
 //! declarations with those, so a test calls each function with all arguments different.
 
 use crate::error::Error;
+use crate::memory::OutOfMemory;
 use std::marker::PhantomData;
+use std::mem::MaybeUninit;
 
 /// A `&[u8]` as the archive has it.
 #[derive(Clone, Copy)]
@@ -28,6 +30,7 @@ const FAULT: u32 = 1;
 const TOO_SMALL: u32 = 2;
 const SAME: u32 = 3;
 const BAD_ARGUMENT: u32 = 4;
+const MEMORY: u32 = 5;
 
 unsafe extern "C" {
     fn nuigatre_dedupe(
@@ -100,9 +103,10 @@ impl<'a> Slice<'a> {
 /// Renames the repeated imports of a module. The answer has the renamed module, and then the text of its renames.
 /// `room` is how many bytes are made ready for it before it is known how many there are.
 pub(crate) fn dedupe(wasm: &[u8], room: usize) -> Result<Answered, Error> {
-    answered(room, |out| {
+    answered(room, false, |out| {
         // SAFETY: the declaration is that of the archive. Both slices are borrowed for the call, and `out` is its alone.
-        unsafe { nuigatre_dedupe(wasm.as_ptr(), wasm.len(), out.as_mut_ptr(), out.len()) }
+        // The archive writes to the front of `out`, and reads nothing of it.
+        unsafe { nuigatre_dedupe(wasm.as_ptr(), wasm.len(), start(out), out.len()) }
     })
 }
 
@@ -115,7 +119,7 @@ pub(crate) fn trim(arguments: TrimArguments<'_>, room: usize) -> Result<Answered
         page_size_log2,
     } = arguments;
     let name = realloc.unwrap_or_default();
-    answered(room, |out| {
+    answered(room, false, |out| {
         // SAFETY: as above. The slices of `required` are borrowed for as long as `arguments`.
         unsafe {
             nuigatre_trim(
@@ -127,7 +131,7 @@ pub(crate) fn trim(arguments: TrimArguments<'_>, room: usize) -> Result<Answered
                 name.as_ptr(),
                 name.len(),
                 page_size_log2,
-                out.as_mut_ptr(),
+                start(out),
                 out.len(),
             )
         }
@@ -136,7 +140,7 @@ pub(crate) fn trim(arguments: TrimArguments<'_>, room: usize) -> Result<Answered
 
 /// Makes the world of a component. The answer has the bytes of its modules, and then its record as JSON.
 pub(crate) fn world(message: &[u8], modules: &[u8], room: usize) -> Result<Answered, Error> {
-    answered(room, |out| {
+    answered(room, true, |out| {
         // SAFETY: as above.
         unsafe {
             nuigatre_world(
@@ -144,42 +148,65 @@ pub(crate) fn world(message: &[u8], modules: &[u8], room: usize) -> Result<Answe
                 message.len(),
                 modules.as_ptr(),
                 modules.len(),
-                out.as_mut_ptr(),
+                start(out),
                 out.len(),
             )
         }
     })
 }
 
-/// Calls with a buffer of `room` bytes; once more, with one as long as the answer, where that is too small.
-fn answered(room: usize, call: impl Fn(&mut [u8]) -> Answer) -> Result<Answered, Error> {
+/// Where a buffer begins.
+fn start(out: &mut [MaybeUninit<u8>]) -> *mut u8 {
+    out.as_mut_ptr().cast()
+}
+
+/// Calls with a buffer of `room` bytes; once more, with one as long as the answer, where that is too small. Faults of
+/// some calls have a text.
+fn answered(
+    room: usize,
+    has_text: bool,
+    call: impl Fn(&mut [MaybeUninit<u8>]) -> Answer,
+) -> Result<Answered, Error> {
     let mut room = room;
-    loop {
-        let mut bytes = Vec::new();
-        bytes.try_reserve_exact(room).map_err(|_| Error::Memory)?;
-        bytes.resize(room, 0);
-        let answer = call(&mut bytes);
+    // the second time it is as long as the answer
+    for _ in 0..2 {
+        let mut bytes = Vec::<u8>::new();
+        bytes.try_reserve_exact(room).map_err(OutOfMemory::from)?;
+        let answer = call(&mut bytes.spare_capacity_mut()[..room]);
+        let is_long = answer.length > room;
         match answer.status {
-            DONE => {
-                bytes.truncate(answer.length);
-                return Ok(Answered::Bytes {
-                    bytes,
-                    module_length: answer.module_length,
-                });
-            }
-            TOO_SMALL => room = answer.length,
-            SAME => return Ok(Answered::Same),
+            TOO_SMALL if is_long => room = answer.length,
+            FAULT if !has_text => return answer.with(Vec::new()),
             // the text of the fault had no room
-            FAULT if answer.length > bytes.len() => room = answer.length,
-            FAULT => {
-                return Ok(Answered::Fault {
-                    number: answer.fault,
-                    position: answer.position,
-                    text: String::from_utf8_lossy(&bytes[..answer.length]).into_owned(),
-                });
+            FAULT if is_long => room = answer.length,
+            DONE | FAULT if !is_long => {
+                // SAFETY: as is proved of the archive, the front of the buffer has `length` bytes, which are the answer
+                // or the text of the fault.
+                unsafe { bytes.set_len(answer.length) };
+                return answer.with(bytes);
             }
+            SAME => return Ok(Answered::Same),
             BAD_ARGUMENT => return Err(Error::BadArgument),
-            _ => return Err(Error::Memory),
+            MEMORY => return Err(Error::Memory),
+            _ => return Err(Error::OtherVersion),
         }
+    }
+    Err(Error::OtherVersion)
+}
+
+impl Answer {
+    /// The answer with its bytes.
+    fn with(self, bytes: Vec<u8>) -> Result<Answered, Error> {
+        if self.status == DONE {
+            return Ok(Answered::Bytes {
+                bytes,
+                module_length: self.module_length,
+            });
+        }
+        Ok(Answered::Fault {
+            number: self.fault,
+            position: self.position,
+            text: String::from_utf8(bytes).map_err(|_| Error::OtherVersion)?,
+        })
     }
 }

@@ -1,7 +1,9 @@
 //! Trimming of adapters.
 
-use crate::error::{Error, GcFault};
+use crate::error::Error;
+use crate::faults::GcFault;
 use crate::ffi::{self, Answered, Slice, TrimArguments};
+use crate::memory::{OutOfMemory, fitted};
 
 /// How many bytes a trimmed adapter may have beside those of the adapter, and of the realloc's name, before a call is
 /// made twice: those of the code that is added.
@@ -19,10 +21,7 @@ const ADDED: usize = 1024;
 /// - `BadArgument`: `required` is empty, or `page_size_log2` is more than 16.
 /// - `Trim`: the adapter is no module, or has what is not supported.
 /// - `Memory`: an allocation failed.
-///
-/// # Panics
-///
-/// The archive is of another version than this crate, and answers the number of an unknown fault.
+/// - `OtherVersion`: the library is of another version than this crate.
 pub fn run(
     wasm: &[u8],
     required: &[&str],
@@ -32,7 +31,7 @@ pub fn run(
     let mut names = Vec::new();
     names
         .try_reserve_exact(required.len())
-        .map_err(|_| Error::Memory)?;
+        .map_err(OutOfMemory::from)?;
     names.extend(required.iter().map(|name| Slice::new(name.as_bytes())));
     let arguments = TrimArguments {
         wasm,
@@ -42,13 +41,13 @@ pub fn run(
     };
     let room = wasm.len() + main_module_realloc.unwrap_or_default().len() + ADDED;
     match ffi::trim(arguments, room)? {
-        Answered::Bytes { bytes, .. } => Ok(bytes),
-        Answered::Same => unreachable!("a trim always has bytes of its own"),
+        Answered::Bytes { bytes, .. } => Ok(fitted(bytes)),
+        Answered::Same => Err(Error::OtherVersion),
         Answered::Fault {
             number, position, ..
         } => {
-            let fault = GcFault::from_number(number, required.get(position).copied());
-            Err(Error::Trim(fault.expect("a fault of trimming")))
+            let missing = required.get(position).copied();
+            Err(Error::Trim(GcFault::from_number(number, missing)?))
         }
     }
 }

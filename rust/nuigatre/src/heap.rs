@@ -81,7 +81,7 @@ mod counts {
     pub(super) fn add(_blocks: i64) {}
 }
 
-/// The blocks of this thread, and how many more of its allocations may succeed.
+/// The blocks of this thread, those of this crate among them, and how many more of its allocations may succeed.
 #[cfg(test)]
 pub(crate) mod counts {
     use std::cell::Cell;
@@ -91,7 +91,7 @@ pub(crate) mod counts {
         static LEFT: Cell<u64> = const { Cell::new(u64::MAX) };
     }
 
-    /// How many blocks the archive has allocated on this thread and not given back.
+    /// How many blocks were allocated on this thread, less those that were given back.
     pub(crate) fn held() -> i64 {
         HELD.get()
     }
@@ -101,13 +101,13 @@ pub(crate) mod counts {
         LEFT.set(count);
     }
 
-    pub(super) fn may_allocate() -> bool {
+    pub(crate) fn may_allocate() -> bool {
         let left = LEFT.get();
         LEFT.set(left.saturating_sub(1));
         left > 0
     }
 
-    pub(super) fn add(blocks: i64) {
+    pub(crate) fn add(blocks: i64) {
         HELD.set(HELD.get() + blocks);
     }
 }

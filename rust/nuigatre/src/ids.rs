@@ -1,7 +1,7 @@
 //! Ids, keys of worlds, and ways to call functions.
 
 use crate::json::Value;
-use crate::read::{Read, member};
+use crate::read::{Read, Unread, member};
 
 /// The index of an interface among those of the resolved worlds.
 #[derive(Clone, Copy, Debug, PartialEq, Eq, PartialOrd, Ord, Hash)]
@@ -12,7 +12,7 @@ pub struct InterfaceId(pub u32);
 pub struct TypeId(pub u32);
 
 /// The key of an item of a world: a plain name, or an interface by its id.
-#[derive(Clone, Debug, PartialEq, Eq, Hash)]
+#[derive(Clone, Debug, PartialEq, Eq, PartialOrd, Ord, Hash)]
 pub enum WorldKey {
     /// A plain name.
     Name(String),
@@ -21,7 +21,8 @@ pub enum WorldKey {
 }
 
 /// How a guest imports or exports a function as a core function.
-#[derive(Clone, Copy, Debug, PartialEq, Eq, Hash)]
+#[derive(Clone, Copy, Debug, PartialEq, Eq, PartialOrd, Ord, Hash)]
+#[non_exhaustive]
 pub enum AbiVariant {
     /// A synchronous import.
     GuestImport,
@@ -36,7 +37,7 @@ pub enum AbiVariant {
 }
 
 /// The encoding of a core module's texts.
-#[derive(Clone, Copy, Debug, PartialEq, Eq)]
+#[derive(Clone, Copy, Debug, PartialEq, Eq, Hash)]
 #[allow(missing_docs)]
 pub enum StringEncoding {
     UTF8,
@@ -45,46 +46,46 @@ pub enum StringEncoding {
 }
 
 impl Read for InterfaceId {
-    fn read(value: &Value) -> Option<Self> {
-        Some(InterfaceId(value.as_u32()?))
+    fn read(value: &Value<'_>) -> Result<Self, Unread> {
+        Ok(InterfaceId(u32::read(value)?))
     }
 }
 
 impl Read for TypeId {
-    fn read(value: &Value) -> Option<Self> {
-        Some(TypeId(value.as_u32()?))
+    fn read(value: &Value<'_>) -> Result<Self, Unread> {
+        Ok(TypeId(u32::read(value)?))
     }
 }
 
 impl Read for WorldKey {
-    fn read(value: &Value) -> Option<Self> {
-        match value.get("name") {
-            Some(name) => Some(WorldKey::Name(String::read(name)?)),
-            None => Some(WorldKey::Interface(member(value, "interface")?)),
+    fn read(value: &Value<'_>) -> Result<Self, Unread> {
+        match value.find("name") {
+            Some(name) => Ok(WorldKey::Name(String::read(name)?)),
+            None => Ok(WorldKey::Interface(member(value, "interface")?)),
         }
     }
 }
 
 impl Read for AbiVariant {
-    fn read(value: &Value) -> Option<Self> {
-        Some(match value.as_str()? {
+    fn read(value: &Value<'_>) -> Result<Self, Unread> {
+        Ok(match value.as_str()? {
             "guest-import" => AbiVariant::GuestImport,
             "guest-export" => AbiVariant::GuestExport,
             "guest-import-async" => AbiVariant::GuestImportAsync,
             "guest-export-async" => AbiVariant::GuestExportAsync,
             "guest-export-async-stackful" => AbiVariant::GuestExportAsyncStackful,
-            _ => return None,
+            _ => return Err(Unread::Unknown),
         })
     }
 }
 
 impl Read for StringEncoding {
-    fn read(value: &Value) -> Option<Self> {
-        Some(match value.as_str()? {
+    fn read(value: &Value<'_>) -> Result<Self, Unread> {
+        Ok(match value.as_str()? {
             "utf8" => StringEncoding::UTF8,
             "utf16" => StringEncoding::UTF16,
             "compact-utf16" => StringEncoding::CompactUTF16,
-            _ => return None,
+            _ => return Err(Unread::Unknown),
         })
     }
 }

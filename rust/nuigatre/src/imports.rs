@@ -3,12 +3,14 @@
 use crate::core_types::{ExportKind, FuncType, MemoryType, ValType};
 use crate::encoder::{Item, MainOrAdapter};
 use crate::ids::{AbiVariant, InterfaceId, StringEncoding, TypeId, WorldKey};
+use crate::index::Index;
 use crate::json::Value;
+use crate::memory::{push, string};
 use crate::ordered_map::OrderedMap;
-use crate::read::{Read, list, member, optional_member};
+use crate::read::{Read, Unread, map, member, optional_member};
 
 /// The future or stream type that a built-in is for.
-#[derive(Clone, Debug, PartialEq, Eq)]
+#[derive(Clone, Debug, PartialEq, Eq, Hash)]
 pub enum PayloadType {
     /// A future or stream type, and the name of a function that has it in a parameter or in its result.
     Typed {
@@ -24,7 +26,8 @@ pub enum PayloadType {
 }
 
 /// The future or stream that a built-in is for, and the function by which the built-in's name picks it.
-#[derive(Clone, Debug, PartialEq, Eq)]
+#[derive(Clone, Debug, PartialEq, Eq, Hash)]
+#[non_exhaustive]
 pub struct PayloadInfo {
     /// The name of the import, without `[async-lower]`.
     pub name: String,
@@ -40,8 +43,9 @@ pub struct PayloadInfo {
 
 /// What an import of a core module is, by its name. Fields are in the order of `wit-component`'s; the function of
 /// `ExportedTaskReturn` is there by its name.
-#[derive(Clone, Debug, PartialEq, Eq)]
+#[derive(Clone, Debug, PartialEq, Eq, Hash)]
 #[allow(missing_docs)]
+#[non_exhaustive]
 pub enum Import {
     WorldFunc(WorldKey, String, AbiVariant),
     InterfaceFunc(WorldKey, InterfaceId, String, AbiVariant),
@@ -146,22 +150,22 @@ pub enum Import {
 }
 
 impl Read for PayloadType {
-    fn read(value: &Value) -> Option<Self> {
-        Some(match value.get("kind")?.as_str()? {
+    fn read(value: &Value<'_>) -> Result<Self, Unread> {
+        Ok(match value.kind()? {
             "typed" => PayloadType::Typed {
                 id: member(value, "type")?,
                 function: member(value, "function")?,
             },
             "unit-future" => PayloadType::UnitFuture,
             "unit-stream" => PayloadType::UnitStream,
-            _ => return None,
+            _ => return Err(Unread::Unknown),
         })
     }
 }
 
 impl Read for PayloadInfo {
-    fn read(value: &Value) -> Option<Self> {
-        Some(PayloadInfo {
+    fn read(value: &Value<'_>) -> Result<Self, Unread> {
+        Ok(PayloadInfo {
             name: member(value, "name")?,
             ty: member(value, "type")?,
             key: member(value, "key")?,
@@ -172,10 +176,10 @@ impl Read for PayloadInfo {
 }
 
 /// A built-in of futures and streams, of this kind.
-fn async_value(kind: &str, value: &Value) -> Option<Import> {
+fn async_value(kind: &str, value: &Value<'_>) -> Result<Import, Unread> {
     let info: PayloadInfo = member(value, "payload")?;
     let async_ = member(value, "async")?;
-    Some(match kind {
+    Ok(match kind {
         "stream-new" => Import::StreamNew(info),
         "stream-read" => Import::StreamRead { async_, info },
         "stream-write" => Import::StreamWrite { async_, info },
@@ -192,7 +196,7 @@ fn async_value(kind: &str, value: &Value) -> Option<Import> {
         "future-cancel-write" => Import::FutureCancelWrite { info, async_ },
         "future-drop-readable" => Import::FutureDropReadable(info),
         "future-drop-writable" => Import::FutureDropWritable(info),
-        _ => return None,
+        _ => return Err(Unread::Unknown),
     })
 }
 
@@ -222,9 +226,9 @@ fn plain(kind: &str) -> Option<Import> {
     })
 }
 
-/// A built-in with a type, an encoding or a flag, of this kind.
-fn with_field(kind: &str, value: &Value) -> Option<Import> {
-    Some(match kind {
+/// A built-in with a type, an encoding or a flag, if it is of this kind.
+fn with_field(kind: &str, value: &Value<'_>) -> Result<Option<Import>, Unread> {
+    Ok(Some(match kind {
         "context-get" => Import::ContextGet {
             ty: member(value, "type")?,
             slot: member(value, "slot")?,
@@ -248,13 +252,13 @@ fn with_field(kind: &str, value: &Value) -> Option<Import> {
         "subtask-cancel" => Import::SubtaskCancel {
             async_: member(value, "async")?,
         },
-        _ => return None,
-    })
+        _ => return Ok(None),
+    }))
 }
 
 /// An import of the world, of the main module, of an adapter or of a resource, of this kind.
-fn of_component(kind: &str, value: &Value) -> Option<Import> {
-    Some(match kind {
+fn of_component(kind: &str, value: &Value<'_>) -> Result<Import, Unread> {
+    Ok(match kind {
         "world-func" => Import::WorldFunc(
             member(value, "key")?,
             member(value, "name")?,
@@ -296,19 +300,23 @@ fn of_component(kind: &str, value: &Value) -> Option<Import> {
             optional_member(value, "interface")?,
             member(value, "function")?,
         ),
-        _ => return None,
+        _ => return Err(Unread::Unknown),
     })
 }
 
 impl Read for Import {
-    fn read(value: &Value) -> Option<Self> {
-        let kind = value.get("kind")?.as_str()?;
-        if value.get("payload").is_some() {
+    fn read(value: &Value<'_>) -> Result<Self, Unread> {
+        let kind = value.kind()?;
+        if value.find("payload").is_some() {
             return async_value(kind, value);
         }
-        plain(kind)
-            .or_else(|| with_field(kind, value))
-            .or_else(|| of_component(kind, value))
+        if let Some(import) = plain(kind) {
+            return Ok(import);
+        }
+        match with_field(kind, value)? {
+            Some(import) => Ok(import),
+            None => of_component(kind, value),
+        }
     }
 }
 
@@ -322,13 +330,13 @@ pub enum ImportInstance {
 }
 
 impl Read for ImportInstance {
-    fn read(value: &Value) -> Option<Self> {
-        Some(match value.get("kind")?.as_str()? {
+    fn read(value: &Value<'_>) -> Result<Self, Unread> {
+        Ok(match value.kind()? {
             "whole" => ImportInstance::Whole(member(value, "which")?),
-            "names" => ImportInstance::Names(OrderedMap::of(list(value, "names", |entry| {
-                Some((member(entry, "name")?, member(entry, "import")?))
-            })?)),
-            _ => return None,
+            "names" => ImportInstance::Names(map(value, "names", |entry| {
+                Ok((member(entry, "name")?, member(entry, "import")?))
+            })?),
+            _ => return Err(Unread::Unknown),
         })
     }
 }
@@ -337,19 +345,56 @@ impl Read for ImportInstance {
 #[derive(Clone, Debug, Default, PartialEq, Eq)]
 pub struct ImportMap {
     modules: OrderedMap<String, ImportInstance>,
+    /// Of each of these modules the functions that are imported from it as from an adapter.
+    required: Vec<OrderedMap<String, FuncType>>,
+}
+
+/// The functions of an adapter among these imports: of each name the first.
+fn required(imports: &OrderedMap<String, Import>) -> Result<OrderedMap<String, FuncType>, Unread> {
+    let functions = || {
+        imports.values().filter_map(|import| match import {
+            Import::AdapterExport { func, ty, .. } => Some((func, ty)),
+            _ => None,
+        })
+    };
+    let mut all = Vec::new();
+    for function in functions() {
+        push(&mut all, function)?;
+    }
+    let first = Index::of(all.len(), |position| all[position].0)?;
+    let is_first = |position: &usize| {
+        let name = all[*position].0;
+        first.find(name, all.len(), |at| all[at].0 == name) == Some(*position)
+    };
+    let mut required = Vec::new();
+    for position in (0..all.len()).filter(is_first) {
+        let (name, ty) = all[position];
+        push(&mut required, (string(name)?, ty.try_clone()?))?;
+    }
+    Ok(OrderedMap::of(required)?)
 }
 
 impl ImportMap {
-    pub(crate) fn read(value: &Value, name: &str) -> Option<Self> {
-        let modules = list(value, name, |entry| {
-            Some((member(entry, "module")?, member(entry, "instance")?))
+    pub(crate) fn read(value: &Value<'_>, name: &str) -> Result<Self, Unread> {
+        let modules: OrderedMap<String, ImportInstance> = map(value, name, |entry| {
+            Ok((member(entry, "module")?, member(entry, "instance")?))
         })?;
-        Some(ImportMap {
-            modules: OrderedMap::of(modules),
+        let mut all = Vec::new();
+        for instance in modules.values() {
+            let functions = match instance {
+                ImportInstance::Names(imports) => required(imports)?,
+                ImportInstance::Whole(_) => OrderedMap::EMPTY,
+            };
+            push(&mut all, functions)?;
+        }
+        Ok(ImportMap {
+            modules,
+            required: all,
         })
     }
 
     /// What is recorded of each module, in the order of their first imports.
+    #[must_use]
     pub fn modules(&self) -> &OrderedMap<String, ImportInstance> {
         &self.modules
     }
@@ -361,28 +406,30 @@ impl ImportMap {
                 ImportInstance::Names(names) => Some(names),
                 ImportInstance::Whole(_) => None,
             };
-            let names = names.into_iter().flat_map(OrderedMap::iter);
+            let names = names.into_iter().flatten();
             names.map(|(name, import)| (module.as_str(), name.as_str(), import))
         })
     }
 
-    /// The functions that are imported from the adapter of this name, with their types: of each name the first.
-    pub fn required_from_adapter(&self, name: &str) -> OrderedMap<String, FuncType> {
-        let mut functions: Vec<(String, FuncType)> = Vec::new();
-        if let Some(ImportInstance::Names(names)) = self.modules.get(name) {
-            for (_, import) in names.iter() {
-                let Import::AdapterExport { func, ty, .. } = import else {
-                    continue;
-                };
-                if functions.iter().all(|(other, _)| other != func) {
-                    functions.push((func.clone(), ty.clone()));
-                }
-            }
+    /// The import of this name from this module, if it is a single one.
+    #[must_use]
+    pub fn get(&self, module: &str, name: &str) -> Option<&Import> {
+        match self.modules.get(module)? {
+            ImportInstance::Names(names) => names.get(name),
+            ImportInstance::Whole(_) => None,
         }
-        OrderedMap::of(functions)
+    }
+
+    /// The functions that are imported from the adapter of this name, with their types: of each name the first.
+    #[must_use]
+    pub fn required_from_adapter(&self, name: &str) -> &OrderedMap<String, FuncType> {
+        static NONE: OrderedMap<String, FuncType> = OrderedMap::EMPTY;
+        let position = self.modules.get_index_of(name);
+        position.map_or(&NONE, |position| &self.required[position])
     }
 
     /// The type of the memory, if the main module's memory is imported.
+    #[must_use]
     pub fn imported_memory(&self) -> Option<MemoryType> {
         self.imports().find_map(|(_, _, import)| match import {
             Import::MainModuleMemory(ty) => Some(*ty),

@@ -1,68 +1,66 @@
 //! JSON, as far as this crate needs it: the texts that the archive answers are read, and the message to it is written.
 
-use std::fmt::Write;
+use crate::memory::{OutOfMemory, Text, push, push_str};
+use crate::read::Unread;
+use std::borrow::Cow;
 
-/// A JSON value. Numbers are those that the archive writes: digits alone, below 2^64.
-#[derive(Clone, Debug, PartialEq, Eq)]
-pub(crate) enum Value {
+/// A JSON value. Numbers are those that the archive writes: digits alone, below 2^64. Texts without escapes are borrowed.
+#[derive(Debug, PartialEq, Eq)]
+pub(crate) enum Value<'a> {
     Null,
     Bool(bool),
     Number(u64),
-    String(String),
-    Array(Vec<Value>),
-    Object(Vec<(String, Value)>),
+    String(Cow<'a, str>),
+    Array(Vec<Value<'a>>),
+    Object(Vec<(Cow<'a, str>, Value<'a>)>),
 }
 
-/// How deep arrays and objects may nest.
-const MAX_DEPTH: usize = 128;
+/// How deep arrays and objects may nest. Those of a component's world nest less deep than 16 times.
+const MAX_DEPTH: usize = 24;
 
-impl Value {
-    /// The value that a text is; `None` where it is none, or has a number of another form.
-    pub(crate) fn parse(text: &str) -> Option<Value> {
+impl<'a> Value<'a> {
+    /// The value that a text is.
+    pub(crate) fn parse(text: &'a str) -> Result<Value<'a>, Unread> {
         let mut reader = Reader { rest: text };
         let value = reader.value(MAX_DEPTH)?;
         reader.skip_spaces();
-        reader.rest.is_empty().then_some(value)
+        if reader.rest.is_empty() {
+            Ok(value)
+        } else {
+            Err(Unread::Unknown)
+        }
     }
 
-    /// The member of this name of an object.
-    pub(crate) fn get(&self, name: &str) -> Option<&Value> {
+    /// The member of this name of an object, if it has one.
+    pub(crate) fn find(&self, name: &str) -> Option<&Value<'a>> {
         let Value::Object(members) = self else {
             return None;
         };
         Some(&members.iter().find(|member| member.0 == name)?.1)
     }
 
-    pub(crate) fn as_str(&self) -> Option<&str> {
+    /// The member of this name of an object.
+    pub(crate) fn get(&self, name: &str) -> Result<&Value<'a>, Unread> {
+        self.find(name).ok_or(Unread::Unknown)
+    }
+
+    pub(crate) fn as_str(&self) -> Result<&str, Unread> {
         match self {
-            Value::String(text) => Some(text),
-            _ => None,
+            Value::String(text) => Ok(text),
+            _ => Err(Unread::Unknown),
         }
     }
 
-    pub(crate) fn as_bool(&self) -> Option<bool> {
+    pub(crate) fn as_array(&self) -> Result<&[Value<'a>], Unread> {
         match self {
-            Value::Bool(truth) => Some(*truth),
-            _ => None,
+            Value::Array(items) => Ok(items),
+            _ => Err(Unread::Unknown),
         }
     }
 
-    pub(crate) fn as_u64(&self) -> Option<u64> {
-        match self {
-            Value::Number(number) => Some(*number),
-            _ => None,
-        }
-    }
-
-    pub(crate) fn as_u32(&self) -> Option<u32> {
-        self.as_u64()?.try_into().ok()
-    }
-
-    pub(crate) fn as_array(&self) -> Option<&[Value]> {
-        match self {
-            Value::Array(items) => Some(items),
-            _ => None,
-        }
+    /// The kind of an object: its member `kind`.
+    pub(crate) fn kind(&self) -> Result<&str, Unread> {
+        self.get("kind")?.as_str()
     }
 }
 
@@ -73,7 +71,7 @@ struct Reader<'a> {
 
 impl<'a> Reader<'a> {
     fn skip_spaces(&mut self) {
-        self.rest = self.rest.trim_start_matches([' ', '\t', '\n', '\r']);
+        self.rest = self.rest.trim_start_matches(SPACES);
     }
 
     /// Goes past a prefix, if it is there.
@@ -87,96 +85,126 @@ impl<'a> Reader<'a> {
         }
     }
 
-    fn value(&mut self, depth: usize) -> Option<Value> {
+    /// Goes past a prefix.
+    fn expect(&mut self, prefix: &str) -> Result<(), Unread> {
+        if self.takes(prefix) {
+            Ok(())
+        } else {
+            Err(Unread::Unknown)
+        }
+    }
+
+    fn word(&mut self, word: &str, value: Value<'a>) -> Result<Value<'a>, Unread> {
+        self.expect(word)?;
+        Ok(value)
+    }
+
+    fn value(&mut self, depth: usize) -> Result<Value<'a>, Unread> {
         self.skip_spaces();
-        match self.rest.as_bytes().first()? {
-            b'n' => self.takes("null").then_some(Value::Null),
-            b't' => self.takes("true").then_some(Value::Bool(true)),
-            b'f' => self.takes("false").then_some(Value::Bool(false)),
-            b'"' => Some(Value::String(self.string()?)),
-            b'[' => self.array(depth.checked_sub(1)?),
-            b'{' => self.object(depth.checked_sub(1)?),
+        match self.rest.as_bytes().first() {
+            Some(b'n') => self.word("null", Value::Null),
+            Some(b't') => self.word("true", Value::Bool(true)),
+            Some(b'f') => self.word("false", Value::Bool(false)),
+            Some(b'"') => Ok(Value::String(self.string()?)),
+            Some(b'[') => self.array(depth),
+            Some(b'{') => self.object(depth),
             _ => self.number(),
         }
     }
 
-    fn number(&mut self) -> Option<Value> {
+    fn number(&mut self) -> Result<Value<'a>, Unread> {
         let end = self.rest.find(|c: char| !c.is_ascii_digit());
         let (digits, rest) = self.rest.split_at(end.unwrap_or(self.rest.len()));
         if digits.len() > 1 && digits.starts_with('0') {
-            return None;
+            return Err(Unread::Unknown);
         }
         self.rest = rest;
-        Some(Value::Number(digits.parse().ok()?))
+        let number = digits.parse().map_err(|_| Unread::Unknown)?;
+        Ok(Value::Number(number))
     }
 
-    fn array(&mut self, depth: usize) -> Option<Value> {
-        self.takes("[").then_some(())?;
+    /// The items up to this bracket, each by a function.
+    fn items<T>(
+        &mut self,
+        brackets: [&str; 2],
+        item: impl Fn(&mut Self) -> Result<T, Unread>,
+    ) -> Result<Vec<T>, Unread> {
+        self.expect(brackets[0])?;
         let mut items = Vec::new();
         self.skip_spaces();
-        if self.takes("]") {
-            return Some(Value::Array(items));
+        if self.takes(brackets[1]) {
+            return Ok(items);
         }
         loop {
-            items.push(self.value(depth)?);
+            push(&mut items, item(self)?)?;
             self.skip_spaces();
-            if self.takes("]") {
-                return Some(Value::Array(items));
+            if self.takes(brackets[1]) {
+                return Ok(items);
             }
-            self.takes(",").then_some(())?;
+            self.expect(",")?;
         }
     }
 
-    fn object(&mut self, depth: usize) -> Option<Value> {
-        self.takes("{").then_some(())?;
-        let mut members = Vec::new();
-        self.skip_spaces();
-        if self.takes("}") {
-            return Some(Value::Object(members));
-        }
-        loop {
-            self.skip_spaces();
-            let name = self.string()?;
-            self.skip_spaces();
-            self.takes(":").then_some(())?;
-            members.push((name, self.value(depth)?));
-            self.skip_spaces();
-            if self.takes("}") {
-                return Some(Value::Object(members));
-            }
-            self.takes(",").then_some(())?;
-        }
+    fn array(&mut self, depth: usize) -> Result<Value<'a>, Unread> {
+        let depth = depth.checked_sub(1).ok_or(Unread::Unknown)?;
+        Ok(Value::Array(
+            self.items(["[", "]"], |reader| reader.value(depth))?,
+        ))
     }
 
-    fn string(&mut self) -> Option<String> {
-        self.takes("\"").then_some(())?;
+    fn object(&mut self, depth: usize) -> Result<Value<'a>, Unread> {
+        let depth = depth.checked_sub(1).ok_or(Unread::Unknown)?;
+        let member = |reader: &mut Self| {
+            reader.skip_spaces();
+            let name = reader.string()?;
+            reader.skip_spaces();
+            reader.expect(":")?;
+            Ok((name, reader.value(depth)?))
+        };
+        Ok(Value::Object(self.items(["{", "}"], member)?))
+    }
+
+    fn string(&mut self) -> Result<Cow<'a, str>, Unread> {
+        self.expect("\"")?;
+        let plain = self.plain()?;
+        if self.takes("\"") {
+            return Ok(Cow::Borrowed(plain));
+        }
         let mut text = String::new();
+        push_str(&mut text, plain)?;
         loop {
-            let end = self.rest.find(|c: char| c == '"' || c == '\\' || c < ' ')?;
-            let (plain, rest) = self.rest.split_at(end);
-            text.push_str(plain);
-            self.rest = rest;
+            self.expect("\\")?;
+            let mut bytes = [0; 4];
+            push_str(&mut text, self.escape()?.encode_utf8(&mut bytes))?;
+            push_str(&mut text, self.plain()?)?;
             if self.takes("\"") {
-                return Some(text);
+                return Ok(Cow::Owned(text));
             }
-            self.takes("\\").then_some(())?;
-            text.push(self.escape()?);
         }
+    }
+
+    /// The characters up to a quote or a backslash.
+    fn plain(&mut self) -> Result<&'a str, Unread> {
+        let is_end = |byte: &u8| matches!(byte, b'"' | b'\\' | 0..b' ');
+        let end = self.rest.as_bytes().iter().position(is_end);
+        let (plain, rest) = self.rest.split_at(end.ok_or(Unread::Unknown)?);
+        self.rest = rest;
+        Ok(plain)
     }
 
     /// The character of an escape, after the backslash.
-    fn escape(&mut self) -> Option<char> {
-        let letter = self.rest.chars().next()?;
+    fn escape(&mut self) -> Result<char, Unread> {
+        let letter = self.rest.chars().next().ok_or(Unread::Unknown)?;
         self.rest = &self.rest[letter.len_utf8()..];
-        Some(match letter {
+        Ok(match letter {
             '"' | '\\' | '/' => letter,
             'b' => '\u{8}',
             'f' => '\u{c}',
             'n' => '\n',
             'r' => '\r',
             't' => '\t',
-            'u' => self.unicode_escape()?,
-            _ => return None,
+            'u' => self.unicode_escape().ok_or(Unread::Unknown)?,
+            _ => return Err(Unread::Unknown),
         })
     }
 
@@ -202,49 +230,101 @@ impl<'a> Reader<'a> {
     }
 }
 
-/// Appends a text in quotes, with the escapes that it needs.
-pub(crate) fn put_string(out: &mut String, text: &str) {
-    out.push('"');
-    for c in text.chars() {
-        match c {
-            '"' => out.push_str("\\\""),
-            '\\' => out.push_str("\\\\"),
-            c if c < ' ' => {
-                // writing to a `String` does not fail
-                let _ = write!(out, "\\u{:04x}", u32::from(c));
-            }
-            c => out.push(c),
+/// What may be between the pieces of a JSON text.
+const SPACES: [char; 4] = [' ', '\t', '\n', '\r'];
+
+/// Whether a text is no more than one JSON value wherever it is put: where what is around it makes it part of a JSON
+/// text, it is one value of that. Whether it is JSON is not looked at.
+pub(crate) fn is_one_value(text: &str) -> bool {
+    let text = text.trim_matches(SPACES).as_bytes();
+    let (mut depth, mut at) = (0_usize, 0);
+    while let Some(byte) = text.get(at) {
+        match byte {
+            b'"' => match end_of_string(text, at) {
+                Some(end) => at = end,
+                None => return false,
+            },
+            b'[' | b'{' => depth += 1,
+            b']' | b'}' if depth > 0 => depth -= 1,
+            b']' | b'}' => return false,
+            b',' | b':' if depth == 0 => return false,
+            _ => {}
+        }
+        at += 1;
+        // a list, an object or a string ends where the text does
+        if depth == 0 && matches!(text[0], b'[' | b'{' | b'"') && at < text.len() {
+            return false;
         }
     }
-    out.push('"');
+    !text.is_empty() && depth == 0
+}
+
+/// Where the string ends whose first quote is at this position: the position of its last quote.
+fn end_of_string(text: &[u8], start: usize) -> Option<usize> {
+    let mut at = start + 1;
+    loop {
+        let is_end = |byte: &u8| matches!(byte, b'"' | b'\\');
+        at += text.get(at..)?.iter().position(is_end)?;
+        if text[at] == b'"' {
+            return Some(at);
+        }
+        at += 2;
+    }
+}
+
+/// Appends a text in quotes, with the escapes that it needs.
+pub(crate) fn put_string(out: &mut Text, text: &str) -> Result<(), OutOfMemory> {
+    out.put("\"")?;
+    let mut plain = 0;
+    for (at, byte) in text.bytes().enumerate() {
+        if !matches!(byte, b'"' | b'\\' | 0..b' ') {
+            continue;
+        }
+        out.put(&text[plain..at])?;
+        plain = at + 1;
+        match byte {
+            b'"' => out.put("\\\"")?,
+            b'\\' => out.put("\\\\")?,
+            _ => out.put_args(format_args!("\\u{byte:04x}"))?,
+        }
+    }
+    out.put(&text[plain..])?;
+    out.put("\"")
 }
 
 /// Appends a list, each item by a function.
-pub(crate) fn put_list<T>(out: &mut String, items: &[T], put: impl Fn(&mut String, &T)) {
-    out.push('[');
+pub(crate) fn put_list<T>(
+    out: &mut Text,
+    items: &[T],
+    put: impl Fn(&mut Text, &T) -> Result<(), OutOfMemory>,
+) -> Result<(), OutOfMemory> {
+    out.put("[")?;
     for (index, item) in items.iter().enumerate() {
         if index > 0 {
-            out.push(',');
+            out.put(",")?;
         }
-        put(out, item);
+        put(out, item)?;
     }
-    out.push(']');
+    out.put("]")
 }
 
 #[cfg(test)]
 mod tests {
-    use super::{Value, put_string};
+    use super::{Value, is_one_value, put_string};
+    use crate::memory::Text;
+    use crate::read::{Read, Unread};
 
     #[test]
     fn values() {
-        let text = r#" { "a" : [ 1 , true , null , "x\n\u00e9\ud83d\ude00" ] , "b" : { } } "#;
+        let text = r#" { "a" : [ 1 , true , null , "x\n\u00e9\ud83d\ude00y" ] , "b" : { } } "#;
         let value = Value::parse(text).expect("JSON");
         let items = value.get("a").and_then(Value::as_array).expect("a list");
-        assert_eq!(items[0].as_u32(), Some(1));
-        assert_eq!(items[1].as_bool(), Some(true));
+        assert_eq!(u32::read(&items[0]), Ok(1));
+        assert_eq!(bool::read(&items[1]), Ok(true));
         assert_eq!(items[2], Value::Null);
-        assert_eq!(items[3].as_str(), Some("x\né😀"));
-        assert_eq!(value.get("b"), Some(&Value::Object(Vec::new())));
+        assert_eq!(items[3].as_str(), Ok("x\né😀y"));
+        assert_eq!(value.find("b"), Some(&Value::Object(Vec::new())));
+        assert_eq!(value.find("c"), None);
     }
 
     #[test]
@@ -262,16 +342,48 @@ mod tests {
             "tru",
             "\"\\u+123\"",
         ] {
-            assert_eq!(Value::parse(text), None, "{text}");
+            assert_eq!(Value::parse(text), Err(Unread::Unknown), "{text}");
         }
-        assert_eq!(Value::parse(&"[".repeat(100_000)), None);
+        assert!(Value::parse(&"[".repeat(100_000)).is_err());
     }
 
     #[test]
     fn strings_read_back() {
         let text = "\u{0}\u{1f}\"\\/é😀\u{7f}";
-        let mut out = String::new();
-        put_string(&mut out, text);
-        assert_eq!(Value::parse(&out), Some(Value::String(text.to_owned())));
+        let mut out = Text::default();
+        put_string(&mut out, text).expect("memory");
+        assert_eq!(Value::parse(&out.0), Ok(Value::String(text.into())));
+    }
+
+    #[test]
+    fn one_value() {
+        for text in [
+            " {\"a\": [{}, \"}\"]} ",
+            "[]",
+            "\"a,\\\"b\"",
+            "1",
+            "null",
+            "{\"\\\\\":1}",
+        ] {
+            assert!(is_one_value(text), "{text}");
+        }
+        for text in [
+            "",
+            " ",
+            "{},\"other\":1",
+            "{}{}",
+            "1,\"other\":1",
+            "1:2",
+            "\"a\",\"other\":1",
+            "\"a\"b",
+            "{}}",
+            "{",
+            "]",
+            "\"",
+            "{\"\\\"}",
+            "{\"\\\\\"},\"other\":{}",
+        ] {
+            assert!(!is_one_value(text), "{text}");
+        }
     }
 }

@@ -6,6 +6,11 @@
 //! contract says. This crate is the way there, and is tested: a heap, three calls, and the reading of their answers. It
 //! has no dependency but the standard library. Calls keep nothing, and may run on several threads at once.
 //!
+//! No call ends the process or panics: where an allocation fails, the library's or this crate's, the answer is
+//! [`Error::Memory`]. (A library that was compiled without its proof stops the process where it is wrong.) A thread that
+//! calls [`ComponentWorld::new`] needs a stack of 256 KB, whatever the input; for the other calls the smallest one that a
+//! thread can have is enough, 16 KB.
+//!
 //! ```
 //! use nuigatre::{ModuleImportMap, gc};
 //! use std::borrow::Cow;
@@ -30,6 +35,7 @@ mod core_types;
 mod encoder;
 mod error;
 mod exports;
+mod faults;
 #[allow(unsafe_code)]
 mod ffi;
 pub mod gc;
@@ -37,24 +43,32 @@ pub mod gc;
 mod heap;
 mod ids;
 mod imports;
+mod index;
 mod json;
+mod memory;
 mod module_import_map;
 mod ordered_map;
 mod read;
 mod renames;
 mod world;
+mod world_error;
 
 #[cfg(test)]
+#[allow(unsafe_code)]
 mod allocation_tests;
 
 pub use core_types::{ExportKind, FuncType, MemoryType, ValType, WasmSignature, WasmType};
 pub use encoder::{Adapter, ComponentEncoder, Instance, Item, LibraryInfo, MainOrAdapter, World};
-pub use error::{DedupeFault, Error, GcFault, ReadFault, WorldFault};
+pub use error::Error;
 pub use exports::{Export, ExportMap};
+pub use faults::{DedupeFault, GcFault, ReadFault};
 pub use ids::{AbiVariant, InterfaceId, StringEncoding, TypeId, WorldKey};
 pub use imports::{Import, ImportInstance, ImportMap, PayloadInfo, PayloadType};
 pub use module_import_map::{ModuleImportMap, Rename};
-pub use ordered_map::OrderedMap;
+pub use ordered_map::{Iter, Lookup, OrderedMap};
 pub use world::{
     ComponentWorld, ImportedInterface, Lowering, RequiredOptions, ValidatedModule, WorldAdapter,
+};
+pub use world_error::{
+    EncoderFault, JsonFault, Problem, ResolveFault, ValidateFault, WorldError, WorldFault,
 };

@@ -1,13 +1,15 @@
 //! Distinct names for the imports of a module.
 
-use crate::error::{DedupeFault, Error};
+use crate::error::Error;
+use crate::faults::DedupeFault;
 use crate::ffi::{self, Answered};
+use crate::index::Index;
+use crate::memory::{OutOfMemory, fitted};
 use crate::renames::read_renames;
 use std::borrow::Cow;
-use std::collections::HashMap;
 
 /// A renamed import.
-#[derive(Clone, Debug, PartialEq, Eq)]
+#[derive(Clone, Debug, PartialEq, Eq, Hash)]
 pub struct Rename {
     /// The name of its module, which stays the same.
     pub module: String,
@@ -21,13 +23,20 @@ pub struct Rename {
 #[derive(Clone, Debug)]
 pub struct ModuleImportMap {
     renames: Vec<Rename>,
-    /// Of each module, the positions of its renames by their new names.
-    positions: HashMap<String, HashMap<String, usize>>,
+    /// By the names of modules and the new names.
+    index: Index,
 }
 
-/// Modules of so many bytes at most get a buffer at once. Others first get none: most modules repeat no import, and a
-/// long buffer costs more than to look.
-const SMALL: usize = 1 << 16;
+impl PartialEq for ModuleImportMap {
+    fn eq(&self, other: &Self) -> bool {
+        self.renames == other.renames
+    }
+}
+
+impl Eq for ModuleImportMap {}
+
+/// How many bytes more than the module a first buffer has at most. What is not written to costs nothing.
+const MORE: usize = 1 << 22;
 
 impl ModuleImportMap {
     /// Renames the imports of a module so that no two share a module and a name: from the first to the last, each that
@@ -39,53 +48,63 @@ impl ModuleImportMap {
     /// - `Dedupe`: the bytes are no component, and can't be cut into sections or have a malformed import section; or a
     ///   section would become too large.
     /// - `Memory`: an allocation failed.
-    ///
-    /// # Panics
-    ///
-    /// The archive is of another version than this crate, and answers what this does not know.
+    /// - `OtherVersion`: the library is of another version than this crate.
     pub fn new(wasm: Cow<'_, [u8]>) -> Result<(Cow<'_, [u8]>, Option<Self>), Error> {
-        let room = if wasm.len() <= SMALL {
-            2 * wasm.len() + 64
-        } else {
-            0
-        };
+        // a short import may become four times as long, and its rename is as long again
+        let room = wasm.len() + (7 * wasm.len()).min(MORE) + 64;
         match ffi::dedupe(&wasm, room)? {
             Answered::Bytes {
                 mut bytes,
                 module_length,
             } => {
-                let renames = read_renames(&bytes[module_length..]).expect("a text of renames");
+                let renames = read_renames(bytes.get(module_length..).unwrap_or_default())?;
                 bytes.truncate(module_length);
-                Ok((Cow::Owned(bytes), Some(ModuleImportMap::of(renames))))
+                let map = ModuleImportMap::of(renames)?;
+                Ok((Cow::Owned(fitted(bytes)), Some(map)))
             }
             Answered::Same => Ok((wasm, None)),
-            Answered::Fault { number, .. } => {
-                let fault = DedupeFault::from_number(number);
-                Err(Error::Dedupe(fault.expect("a fault of renaming")))
-            }
+            Answered::Fault { number, .. } => Err(Error::Dedupe(DedupeFault::from_number(number)?)),
         }
     }
 
-    fn of(renames: Vec<Rename>) -> Self {
-        let mut positions = HashMap::<String, HashMap<String, usize>>::new();
-        for (position, rename) in renames.iter().enumerate() {
-            let of_module = match positions.get_mut(&rename.module) {
-                Some(of_module) => of_module,
-                None => positions.entry(rename.module.clone()).or_default(),
-            };
-            of_module.insert(rename.name.clone(), position);
-        }
-        ModuleImportMap { renames, positions }
+    pub(crate) fn of(renames: Vec<Rename>) -> Result<Self, OutOfMemory> {
+        let key = |position: usize| -> (&str, &str) {
+            let rename: &Rename = &renames[position];
+            (&rename.module, &rename.name)
+        };
+        let index = Index::of(renames.len(), key)?;
+        Ok(ModuleImportMap { renames, index })
     }
 
     /// The original name of the import of this module and name in the renamed module; `None` where it was not renamed.
+    #[must_use]
     pub fn original_name(&self, module: &str, name: &str) -> Option<&str> {
-        let position = *self.positions.get(module)?.get(name)?;
+        let is_at = |position: usize| {
+            let rename = &self.renames[position];
+            rename.module == module && rename.name == name
+        };
+        let count = self.renames.len();
+        let position = self.index.find(&(module, name), count, is_at)?;
         Some(&self.renames[position].original)
     }
 
     /// The renamed imports, one at least, in the order of the module's imports.
+    #[must_use]
     pub fn renames(&self) -> &[Rename] {
         &self.renames
+    }
+
+    /// The same, one by one.
+    pub fn iter(&self) -> std::slice::Iter<'_, Rename> {
+        self.renames.iter()
+    }
+}
+
+impl<'a> IntoIterator for &'a ModuleImportMap {
+    type Item = &'a Rename;
+    type IntoIter = std::slice::Iter<'a, Rename>;
+
+    fn into_iter(self) -> Self::IntoIter {
+        self.renames.iter()
     }
 }

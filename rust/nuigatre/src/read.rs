@@ -1,60 +1,127 @@
-//! Values out of the JSON that the archive writes. `None` is for what it does not write.
+//! Values out of the JSON that the archive writes.
 
+use crate::error::Error;
 use crate::json::Value;
+use crate::memory::{OutOfMemory, string};
+use crate::ordered_map::OrderedMap;
+use std::hash::Hash;
 
-/// A type whose values are read from JSON values.
-pub(crate) trait Read: Sized {
-    fn read(value: &Value) -> Option<Self>;
+/// Why a value is not read.
+#[derive(Clone, Copy, Debug, PartialEq, Eq)]
+pub(crate) enum Unread {
+    /// An allocation failed.
+    Memory,
+    /// It is not what the archive writes.
+    Unknown,
 }
 
-impl Read for bool {
-    fn read(value: &Value) -> Option<Self> {
-        value.as_bool()
+impl From<OutOfMemory> for Unread {
+    fn from(_: OutOfMemory) -> Self {
+        Unread::Memory
     }
 }
 
-impl Read for u32 {
-    fn read(value: &Value) -> Option<Self> {
-        value.as_u32()
+impl From<Unread> for Error {
+    fn from(unread: Unread) -> Self {
+        match unread {
+            Unread::Memory => Error::Memory,
+            Unread::Unknown => Error::OtherVersion,
+        }
+    }
+}
+
+/// A type whose values are read from JSON values.
+pub(crate) trait Read: Sized {
+    fn read(value: &Value<'_>) -> Result<Self, Unread>;
+}
+
+impl Read for bool {
+    fn read(value: &Value<'_>) -> Result<Self, Unread> {
+        match value {
+            Value::Bool(truth) => Ok(*truth),
+            _ => Err(Unread::Unknown),
+        }
     }
 }
 
 impl Read for u64 {
-    fn read(value: &Value) -> Option<Self> {
-        value.as_u64()
+    fn read(value: &Value<'_>) -> Result<Self, Unread> {
+        match value {
+            Value::Number(number) => Ok(*number),
+            _ => Err(Unread::Unknown),
+        }
+    }
+}
+
+impl Read for u32 {
+    fn read(value: &Value<'_>) -> Result<Self, Unread> {
+        u64::read(value)?.try_into().map_err(|_| Unread::Unknown)
+    }
+}
+
+impl Read for usize {
+    fn read(value: &Value<'_>) -> Result<Self, Unread> {
+        u64::read(value)?.try_into().map_err(|_| Unread::Unknown)
     }
 }
 
 impl Read for String {
-    fn read(value: &Value) -> Option<Self> {
-        Some(value.as_str()?.to_owned())
+    fn read(value: &Value<'_>) -> Result<Self, Unread> {
+        Ok(string(value.as_str()?)?)
     }
 }
 
 impl<T: Read> Read for Vec<T> {
-    fn read(value: &Value) -> Option<Self> {
-        value.as_array()?.iter().map(T::read).collect()
+    fn read(value: &Value<'_>) -> Result<Self, Unread> {
+        items(value.as_array()?, T::read)
     }
 }
 
+/// Each value by a function, in order.
+fn items<T>(
+    values: &[Value<'_>],
+    read: impl Fn(&Value<'_>) -> Result<T, Unread>,
+) -> Result<Vec<T>, Unread> {
+    let mut items = Vec::new();
+    items
+        .try_reserve_exact(values.len())
+        .map_err(OutOfMemory::from)?;
+    for value in values {
+        items.push(read(value)?);
+    }
+    Ok(items)
+}
+
 /// The member of this name of an object.
-pub(crate) fn member<T: Read>(object: &Value, name: &str) -> Option<T> {
+pub(crate) fn member<T: Read>(object: &Value<'_>, name: &str) -> Result<T, Unread> {
     T::read(object.get(name)?)
 }
 
-/// The member of this name of an object; inside, `None` for null.
-pub(crate) fn optional_member<T: Read>(object: &Value, name: &str) -> Option<Option<T>> {
+/// The member of this name of an object; `None` for null.
+pub(crate) fn optional_member<T: Read>(
+    object: &Value<'_>,
+    name: &str,
+) -> Result<Option<T>, Unread> {
     match object.get(name)? {
-        Value::Null => Some(None),
-        value => Some(Some(T::read(value)?)),
+        Value::Null => Ok(None),
+        value => Ok(Some(T::read(value)?)),
     }
 }
 
 /// The items of the list that is the member of this name of an object, each by a function.
 pub(crate) fn list<T>(
-    object: &Value,
+    object: &Value<'_>,
     name: &str,
-    read: impl Fn(&Value) -> Option<T>,
-) -> Option<Vec<T>> {
-    object.get(name)?.as_array()?.iter().map(read).collect()
+    read: impl Fn(&Value<'_>) -> Result<T, Unread>,
+) -> Result<Vec<T>, Unread> {
+    items(object.get(name)?.as_array()?, read)
+}
+
+/// The map of the list that is the member of this name of an object, each entry by a function.
+pub(crate) fn map<K: Hash, V>(
+    object: &Value<'_>,
+    name: &str,
+    read: impl Fn(&Value<'_>) -> Result<(K, V), Unread>,
+) -> Result<OrderedMap<K, V>, Unread> {
+    Ok(OrderedMap::of(list(object, name, read)?)?)
 }

@@ -1,30 +1,34 @@
 //! Renames out of their text: a vector of the binary format of WebAssembly, of the names of the import's module, its
 //! original name and its new name.
 
+use crate::memory::{push, string};
 use crate::module_import_map::Rename;
+use crate::read::Unread;
 
-/// The renames that the text has; `None` where it is no text of renames.
-pub(crate) fn read_renames(text: &[u8]) -> Option<Vec<Rename>> {
+/// The renames that the text has.
+pub(crate) fn read_renames(text: &[u8]) -> Result<Vec<Rename>, Unread> {
     let mut rest = text;
-    let count = number(&mut rest)?;
-    let renames = (0..count)
-        .map(|_| rename(&mut rest))
-        .collect::<Option<Vec<_>>>()?;
-    rest.is_empty().then_some(renames)
+    let mut renames = Vec::new();
+    for _ in 0..number(&mut rest).ok_or(Unread::Unknown)? {
+        let rename = Rename {
+            module: name(&mut rest)?,
+            original: name(&mut rest)?,
+            name: name(&mut rest)?,
+        };
+        push(&mut renames, rename)?;
+    }
+    if rest.is_empty() {
+        Ok(renames)
+    } else {
+        Err(Unread::Unknown)
+    }
 }
 
-fn rename(rest: &mut &[u8]) -> Option<Rename> {
-    Some(Rename {
-        module: name(rest)?,
-        original: name(rest)?,
-        name: name(rest)?,
-    })
-}
-
-fn name(rest: &mut &[u8]) -> Option<String> {
-    let length = number(rest)?;
-    let bytes = rest.split_off(..length)?;
-    Some(str::from_utf8(bytes).ok()?.to_owned())
+fn name(rest: &mut &[u8]) -> Result<String, Unread> {
+    let length = number(rest).ok_or(Unread::Unknown)?;
+    let bytes = rest.split_off(..length).ok_or(Unread::Unknown)?;
+    let text = str::from_utf8(bytes).map_err(|_| Unread::Unknown)?;
+    Ok(string(text)?)
 }
 
 /// A number as LEB128, the low seven bits first.
@@ -43,6 +47,7 @@ fn number(rest: &mut &[u8]) -> Option<usize> {
 #[cfg(test)]
 mod tests {
     use super::{number, read_renames};
+    use crate::read::Unread;
 
     #[test]
     fn numbers() {
@@ -53,11 +58,14 @@ mod tests {
 
     #[test]
     fn no_text_of_renames() {
-        assert!(read_renames(b"\x01\x01a\x01f\x02g").is_none());
-        assert!(read_renames(b"\x01\x01a\x01f\x01gh").is_none());
-        assert_eq!(
-            read_renames(b"\x01\x01a\x01f\x01g").map(|it| it.len()),
-            Some(1)
-        );
+        for text in [
+            b"\x01\x01a\x01f\x02g".as_slice(),
+            b"\x01\x01a\x01f\x01gh",
+            b"\x01\x01a\x01f\x01\xff",
+        ] {
+            assert_eq!(read_renames(text), Err(Unread::Unknown));
+        }
+        let renames = read_renames(b"\x01\x01a\x01f\x01g").expect("a rename");
+        assert_eq!(renames.len(), 1);
     }
 }

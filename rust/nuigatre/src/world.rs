@@ -2,18 +2,25 @@
 
 use crate::core_types::WasmSignature;
 use crate::encoder::{ComponentEncoder, LibraryInfo};
-use crate::error::{Error, WorldFault};
+use crate::error::Error;
 use crate::exports::ExportMap;
 use crate::ffi::{self, Answered};
-use crate::ids::{AbiVariant, InterfaceId, TypeId};
+use crate::ids::{AbiVariant, InterfaceId, TypeId, WorldKey};
 use crate::imports::{Import, ImportMap};
 use crate::json::Value;
-use crate::module_import_map::Rename;
+use crate::memory::{concat, fitted, push};
+use crate::module_import_map::{ModuleImportMap, Rename};
 use crate::ordered_map::OrderedMap;
-use crate::read::{Read, list, member, optional_member};
+use crate::read::{Read, Unread, list, map, member, optional_member};
+use crate::world_error::WorldError;
+use std::ops::BitOr;
+
+/// How many bytes of a first buffer are for the record of the modules' imports and exports, at most.
+const MORE: usize = 1 << 22;
 
 /// What a core module imports and exports.
 #[derive(Clone, Debug, Default, PartialEq, Eq)]
+#[non_exhaustive]
 pub struct ValidatedModule {
     /// What it imports.
     pub imports: ImportMap,
@@ -23,6 +30,7 @@ pub struct ValidatedModule {
 
 /// An adapter or a library, as a component has it.
 #[derive(Clone, Debug, PartialEq, Eq)]
+#[non_exhaustive]
 pub struct WorldAdapter {
     /// The bytes: of a library its own; of an adapter those that it is trimmed to.
     pub wasm: Vec<u8>,
@@ -33,7 +41,7 @@ pub struct WorldAdapter {
 }
 
 /// Which canonical options a lowered function needs.
-#[derive(Clone, Copy, Debug, PartialEq, Eq)]
+#[derive(Clone, Copy, Debug, Default, PartialEq, Eq, Hash)]
 pub struct RequiredOptions(u32);
 
 impl RequiredOptions {
@@ -47,23 +55,36 @@ impl RequiredOptions {
     pub const ASYNC: RequiredOptions = RequiredOptions(8);
 
     /// The set as bits.
+    #[must_use]
     pub fn bits(self) -> u32 {
         self.0
     }
 
     /// Whether all of these are in the set.
+    #[must_use]
     pub fn contains(self, others: RequiredOptions) -> bool {
         self.0 & others.0 == others.0
     }
 
     /// Whether the set is empty.
+    #[must_use]
     pub fn is_empty(self) -> bool {
         self.0 == 0
     }
 }
 
+impl BitOr for RequiredOptions {
+    type Output = RequiredOptions;
+
+    /// What is in one of two sets.
+    fn bitor(self, others: RequiredOptions) -> RequiredOptions {
+        RequiredOptions(self.0 | others.0)
+    }
+}
+
 /// How an import of a core module is met.
 #[derive(Clone, Debug, PartialEq, Eq)]
+#[non_exhaustive]
 pub enum Lowering {
     /// The function is lowered before the core module is instantiated.
     Direct {
@@ -83,6 +104,7 @@ pub enum Lowering {
 
 /// What core modules import of an interface, or of the functions and types that the world itself imports.
 #[derive(Clone, Debug, PartialEq, Eq)]
+#[non_exhaustive]
 pub struct ImportedInterface {
     /// What is imported, by its name and by how it is called.
     pub lowerings: OrderedMap<(String, AbiVariant), Lowering>,
@@ -96,11 +118,12 @@ pub struct ImportedInterface {
 
 /// What a component encoder has to know of modules before it encodes them.
 #[derive(Clone, Debug, PartialEq, Eq)]
+#[non_exhaustive]
 pub struct ComponentWorld {
     /// The main module, in which repeated imports are renamed.
     pub module: Vec<u8>,
-    /// Its renamed imports.
-    pub renames: Vec<Rename>,
+    /// The original names of its renamed imports; `None` where none was renamed.
+    pub module_import_map: Option<ModuleImportMap>,
     /// What the main module imports and exports.
     pub info: ValidatedModule,
     /// The adapters that are needed, and the libraries, by their names.
@@ -112,6 +135,8 @@ pub struct ComponentWorld {
     pub live_type_imports: OrderedMap<InterfaceId, Vec<TypeId>>,
     /// For each interface that the world exports, the exported interfaces that it uses, in the order of its exports.
     pub exports_used: OrderedMap<InterfaceId, Vec<InterfaceId>>,
+    /// The positions in `import_map` of the interfaces that are imported under their own ids.
+    own_ids: OrderedMap<InterfaceId, usize>,
 }
 
 impl ComponentWorld {
@@ -119,35 +144,84 @@ impl ComponentWorld {
     /// are validated, trimmed to what is wanted of them, and validated again; libraries are validated alone. The options
     /// of lowered functions are those that their parameters and results need.
     ///
+    /// ```no_run
+    /// use nuigatre::{Adapter, ComponentEncoder, ComponentWorld, World};
+    /// use std::fs;
+    ///
+    /// let worlds = fs::read_to_string("worlds.json")?;
+    /// let (module, adapter) = (fs::read("main.wasm")?, fs::read("adapter.wasm")?);
+    /// let mut encoder = ComponentEncoder::new(&worlds, World::Name("command"), &module);
+    /// let mut adapter = Adapter::new("wasi_snapshot_preview1", &adapter);
+    /// adapter.required_exports.push("interface-27");
+    /// encoder.adapters.push(adapter);
+    /// let world = ComponentWorld::new(&encoder)?;
+    /// for (module, name, import) in world.info.imports.imports() {
+    ///     println!("{module} {name}: {:?}", world.lowering(import));
+    /// }
+    /// # Ok::<(), Box<dyn std::error::Error>>(())
+    /// ```
+    ///
     /// # Errors
     ///
     /// - `World`: the worlds, or a module, are refused. The fault has a text, with the path to what is wrong in the JSON.
-    /// - `Memory`: an allocation of the archive failed.
-    ///
-    /// # Panics
-    ///
-    /// The archive is of another version than this crate, and answers what this does not know.
+    /// - `Memory`: an allocation failed.
+    /// - `OtherVersion`: the library is of another version than this crate.
     pub fn new(encoder: &ComponentEncoder<'_>) -> Result<Self, Error> {
-        let message = encoder.message();
-        let modules = encoder.modules();
-        let room = modules.len() + message.len() + 4096;
+        let message = encoder.message()?;
+        let modules = encoder.modules()?;
+        // what is not written to costs nothing, and a second call all that the first did
+        let record = 4 * message.len() + (8 * modules.len()).min(MORE) + 4096;
+        let room = modules.len() + record;
         match ffi::world(message.as_bytes(), &modules, room)? {
             Answered::Bytes {
                 bytes,
                 module_length,
-            } => {
-                let (modules, record) = bytes.split_at(module_length);
-                Ok(read_world(modules, record).expect("the record of a world"))
+            } => Ok(read_world(bytes, module_length)?),
+            Answered::Same => Err(Error::OtherVersion),
+            Answered::Fault { number, text, .. } => {
+                Err(Error::World(WorldError::of(number, text, encoder)?))
             }
-            Answered::Same => unreachable!("a world always has bytes of its own"),
-            Answered::Fault { number, text, .. } => Err(Error::World(WorldFault { number, text })),
+        }
+    }
+
+    /// What core modules import of the interface that the world imports under a key, and the name of that.
+    #[must_use]
+    pub fn imported(&self, key: &WorldKey) -> Option<(&str, &ImportedInterface)> {
+        let position = match key {
+            WorldKey::Name(name) => self.import_map.get_index_of(&Some(name.as_str()))?,
+            WorldKey::Interface(id) => *self.own_ids.get(id)?,
+        };
+        let (name, imported) = self.import_map.get_index(position)?;
+        Some((name.as_deref()?, imported))
+    }
+
+    /// How an import of a core module is met; `None` where it is met by nothing that the world imports.
+    #[must_use]
+    pub fn lowering(&self, import: &Import) -> Option<&Lowering> {
+        let of_world = || Some(&self.import_map.get(&None::<&str>)?.lowerings);
+        let of_interface = |key| Some(&self.imported(key)?.1.lowerings);
+        match import {
+            Import::WorldFunc(_, name, abi) => of_world()?.get(&(name.as_str(), *abi)),
+            Import::InterfaceFunc(key, _, name, abi) => {
+                of_interface(key)?.get(&(name.as_str(), *abi))
+            }
+            Import::ImportedResourceDrop(key, interface, ty) => {
+                let lowerings = match interface {
+                    Some(_) => of_interface(key)?,
+                    None => of_world()?,
+                };
+                let mut drops = lowerings.values();
+                drops.find(|lowering| **lowering == Lowering::ResourceDrop(*ty))
+            }
+            _ => None,
         }
     }
 
     /// Whether tasks can use slot 1 of their context: whether the main module or an adapter imports what starts a
     /// thread, or reads or writes that slot.
+    #[must_use]
     pub fn can_use_context_slot_1(&self) -> bool {
-        let adapters = self.adapters.iter().map(|(_, adapter)| &adapter.info);
+        let adapters = self.adapters.values().map(|adapter| &adapter.info);
         let mut modules = std::iter::once(&self.info).chain(adapters);
         modules.any(|module| module.imports.imports().any(|it| uses_slot_1(it.2)))
     }
@@ -162,49 +236,83 @@ fn uses_slot_1(import: &Import) -> bool {
     }
 }
 
-fn read_world(modules: &[u8], record: &[u8]) -> Option<ComponentWorld> {
-    let value = Value::parse(std::str::from_utf8(record).ok()?)?;
-    let adapters = value.get("adapters")?.as_array()?;
-    let lengths: Vec<u64> = list(&value, "adapters", |adapter| member(adapter, "length"))?;
-    let others = usize::try_from(lengths.iter().sum::<u64>()).ok()?;
-    let (module, mut rest) = modules.split_at(modules.len().checked_sub(others)?);
-    let mut read = Vec::new();
-    for (adapter, length) in adapters.iter().zip(lengths) {
-        let (wasm, others) = rest.split_at(usize::try_from(length).ok()?);
+/// The world of an answer: modules, the first so many bytes, and then the record.
+fn read_world(mut bytes: Vec<u8>, module_length: usize) -> Result<ComponentWorld, Unread> {
+    let (modules, record) = bytes
+        .split_at_checked(module_length)
+        .ok_or(Unread::Unknown)?;
+    let value = Value::parse(str::from_utf8(record).map_err(|_| Unread::Unknown)?)?;
+    let lengths: Vec<usize> = list(&value, "adapters", |adapter| member(adapter, "length"))?;
+    let main = lengths
+        .iter()
+        .try_fold(modules.len(), |rest, length| rest.checked_sub(*length))
+        .ok_or(Unread::Unknown)?;
+    let mut rest = &modules[main..];
+    let mut adapters = Vec::new();
+    for (adapter, length) in value.get("adapters")?.as_array()?.iter().zip(lengths) {
+        let (wasm, others) = rest.split_at(length);
         rest = others;
-        read.push((member(adapter, "name")?, read_adapter(adapter, wasm)?));
+        push(
+            &mut adapters,
+            (member(adapter, "name")?, read_adapter(adapter, wasm)?),
+        )?;
     }
-    Some(ComponentWorld {
-        module: module.to_vec(),
-        renames: member(&value, "renames")?,
+    let import_map = map(&value, "import_map", |entry| {
+        Ok((optional_member(entry, "name")?, Read::read(entry)?))
+    })?;
+    let mut world = ComponentWorld {
+        module: Vec::new(),
+        own_ids: own_ids(&import_map)?,
+        import_map,
+        module_import_map: read_renames(&value)?,
         info: member(&value, "info")?,
-        adapters: OrderedMap::of(read),
-        import_map: OrderedMap::of(list(&value, "import_map", |entry| {
-            Some((
-                optional_member(entry, "name")?,
-                ImportedInterface::read(entry)?,
-            ))
-        })?),
-        live_type_imports: OrderedMap::of(list(&value, "live_type_imports", |entry| {
-            Some((member(entry, "interface")?, member(entry, "types")?))
-        })?),
-        exports_used: OrderedMap::of(list(&value, "exports_used", |entry| {
-            Some((member(entry, "interface")?, member(entry, "uses")?))
-        })?),
-    })
+        adapters: OrderedMap::of(adapters)?,
+        live_type_imports: map(&value, "live_type_imports", |entry| {
+            Ok((member(entry, "interface")?, member(entry, "types")?))
+        })?,
+        exports_used: map(&value, "exports_used", |entry| {
+            Ok((member(entry, "interface")?, member(entry, "uses")?))
+        })?,
+    };
+    bytes.truncate(main);
+    world.module = fitted(bytes);
+    Ok(world)
 }
 
-fn read_adapter(value: &Value, wasm: &[u8]) -> Option<WorldAdapter> {
-    Some(WorldAdapter {
-        wasm: wasm.to_vec(),
+/// The positions of interfaces that are imported under their own ids. Plain names have no colon.
+fn own_ids(
+    import_map: &OrderedMap<Option<String>, ImportedInterface>,
+) -> Result<OrderedMap<InterfaceId, usize>, Unread> {
+    let mut ids = Vec::new();
+    for (position, (name, imported)) in import_map.iter().enumerate() {
+        let is_own = name.as_deref().is_some_and(|name| name.contains(':'));
+        if let Some(id) = imported.interface.filter(|_| is_own) {
+            push(&mut ids, (id, position))?;
+        }
+    }
+    Ok(OrderedMap::of(ids)?)
+}
+
+/// The renamed imports of the main module, if there are some.
+fn read_renames(value: &Value<'_>) -> Result<Option<ModuleImportMap>, Unread> {
+    let renames: Vec<Rename> = member(value, "renames")?;
+    if renames.is_empty() {
+        return Ok(None);
+    }
+    Ok(Some(ModuleImportMap::of(renames)?))
+}
+
+fn read_adapter(value: &Value<'_>, wasm: &[u8]) -> Result<WorldAdapter, Unread> {
+    Ok(WorldAdapter {
+        wasm: concat([wasm].into_iter())?,
         info: member(value, "info")?,
         library_info: optional_member(value, "library_info")?,
     })
 }
 
 impl Read for ValidatedModule {
-    fn read(value: &Value) -> Option<Self> {
-        Some(ValidatedModule {
+    fn read(value: &Value<'_>) -> Result<Self, Unread> {
+        Ok(ValidatedModule {
             imports: ImportMap::read(value, "imports")?,
             exports: ExportMap::read(value, "exports")?,
         })
@@ -212,8 +320,8 @@ impl Read for ValidatedModule {
 }
 
 impl Read for Rename {
-    fn read(value: &Value) -> Option<Self> {
-        Some(Rename {
+    fn read(value: &Value<'_>) -> Result<Self, Unread> {
+        Ok(Rename {
             module: member(value, "module")?,
             original: member(value, "original")?,
             name: member(value, "name")?,
@@ -222,14 +330,14 @@ impl Read for Rename {
 }
 
 impl Read for RequiredOptions {
-    fn read(value: &Value) -> Option<Self> {
-        Some(RequiredOptions(value.as_u32()?))
+    fn read(value: &Value<'_>) -> Result<Self, Unread> {
+        Ok(RequiredOptions(u32::read(value)?))
     }
 }
 
 impl Read for Lowering {
-    fn read(value: &Value) -> Option<Self> {
-        Some(match value.get("kind")?.as_str()? {
+    fn read(value: &Value<'_>) -> Result<Self, Unread> {
+        Ok(match value.kind()? {
             "direct" => Lowering::Direct {
                 options: member(value, "options")?,
             },
@@ -238,19 +346,19 @@ impl Read for Lowering {
                 options: member(value, "options")?,
             },
             "resource-drop" => Lowering::ResourceDrop(member(value, "type")?),
-            _ => return None,
+            _ => return Err(Unread::Unknown),
         })
     }
 }
 
 impl Read for ImportedInterface {
-    fn read(value: &Value) -> Option<Self> {
-        let lowerings = list(value, "lowerings", |entry| {
+    fn read(value: &Value<'_>) -> Result<Self, Unread> {
+        let lowerings = map(value, "lowerings", |entry| {
             let key = (member(entry, "name")?, member(entry, "abi")?);
-            Some((key, member(entry, "lowering")?))
+            Ok((key, member(entry, "lowering")?))
         })?;
-        Some(ImportedInterface {
-            lowerings: OrderedMap::of(lowerings),
+        Ok(ImportedInterface {
+            lowerings,
             interface: optional_member(value, "interface")?,
             implements: optional_member(value, "implements")?,
             external_id: optional_member(value, "external_id")?,

@@ -48,38 +48,39 @@ fn faults_carry_what_they_are_about() {
     assert_eq!(fault, Error::Trim(GcFault::MissingExport("x".to_owned())));
     let fault = gc::run(b"\0asm\x0d\0\x01\0", &["b"], None, 16).expect_err("a component");
     assert_eq!(fault, Error::Trim(GcFault::Read(ReadFault::Component)));
-    assert_eq!(
-        fault.source().map(|it| it.to_string()),
-        Some("Read: Component".to_owned())
-    );
+    assert_eq!(fault.to_string(), "Trim: Read: Component");
+    // its text has all that is known
+    assert!(fault.source().is_none());
     let fault = ModuleImportMap::new(Cow::Borrowed(b"\0asm")).expect_err("no module");
     assert_eq!(fault, Error::Dedupe(DedupeFault::Read(ReadFault::NotWasm)));
 }
 
-#[test]
-fn a_buffer_that_is_too_small() {
-    // the names alone take more than the first buffer has
-    let import = [b"\x7f".as_slice(), &[b'a'; 127], b"\x01f\0\0"].concat();
-    let content = [b"\x03".as_slice(), &import, &import, &import].concat();
+/// A module that imports `f` of a module with a name of so many bytes, so many times.
+fn repeats(count: usize, length: usize) -> Vec<u8> {
+    let number = |number: usize| {
+        let low = (0..4).map(|at| (number >> (7 * at)) as u8 | 128);
+        low.chain([(number >> 28) as u8]).collect::<Vec<u8>>()
+    };
+    let import = [number(length), vec![b'a'; length], b"\x01f\0\0".to_vec()].concat();
+    let content = [number(count), import.repeat(count)].concat();
     let mut module = b"\0asm\x01\0\0\0\x02".to_vec();
-    module.extend([
-        (content.len() % 128) as u8 | 128,
-        (content.len() / 128) as u8,
-    ]);
+    module.extend(number(content.len()));
     module.extend(content);
-    // a custom section, so that the module is no small one
-    let large = [
-        module.clone(),
-        b"\0\x80\x80\x04\0".to_vec(),
-        vec![1; 65_535],
-    ]
-    .concat();
-    for (module, repeated) in [(&module, 3), (&large, 3)] {
-        let (bytes, map) = ModuleImportMap::new(Cow::Borrowed(module)).expect("a module");
+    module
+}
+
+/// Short modules, and one whose renames are longer than the first buffer.
+#[test]
+fn buffers() {
+    for (count, length) in [(2, 1), (3, 127), (6_000, 1_000)] {
+        let module = repeats(count, length);
+        let (bytes, map) = ModuleImportMap::new(Cow::Borrowed(&module)).expect("a module");
         let map = map.expect("renames");
-        assert_eq!(map.renames().len(), repeated - 1);
-        assert_eq!(map.original_name(&"a".repeat(127), "f [v3]"), Some("f"));
-        assert_eq!(map.original_name("a", "f [v3]"), None);
-        assert_eq!(bytes.len(), module.len() + 2 * " [v2]".len());
+        assert_eq!(map.renames().len(), count - 1);
+        let name = "a".repeat(length);
+        let last = format!("f [v{count}]");
+        assert_eq!(map.original_name(&name, &last), Some("f"));
+        assert_eq!(map.original_name("b", &last), None);
+        assert!(bytes.ends_with(format!("{last}\0\0").as_bytes()));
     }
 }

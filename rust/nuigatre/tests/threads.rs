@@ -20,6 +20,15 @@ fn put_section(module: &mut Vec<u8>, id: u8, content: &[u8]) {
     module.extend_from_slice(content);
 }
 
+/// What crosses threads.
+#[test]
+fn values_can_be_sent() {
+    fn is_sent<T: Send + Sync + 'static>() {}
+    is_sent::<ModuleImportMap>();
+    is_sent::<nuigatre::ComponentWorld>();
+    is_sent::<nuigatre::Error>();
+}
+
 /// A module that imports `a.f` so many times.
 fn repeats(count: usize) -> Vec<u8> {
     let mut imports = Vec::new();

@@ -1,9 +1,11 @@
 //! The world of a small component, and why there is none.
 
 use nuigatre::{
-    AbiVariant, Adapter, ComponentEncoder, ComponentWorld, Error, FuncType, Import, ImportInstance,
-    InterfaceId, Lowering, MainOrAdapter, World, WorldKey,
+    AbiVariant, Adapter, ComponentEncoder, ComponentWorld, DedupeFault, EncoderFault, Error,
+    FuncType, Import, ImportInstance, InterfaceId, JsonFault, Lowering, MainOrAdapter,
+    ModuleImportMap, Problem, ReadFault, ResolveFault, ValidateFault, World, WorldFault, WorldKey,
 };
+use std::thread;
 
 /// A world that imports the interface `my:demo/host`, which has the function `hello: func(x: u32)`.
 const WORLDS: &str = r#"{
@@ -25,19 +27,14 @@ const TRIMMED: &[u8] = b"\0asm\x01\0\0\0\x01\x04\x01\x60\0\0\x03\x03\x02\0\0\x07
 
 fn encoder() -> ComponentEncoder<'static> {
     let mut encoder = ComponentEncoder::new(WORLDS, World::Name("demo"), MAIN);
-    encoder.adapters.push(Adapter {
-        name: "old",
-        wasm: OLD,
-        required_exports: Vec::new(),
-        library_info: None,
-    });
+    encoder.adapters.push(Adapter::new("old", OLD));
     encoder
 }
 
-/// The number and the text of the fault.
-fn fault_of(encoder: &ComponentEncoder<'_>) -> (u32, String) {
+/// The fault and its text.
+fn fault_of(encoder: &ComponentEncoder<'_>) -> (WorldFault, String) {
     match ComponentWorld::new(encoder) {
-        Err(Error::World(fault)) => (fault.number, fault.text),
+        Err(Error::World(error)) => (error.fault().clone(), error.to_string()),
         answer => panic!("no fault of a world: {answer:?}"),
     }
 }
@@ -45,15 +42,14 @@ fn fault_of(encoder: &ComponentEncoder<'_>) -> (u32, String) {
 #[test]
 fn main_module() {
     let world = ComponentWorld::new(&encoder()).expect("a world");
-    assert_eq!(world.renames.len(), 1);
-    assert_eq!(world.renames[0].module, "my:demo/host");
-    assert_eq!(world.renames[0].original, "hello");
-    assert_eq!(world.renames[0].name, "hello [v2]");
+    let (module, map) = ModuleImportMap::new(MAIN.into()).expect("a module");
+    assert_eq!(module, world.module);
+    assert_eq!(map, world.module_import_map);
+    let map = world.module_import_map.expect("a renamed import");
+    assert_eq!(map.renames().len(), 1);
     assert_eq!(
-        nuigatre::ModuleImportMap::new(MAIN.into())
-            .expect("a module")
-            .0,
-        world.module
+        map.original_name("my:demo/host", "hello [v2]"),
+        Some("hello")
     );
     let hello = Import::InterfaceFunc(
         WorldKey::Interface(InterfaceId(0)),
@@ -85,6 +81,11 @@ fn main_module() {
         world.info.imports.modules().get("old"),
         Some(ImportInstance::Names(names)) if names.len() == 1
     ));
+    assert_eq!(
+        world.info.imports.get("my:demo/host", "hello"),
+        Some(&hello)
+    );
+    assert_eq!(world.info.imports.get("my:demo/host", "goodbye"), None);
     assert_eq!(world.info.imports.imported_memory(), None);
     assert_eq!(world.info.exports.memory(), None);
 }
@@ -98,14 +99,26 @@ fn adapters_and_lowerings() {
     assert_eq!(world.import_map.len(), 1);
     let host = world
         .import_map
-        .get(&Some("my:demo/host".to_owned()))
+        .get(&Some("my:demo/host"))
         .expect("an interface");
     assert_eq!(host.interface, Some(InterfaceId(0)));
-    let key = ("hello".to_owned(), AbiVariant::GuestImport);
+    let key = ("hello", AbiVariant::GuestImport);
     let Some(Lowering::Direct { options }) = host.lowerings.get(&key) else {
         panic!("not direct");
     };
     assert!(options.is_empty());
+    let imports = &world.info.imports;
+    for name in ["hello", "hello [v2]"] {
+        let import = imports.get("my:demo/host", name).expect("an import");
+        let lowering = Lowering::Direct { options: *options };
+        assert_eq!(world.lowering(import), Some(&lowering));
+    }
+    let key = WorldKey::Interface(InterfaceId(0));
+    assert_eq!(world.imported(&key), Some(("my:demo/host", host)));
+    assert_eq!(world.imported(&WorldKey::Name("host".into())), None);
+    assert_eq!(world.imported(&WorldKey::Interface(InterfaceId(1))), None);
+    let b = imports.get("old", "b").expect("an import");
+    assert_eq!(world.lowering(b), None);
     assert!(world.live_type_imports.is_empty() && world.exports_used.is_empty());
     assert!(!world.can_use_context_slot_1());
 }
@@ -119,10 +132,14 @@ fn a_world_by_its_index() {
     encoder.world = World::Index(1);
     assert_eq!(
         fault_of(&encoder),
-        (8 + 256, "Encoder: UnknownWorld".into())
+        (
+            WorldFault::Encoder(EncoderFault::UnknownWorld),
+            "Encoder: UnknownWorld".into()
+        )
     );
     encoder.world = World::Name("root");
-    assert_eq!(fault_of(&encoder), (3, "UnknownWorld".into()));
+    let unknown = (WorldFault::UnknownWorld, "UnknownWorld".into());
+    assert_eq!(fault_of(&encoder), unknown);
 }
 
 #[test]
@@ -132,46 +149,126 @@ fn faults_have_their_paths() {
         encoder.resolve = worlds;
         fault_of(&encoder)
     };
+    let wrong = |problem| WorldFault::Json(JsonFault::Wrong(problem));
     let function = "resolve.interfaces[0].functions[\"hello\"]";
     assert_eq!(
         refused(&WORLDS.replace("freestanding", "standing")),
         (
-            2 + 256 * (3 + 256 * 6),
+            wrong(Problem::Unknown),
             format!("Json: {function}.kind: unknown")
         )
     );
     assert_eq!(
         refused(&WORLDS.replace("\"params\"", "\"parameters\"")),
-        (2 + 256 * 3, format!("Json: {function}.params: missing"))
+        (
+            wrong(Problem::Missing),
+            format!("Json: {function}.params: missing")
+        )
     );
-    assert_eq!(refused("]"), (2 + 256, "Json: not JSON".into()));
+    let not_json = (
+        WorldFault::Json(JsonFault::NotJson),
+        "Json: not JSON".into(),
+    );
+    assert_eq!(refused("]"), not_json);
+    assert_eq!(refused("{]"), not_json);
     assert_eq!(
         refused(&WORLDS.replace("{\"id\": 0}", "{\"id\": 1}")),
-        (5 + 256, "Resolve: IdRange".into())
+        (
+            WorldFault::Resolve(ResolveFault::IdRange),
+            "Resolve: IdRange".into()
+        )
     );
+}
+
+/// The text of the worlds is one value of the message, and says nothing of what comes after it.
+#[test]
+fn worlds_are_one_value() {
+    let spliced = format!("{WORLDS},\"other\":1");
+    let mut encoder = encoder();
+    for worlds in [&spliced, "", "{},\"world\":\"demo\",\"length\":0", "1,2"] {
+        encoder.resolve = worlds;
+        let fault = WorldFault::Json(JsonFault::NotJson);
+        assert_eq!(fault_of(&encoder).0, fault, "{worlds}");
+    }
+    let spaced = format!(" \n{WORLDS}\t ");
+    encoder.resolve = &spaced;
+    assert!(ComponentWorld::new(&encoder).is_ok());
 }
 
 #[test]
 fn modules_that_are_refused() {
     let mut adapted = encoder();
     adapted.adapters[0].wasm = b"\0asm\x02\0\0\0";
-    let read = 9 + 256 * (2 + 256 * (1 + 256));
+    let not_wasm = ValidateFault::Read(ReadFault::NotWasm);
     assert_eq!(
         fault_of(&adapted),
-        (read, "World: Adapter `old`: Read: NotWasm".into())
+        (
+            WorldFault::Adapter("old".into(), not_wasm),
+            "World: Adapter `old`: Read: NotWasm".into()
+        )
     );
     let mut main = encoder();
     main.module = b"";
     assert_eq!(
         fault_of(&main),
-        (7 + 256 * (1 + 256), "Dedupe: Read: NotWasm".into())
+        (
+            WorldFault::Dedupe(DedupeFault::Read(ReadFault::NotWasm)),
+            "Dedupe: Read: NotWasm".into()
+        )
     );
     let mut twice = encoder();
     twice.adapters.push(twice.adapters[0].clone());
-    assert_eq!(fault_of(&twice), (6, "AdapterTwice `old`".into()));
+    assert_eq!(
+        fault_of(&twice),
+        (
+            WorldFault::AdapterTwice("old".into()),
+            "AdapterTwice `old`".into()
+        )
+    );
     let mut key = encoder();
     key.main_module_exports.push("run");
-    assert_eq!(fault_of(&key), (8 + 256 * 2, "Encoder: NotAnExport".into()));
+    assert_eq!(
+        fault_of(&key),
+        (
+            WorldFault::Encoder(EncoderFault::NotAnExport),
+            "Encoder: NotAnExport".into()
+        )
+    );
+    // imports `b` of `old`, which it does not export
+    let mut lacking = encoder();
+    let wasm = OLD
+        .iter()
+        .map(|byte| if *byte == b'b' { b'c' } else { *byte });
+    let wasm: Vec<u8> = wasm.collect();
+    lacking.adapters[0].wasm = &wasm;
+    let (fault, text) = fault_of(&lacking);
+    let missing = ValidateFault::AdapterModuleDidNotExport;
+    assert_eq!(fault, WorldFault::Adapter("old".into(), missing), "{text}");
+}
+
+/// A world on the stack that it needs, of JSON that nests as deep as it may, and deeper.
+#[test]
+fn on_a_stack_of_its_size() {
+    let nested = |depth: usize| {
+        let value = "[".repeat(depth) + &"]".repeat(depth);
+        WORLDS.replace(
+            "\"result\": null",
+            &format!("\"result\": null, \"docs\": {value}"),
+        )
+    };
+    for (depth, is_read) in [(1, true), (110, true), (100_000, false)] {
+        let worlds = nested(depth);
+        thread::scope(|scope| {
+            let call = || {
+                let mut encoder = encoder();
+                encoder.resolve = &worlds;
+                ComponentWorld::new(&encoder).is_ok()
+            };
+            let thread = thread::Builder::new().stack_size(256 << 10);
+            let is_made = thread.spawn_scoped(scope, call).expect("a thread").join();
+            assert_eq!(is_made.expect("no panic"), is_read, "{depth}");
+        });
+    }
 }
 
 /// A library is handed the items that its arguments say, and its bytes stay as they are.
@@ -193,13 +290,11 @@ fn libraries() {
         ],
         instantiate_after_shims: true,
     };
-    encoder.adapters.push(Adapter {
-        name: "lib",
-        // imports `b` of `old`
-        wasm: b"\0asm\x01\0\0\0\x01\x04\x01\x60\0\0\x02\x09\x01\x03old\x01b\0\0",
-        required_exports: Vec::new(),
-        library_info: Some(library.clone()),
-    });
+    // imports `b` of `old`
+    let wasm = b"\0asm\x01\0\0\0\x01\x04\x01\x60\0\0\x02\x09\x01\x03old\x01b\0\0";
+    let mut adapter = Adapter::new("lib", wasm);
+    adapter.library_info = Some(library.clone());
+    encoder.adapters.push(adapter);
     let world = ComponentWorld::new(&encoder).expect("a world");
     let made = world.adapters.get("lib").expect("a library");
     assert_eq!(made.wasm, encoder.adapters[1].wasm);

@@ -1,0 +1,74 @@
+//! What allocates, where it may fail. All memory of this crate is asked for here, or by `try_reserve`.
+
+use std::collections::TryReserveError;
+use std::fmt::{self, Write};
+
+/// An allocation failed.
+#[derive(Clone, Copy, Debug, PartialEq, Eq)]
+pub(crate) struct OutOfMemory;
+
+impl From<TryReserveError> for OutOfMemory {
+    fn from(_: TryReserveError) -> Self {
+        OutOfMemory
+    }
+}
+
+/// Appends an item.
+pub(crate) fn push<T>(items: &mut Vec<T>, item: T) -> Result<(), OutOfMemory> {
+    items.try_reserve(1)?;
+    items.push(item);
+    Ok(())
+}
+
+/// Appends a text.
+pub(crate) fn push_str(out: &mut String, text: &str) -> Result<(), OutOfMemory> {
+    out.try_reserve(text.len())?;
+    out.push_str(text);
+    Ok(())
+}
+
+/// A copy of a text.
+pub(crate) fn string(text: &str) -> Result<String, OutOfMemory> {
+    let mut copy = String::new();
+    copy.try_reserve_exact(text.len())?;
+    copy.push_str(text);
+    Ok(copy)
+}
+
+/// These bytes, one slice after another.
+pub(crate) fn concat<'a>(
+    slices: impl Iterator<Item = &'a [u8]> + Clone,
+) -> Result<Vec<u8>, OutOfMemory> {
+    let mut all = Vec::new();
+    all.try_reserve_exact(slices.clone().map(<[u8]>::len).sum())?;
+    slices.for_each(|slice| all.extend_from_slice(slice));
+    Ok(all)
+}
+
+/// The bytes without most of the room after them, where there is memory for a copy.
+pub(crate) fn fitted(bytes: Vec<u8>) -> Vec<u8> {
+    if bytes.len() > bytes.capacity() / 2 {
+        return bytes;
+    }
+    concat([bytes.as_slice()].into_iter()).unwrap_or(bytes)
+}
+
+/// A text that is written piece by piece. All that fails is an allocation.
+#[derive(Default)]
+pub(crate) struct Text(pub(crate) String);
+
+impl Text {
+    pub(crate) fn put(&mut self, text: &str) -> Result<(), OutOfMemory> {
+        push_str(&mut self.0, text)
+    }
+
+    pub(crate) fn put_args(&mut self, arguments: fmt::Arguments<'_>) -> Result<(), OutOfMemory> {
+        self.write_fmt(arguments).map_err(|_| OutOfMemory)
+    }
+}
+
+impl Write for Text {
+    fn write_str(&mut self, text: &str) -> fmt::Result {
+        self.put(text).map_err(|_| fmt::Error)
+    }
+}
