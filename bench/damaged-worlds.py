@@ -12,10 +12,11 @@ The text is cut, bytes in it are changed, taken out or put in; or in its tree a 
 moved, an item of a list removed or doubled, a number is one out of range or none at all, a text another one, a value the
 value of another place, or arrays and objects nested in each other up to 100,000 times.
 
-Each run has 10 seconds and 1 GB of memory. Its status has to be 0 or 1. With status 1 it has to print one line, which
-begins with `wcplan: `, and no file may be written; with status 0 lines of a plan, and all files are. Only where the text
-has an escape for a line feed in it may there be more lines. What went wrong is printed, and kept in
-bench/data/damaged-worlds; the last lines count the runs. The status is 1 where one went wrong.
+Each run has 10 seconds and 1 GB of memory. Its status has to be 0 or 1. With status 1 it has to print one line to
+standard error, which begins with `wcplan: `, and nothing to standard output, and no file may be written; with status 0
+lines of a plan to standard output alone, and all files are. No byte of a line may be a control character. What went
+wrong is printed, and kept in bench/data/damaged-worlds; the last lines count the runs. The status is 1 where one went
+wrong.
 """
 import argparse
 import collections
@@ -35,8 +36,8 @@ EXAMPLE = TOP / "examples" / "wcplan"
 KEPT = TOP / "bench" / "data" / "damaged-worlds"
 MEMORY = 1 << 30
 SECONDS = 10
-LINE = re.compile(rb"(main|adapter \S+) \S+ \S+ (sync|async) slot (\d+|-) realloc \S+")
-ESCAPED_LINE_FEED = re.compile(rb"\\(n|r|u000[aA])")
+LINE = re.compile(rb"(main|adapter .+) .+ .* (sync|async) slot (\d+|-) realloc .+")
+CONTROL = re.compile(rb"[\x00-\x1f\x7f]")
 NUMBERS = ["-1", "-0", "1.5", "1e3", "007", "0.0", "4294967295", "4294967296", "18446744073709551616", "9" * 400, "null", "true"]
 KEYS = ["interface-0", "interface-1", "interface-00", "interface-", "interface-4294967296", "results", "kind", "id", "x", ""]
 TEXTS = ["", "own", "string", "resource", "a:b/c@1.2.3", "my:notes", "my:notes@1.2", ":", "@", "A", "é", "a" * 3000, "\u0000", "[method]x.y"]
@@ -186,20 +187,25 @@ def originals_of(folder):
     return [example, Original(folder / "wasi-command.json", words + ["--adapter-export", name + "=wasi:cli/run@0.2.6"])]
 
 
-def fault_in(status, printed, text, files):
+def fault_in(ran, files):
     """What is wrong with a run, if anything is."""
-    if status not in (0, 1):
-        return "status %s" % status
+    if ran.returncode not in (0, 1):
+        return "status %s" % ran.returncode
+    printed, silent = (ran.stdout, ran.stderr) if ran.returncode == 0 else (ran.stderr, ran.stdout)
+    if silent:
+        return "the other output"
     lines = printed.split(b"\n")
     if lines.pop() != b"":
         return "no end of a line"
-    if status == 0:
-        if not all(LINE.fullmatch(it) for it in lines) and not ESCAPED_LINE_FEED.search(text):
+    if any(CONTROL.search(it) for it in lines):
+        return "a control character"
+    if ran.returncode == 0:
+        if not all(LINE.fullmatch(it) for it in lines):
             return "no line of a plan"
         return None if files else "no file"
     if not printed.startswith(b"wcplan: ") or len(printed) < 10:
         return "no line of a fault"
-    if len(lines) != 1 and not ESCAPED_LINE_FEED.search(text):
+    if len(lines) != 1:
         return "several lines"
     return "a file" if files else None
 
@@ -214,12 +220,12 @@ def try_case(program, text, original, folder):
     words = [program, worlds, *original.words, "--out", out]
     begin = time.perf_counter()
     try:
-        ran = subprocess.run(words, stdin=subprocess.DEVNULL, stdout=subprocess.PIPE, stderr=subprocess.STDOUT, timeout=SECONDS)
+        ran = subprocess.run(words, stdin=subprocess.DEVNULL, stdout=subprocess.PIPE, stderr=subprocess.PIPE, timeout=SECONDS)
     except subprocess.TimeoutExpired:
         return "no end", "no end", SECONDS
     seconds = time.perf_counter() - begin
-    kind = "status %s%s" % (ran.returncode, kind_of(ran.stdout) if ran.returncode == 1 else "")
-    return fault_in(ran.returncode, ran.stdout, text, list(out.iterdir())), kind, seconds
+    kind = "status %s%s" % (ran.returncode, kind_of(ran.stderr) if ran.returncode == 1 else "")
+    return fault_in(ran, list(out.iterdir())), kind, seconds
 
 
 def kind_of(printed):

@@ -42,7 +42,7 @@ WHOLE = {
     "dedupe_owned", "read_deduped", "dedupe_imports", "execute", "run_program", "liveness_counted", "trim", "trim_for",
     "realloc_via_memory_grow", "allocate_stack_via_realloc", "component_world", "plan", "validate_module",
     "validate_adapter_module", "resolve_build", "encoder_build", "live_types", "document", "wcplan",
-    "wcplan_failing",
+    "wcplan_failing", "wcplan_mute",
 }
 
 # What else calls answer where memory ran out: one of many runs of samples does not agree, and a body that could not be

@@ -33,7 +33,7 @@ CALLS = {
     "example printed_plan": "PlanFault",
     "execute": "ToolFault", "execute_failing": "ToolFault", "each_put_failing": "ToolFault",
     "writer_sink": "PutFailed", "run_program": "RunFault", "parse": "Usage",
-    "wcplan": "ProgramFault", "wcplan_failing": "ProgramFault", "parse_wcplan": "ArgumentFault", "world_into": "MessageFault",
+    "wcplan": "ProgramFault", "wcplan_failing": "ProgramFault", "parse_wcplan": "NoCommand", "world_into": "MessageFault",
 }
 # What no row of any input can reach, and why.
 BARRED = {
@@ -43,7 +43,6 @@ BARRED = {
     ("ValidateFault", "WholeDiffers"): "of the arguments of a name the first counts",
     ("ValidateFault", "Mixed"): "of the arguments of a name the first counts",
     ("MessageFault", "NotText"): "a row is text",
-    ("ProgramFault", "Output"): "no fault is printed then; wcplan.rows: an_output_that_fails_at_once",
 }
 FAILED = "where an allocation fails"
 
@@ -81,6 +80,12 @@ def written(name, text):
     return found + [(own, re.sub(r"\{\w+\}", "{0}", words), ["String"]) for own, words in named]
 
 
+def numbered(words):
+    """A text in which the fields of a variant are numbered."""
+    parts = re.split(r"\{\w+\}", words)
+    return "".join(part + "{%d}" % number for number, part in enumerate(parts[:-1])) + parts[-1]
+
+
 def program_fault(text):
     """The variants of `ProgramFault`, which has no `Display`: the texts that its function `text` makes."""
     body = re.search(r"pub enum ProgramFault.*?\{(.*?)\n\}", text, re.S).group(1)
@@ -89,6 +94,10 @@ def program_fault(text):
     carried = re.findall(r'ProgramFault::(\w+)\(fault\) => carried_text\(alloc, "(\w+)", fault\)', text)
     texts = {name: re.sub(r"\{\w+\}", "{0}", words) for name, words in shown}
     texts.update({name: words + ": {0}" for name, words in carried})
+    texts.update({name: words + "{0}" for name, words in re.findall(r'ProgramFault::(\w+)\(path\) => path_text\(alloc, "(.*?)", path\)', text)})
+    texts.update({name: "{0}" for name in re.findall(r"ProgramFault::(\w+)\(fault\) => selection_text\(alloc, fault\)", text)})
+    texts["NoExport"] = "no export `{0}`; exports:{1}"
+    fields["NoExport"] = ["str", "String"]
     return [(name, texts[name], fields.get(name, [])) for name in re.findall(r"^    (\w+)[(,]", body, re.M)]
 
 
@@ -101,10 +110,14 @@ def faults():
                 found[name] = (crate, variants_of(body))
             elif name == "ProgramFault":
                 found[name] = (crate, program_fault(text))
-            elif name == "ArgumentFault":
-                found[name] = (crate, [(own, own, []) for own in re.findall(r"^    (\w+),", body, re.M)])
             else:
                 found[name] = (crate, run_fault(text) if name == "RunFault" else written(name, text))
+        if "pub enum NoCommand<" in text:
+            shown = {"Memory": "out of memory", "Help": "help", "Version": "version"}
+            found["NoCommand"] = (crate, [(own, words, []) for own, words in shown.items()] + [("Wrong", "{0}", ["WrongArgument"])])
+        wrong = re.findall(r'WrongArgument::(\w+)(?:\(\w+\)| \{[^}]*\}) => (?:\{\s*)?format!\(in alloc; "(.*?)"\)', text)
+        if wrong:
+            found["WrongArgument"] = (crate, [(own, numbered(words), ["String"] * words.count("{")) for own, words in wrong])
         if "pub enum Problem {" in text:
             found["Problem"] = (crate, written("Problem", text))
         for shown, name in re.findall(r'#\[error\("(.*?)"\)\]\s*pub struct (\w+);', text):
@@ -171,8 +184,10 @@ def texts(call, lines):
     for line in lines:
         if call == "run_program" and line.startswith("printed wctrim: "):
             yield line[len("printed wctrim: "):]
-        elif call in ("wcplan", "wcplan_failing") and line.startswith("printed wcplan: "):
-            yield line[len("printed wcplan: "):]
+        elif call in ("wcplan", "wcplan_failing") and line.startswith("error wcplan: ") and "status 2" not in lines:
+            yield line[len("error wcplan: "):]
+        elif call == "parse_wcplan" and line in ("help", "version"):
+            yield line
         elif call == "parse" and line == "usage":
             yield line
         elif call == "writer_sink" and line.startswith("fault "):

@@ -1,27 +1,28 @@
 #!/bin/sh
-# Runs the built program, or the one that is named, on files of its own making, and compares what it prints, its status,
-# and what it writes with what docs/MODEL.md says of the program: where a file can't be read or written and output can't
-# be printed too.
+# Runs the built programs, or those that are named, on files of its own making, and compares what they print, their
+# statuses, and what they write with what docs/MODEL.md says of the programs: where a file can't be read or written and
+# output can't be printed too. Where WCTRIM alone is named, wcplan is left out.
 #
-#     bench/statuses.sh [PROGRAM]
+#     bench/statuses.sh [WCTRIM [WCPLAN]]
 set -e
 top=$(CDPATH='' cd -P -- "$(dirname -- "$0")/.." && pwd -P)
 . "$top/bench/need.sh"
 need python3 python3
-program=${1-}
-if [ -z "$program" ]; then
+if [ $# -eq 0 ]; then
     "$top/wctrim" --build
-    program=$top/wctrim
+    "$top/wcplan" --build
+    set -- "$top/wctrim" "$top/wcplan"
 fi
-exec python3 - "$program" "$top/examples" <<'END_OF_PYTHON'
+exec python3 - "$top" "$@" <<'END_OF_PYTHON'
+import json
 import os
 import stat
 import subprocess
 import sys
 import tempfile
 
-program = sys.argv[1]
-examples = sys.argv[2]
+top, program = sys.argv[1:3]
+examples = os.path.join(top, "examples")
 HEADER = b"\0asm\1\0\0\0"
 USAGE = """usage: wctrim dedupe IN OUT
        wctrim trim IN OUT [--realloc NAME] [--page 0|16] EXPORT...
@@ -57,6 +58,11 @@ import my:demo/store open func
 import my:demo/store [method]file.entry func
 import my:demo/store [resource-drop]file func
 export size_of func 4
+"""
+PLAN = """main my:notes/store@1.2.0 [constructor]note sync slot 0 realloc -
+main my:notes/store@1.2.0 [method]note.text sync slot 1 realloc cabi_realloc
+adapter old-notes my:notes/store@1.2.0 [constructor]note sync slot 2 realloc -
+adapter old-notes my:notes/store@1.2.0 summarize sync slot 3 realloc cabi_import_realloc
 """
 NOBODY = 65534
 failed = 0
@@ -170,6 +176,136 @@ def check_refused_by_system(folder):
         differs(words, found, (1, line))
 
 
+def usage_of(document):
+    """The usage text in a document: the block that begins with it."""
+    with open(os.path.join(top, "docs", document)) as file:
+        text = file.read()
+    block = text[text.index("    usage: "):].split("\n\n")[0]
+    return "".join(line[4:] + "\n" for line in block.split("\n"))
+
+
+def run_plan(folder, words, stdout=subprocess.PIPE):
+    """A run of wcplan: its status, and what it writes to standard output and standard error. What the script says where
+    the program is not proved is left out."""
+    done = subprocess.run([program, *words], cwd=folder, stdin=subprocess.DEVNULL, stdout=stdout, stderr=subprocess.PIPE)
+    said = done.stderr.decode().splitlines(True)
+    if said and said[0].startswith("wcplan: not proved: "):
+        said = said[1:]
+    return done.returncode, (done.stdout or b"").decode(), "".join(said)
+
+
+def check_streams(folder, words, status, printed, said):
+    """A run of wcplan that writes no file in the folder."""
+    others = held(folder)
+    found = run_plan(folder, words)
+    if found != (status, printed, said) or held(folder) != others:
+        differs(words, (found, held(folder) == others), (status, printed, said))
+
+
+def copied(folder, name):
+    """Copies a file of the example into the folder."""
+    with open(os.path.join(examples, "wcplan", name), "rb") as file, open(os.path.join(folder, name), "wb") as copy:
+        copy.write(file.read())
+
+
+def check_written(folder, directory, words):
+    """A plan whose modules are written into a directory."""
+    check_streams(folder, [*words, "--out", directory], 0, PLAN, "")
+    with open(os.path.join(folder, "main.wasm"), "rb") as main, open(os.path.join(folder, "trimmed.wasm"), "rb") as trimmed:
+        wanted = {"main.wasm": main.read(), "old-notes.wasm": trimmed.read()}
+    made = os.path.join(folder, directory)
+    if held(made) != wanted:
+        differs([*words, "--out", directory], sorted(held(made)), sorted(wanted))
+
+
+def check_plan(folder):
+    """A plan that is made: its lines, its record, and the files that are written."""
+    words = ["notes.json", "app", "main.wasm", "--adapt", "old-notes=adapter.wasm", "--adapter-export", "old-notes=is-ready"]
+    for name in ("notes.json", "main.wasm", "adapter.wasm", "trimmed.wasm"):
+        copied(folder, name)
+    check_streams(folder, words, 0, PLAN, "")
+    check_streams(folder, [*words[3:], "--", *words[:3]], 0, PLAN, "")
+    check_streams(folder, ["--adapt=old-notes=adapter.wasm", *words[:3], "--adapter-export=old-notes=is-ready"], 0, PLAN, "")
+    status, printed, said = run_plan(folder, [*words, "--json"])
+    if (status, said) != (0, "") or printed.count("\n") != 1 or not isinstance(json.loads(printed), dict):
+        differs([*words, "--json"], (status, printed, said), "a record in one line")
+    os.mkdir(os.path.join(folder, "made"))
+    check_written(folder, "made", words)
+    # a directory that isn't there is made, with those that it is in
+    check_written(folder, "new/deep", words)
+    check_streams(folder, [*words, "--out", "text"], 1, "", "wcplan: cannot make directory text\n")
+    os.remove(os.path.join(folder, "made", "old-notes.wasm"))
+    os.mkdir(os.path.join(folder, "made", "old-notes.wasm"))
+    check_streams(folder, [*words, "--out", "made"], 1, "", "wcplan: cannot write made/old-notes.wasm\n")
+    for each in (words, [*words, "--json"], []):
+        with open("/dev/full", "wb") as full:
+            status, _, said = run_plan(folder, each, stdout=full)
+        if status != 1 or said not in ("wcplan: cannot print\n", ""):
+            differs(each, f"into a full device: {status}, {said}", 1)
+    return words
+
+
+def check_faults_of_plans(folder, words):
+    """Each fault of wcplan that is its own: one line on standard error, status 1, and no file."""
+    plain = ["notes.json", "app", "main.wasm"]
+    adapter = ["--adapt", "old-notes=adapter.wasm"]
+    exported = ["--adapter-export", "old-notes=is-ready"]
+    for given, fault in {
+        ("none", *words[1:]): "cannot read none",
+        ("no\x1bne", *words[1:]): "cannot read no\\u{1b}ne",
+        ("notes.json", "app", "none"): "cannot read none",
+        (*plain, "--adapt", "old-notes=none"): "cannot read none",
+        (*plain, "--adapt", "old-notes=made"): "cannot read made",
+        ("text", *words[1:]): "Json: not JSON",
+        ("latin", *words[1:]): "Json: not UTF-8",
+        ("twice", *words[1:]): "Json: repeated member",
+        ("notes.json", "nothing", *words[2:]): "no world `nothing`",
+        (*plain, *adapter, *adapter): "adapter `old-notes` twice",
+        (*plain, *exported): "no adapter `old-notes`",
+        (*plain, "--adapter-export", "a\nb=is-ready"): "no adapter `a\\nb`",
+        (*plain, "--adapt", "main=adapter.wasm", "--out", "made"): "adapter `main` in the main module's file",
+        (*words, "--out", ""): "empty path of --out",
+        (*plain, *adapter, "--export", "nothing"): "no export `nothing`; exports: `print` `is-ready`",
+        (*plain, *adapter, "--export", "is-ready", *exported): "export `is-ready` twice",
+        ("notes.json", "app", "text", *words[3:]): "Dedupe: Read: NotWasm",
+        (*plain, *adapter): "World: Main: MissingWorldExport",
+        tuple(plain): "World: Main: UnknownInterface",
+    }.items():
+        check_streams(folder, list(given), 1, "", f"wcplan: {fault}\n")
+    for name, shown in {"": "", ".": ".", "..": "..", "../evil": "../evil", "./main": "./main", "a\\b": "a\\\\b"}.items():
+        given = [*plain, "--adapt", f"{name}=adapter.wasm", "--out", "made"]
+        check_streams(folder, given, 1, "", f"wcplan: adapter `{shown}` is no file's name\n")
+
+
+def check_wcplan(folder):
+    """What docs/MODEL.md says of wcplan."""
+    usage = usage_of("WCPLAN.md")
+    for name, content in {"text": b"(module)", "latin": b"{}\xff", "twice": b'{"worlds":[],"worlds":[]}'}.items():
+        with open(os.path.join(folder, name), "wb") as file:
+            file.write(content)
+    words = check_plan(folder)
+    check_streams(folder, [], 0, usage, "")
+    for asked in ("--help", "-h"):
+        status, printed, said = run_plan(folder, [asked])
+        if (status, said) != (0, "") or not printed.startswith(usage) or "--out" not in printed[len(usage):]:
+            differs([asked], (status, printed, said), "the usage text and more")
+    check_streams(folder, ["--version"], 0, "wcplan 0.262.0\n", "")
+    for given, wrong in {
+        tuple(words[:1]): "missing WORLD",
+        tuple(words[:2]): "missing MAIN.wasm",
+        ("--out", *words): "missing MAIN.wasm",
+        (*words, "more"): "unexpected argument more",
+        (*words, "--adapt"): "missing value of --adapt",
+        (*words, "--adapt", "more"): "no = in more of --adapt",
+        (*words, "--out"): "missing value of --out",
+        (*words, "--json", "--json"): "--json twice",
+        (*words, "--nothing"): "unknown option --nothing",
+        (*words, "--export", b"\xff"): "argument that is not UTF-8",
+    }.items():
+        check_streams(folder, list(given), 2, "", f"wcplan: {wrong}\n{usage}")
+    check_faults_of_plans(folder, words)
+
+
 with tempfile.TemporaryDirectory() as folder:
     for name, content in {
         "three": THREE,
@@ -240,6 +376,10 @@ with tempfile.TemporaryDirectory() as folder:
     check_vanishing(folder, ["trim", "pipe", "out", "f"], THREE[:12], "wctrim: Trim: Read: Truncated")
     check_vanishing(folder, ["scan", "pipe"], b"", "wctrim: Read: NotWasm")
     check_refused_by_system(folder)
+if len(sys.argv) > 3:
+    program = sys.argv[3]
+    with tempfile.TemporaryDirectory() as folder:
+        check_wcplan(folder)
 print("all as wanted" if failed == 0 else f"{failed} not as wanted")
 sys.exit(failed != 0)
 END_OF_PYTHON

@@ -2,7 +2,7 @@
 
 use std::alloc::{AllocError, Global};
 use std::{io, str};
-use wc_plan_tool::{ArgumentFault, Command, parse, run};
+use wc_plan_tool::{Command, DirectoryStore, NoCommand, parse, run};
 use wc_rows::input::{Stop, answered, bad_row, bytes_of};
 use wc_rows::lines::Lines;
 use wc_rows::rows::Row;
@@ -22,7 +22,9 @@ fn answer_call(alloc: Global, row: &Row<'_>, out: &mut Lines) -> Result<bool, St
     if row.call == "parse_wcplan" {
         answer_parse(alloc, row, out)?;
     } else if row.call == "wcplan" {
-        answer_program(alloc, row, u32::MAX, &row.arguments, out)?;
+        answer_program(alloc, row, (u32::MAX, u32::MAX), &row.arguments, out)?;
+    } else if row.call == "wcplan_mute" {
+        answer_program(alloc, row, (u32::MAX, 0), &row.arguments, out)?;
     } else if row.call == "wcplan_failing" {
         answer_failing(alloc, row, out)?;
     } else {
@@ -44,8 +46,13 @@ fn answer_parse(alloc: Global, row: &Row<'_>, out: &mut Lines) -> Result<(), Sto
     let arguments = texts_of(alloc, &row.input)?;
     match parse(alloc, arguments.as_slice()) {
         Ok(command) => put_command(out, &command),
-        Err(ArgumentFault::Memory) => out.push_str("fault out of memory\n"),
-        Err(ArgumentFault::Usage) => out.push_str("fault Usage\n"),
+        Err(NoCommand::Memory) => out.push_str("fault out of memory\n"),
+        Err(NoCommand::Help) => out.push_str("help\n"),
+        Err(NoCommand::Version) => out.push_str("version\n"),
+        Err(NoCommand::Wrong(wrong)) => {
+            let text = wrong.text(alloc)?;
+            writeln!(out, "fault {text}");
+        }
     }
     Ok(())
 }
@@ -93,13 +100,16 @@ struct Written {
     bytes: Vec<u8>,
 }
 
-/// The files of a program that a row runs: those that the row has, those that were written, and paths that can't be.
+/// The files of a program that a row runs: those that the row has; directories that were made, and files that were
+/// written; paths for which there is neither; and files that are too large for memory.
 #[derive(Drop)]
 struct RowFiles<'a> {
     alloc: Global,
     files: Vec<RowFile<'a>>,
+    made: Vec<String>,
     written: Vec<Written>,
     locked: Vec<&'a str>,
+    huge: Vec<&'a str>,
 }
 
 impl FileStore for RowFiles<'_> {
@@ -112,6 +122,9 @@ impl FileStore for RowFiles<'_> {
             if file.path == path {
                 return Ok(Vec::from_slice(self.alloc, &file.bytes)?);
             }
+        }
+        if is_in(&self.huge, path) {
+            return Err(io::Error::from(io::ErrorKind::OutOfMemory));
         }
         Err(io::Error::from(io::ErrorKind::NotFound))
     }
@@ -129,13 +142,31 @@ impl FileStore for RowFiles<'_> {
     }
 }
 
+impl DirectoryStore for RowFiles<'_> {
+    ghost use Rattle.std.specs.Prelude.{⊤};
+
+    ghost makes = { λ _ _. ⊤ };
+
+    fn make_directory(&mut self, path: &str) -> io::Result<()> {
+        if is_in(&self.locked, path) {
+            return Err(io::Error::from(io::ErrorKind::PermissionDenied));
+        }
+        let path = String::from_str(self.alloc, path)?;
+        match self.made.push(path) {
+            Ok(()) => Ok(()),
+            Err(_) => Err(io::Error::from(io::ErrorKind::OutOfMemory)),
+        }
+    }
+}
+
 fn is_in(paths: &[&str], path: &str) -> bool {
     paths.iter().any(|one| *one == path)
 }
 
 impl<'a> RowFiles<'a> {
     /// Takes up a line of input: `file PATH`, after which lines of bytes come; `text PATH`, after which lines of text
-    /// come; `locked PATH`, a file that can't be written; or a line of the file before.
+    /// come; `locked PATH`, a file that can't be written, or a directory that can't be made; `huge PATH`, a file that is
+    /// too large for memory; or a line of the file before.
     fn add(&mut self, line: &'a str, out: &mut Lines) -> Result<(), Stop> {
         if let Some(path) = line.strip_prefix("file ") {
             return self.begin(path, false);
@@ -143,8 +174,11 @@ impl<'a> RowFiles<'a> {
         if let Some(path) = line.strip_prefix("text ") {
             return self.begin(path, true);
         }
-        match line.strip_prefix("locked ") {
-            Some(path) => Ok(self.locked.push(path)?),
+        if let Some(path) = line.strip_prefix("locked ") {
+            return Ok(self.locked.push(path)?);
+        }
+        match line.strip_prefix("huge ") {
+            Some(path) => Ok(self.huge.push(path)?),
             None => add_line(self.alloc, &mut self.files, line, out),
         }
     }
@@ -157,11 +191,6 @@ impl<'a> RowFiles<'a> {
             is_text,
         })?;
         Ok(())
-    }
-
-    /// Whether the file of a path is there.
-    fn has(&self, path: &str) -> bool {
-        self.files.iter().any(|file| file.path == path)
     }
 }
 
@@ -235,16 +264,17 @@ fn answer_failing(alloc: Global, row: &Row<'_>, out: &mut Lines) -> Result<(), S
         return Err(bad_row(out, "no number", row.call));
     };
     match calls.parse::<u32>() {
-        Ok(calls) => answer_program(alloc, row, calls, arguments, out),
+        Ok(calls) => answer_program(alloc, row, (calls, u32::MAX), arguments, out),
         Err(_) => Err(bad_row(out, "no number", calls)),
     }
 }
 
-/// `wcplan ARGUMENT..`: what the program prints, its status, and each file that it writes.
+/// `wcplan ARGUMENT..`: what the program prints, its status, and the directory and each file that it makes. `calls` are
+/// how many puts and flushes its output takes, and its output for faults.
 fn answer_program(
     alloc: Global,
     row: &Row<'_>,
-    calls: u32,
+    calls: (u32, u32),
     arguments: &[&str],
     out: &mut Lines,
 ) -> Result<(), Stop> {
@@ -252,50 +282,73 @@ fn answer_program(
     let mut files = RowFiles {
         alloc,
         files: Vec::new(alloc),
+        made: Vec::new(alloc),
         written: Vec::new(alloc),
         locked: Vec::new(alloc),
+        huge: Vec::new(alloc),
     };
     for line in &row.input {
         files.add(line, out)?;
     }
-    let mut printed = Printed {
+    let mut printed = screen(alloc, calls.0)?;
+    let mut faults = screen(alloc, calls.1)?;
+    let status = run(alloc, &arguments, &mut files, &mut printed, &mut faults);
+    put_printed(out, "printed", &printed.bytes);
+    put_faults(out, &faults.bytes, &files)?;
+    writeln!(out, "status {status}");
+    put_files(out, &files);
+    Ok(())
+}
+
+/// An output that takes so many puts and flushes.
+fn screen(alloc: Global, calls: u32) -> Result<Printed, Stop> {
+    Ok(Printed {
         bytes: Vec::with_capacity(alloc, ROOM)?,
         calls,
         failed: false,
-    };
-    let status = run(alloc, &arguments, &mut files, &mut printed);
-    put_run(&printed.bytes, status, &files, out)
+    })
 }
 
-/// What was printed, the status, and what was written.
-fn put_run(printed: &[u8], status: u8, files: &RowFiles<'_>, out: &mut Lines) -> Result<(), Stop> {
+/// What was printed, in lines after a word.
+fn put_printed(out: &mut Lines, word: &str, printed: &[u8]) {
     let Ok(text) = str::from_utf8(printed) else {
-        put_bytes_lines(out, "printed", printed);
-        return Ok(());
+        put_bytes_lines(out, word, printed);
+        return;
     };
     for line in text.lines() {
-        if lacked_memory(line, files) {
-            return Err(Stop::Memory);
-        }
-        writeln!(out, "printed {line}");
+        writeln!(out, "{word} {line}");
     }
-    writeln!(out, "status {status}");
+}
+
+/// The lines of faults, unless one says that there was no memory.
+fn put_faults(out: &mut Lines, printed: &[u8], files: &RowFiles<'_>) -> Result<(), Stop> {
+    if let Ok(text) = str::from_utf8(printed) {
+        for line in text.lines() {
+            if lacked_memory(line, files) {
+                return Err(Stop::Memory);
+            }
+        }
+    }
+    put_printed(out, "error", printed);
+    Ok(())
+}
+
+/// The directory that was made, and the files that were written.
+fn put_files(out: &mut Lines, files: &RowFiles<'_>) {
+    for path in &files.made {
+        writeln!(out, "made {path}");
+    }
     for file in &files.written {
         let path = file.path.as_str();
         writeln!(out, "wrote {path}");
         put_bytes_lines(out, "bytes", &file.bytes);
     }
-    Ok(())
 }
 
-/// Whether a line says that a file can't be read that is there, or can't be written that can: there was no memory for
-/// its bytes.
+/// Whether a line says that a directory or a file can't be made, and none of the row's can't: there was no memory for its
+/// path or bytes.
 fn lacked_memory(line: &str, files: &RowFiles<'_>) -> bool {
-    if let Some(path) = line.strip_prefix("wcplan: cannot read ") {
-        return files.has(path);
-    }
-    match line.strip_prefix("wcplan: cannot write ") {
-        Some(path) => !is_in(&files.locked, path),
-        None => false,
-    }
+    files.locked.is_empty()
+        && (line.starts_with("wcplan: cannot make directory ")
+            || line.starts_with("wcplan: cannot write "))
 }

@@ -30,7 +30,7 @@ module _ {K V L W : Type 0} (eq : K → K → Bool) (view_eq : L → L → Bool)
       ∙ rw (same k e.0, entries_view-insert_entry es k v) refl
 
 -- the view of an object is read from its first member on
-pub entries-value_view : {A L X : Type 0} (same : L → L → Bool) (key : List ℕ → L) (read : Json → Reading A) (value : Value X)
+pub entries-value_view : {A L X : Type 0} (same : L → L → Bool) (key : List ℕ → A → L) (read : Json → Reading A) (value : Value X)
     (v : Vec (Bor (List ℕ) × Value X) X) (vs : List (Bor (List ℕ) × Value X)) → value ≡ Object v → vs ≡ v.items
     → entries same key read (value_view value) ≡ entries_after same key read [] (members_view vs)
 entries-value_view same key read value v vs e is =
@@ -38,16 +38,16 @@ entries-value_view same key read value v vs e is =
     ∙ ap (λ xs. entries_after same key read [] (members_view xs)) (sym is)
 
 -- one member m at the index n
-module _ {A L X : Type 0} (same : L → L → Bool) (key : List ℕ → L) (read : Json → Reading A) (vs : List (Bor (List ℕ) × Value X)) (n : ℕ)
+module _ {A L X : Type 0} (same : L → L → Bool) (key : List ℕ → A → L) (read : Json → Reading A) (vs : List (Bor (List ℕ) × Value X)) (n : ℕ)
     (m : Bor (List ℕ) × Value X) (within : n < length vs) (e : m ≡ get_or vs n m) where
   -- the member is read
   pub entries_after-member : (before : List (L × A)) (a : A) → at_step (key_step m.0.now) (read (value_view m.1)) ≡ Ok a
-      → entries_after same key read before (members_view (drop n vs)) ≡ entries_after same key read (insert_entry same before (key m.0.now) a)
+      → entries_after same key read before (members_view (drop n vs)) ≡ entries_after same key read (insert_entry same before (key m.0.now a) a)
       (members_view (drop (n + 1) vs))
   entries_after-member before a h =
       let P : Bor (List ℕ) × Value X → Type 0 = λ w. at_step (key_step w.0.now) (read (value_view w.1)) ≡ Ok a in
       rw (drop-cons vs n m within, subst P e h, add-one n)
-      (ap (λ (w : Bor (List ℕ) × Value X). entries_after same key read (insert_entry same before (key w.0.now) a) (members_view (drop (suc n) vs))) (sym e))
+      (ap (λ (w : Bor (List ℕ) × Value X). entries_after same key read (insert_entry same before (key w.0.now a) a) (members_view (drop (suc n) vs))) (sym e))
 
   -- the member is wrong
   pub IsFaultOf_member : (fault : JsonFault) (before : List (L × A)) → IsFaultOf fault (at_step (key_step m.0.now) (read (value_view m.1)))

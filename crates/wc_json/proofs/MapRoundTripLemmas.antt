@@ -4,7 +4,7 @@ use Rattle.std.specs.Bool.{Decides}
 use Rattle.std.specs.List.{AllByRecursion, IsDistinct}
 use Rattle.std.specs.Str.{bytes_eq}
 use Rattle.std.proofs.lemmas.List.Elements.{All-head, All-tail}
-use Rattle.std.proofs.lemmas.Map.Keys.{IsDistinct-head, IsDistinct-tail}
+use Rattle.std.proofs.lemmas.Map.Keys.{IsDistinct-cons, IsDistinct-head, IsDistinct-tail}
 use Rattle.std.proofs.lemmas.Map.Made.{IsDistinct-from_AllPairs}
 use Rattle.std.proofs.lemmas.Slice.Eq.{bytes_eq-Decides}
 use Rattle.indexmap.specs.IndexMap.{insert_entry}
@@ -24,6 +24,10 @@ false_swapped : {L : Type 0} (same : L → L → Bool) → ((a b : L) → Decide
     → t ≡ false
 false_swapped same decides a b true e h = let bad : ⊥ = cc ((decides a b).1 (sym ((decides b a).0 e)), h) in absurd bad
 false_swapped same decides a b false e h = refl
+
+IsDistinct-nil : {L : Type 0} (same : L → L → Bool) → IsDistinct same []
+unfolding IsDistinct
+IsDistinct-nil same = tt
 
 module _ {L A : Type 0} (same : L → L → Bool) (decides : (a b : L) → Decides (same a b) (a ≡ b)) where
   -- this key is that of no entry
@@ -56,8 +60,8 @@ module _ {L A : Type 0} (same : L → L → Bool) (decides : (a b : L) → Decid
   AreNew_first [] = tt
   AreNew_first (e ∷ es) = (tt, AreNew_first es)
 
-  module _ (text : L → List ℕ) (key : List ℕ → L) (write : A → Json) (read : Json → Reading A) (Fits : L × A → Type 0)
-      (key_back : (e : L × A) → Fits e → key (text e.0) ≡ e.0) (value_back : (e : L × A) → Fits e → read (write e.1) ≡ Ok e.1) where
+  module _ (text : L → List ℕ) (key : List ℕ → A → L) (write : A → Json) (read : Json → Reading A) (Fits : L × A → Type 0)
+      (key_back : (e : L × A) → Fits e → key (text e.0) e.1 ≡ e.0) (value_back : (e : L × A) → Fits e → read (write e.1) ≡ Ok e.1) where
     entries_after-members : (before es : List (L × A)) → AreNew before es → IsDistinct same (map (λ (e : L × A). e.0) es) → All Fits es
         → entries_after same key read before (members_json text write es) ≡ Ok (before ++ es)
     entries_after-members before [] new distinct fits = ap Ok (sym (append-nil before))
@@ -68,17 +72,36 @@ module _ {L A : Type 0} (same : L → L → Bool) (decides : (a b : L) → Decid
         (entries_after-members (before ++ (e ∷ [])) es (AreNew_push before es e new.1 (IsDistinct-head same e.0 keys distinct))
         (IsDistinct-tail same e.0 keys distinct) (All-tail Fits e es fits) ∙ ap Ok (append_assoc before (e ∷ []) es))
 
-    pub entries_after-members_json : (es : List (L × A)) → HasDistinctKeys es → All Fits es
+    pub entries_after-members_json : (es : List (L × A)) → IsDistinct same (map (λ (e : L × A). e.0) es) → All Fits es
         → entries_after same key read [] (members_json text write es) ≡ Ok es
-    entries_after-members_json es distinct fits = entries_after-members [] es (AreNew_first es)
-        (IsDistinct-from_AllPairs decides (map (λ (e : L × A). e.0) es) distinct) fits
+    entries_after-members_json es distinct fits = entries_after-members [] es (AreNew_first es) distinct fits
+
+  -- keys differ whose texts do
+  module _ (text : L → List ℕ) where
+    key_differs : (d e : L × A) (t : Bool) → same d.0 e.0 ≡ t → bytes_eq (text d.0) (text e.0) ≡ false → t ≡ false
+    key_differs d e true h differ =
+        let equal : text d.0 ≡ text e.0 = ap text ((decides d.0 e.0).0 h) in
+        let bad : ⊥ = cc ((bytes_eq-Decides (text d.0) (text e.0)).1 equal, differ) in absurd bad
+    key_differs d e false h differ = refl
+
+    keys_differ : (d : L × A) (es : List (L × A)) → AllByRecursion (λ y. bytes_eq (text d.0) y ≡ false) (map (λ (e : L × A). text e.0) es)
+        → AllByRecursion (λ y. same d.0 y ≡ false) (map (λ (e : L × A). e.0) es)
+    keys_differ d [] h = tt
+    keys_differ d (e ∷ es) h = (key_differs d e (same d.0 e.0) refl h.0, keys_differ d es h.1)
+
+    pub IsDistinct-from_texts : (es : List (L × A)) → IsDistinct bytes_eq (map (λ (e : L × A). text e.0) es) → IsDistinct same (map (λ (e : L × A). e.0) es)
+    IsDistinct-from_texts [] h = IsDistinct-nil same
+    IsDistinct-from_texts (e ∷ es) h =
+        let later = map (λ (e : L × A). text e.0) es in
+        IsDistinct-cons same e.0 (map (λ (e : L × A). e.0) es) (keys_differ e es (IsDistinct-head bytes_eq (text e.0) later h))
+        (IsDistinct-from_texts es (IsDistinct-tail bytes_eq (text e.0) later h))
 
 -- a map from names
 name_map-name_map_json : {A : Type 0} (write : A → Json) (read : Json → Reading A) (Fits : List ℕ × A → Type 0)
     → ((e : List ℕ × A) → Fits e → read (write e.1) ≡ Ok e.1) → (es : List (List ℕ × A)) → HasDistinctKeys es → All Fits es
     → name_map read (name_map_json write es) ≡ Ok es
-name_map-name_map_json write read Fits back es distinct fits = entries_after-members_json bytes_eq bytes_eq-Decides (λ k. k) (λ k. k) write read Fits
-    (λ e h. refl) back es distinct fits
+name_map-name_map_json write read Fits back es distinct fits = entries_after-members_json bytes_eq bytes_eq-Decides (λ k. k) (λ k a. k) write read Fits
+    (λ e h. refl) back es (IsDistinct-from_AllPairs bytes_eq-Decides (map (λ e. e.0) es) distinct) fits
 
 pub name_map-index_json : (es : List (List ℕ × ℕ)) → HasDistinctKeys es → All IdEntryFits es → name_map index (name_map_json index_json es) ≡ Ok es
 name_map-index_json es distinct fits = name_map-name_map_json index_json index IdEntryFits (λ e h. index-index_json e.1 h) es distinct fits

@@ -2,9 +2,7 @@
 use Rattle.std.proofs.Common.{◌≡◌, ℕ, List, [], ◌∷◌, Option, Ok, All, IfSome, IsSomeAnd, codes, refl, sym, subst, arith, suc}
 use Rattle.std.specs.Bool.{⊤}
 use Rattle.std.specs.List.{AllByRecursion, zip}
-use Rattle.std.specs.Str.{bytes_eq}
 use Rattle.std.proofs.lemmas.List.Elements.{All-from_recursion}
-use Rattle.std.proofs.lemmas.Slice.Eq.{bytes_eq-Decides}
 use Rattle.json.specs.Json.{Json, document}
 use Rattle.json.specs.Strict.{HasUniqueKeys}
 use Rattle.json.proofs.Printed.Trees.{document-print}
@@ -17,14 +15,11 @@ use Rattle.wc_resolve.specs.declared.types.TypeOwner.{TypeOwner}
 use Rattle.wc_resolve.specs.declared.types.TypeOwner.TheVariants.{World, Interface, None as no_owner}
 use Rattle.wc_resolve.specs.declared.types.WitType.{WitType}
 use Rattle.wc_resolve.specs.declared.types.WitType.TheVariants.{Bool, U8, U16, U32, U64, S8, S16, S32, S64, F32, F64, Char, String, ErrorContext, Id}
-use Rattle.wc_resolve.proofs.KeyLemmas.{key_view_eq}
 use Rattle.wc_json.specs.Document.{DocumentView, document_of}
-use Rattle.wc_json.specs.Fits.{CaseFits, DefinedTypeFits, DocumentFits, FitsU32, FunctionEntryFits, FunctionFits, FunctionKindFits, HandleFits, HasDistinctKeys, IdEntryFits, InterfaceFits, ItemFits, KindFits, NamedTypeFits, OwnerFits, PackageFits, TypeFits, WorldEntryFits, WorldFits}
-use Rattle.wc_json.specs.Keys.{world_key}
+use Rattle.wc_json.specs.Fits.{CaseFits, DefinedTypeFits, DocumentFits, FitsU32, FunctionEntryFits, FunctionFits, FunctionKindFits, HandleFits, HasDistinctKeys, HasDistinctTexts, IdEntryFits, InterfaceFits, ItemFits, KindFits, NamedTypeFits, OwnerFits, PackageFits, TypeFits, WorldEntryFits, WorldFits}
 use Rattle.wc_json.specs.Laws.{document_text}
 use Rattle.wc_json.specs.ToJson.{document_json, function_json, function_kind_json, handle_json, index_json, interface_json, item_json, key_text, kind_json, label_json, list_json, name_map_json, named_type_json, nullable_json, owner_json, package_json, package_name_text, type_json, variant_case_json, wit_type_json, world_items_json, world_json}
 use Rattle.wc_json.proofs.DocumentRoundTripLemmas.{document_of-document_json}
-use Rattle.wc_json.proofs.WorldRoundTripLemmas.{key_view_eq-Decides, world_key-key_text}
 use Rattle.wc_json.proofs.WritableLemmas.{AreDistinct_counted, AreWritable-cons, AreWritable-nil, IsWritable, IsWritable-index_json, IsWritable-le, IsWritable-list_json, IsWritable-map, IsWritable-null, IsWritable-nullable_json, IsWritable-nullable_string, IsWritable-object, IsWritable-string, IsWritable-variant_json}
 
 IsWritable-wit_type_json : (bound : ℕ) (t : WitType) → TypeFits t → IsWritable bound (wit_type_json t)
@@ -144,8 +139,7 @@ IsWritable-type_json t fits =
 IsWritable-name_map : {A : Type 0} (bound : ℕ) (write : A → Json) (Fits : List ℕ × A → Type 0)
     → ((e : List ℕ × A) → Fits e → IsWritable bound (write e.1)) → (es : List (List ℕ × A)) → HasDistinctKeys es → All Fits es
     → IsWritable (suc bound) (name_map_json write es)
-IsWritable-name_map bound write Fits each es distinct fits = IsWritable-map bytes_eq bytes_eq-Decides (λ k. k) (λ k. k) write Fits
-    (λ e h. refl) bound each es distinct fits
+IsWritable-name_map bound write Fits each es distinct fits = IsWritable-map (λ k. k) write Fits bound each es distinct fits
 
 IsWritable-id_map : (bound : ℕ) (es : List (List ℕ × ℕ)) → HasDistinctKeys es → All IdEntryFits es → IsWritable (suc bound) (name_map_json index_json es)
 IsWritable-id_map bound es distinct fits = IsWritable-name_map bound index_json IdEntryFits (λ e h. IsWritable-index_json bound e.1 h) es distinct fits
@@ -170,10 +164,9 @@ IsWritable-item_json (interface_item n external_id) fits =
 IsWritable-item_json (function_item f) fits = IsWritable-variant_json (codes "function") (IsWritable-function_json f fits)
 IsWritable-item_json (type_item n) fits = IsWritable-variant_json (codes "type") (IsWritable-index_json 3 n fits)
 
-IsWritable-world_items_json : (es : List (KeyView × ItemView)) → HasDistinctKeys es → All WorldEntryFits es → IsWritable 5 (world_items_json es)
+IsWritable-world_items_json : (es : List (KeyView × ItemView)) → HasDistinctTexts es → All WorldEntryFits es → IsWritable 5 (world_items_json es)
 IsWritable-world_items_json es distinct fits =
-    IsWritable-map key_view_eq key_view_eq-Decides key_text world_key item_json WorldEntryFits
-    (λ e h. world_key-key_text e.0 h.0) 4 (λ e h. IsWritable-item_json e.1 h.1) es distinct fits
+    IsWritable-map key_text item_json WorldEntryFits 4 (λ e h. IsWritable-item_json e.1 h.1) es distinct fits
 
 IsWritable-world_json : (p : WorldView × Option ℕ) → WorldFits p → IsWritable 6 (world_json p)
 IsWritable-world_json p fits =

@@ -22,7 +22,7 @@ use Rattle.wc_json.specs.FromJson.{items_from, nullable, some, text}
 use Rattle.wc_json.specs.Functions.{function, function_kind, kind_of_resource, kind_with_resource}
 use Rattle.wc_json.specs.Ids.{index, index_of_digits}
 use Rattle.wc_json.specs.Kinds.{handle, kind, label}
-use Rattle.wc_json.specs.Paths.{at_step}
+use Rattle.wc_json.specs.Paths.{at_step, variant_step}
 use Rattle.wc_json.specs.ToJson.{function_json, function_kind_json, handle_json, index_json, items_json, kind_json, label_json, named_type_json, nullable_json, owner_json, type_json, variant_case_json, variant_json, wit_type_json}
 use Rattle.wc_json.specs.Types.{defined_type, owner}
 use Rattle.wc_json.specs.WitTypes.{named_type, variant_case, wit_type}
@@ -107,7 +107,7 @@ variant_case-variant_case_json p fits = rw (nullable-wit_type_json p.1 fits) ref
 -- functions
 
 kind_with_resource-variant_json : (name : List ℕ) (n : ℕ) → FitsU32 n
-    → kind_with_resource (variant_json name (index_json n)) ≡ at_step name (kind_of_resource name n)
+    → kind_with_resource (variant_json name (index_json n)) ≡ at_step (variant_step name) (kind_of_resource name n)
 kind_with_resource-variant_json name n fits = rw (index-index_json n fits) refl
 
 function_kind-function_kind_json : (k : FunctionKind) → FunctionKindFits k → function_kind (function_kind_json k) ≡ Ok k

@@ -1,25 +1,22 @@
 -- Worlds that are written are read back.
-use Rattle.std.proofs.Common.{◌≡◌, ℕ, ◌^◌, List, ◌++◌, Option, Some, None, Ok, Err, All, Bool, true, false, cond, ◌&&◌, nat_lt, codes, decimal, length, take}
-use Rattle.std.proofs.Common.{drop, refl, sym, ap, ◌∙◌}
+use Rattle.std.proofs.Common.{◌≡◌, ◌≢◌, ℕ, List, ◌++◌, Option, Some, None, Ok, All, Bool, true, false, map, codes, decimal, length, take, if◌then◌else◌}
+use Rattle.std.proofs.Common.{drop, refl, sym, ap, ◌∙◌, subst}
 use Rattle.std.specs.Bool.{Decides}
 use Rattle.std.specs.Str.{bytes_eq}
-use Rattle.std.specs.Str.Parse.{digits_value, without_leading_plus}
 use Rattle.std.proofs.Math.Seq.{drop-append_seam, take-append_seam}
-use Rattle.std.proofs.lemmas.Bool.{cond-true, ltb-true, and_parts}
+use Rattle.std.proofs.lemmas.Bool.{cond-true}
 use Rattle.std.proofs.lemmas.List.{take-append-drop}
+use Rattle.std.proofs.lemmas.Map.Made.{IsDistinct-from_AllPairs}
 use Rattle.std.proofs.lemmas.Option.{cond_some}
 use Rattle.std.proofs.lemmas.Slice.Eq.{bytes_eq-Decides}
 use Rattle.wc_resolve.specs.Views.{KeyView, plain_key, interface_key, ItemView, interface_item, function_item, type_item, WorldView}
 use Rattle.wc_resolve.proofs.KeyLemmas.{key_view_eq, nat_from, nat_to}
-use Rattle.wc_json.specs.Faults.{Fault, Reading}
-use Rattle.wc_json.specs.Fits.{FitsU32, HasDistinctKeys, ItemFits, KeyFits, WorldEntryFits, WorldFits}
-use Rattle.wc_json.specs.Ids.{index_of_digits, is_numeral}
-use Rattle.wc_json.specs.Keys.{canonical_index, index_written_as, key_of_index, key_of_rest, rest_after, world_key}
+use Rattle.wc_json.specs.Fits.{HasDistinctTexts, InterfaceKeyFits, ItemFits, KeyFits, PlainKeyFits, WorldEntryFits, WorldFits}
+use Rattle.wc_json.specs.Keys.{is_id_key, is_id_rest, item_key, rest_after}
 use Rattle.wc_json.specs.ToJson.{item_json, key_text, world_items_json, world_json}
 use Rattle.wc_json.specs.Worlds.{item, items, world}
-use Rattle.wc_json.proofs.MapRoundTripLemmas.{entries_after-members_json}
-use Rattle.wc_json.proofs.TypeRoundTripLemmas.{function-function_json, index-index_json, index_of_digits-decimal, nullable-index_json, nullable-string}
-use Rattle.wc_json.proofs.TypeRoundTripLemmas.{without_leading_plus-decimal}
+use Rattle.wc_json.proofs.MapRoundTripLemmas.{IsDistinct-from_texts, entries_after-members_json}
+use Rattle.wc_json.proofs.TypeRoundTripLemmas.{function-function_json, index-index_json, nullable-index_json, nullable-string}
 
 -- the keys of interfaces
 
@@ -31,16 +28,17 @@ rest_after-append b rest =
     cond-true (bytes_eq (take (length b) (b ++ rest)) b) _ _ ((bytes_eq-Decides (take (length b) (b ++ rest)) b).1 (take-append_seam b rest))
     ∙ ap Some (drop-append_seam b rest)
 
-canonical_index-decimal : (n : ℕ) → FitsU32 n → canonical_index (decimal n) ≡ Some n
-canonical_index-decimal n fits =
-    ap (λ (ds : List ℕ). index_written_as (decimal n) (index_of_digits ds)) (without_leading_plus-decimal n fits)
-    ∙ ap (index_written_as (decimal n)) (index_of_digits-decimal n fits)
-    ∙ cond-true (bytes_eq (decimal n) (decimal n)) (Some n) None ((bytes_eq-Decides (decimal n) (decimal n)).1 refl)
+item_key-id : (n : ℕ) (external_id : Option (List ℕ)) → item_key (key_text (interface_key n)) (interface_item n external_id) ≡ interface_key n
+item_key-id n external_id =
+    let same : is_id_key (prefix ++ decimal n) n ≡ true =
+    ap (is_id_rest n) (rest_after-append prefix (decimal n)) ∙ (bytes_eq-Decides (decimal n) (decimal n)).1 refl in
+    rw same refl
 
-world_key-interface : (n : ℕ) → FitsU32 n → world_key (key_text (interface_key n)) ≡ interface_key n
-world_key-interface n fits =
-    ap (key_of_rest (prefix ++ decimal n)) (rest_after-append prefix (decimal n))
-    ∙ ap (key_of_index (prefix ++ decimal n)) (canonical_index-decimal n fits)
+item_key-interface : (n : ℕ) (i : ItemView) → InterfaceKeyFits n i → item_key (key_text (interface_key n)) i ≡ interface_key n
+item_key-interface n (interface_item m external_id) fits =
+    subst (λ k. item_key (key_text (interface_key n)) (interface_item k external_id) ≡ interface_key n) fits (item_key-id n external_id)
+item_key-interface n (function_item f) fits = absurd fits
+item_key-interface n (type_item m) fits = absurd fits
 
 -- plain keys
 
@@ -50,35 +48,24 @@ rest_after_is b text rest e =
     sym (take-append-drop (length b) text) ∙ ap (λ (xs : List ℕ). xs ++ drop (length b) text) ((bytes_eq-Decides (take (length b) text) b).0 p.0)
     ∙ ap (λ (xs : List ℕ). b ++ xs) p.1
 
-cond-Ok : {A : Type 0} (b : Bool) (x y : A) (fault : Fault) → Ok y ≡ cond b (Ok x) (Err fault) → (b ≡ true) × (x ≡ y)
-cond-Ok true x y fault e = (refl, cc e)
-cond-Ok false x y fault e = let bad : ⊥ = cc e in absurd bad
+is_id_rest-is : (n : ℕ) (name : List ℕ) (rest : Option (List ℕ)) → rest ≡ rest_after prefix name → is_id_rest n rest ≡ true → name ≡ prefix ++ decimal n
+is_id_rest-is n name None e is = absurd cc
+is_id_rest-is n name (Some digits) e is =
+    rest_after_is prefix name digits e ∙ ap (λ (xs : List ℕ). prefix ++ xs) (sym ((bytes_eq-Decides (decimal n) digits).0 is))
 
-FitsU32_index_of_digits : (ds : List ℕ) (n : ℕ) → Ok n ≡ index_of_digits ds → FitsU32 n
-FitsU32_index_of_digits ds n e =
-    let p = cond-Ok (is_numeral ds && nat_lt (digits_value 10 ds) (2 ^ 32)) (digits_value 10 ds) n _ e in
-    rw (← p.1) (ltb-true (digits_value 10 ds) (2 ^ 32) (and_parts (is_numeral ds) (nat_lt (digits_value 10 ds) (2 ^ 32)) p.0).1)
+plain_by : (n : ℕ) (name : List ℕ) (t : Bool) → is_id_key name n ≡ t → (name ≢ key_text (interface_key n))
+    → (if t then interface_key n else plain_key name) ≡ plain_key name
+plain_by n name true is fits = absurd (fits (is_id_rest-is n name (rest_after prefix name) refl is))
+plain_by n name false is fits = refl
 
-index_written_as_is : (text : List ℕ) (r : Reading ℕ) (n : ℕ) → Some n ≡ index_written_as text r → (r ≡ Ok n) × (decimal n ≡ text)
-index_written_as_is text (Ok m) n e =
-    let p = cond_some (bytes_eq (decimal m) text) m n (sym e) in
-    (ap Ok p.1, ap decimal (sym p.1) ∙ (bytes_eq-Decides (decimal m) text).0 p.0)
-index_written_as_is text (Err f) n e = let bad : ⊥ = cc e in absurd bad
+item_key-plain : (name : List ℕ) (i : ItemView) → PlainKeyFits name i → item_key name i ≡ plain_key name
+item_key-plain name (interface_item n external_id) fits = plain_by n name (is_id_key name n) refl fits
+item_key-plain name (function_item f) fits = refl
+item_key-plain name (type_item n) fits = refl
 
-key_of_index-plain : (name digits : List ℕ) (i : Option ℕ) → i ≡ canonical_index digits → name ≡ prefix ++ digits → KeyFits (plain_key name)
-    → key_of_index name i ≡ plain_key name
-key_of_index-plain name digits None e is fits = refl
-key_of_index-plain name digits (Some n) e is fits =
-    let p = index_written_as_is digits (index_of_digits (without_leading_plus digits)) n e in
-    absurd (fits n (FitsU32_index_of_digits (without_leading_plus digits) n (sym p.0)) (is ∙ ap (λ (xs : List ℕ). prefix ++ xs) (sym p.1)))
-
-key_of_rest-plain : (name : List ℕ) (rest : Option (List ℕ)) → rest ≡ rest_after prefix name → KeyFits (plain_key name) → key_of_rest name rest ≡ plain_key name
-key_of_rest-plain name None e fits = refl
-key_of_rest-plain name (Some digits) e fits = key_of_index-plain name digits (canonical_index digits) refl (rest_after_is prefix name digits e) fits
-
-pub world_key-key_text : (k : KeyView) → KeyFits k → world_key (key_text k) ≡ k
-world_key-key_text (plain_key name) fits = key_of_rest-plain name (rest_after prefix name) refl fits
-world_key-key_text (interface_key n) fits = world_key-interface n fits
+item_key-key_text : (k : KeyView) (i : ItemView) → KeyFits k i → item_key (key_text k) i ≡ k
+item_key-key_text (plain_key name) i fits = item_key-plain name i fits
+item_key-key_text (interface_key n) i fits = item_key-interface n i fits
 
 -- equality of keys
 
@@ -95,10 +82,12 @@ item-item_json (interface_item n external_id) fits = rw (index-index_json n fits
 item-item_json (function_item f) fits = rw (function-function_json f fits) refl
 item-item_json (type_item n) fits = rw (index-index_json n fits) refl
 
-items-world_items_json : (es : List (KeyView × ItemView)) → HasDistinctKeys es → All WorldEntryFits es → items (world_items_json es) ≡ Ok es
+items-world_items_json : (es : List (KeyView × ItemView)) → HasDistinctTexts es → All WorldEntryFits es → items (world_items_json es) ≡ Ok es
 items-world_items_json es distinct fits =
-    entries_after-members_json key_view_eq key_view_eq-Decides key_text world_key item_json item WorldEntryFits
-    (λ e h. world_key-key_text e.0 h.0) (λ e h. item-item_json e.1 h.1) es distinct fits
+    let texts = IsDistinct-from_AllPairs bytes_eq-Decides (map (λ (e : KeyView × ItemView). key_text e.0) es) distinct in
+    let keys = IsDistinct-from_texts key_view_eq key_view_eq-Decides key_text es texts in
+    entries_after-members_json key_view_eq key_view_eq-Decides key_text item_key item_json item WorldEntryFits
+    (λ e h. item_key-key_text e.0 e.1 h.0) (λ e h. item-item_json e.1 h.1) es keys fits
 
 pub world-world_json : (p : WorldView × Option ℕ) → WorldFits p → world (world_json p) ≡ Ok p
 world-world_json p fits =

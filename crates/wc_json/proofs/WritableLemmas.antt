@@ -1,20 +1,19 @@
 -- Values that can be printed and parsed again: their numbers are numbers, no object repeats a member, and they nest no
 -- deeper than a bound.
-use Rattle.std.proofs.Common.{◌≡◌, ℕ, suc, ◌≤◌, List, [], ◌∷◌, length, map, Option, Some, None, All, IfSome, Bool, true, false, refl, sym, ap, ◌∙◌, arith}
-use Rattle.std.specs.Bool.{Decides}
-use Rattle.std.specs.List.{AllByRecursion, IsDistinct}
+use Rattle.std.proofs.Common.{◌≡◌, ◌≢◌, ℕ, suc, ◌≤◌, List, [], ◌∷◌, length, map, Option, Some, None, All, AllPairs, IfSome, refl, ap, arith, subst}
+use Rattle.std.specs.List.{IsDistinct}
 use Rattle.std.specs.Set.{distinct_count}
 use Rattle.std.specs.Str.{bytes_eq}
 use Rattle.std.proofs.lemmas.Cmp.{nat_list_eq_equiv}
 use Rattle.std.proofs.lemmas.List.Elements.{All-head, All-tail}
-use Rattle.std.proofs.lemmas.Map.Keys.{IsDistinct-cons, IsDistinct-head, IsDistinct-tail}
-use Rattle.std.proofs.lemmas.Map.Made.{AllPairs-from_IsDistinct, IsDistinct-from_AllPairs, IsDistinct-from_count}
+use Rattle.std.proofs.lemmas.Map.Keys.{IsDistinct-cons}
+use Rattle.std.proofs.lemmas.Map.Made.{AllPairs-from_IsDistinct, IsDistinct-from_count}
 use Rattle.std.proofs.lemmas.Slice.Eq.{bytes_eq-Decides}
 use Rattle.json.specs.Json.{Json, null, string, object, Items, Members, no_members, member}
 use Rattle.json.specs.Strict.{AreDistinct, HasUniqueKeys, ItemsHaveUniqueKeys, MembersHaveUniqueKeys, keys}
 use Rattle.json.specs.Tree.{HasNumbers, ItemsHaveNumbers, MembersHaveNumbers, depth, items_depth, members_depth}
 use Rattle.json.proofs.Printed.Decimals.{IsNumber-decimal}
-use Rattle.wc_json.specs.Fits.{FitsU32, HasDistinctKeys}
+use Rattle.wc_json.specs.Fits.{FitsU32}
 use Rattle.wc_json.specs.ToJson.{index_json, items_json, list_json, members_json, nullable_json, variant_json}
 
 pub record IsWritable (bound : ℕ) (j : Json) : Type 0 where
@@ -104,31 +103,11 @@ pub IsWritable-variant_json : {bound : ℕ} {j : Json} (name : List ℕ) → IsW
 IsWritable-variant_json name w = IsWritable-object (AreWritable-cons w AreWritable-nil)
     (AllPairs-from_IsDistinct bytes_eq-Decides (name ∷ []) (IsDistinct-one name))
 
--- maps whose keys are read back
-module _ {L A : Type 0} (same : L → L → Bool) (decides : (a b : L) → Decides (same a b) (a ≡ b)) (text : L → List ℕ) (key : List ℕ → L)
-    (write : A → Json) (Fits : L × A → Type 0) (key_back : (e : L × A) → Fits e → key (text e.0) ≡ e.0) where
-  bytes_eq-false : (d e : L × A) (t : Bool) → bytes_eq (text d.0) (text e.0) ≡ t → Fits d → Fits e → same d.0 e.0 ≡ false → t ≡ false
-  bytes_eq-false d e true h fits_d fits_e differ =
-      let equal : d.0 ≡ e.0 = sym (key_back d fits_d) ∙ ap key ((bytes_eq-Decides (text d.0) (text e.0)).0 h) ∙ key_back e fits_e in
-      let bad : ⊥ = cc ((decides d.0 e.0).1 equal, differ) in absurd bad
-  bytes_eq-false d e false h fits_d fits_e differ = refl
-
-  differs : (d : L × A) (es : List (L × A)) → Fits d → All Fits es → AllByRecursion (λ y. same d.0 y ≡ false) (map (λ (e : L × A). e.0) es)
-      → AllByRecursion (λ y. bytes_eq (text d.0) y ≡ false) (keys (members_json text write es))
-  differs d [] fits_d fits h = tt
-  differs d (e ∷ es) fits_d fits h = (
-    bytes_eq-false d e (bytes_eq (text d.0) (text e.0)) refl fits_d (All-head Fits e es fits) h.0,
-    differs d es fits_d
-        (All-tail Fits e es fits) h.1,
-  )
-
-  IsDistinct-keys : (es : List (L × A)) → All Fits es → IsDistinct same (map (λ (e : L × A). e.0) es) → IsDistinct bytes_eq (keys (members_json text write es))
-  IsDistinct-keys [] fits h = IsDistinct-none
-  IsDistinct-keys (e ∷ es) fits h =
-      let later = map (λ (e : L × A). e.0) es in
-      IsDistinct-cons bytes_eq (text e.0) (keys (members_json text write es))
-      (differs e es (All-head Fits e es fits) (All-tail Fits e es fits) (IsDistinct-head same e.0 later h))
-      (IsDistinct-keys es (All-tail Fits e es fits) (IsDistinct-tail same e.0 later h))
+-- maps of whose keys no two are spelled alike
+module _ {L A : Type 0} (text : L → List ℕ) (write : A → Json) (Fits : L × A → Type 0) where
+  keys-texts : (es : List (L × A)) → map (λ (e : L × A). text e.0) es ≡ keys (members_json text write es)
+  keys-texts [] = refl
+  keys-texts (e ∷ es) = ap (λ (names : List (List ℕ)). text e.0 ∷ names) (keys-texts es)
 
   AreWritable-members_json : (bound : ℕ) → ((e : L × A) → Fits e → IsWritable bound (write e.1)) → (es : List (L × A)) → All Fits es
       → AreWritable bound (members_json text write es)
@@ -136,8 +115,8 @@ module _ {L A : Type 0} (same : L → L → Bool) (decides : (a b : L) → Decid
   AreWritable-members_json bound each (e ∷ es) fits =
       AreWritable-cons (each e (All-head Fits e es fits)) (AreWritable-members_json bound each es (All-tail Fits e es fits))
 
-  pub IsWritable-map : (bound : ℕ) → ((e : L × A) → Fits e → IsWritable bound (write e.1)) → (es : List (L × A)) → HasDistinctKeys es → All Fits es
+  pub IsWritable-map : (bound : ℕ) → ((e : L × A) → Fits e → IsWritable bound (write e.1)) → (es : List (L × A))
+      → AllPairs (λ a b. a ≢ b) (map (λ (e : L × A). text e.0) es) → All Fits es
       → IsWritable (suc bound) (object (members_json text write es))
   IsWritable-map bound each es distinct fits =
-      let texts = IsDistinct-keys es fits (IsDistinct-from_AllPairs decides (map (λ (e : L × A). e.0) es) distinct) in
-      IsWritable-object (AreWritable-members_json bound each es fits) (AllPairs-from_IsDistinct bytes_eq-Decides (keys (members_json text write es)) texts)
+      IsWritable-object (AreWritable-members_json bound each es fits) (subst (AllPairs (λ a b. a ≢ b)) (keys-texts es) distinct)

@@ -1,5 +1,5 @@
--- What fits the form: ids below 2^32, no two equal keys in a map, no plain key that is spelled as an interface's, names of
--- packages that are cut where they were put together.
+-- What fits the form: ids below 2^32, no two equal keys in a map, no plain key that is spelled as the id of its own
+-- interface, names of packages that are cut where they were put together.
 use Rattle.std.specs.Prelude.{◌≡◌, ◌≢◌, ℕ, ◌<◌, ◌^◌, List, map, length, Option, All, AllPairs, IfSome, ⊤}
 use Rattle.std.specs.List.{zip}
 use Rattle.semver.specs.Grammar.{IsValid}
@@ -88,9 +88,20 @@ pub record InterfaceFits (i : InterfaceView) : Type 0 where
   pub in_package : IfSome i.in_package FitsU32
   pub clone_of : IfSome i.clone_of FitsU32
 
-abbrev pub KeyFits : KeyView → Type 0
-KeyFits (plain_key name) = (n : ℕ) → FitsU32 n → name ≢ key_text (interface_key n)
-KeyFits (interface_key n) = FitsU32 n
+-- a plain key is not spelled as the id of its own interface, and the id that is a key is that of its own interface
+abbrev pub PlainKeyFits : List ℕ → ItemView → Type 0
+PlainKeyFits name (interface_item n external_id) = name ≢ key_text (interface_key n)
+PlainKeyFits name (function_item f) = ⊤
+PlainKeyFits name (type_item n) = ⊤
+
+abbrev pub InterfaceKeyFits : ℕ → ItemView → Type 0
+InterfaceKeyFits n (interface_item m external_id) = n ≡ m
+InterfaceKeyFits n (function_item f) = ⊥
+InterfaceKeyFits n (type_item m) = ⊥
+
+abbrev pub KeyFits : KeyView → ItemView → Type 0
+KeyFits (plain_key name) i = PlainKeyFits name i
+KeyFits (interface_key n) i = InterfaceKeyFits n i
 
 abbrev pub ItemFits : ItemView → Type 0
 ItemFits (interface_item n external_id) = FitsU32 n
@@ -98,13 +109,17 @@ ItemFits (function_item f) = FunctionFits f
 ItemFits (type_item n) = FitsU32 n
 
 abbrev pub WorldEntryFits : KeyView × ItemView → Type 0
-WorldEntryFits e = KeyFits e.0 × ItemFits e.1
+WorldEntryFits e = KeyFits e.0 e.1 × ItemFits e.1
+
+-- no two keys are spelled alike
+abbrev pub HasDistinctTexts : List (KeyView × ItemView) → Type 0
+HasDistinctTexts es = AllPairs (λ a b. a ≢ b) (map (λ (e : KeyView × ItemView). key_text e.0) es)
 
 pub record WorldFits (p : WorldView × Option ℕ) : Type 0 where
   pub imports : All WorldEntryFits p.0.imports
-  pub import_keys : HasDistinctKeys p.0.imports
+  pub import_keys : HasDistinctTexts p.0.imports
   pub exports : All WorldEntryFits p.0.exports
-  pub export_keys : HasDistinctKeys p.0.exports
+  pub export_keys : HasDistinctTexts p.0.exports
   pub in_package : IfSome p.1 FitsU32
 
 -- no colon in the namespace and no `@` in the name

@@ -9,7 +9,7 @@ use Rattle.wc_json.specs.Faults.{Reading, refusal, ◌>>=◌}
 use Rattle.wc_json.specs.FromJson.{text, list}
 use Rattle.wc_json.specs.Ids.{index}
 use Rattle.wc_json.specs.Members.{only_member, required_member, optional_member, absent_member}
-use Rattle.wc_json.specs.Paths.{at_step}
+use Rattle.wc_json.specs.Paths.{at_step, variant_step}
 use Rattle.wc_json.specs.WitTypes.{named_type, wit_type}
 use Rattle.wc_json.specs.declared.fault.Problem.TheVariants.{Unknown}
 
@@ -32,8 +32,8 @@ kind_of_resource name resource =
 abbrev pub kind_with_resource : Json → Reading FunctionKind
 kind_with_resource j = do
   m ← only_member j
-  resource ← at_step m.0 (index m.1)
-  at_step m.0 (kind_of_resource m.0 resource)
+  resource ← at_step (variant_step m.0) (index m.1)
+  at_step (variant_step m.0) (kind_of_resource m.0 resource)
 
 abbrev pub function_kind : Json → Reading FunctionKind
 function_kind (string s) = kind_without_resource s

@@ -9,7 +9,7 @@ use Rattle.wc_json.specs.Faults.{Reading, refusal, ◌>>=◌}
 use Rattle.wc_json.specs.FromJson.{text, list, nullable}
 use Rattle.wc_json.specs.Ids.{index}
 use Rattle.wc_json.specs.Members.{only_member, required_member, optional_member}
-use Rattle.wc_json.specs.Paths.{at_step}
+use Rattle.wc_json.specs.Paths.{at_step, variant_step}
 use Rattle.wc_json.specs.WitTypes.{named_type, variant_case, wit_type}
 use Rattle.wc_json.specs.declared.fault.Problem.TheVariants.{LeftOut, Unknown}
 
@@ -38,7 +38,7 @@ handle_of name j =
 abbrev pub handle : Json → Reading Handle
 handle j = do
   m ← only_member j
-  at_step m.0 (handle_of m.0 m.1)
+  at_step (variant_step m.0) (handle_of m.0 m.1)
 
 -- the kind that is this text alone
 abbrev pub plain_kind : List ℕ → Reading KindView
@@ -77,7 +77,7 @@ kind_of name j =
 abbrev pub kind_by_name : Json → Reading KindView
 kind_by_name j = do
   m ← only_member j
-  at_step m.0 (kind_of m.0 m.1)
+  at_step (variant_step m.0) (kind_of m.0 m.1)
 
 abbrev pub kind : Json → Reading KindView
 kind (string s) = plain_kind s

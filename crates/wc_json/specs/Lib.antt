@@ -1,3 +1,4 @@
+pub mod Escape
 pub mod Faults
 pub mod Paths
 pub mod FromJson

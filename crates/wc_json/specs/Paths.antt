@@ -1,5 +1,8 @@
 -- Paths of faults, from the whole text to a value: names of members after dots, indices and keys in brackets.
-use Rattle.std.specs.Prelude.{◌≡◌, ℕ, List, [], ◌∷◌, ◌++◌, ◌==◌, cond, decimal, ⊤, Result, Ok, Err, string_bytes}
+use Rattle.std.specs.Prelude.{◌≡◌, ℕ, Bool, not, ◌&&◌, ◌||◌, List, [], ◌∷◌, ◌++◌, ◌==◌, length, cond, if◌then◌else◌, decimal, ⊤, Result, Ok, Err, string_bytes}
+use Rattle.std.specs.Char.{is_ascii_alphanumeric}
+use Rattle.std.specs.List.{list_all}
+use Rattle.wc_json.specs.Escape.{escaped}
 use Rattle.wc_json.specs.Faults.{Fault, Reading}
 use Rattle.wc_json.specs.declared.fault.JsonFault.{JsonFault}
 use Rattle.wc_json.specs.declared.fault.JsonFault.TheVariants.{Memory, Wrong}
@@ -13,9 +16,21 @@ join step (c ∷ path) = cond (c == 91) (step ++ (c ∷ path)) (step ++ (46 ∷ 
 abbrev pub index_step : ℕ → List ℕ
 index_step index = 91 ∷ (decimal index ++ (93 ∷ []))
 
--- `["key"]`, the key as it is
+-- `["key"]`, with the key escaped
 abbrev pub key_step : List ℕ → List ℕ
-key_step key = 91 ∷ (34 ∷ (key ++ (34 ∷ (93 ∷ []))))
+key_step key = 91 ∷ (34 ∷ (escaped key ++ (34 ∷ (93 ∷ []))))
+
+-- a letter, digit, `-` or `_` of ASCII
+abbrev pub is_word_char : ℕ → Bool
+is_word_char c = is_ascii_alphanumeric c || c == 45 || c == 95
+
+-- one such character or more
+unfoldable pub is_word : List ℕ → Bool
+is_word name = not (length name == 0) && list_all is_word_char name
+
+-- the name of an only member; in brackets, where it is no word
+unfoldable pub variant_step : List ℕ → List ℕ
+variant_step name = if is_word name then name else key_step name
 
 abbrev pub fault_at : List ℕ → Fault → Fault
 fault_at step fault = record { path = join step fault.path; problem = fault.problem }

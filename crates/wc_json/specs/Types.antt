@@ -11,7 +11,7 @@ use Rattle.wc_json.specs.FromJson.{text}
 use Rattle.wc_json.specs.Ids.{index}
 use Rattle.wc_json.specs.Kinds.{kind}
 use Rattle.wc_json.specs.Members.{only_member, required_member, optional_member}
-use Rattle.wc_json.specs.Paths.{at_step}
+use Rattle.wc_json.specs.Paths.{at_step, variant_step}
 use Rattle.wc_json.specs.declared.fault.Problem.TheVariants.{Unknown}
 
 abbrev pub world_owner : Json → Reading TypeOwner
@@ -33,7 +33,7 @@ owner_of name j =
 abbrev pub owner : Json → Reading TypeOwner
 owner j = do
   m ← only_member j
-  at_step m.0 (owner_of m.0 m.1)
+  at_step (variant_step m.0) (owner_of m.0 m.1)
 
 abbrev pub defined_type : Json → Reading TypeView
 defined_type j = do

@@ -11,10 +11,10 @@ use Rattle.wc_json.specs.Faults.{Reading, refusal, ◌>>=◌}
 use Rattle.wc_json.specs.FromJson.{text}
 use Rattle.wc_json.specs.Functions.{function}
 use Rattle.wc_json.specs.Ids.{index}
-use Rattle.wc_json.specs.Keys.{world_key}
+use Rattle.wc_json.specs.Keys.{item_key}
 use Rattle.wc_json.specs.Maps.{entries}
 use Rattle.wc_json.specs.Members.{only_member, required_member, optional_member}
-use Rattle.wc_json.specs.Paths.{at_step}
+use Rattle.wc_json.specs.Paths.{at_step, variant_step}
 use Rattle.wc_json.specs.declared.fault.Problem.TheVariants.{Unknown}
 
 abbrev pub interface_by_id : Json → Reading ItemView
@@ -59,11 +59,11 @@ item_of name j =
 abbrev pub item : Json → Reading ItemView
 item j = do
   m ← only_member j
-  at_step m.0 (item_of m.0 m.1)
+  at_step (variant_step m.0) (item_of m.0 m.1)
 
 -- what a world imports or exports, by its keys
 abbrev pub items : Json → Reading (List (KeyView × ItemView))
-items j = entries key_view_eq world_key item j
+items j = entries key_view_eq item_key item j
 
 -- a world, and the package that it says to be of
 abbrev pub world_and_package_view : World × Option PackageId → WorldView × Option ℕ

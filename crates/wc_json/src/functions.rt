@@ -6,7 +6,7 @@ ghost use Rattle.wc_json.specs.Functions.{kind_of_resource, kind_without_resourc
 
 use crate::from_json::FromJson;
 use crate::members::{only_member, optional_member, refuse_member, required_member};
-use crate::paths::{at_member, fault_here};
+use crate::paths::{at_variant, fault_here};
 use crate::{JsonFault, Problem};
 use json::Value;
 use std::alloc::Global;
@@ -52,8 +52,8 @@ impl FromJson for FunctionKind {
             return kind_without_resource(alloc, name);
         }
         let member = only_member(alloc, value)?;
-        let resource = at_member(alloc, member.0, TypeId::from_json(alloc, &member.1))?;
-        at_member(alloc, member.0, kind_of_resource(alloc, member.0, resource))
+        let resource = at_variant(alloc, member.0, TypeId::from_json(alloc, &member.1))?;
+        at_variant(alloc, member.0, kind_of_resource(alloc, member.0, resource))
     }
 }
 

@@ -2,15 +2,15 @@
 
 ghost use Rattle.std.specs.Prelude.{◌≡◌, IfOk};
 ghost use Rattle.std.specs.Option.{option_map};
-ghost use Rattle.wc_resolve.specs.Views.{key_view};
-ghost use Rattle.wc_json.specs.Keys.{canonical_index, rest_after, world_key};
+ghost use Rattle.wc_resolve.specs.Views.{item_view, key_view};
+ghost use Rattle.wc_json.specs.Keys.{canonical_index, is_id_key, item_key, rest_after, world_key};
 
 use crate::from_json::FromJson;
 use crate::paths::fault_here;
 use crate::{JsonFault, Problem};
 use json::Value;
 use std::alloc::{AllocError, Global};
-use wc_resolve::{InterfaceId, WorldKey};
+use wc_resolve::{InterfaceId, WorldItem, WorldKey};
 
 /// What comes after a prefix.
 fn rest_after<'a>(text: &'a str, prefix: &str) -> Option<&'a str>
@@ -35,14 +35,37 @@ fn canonical_index(text: &str) -> Option<u32>
     }
 }
 
-/// The key that a text is: `interface-3` that of the interface 3 under its own id, any other text a
-/// plain one.
-pub(crate) fn world_key(alloc: Global, text: &str) -> Result<WorldKey, AllocError>
+/// The key that a text is by itself: `interface-3` that of the interface 3 under its own id, any other
+/// text a plain one.
+fn world_key(alloc: Global, text: &str) -> Result<WorldKey, AllocError>
     ensures { IfOk result (λ k. key_view k ≡ world_key text.now) }
 {
     if let Some(digits) = rest_after(text, "interface-") {
         if let Some(index) = canonical_index(digits) {
             return Ok(WorldKey::Interface(InterfaceId(index)));
+        }
+    }
+    Ok(WorldKey::Name(String::from_str(alloc, text)?))
+}
+
+/// Whether a text is the key of the interface of this index under its own id, as `interface-3` is.
+fn is_id_key(text: &str, index: u32) -> bool
+    ensures { result ≡ is_id_key text.now index }
+{
+    match rest_after(text, "interface-") {
+        Some(digits) => itoa::Buffer::new().format(index) == digits,
+        None => false,
+    }
+}
+
+/// The key that a text is for an item: `interface-3` that of the interface 3 under its own id, where the
+/// item is this interface; any other text a plain one, also `interface-3` of another item.
+pub(crate) fn item_key(alloc: Global, text: &str, item: &WorldItem) -> Result<WorldKey, AllocError>
+    ensures { IfOk result (λ k. key_view k ≡ item_key text.now (item_view item.now)) }
+{
+    if let WorldItem::Interface { id, .. } = item {
+        if is_id_key(text, id.0) {
+            return Ok(WorldKey::Interface(*id));
         }
     }
     Ok(WorldKey::Name(String::from_str(alloc, text)?))

@@ -10,7 +10,7 @@ ghost use Rattle.wc_resolve.specs.Views.{kind_view};
 
 use crate::from_json::FromJson;
 use crate::members::{only_member, optional_member, required_member};
-use crate::paths::{at_member, fault_here};
+use crate::paths::{at_variant, fault_here};
 use crate::{JsonFault, Problem};
 use json::Value;
 use std::alloc::Global;
@@ -62,7 +62,7 @@ impl FromJson for Handle {
 
     fn from_json(alloc: Global, value: &Value<'_>) -> Result<Handle, JsonFault> {
         let member = only_member(alloc, value)?;
-        at_member(alloc, member.0, handle_of(alloc, member.0, &member.1))
+        at_variant(alloc, member.0, handle_of(alloc, member.0, &member.1))
     }
 }
 
@@ -128,6 +128,6 @@ impl FromJson for TypeDefKind {
             return plain_kind(alloc, name);
         }
         let member = only_member(alloc, value)?;
-        at_member(alloc, member.0, kind_of(alloc, member.0, &member.1))
+        at_variant(alloc, member.0, kind_of(alloc, member.0, &member.1))
     }
 }

@@ -17,6 +17,7 @@
 #![tactic(auto, using(crate::proofs::FaultLemmas::IsFaultOf_bind, crate::proofs::PathLemmas::Reads_at_step))]
 
 mod document;
+mod escape;
 mod fault;
 mod from_json;
 mod functions;
@@ -34,6 +35,7 @@ mod wit_types;
 mod worlds;
 
 pub use document::{Document, document_from_json};
+pub use escape::escaped;
 pub use fault::{JsonFault, Problem};
 pub use from_json::{FromJson, value_from_json};
 pub use members::{optional_member, required_member};

@@ -2,9 +2,11 @@
 //! one step before it: so reading a text without a fault makes no path.
 
 ghost use Rattle.std.specs.Prelude.{◌≡◌, IfOk, string_bytes};
+ghost use Rattle.std.specs.List.{list_all};
 ghost use Rattle.wc_json.specs.Faults.{IsFault, fault_here};
-ghost use Rattle.wc_json.specs.Paths.{IsFaultAt, IsReadAt, index_step, join, key_step};
+ghost use Rattle.wc_json.specs.Paths.{IsFaultAt, IsReadAt, index_step, is_word, is_word_char, join, key_step, variant_step};
 
+use crate::escape::escaped;
 use crate::{JsonFault, Problem};
 use std::alloc::{AllocError, Global};
 
@@ -61,14 +63,57 @@ fn fault_at_index(alloc: Global, index: usize, fault: JsonFault) -> JsonFault
     }
 }
 
+/// `["KEY"]`, with the key escaped.
+fn key_step(alloc: Global, key: &str) -> Result<String, AllocError>
+    ensures { IfOk result (λ s. string_bytes s ≡ key_step key.now) }
+{
+    let key = escaped(alloc, key)?;
+    format!(in alloc; "[\"{key}\"]")
+}
+
 /// A fault of the entry under this key.
 #[cold]
 fn fault_at_key(alloc: Global, key: &str, fault: JsonFault) -> JsonFault
     ensures { IsFaultAt (key_step key.now) fault result }
 {
-    match format!(in alloc; "[\"{key}\"]") {
+    match key_step(alloc, key) {
         Ok(step) => fault_at(alloc, &step, fault),
         Err(_) => JsonFault::Memory,
+    }
+}
+
+/// Whether a character is a letter or digit of ASCII, `-` or `_`.
+fn is_word_char(c: u8) -> bool
+    ensures { result ≡ is_word_char c }
+{
+    c.is_ascii_alphanumeric() || c == b'-' || c == b'_'
+}
+
+/// Whether all characters are such ones.
+fn are_word_chars(name: &[u8]) -> bool
+    ensures { result ≡ list_all is_word_char name.now }
+{
+    name.iter().all(|c| is_word_char(*c))
+}
+
+/// Whether a name has letters, digits, `-` and `_` of ASCII alone, at least one.
+#[tactic(auto, unfolding(crate::specs::Paths::is_word))]
+fn is_word(name: &str) -> bool
+    ensures { result ≡ is_word name.now }
+{
+    !name.is_empty() && are_word_chars(name.as_bytes())
+}
+
+/// A fault of the only member, of this name: under it as a key, where it is no word.
+#[cold]
+#[tactic(auto, unfolding(crate::specs::Paths::variant_step))]
+fn fault_at_variant(alloc: Global, name: &str, fault: JsonFault) -> JsonFault
+    ensures { IsFaultAt (variant_step name.now) fault result }
+{
+    if is_word(name) {
+        fault_at(alloc, name, fault)
+    } else {
+        fault_at_key(alloc, name, fault)
     }
 }
 
@@ -80,6 +125,21 @@ pub fn at_member<T>(alloc: Global, name: &str, read: Result<T, JsonFault>) -> Re
     match read {
         Ok(value) => Ok(value),
         Err(fault) => Err(fault_at_member(alloc, name, fault)),
+    }
+}
+
+/// What the only member, of this name, was read as.
+#[inline(always)]
+pub(crate) fn at_variant<T>(
+    alloc: Global,
+    name: &str,
+    read: Result<T, JsonFault>,
+) -> Result<T, JsonFault>
+    ensures { IsReadAt (variant_step name.now) read result }
+{
+    match read {
+        Ok(value) => Ok(value),
+        Err(fault) => Err(fault_at_variant(alloc, name, fault)),
     }
 }
 

@@ -7,7 +7,7 @@ ghost use Rattle.wc_json.specs.Types.{owner_of};
 
 use crate::from_json::FromJson;
 use crate::members::{only_member, optional_member, required_member};
-use crate::paths::{at_member, fault_here};
+use crate::paths::{at_variant, fault_here};
 use crate::{JsonFault, Problem};
 use json::Value;
 use std::alloc::Global;
@@ -25,7 +25,7 @@ impl FromJson for TypeOwner {
 
     fn from_json(alloc: Global, value: &Value<'_>) -> Result<TypeOwner, JsonFault> {
         let member = only_member(alloc, value)?;
-        at_member(alloc, member.0, owner_of(alloc, member.0, &member.1))
+        at_variant(alloc, member.0, owner_of(alloc, member.0, &member.1))
     }
 }
 

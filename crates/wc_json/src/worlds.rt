@@ -7,9 +7,9 @@ ghost use Rattle.wc_json.specs.Worlds.{interface_item_of, item_of, type_item_of}
 ghost use Rattle.wc_resolve.specs.Views.{item_view};
 
 use crate::from_json::FromJson;
-use crate::keys::world_key;
+use crate::keys::item_key;
 use crate::members::{only_member, optional_member, required_member};
-use crate::paths::{at_key, at_member, fault_here};
+use crate::paths::{at_key, at_variant, fault_here};
 use crate::{JsonFault, Problem};
 use indexmap::IndexMap;
 use json::Value;
@@ -69,7 +69,7 @@ impl FromJson for WorldItem {
 
     fn from_json(alloc: Global, value: &Value<'_>) -> Result<WorldItem, JsonFault> {
         let member = only_member(alloc, value)?;
-        at_member(alloc, member.0, item_of(alloc, member.0, &member.1))
+        at_variant(alloc, member.0, item_of(alloc, member.0, &member.1))
     }
 }
 
@@ -95,7 +95,7 @@ impl FromJson for Items {
         let mut items = IndexMap::new(alloc);
         for member in members {
             let item = at_key(alloc, member.0, WorldItem::from_json(alloc, &member.1))?;
-            items.insert(world_key(alloc, member.0)?, item)?;
+            items.insert(item_key(alloc, member.0, &item)?, item)?;
         }
         Ok(Items(items))
     }

@@ -1,5 +1,5 @@
 -- The first text that is none of others, and the first that was there before.
-use Rattle.std.proofs.Common.{◌≡◌, ◌↔◌, ℕ, ◌+◌, ◌<◌, suc, Bool, true, false, not, ◌||◌, List, [], ◌∷◌, ◌++◌, map, length, take, drop, get_or, All, Contains, refl, sym, ◌∙◌, ap, subst, inl, inr, ◌&&◌, Option, Some, None, Result, Ok, Err}
+use Rattle.std.proofs.Common.{◌≡◌, ◌↔◌, ℕ, ◌+◌, ◌<◌, suc, Bool, true, false, not, ◌||◌, List, [], ◌∷◌, ◌++◌, map, length, take, drop, get_or, All, Contains, refl, sym, ◌∙◌, ap, subst, inl, inr, Option, Some, None, Result, Ok, Err}
 use Rattle.std.specs.Borrow.{Bor}
 use Rattle.std.specs.List.{list_any}
 use Rattle.std.specs.Str.{bytes_eq}
@@ -8,13 +8,12 @@ use Rattle.std.proofs.lemmas.Slice.Eq.{bytes_eq-Decides}
 use Rattle.wc_resolve.proofs.SearchLemmas.{contains_cons, contains_head, contains_none, contains_tail}
 use Rattle.wc_encoder.proofs.SeenLemmas.{IsSeen}
 use Rattle.wc_plan_tool.specs.Arguments.{CommandValue, text_of}
-use Rattle.wc_plan_tool.specs.RequiredExports.{AreAdaptersThere, AreDistinct, AreExportersThere, AreKeysThere, AreNamesThere, IsFirstMissing, IsFirstRepeated, IsKeysCause, IsMainFile, IsNamesCause, NamedKey, adapter_names, first_parts, given_keys, is_in, main_file, texts_of}
+use Rattle.wc_plan_tool.specs.RequiredExports.{AreAdaptersThere, AreDistinct, AreExportersThere, AreKeysThere, AreNamesThere, IsFirstMissing, IsFirstRepeated, IsKeysCause, IsNamesCause, NamedKey, adapter_names, first_parts, given_keys, is_in, texts_of}
+use Rattle.wc_plan_tool.specs.FileNames.{IsFilesCause}
 use Rattle.wc_plan_tool.specs.declared.faults.SelectionFault.{SelectionFault}
-use Rattle.wc_plan_tool.specs.declared.faults.SelectionFault.TheVariants.{Memory, RepeatedAdapter, UnknownAdapter, MainFile}
-use Rattle.std.specs.Option.{option_map}
-use Rattle.std.specs.Prelude.{IfErr, OnOk, is_some}
+use Rattle.wc_plan_tool.specs.declared.faults.SelectionFault.TheVariants.{Memory, RepeatedAdapter, UnknownAdapter, EmptyDirectory, FileName, MainFile}
+use Rattle.std.specs.Prelude.{IfErr, OnOk}
 use Rattle.wc_plan_tool.proofs.ListLemmas.{any_held, cut_at, either}
-use Rattle.wc_plan_tool.proofs.TestLemmas.{text_in}
 
 abbrev pub Words : Type 0
 Words = List (Bor (List ℕ))
@@ -70,17 +69,23 @@ repeated_at texts left rest test seen text new law s next is old = record {
   repeated = any_held text_of test text law seen (unfresh (list_any test seen) (sym is ∙ old));
 }
 
--- an adapter in the main module's file, or none
+-- files that can't be named
 
-pub main_file_yes : (c : CommandValue) (directory : Option (Bor (List ℕ))) → c.out ≡ option_map text_of directory
-    → (is_some directory && is_in (adapter_names c) main_file) ≡ true → IsMainFile c
-main_file_yes c None is given = absurd cc
-main_file_yes c (Some d) is given = ((λ none. absurd (let bad : Some d.now ≡ None = sym is ∙ none in cc)), in_contains (adapter_names c) main_file given)
+files_cause : (c : CommandValue) (keys : List NamedKey) (directory : Option (List ℕ)) → c.out ≡ directory → (f : SelectionFault)
+    → AreDistinct (adapter_names c) × AreExportersThere c → IsFilesCause directory (adapter_names c) f → IsNamesCause c keys f
+files_cause c keys None is f there h = absurd h
+files_cause c keys (Some d) is EmptyDirectory there h =
+    (there.0, there.1, subst (λ o. IsFilesCause o (adapter_names c) EmptyDirectory) (sym is) h)
+files_cause c keys (Some d) is (FileName name) there h =
+    (there.0, there.1, subst (λ o. IsFilesCause o (adapter_names c) (FileName name)) (sym is) h)
+files_cause c keys (Some d) is (MainFile name) there h =
+    (there.0, there.1, subst (λ o. IsFilesCause o (adapter_names c) (MainFile name)) (sym is) h)
+files_cause c keys (Some d) is f there h = absurd h.1
 
-pub main_file_no : (c : CommandValue) (directory : Option (Bor (List ℕ))) → c.out ≡ option_map text_of directory
-    → (is_some directory && is_in (adapter_names c) main_file) ≡ false → ¬ IsMainFile c
-main_file_no c None is free main = main.0 is
-main_file_no c (Some d) is free main = out_lacks (adapter_names c) main_file free main.1
+pub files_failed : (c : CommandValue) (keys : List NamedKey) (adapters : Words) (f : SelectionFault) → map text_of adapters ≡ adapter_names c
+    → AreDistinct (adapter_names c) × AreExportersThere c → IsFilesCause c.out (map text_of adapters) f → IsNamesCause c keys f
+files_failed c keys adapters f names there h =
+    files_cause c keys c.out refl f there (subst (λ (l : List (List ℕ)). IsFilesCause c.out l f) names h)
 
 -- what is found of keys, where nothing is wrong with adapters
 
@@ -94,6 +99,8 @@ cause_of_keys : (c : CommandValue) (keys : List NamedKey) (f : SelectionFault) �
 cause_of_keys c keys Memory there h = tt
 cause_of_keys c keys (RepeatedAdapter name) there h = absurd h
 cause_of_keys c keys (UnknownAdapter name) there h = absurd h
+cause_of_keys c keys EmptyDirectory there h = absurd h
+cause_of_keys c keys (FileName name) there h = absurd h
 cause_of_keys c keys (MainFile name) there h = absurd h
 cause_of_keys c keys f there h = (there, h)
 
@@ -112,8 +119,3 @@ adapters_there c adapters exporters names others distinct there = (
   subst (λ (l : List (List ℕ)). All (Contains l) (first_parts c.adapter_exports)) names
       (subst (All (Contains (map text_of adapters))) others there),
 )
-
-pub main_test : (c : CommandValue) (directory : Option (Bor (List ℕ))) (adapters : Words) (b : Bool) → map text_of adapters ≡ adapter_names c
-    → b ≡ (is_some directory && list_any (λ t. bytes_eq t.now main_file) adapters) → (is_some directory && is_in (adapter_names c) main_file) ≡ b
-main_test c directory adapters b names is =
-    sym (is ∙ ap (λ (found : Bool). is_some directory && found) (text_in adapters main_file ∙ ap (λ (l : List (List ℕ)). is_in l main_file) names))

@@ -1,12 +1,9 @@
-mod PairLemmas
-mod OptionLemmas
 mod TextsLemmas
-mod AddedLemmas
-mod CommandLemmas
 mod TestLemmas
 mod ListLemmas
 mod SelectionLemmas
 mod KeyListLemmas
+mod FileNameLemmas
 mod FirstLemmas
 mod ProgramLemmas
 mod RunLemmas

@@ -1,4 +1,4 @@
--- A command that could not be run, which was printed; and files that are written one after another.
+-- Why an encoder could not be made of the files of a command.
 use Rattle.std.proofs.Common.{◌≡◌, ◌≢◌, ℕ, ◌+◌, Bool, false, List, [], ◌∷◌, ◌++◌, map, String, Global, Option, Some, None, refl, sym, ◌∙◌, ap, subst, append_assoc, string_bytes, string_eq, length, take, get_or, zero, suc, ◌<◌, Contains, inl, inr, arith}
 use Rattle.std.specs.Borrow.{Bor}
 use Rattle.std.specs.Option.{option_map}
@@ -14,7 +14,7 @@ use Rattle.wc_resolve.specs.declared.fault.ResolveFault.{ResolveFault}
 use Rattle.wc_resolve.specs.declared.fault.ResolveFault.TheVariants.{Memory as resolve_memory}
 use Rattle.wc_plan_tool.specs.Selection.{IsSelected}
 use Rattle.wc_plan_tool.specs.declared.faults.SelectionFault.{SelectionFault}
-use Rattle.wc_plan_tool.specs.declared.faults.SelectionFault.TheVariants.{Memory as selection_memory}
+use Rattle.wc_plan_tool.specs.declared.faults.SelectionFault.TheVariants.{UnknownKey}
 use Rattle.wc_plan_tool.proofs.ListLemmas.{passed_more}
 use Rattle.std.proofs.lemmas.List.{map-append}
 use Rattle.std.specs.List.{AllPairs, AllZip}
@@ -29,45 +29,13 @@ use Rattle.wc_encoder.specs.declared.adapters.Adapter.{Adapter}
 use Rattle.wc_encoder.proofs.PairLemmas.{pairs_head, pairs_tail}
 use Rattle.wc_resolve.proofs.KeyLemmas.{texts_law}
 use Rattle.wc_resolve.proofs.SearchLemmas.{contains_cons, contains_head, contains_none, contains_tail}
-use Rattle.wc_plan_tool.specs.Faults.{of_dedupe, of_encoder, of_resolve, of_selection}
-use Rattle.wc_plan_tool.specs.RequiredExports.{IsNamesCause, NamedKey, export_keys, first_parts, required_keys, second_parts}
-use Rattle.std.proofs.lemmas.Bool.{false≢true}
-use Rattle.std.specs.Io.KnownBytes.{Appends}
+use Rattle.wc_plan_tool.specs.Faults.{of_dedupe, of_encoder, of_resolve}
+use Rattle.wc_plan_tool.specs.RequiredExports.{IsNamesCause, NamedKey, export_keys, first_parts, required_keys, second_parts, texts_of}
 use Rattle.wc_tool.specs.Files.{Held, Holds}
-use Rattle.wc_tool.specs.Program.{HandsOn}
 use Rattle.wc_plan_tool.specs.Arguments.{CommandValue, text_pair}
-use Rattle.wc_plan_tool.specs.Program.{EndsInFault, HasPut, IsAdapterIn, IsAdaptersCause, IsChosen, IsDocumentIn, IsMainCause, IsModulesCause, IsPartsOf, IsPartsWith, IsPlanCause, IsPrintedOf, IsReadFault, IsRunCause, fault_line}
+use Rattle.wc_plan_tool.specs.Program.{IsAdapterIn, IsAdaptersCause, IsChosen, IsDocumentIn, IsListed, IsListedCause, IsMainCause, IsModulesCause, IsPartsOf, IsPartsWith, IsPlanCause, IsReadFault}
 use Rattle.wc_plan_tool.specs.declared.faults.ProgramFault.{ProgramFault}
-use Rattle.wc_plan_tool.specs.declared.faults.ProgramFault.TheVariants.{Memory, CannotRead, Dedupe, Output}
-
--- bytes, and then more
-appends_more : (a b c : Option (List ℕ)) (xs ys : List ℕ) → Appends a b xs → Appends b c ys → Appends a c (xs ++ ys)
-appends_more None b c xs ys h k = tt
-appends_more (Some xa) None c xs ys h k = absurd h
-appends_more (Some xa) (Some bs) None xs ys h k = absurd k
-appends_more (Some xa) (Some bs) (Some cs) xs ys h k = k ∙ ap (λ (zs : List ℕ). zs ++ ys) h ∙ append_assoc xa xs ys
-
-hands_on_more : (a b c s : Option (List ℕ)) (xs ys : List ℕ) → Appends a b xs → HandsOn b c s ys → HandsOn a c s (xs ++ ys)
-hands_on_more a b c s xs ys h k = record { put = appends_more a b c xs ys h k.put; sent = appends_more a b s xs ys h k.sent }
-
--- lines were put where the output did not fail
-put_of : (puts : List ℕ → Type 0) (failed : Bool) (lines : List ℕ) (fault : ProgramFault) → HasPut puts failed lines fault → failed ≡ false
-    → (fault ≢ Output) × puts lines
-put_of puts failed lines Output h works = absurd (false≢true (sym works ∙ h))
-put_of puts failed lines fault h works = (λ e. absurd cc, h)
-
-pub ends_in_fault : (c : CommandValue) (before after : Option Held) (written put more sent : Option (List ℕ)) (failed now : Bool) (fault : ProgramFault)
-    → ((lines : List ℕ) × IsRunCause c before after lines fault × HasPut (Appends written put) failed lines fault)
-    → (now ≡ false → (text : List ℕ) × IsPrintedOf fault text × HandsOn put more sent (fault_line text)) → (now ≡ false → failed ≡ false)
-    → EndsInFault c before after (HandsOn written more sent) now
-ends_in_fault c before after written put more sent failed now fault h printed works = (
-  fault,
-  h.0,
-  h.1,
-  λ ok. let p = put_of (Appends written put) failed h.0 fault h.2 (works ok) in
-      let line = printed ok in
-      record { text = line.0; is_text = line.1; is_put = p.0; printed = hands_on_more written put more sent h.0 (fault_line line.0) p.1 line.2 },
-)
+use Rattle.wc_plan_tool.specs.declared.faults.ProgramFault.TheVariants.{Memory, CannotRead, Selection, NoExport, Dedupe}
 
 -- a fault of renaming is the cause of a fault of the main module
 pub main_cause : (before : Option Held) (path bytes : List ℕ) (f : DedupeFault) → Holds before path bytes → IsDedupeCause bytes f
@@ -124,6 +92,7 @@ path_at (y ∷ ys) (suc k) d lt = contains_tail y.1.now (second_parts (map text_
 -- an adapter that could not be read
 pub path_cause : (c : CommandValue) (pairs : Pairs) (k : ℕ) (d : Bor (List ℕ) × Bor (List ℕ)) → k < length pairs → map text_pair pairs ≡ c.adapters
     → (f : ProgramFault) → IsReadFault (get_or pairs k d).1.now f → IsAdaptersCause c f
+path_cause c pairs k d lt is Memory h = tt
 path_cause c pairs k d lt is (CannotRead path) h =
     subst (Contains (second_parts c.adapters)) (sym h) (subst (λ (l : List (List ℕ × List ℕ)). Contains (second_parts l) (get_or pairs k d).1.now) is
     (path_at pairs k d lt))
@@ -165,10 +134,32 @@ pub resolve_cause : (c : CommandValue) (before : Option Held) (d : DocumentView)
 resolve_cause c before d world resolve_memory document selected cause = tt
 resolve_cause c before d world f document selected cause = (d, world, document, selected, (λ e. cc), cause)
 
-pub names_cause : (c : CommandValue) (before : Option Held) (d : DocumentView) (world : ℕ) (f : SelectionFault) → IsDocumentIn before c.worlds d
-    → IsSelected d c.world world → IsResolve d.parts → IsNamesCause c (export_keys d.parts world) f → IsPlanCause c before (of_selection f)
-names_cause c before d world selection_memory document selected formed cause = tt
-names_cause c before d world f document selected formed cause = (d, document, inr (world, selected, formed, cause))
+pub names_cause : (c : CommandValue) (before : Option Held) (d : DocumentView) (world : ℕ) (f : ProgramFault) → IsDocumentIn before c.worlds d
+    → IsSelected d c.world world → IsResolve d.parts → IsListedCause c (export_keys d.parts world) f → IsPlanCause c before f
+names_cause c before d world Memory document selected formed cause = tt
+names_cause c before d world (Selection f) document selected formed cause = inr (d, world, document, selected, formed, cause)
+names_cause c before d world (NoExport key listing) document selected formed cause = (d, world, document, selected, formed, cause)
+names_cause c before d world f document selected formed cause = absurd cause
+
+-- a fault of names with what exports there are
+selection_listed : (c : CommandValue) (keys : List NamedKey) (f g : SelectionFault) → IsNamesCause c keys f → IsListed f (texts_of keys) (Selection g)
+    → IsListedCause c keys (Selection g)
+selection_listed c keys (UnknownKey key) g cause listed = absurd listed
+selection_listed c keys f (UnknownKey key) cause listed = absurd cc
+selection_listed c keys f g cause listed = subst (IsNamesCause c keys) (sym listed) cause
+
+no_export_listed : (c : CommandValue) (keys : List NamedKey) (f : SelectionFault) (key : Bor (List ℕ)) (listing : String Global) → IsNamesCause c keys f
+    → IsListed f (texts_of keys) (NoExport key listing) → IsListedCause c keys (NoExport key listing)
+no_export_listed c keys (UnknownKey k) key listing cause listed = (subst (λ z. IsNamesCause c keys (UnknownKey z)) (sym listed.0) cause, listed.1)
+no_export_listed c keys f key listing cause listed = absurd listed
+
+pub listed_cause : (c : CommandValue) (keys : List NamedKey) (f : SelectionFault) (g : ProgramFault) → IsNamesCause c keys f
+    → IsListed f (texts_of keys) g → IsListedCause c keys g
+listed_cause c keys f Memory cause listed = tt
+listed_cause c keys f (Selection g) cause listed = selection_listed c keys f g cause listed
+listed_cause c keys f (NoExport key listing) cause listed = no_export_listed c keys f key listing cause listed
+listed_cause c keys (UnknownKey key) g cause listed = absurd listed
+listed_cause c keys f g cause listed = absurd listed
 
 pub modules_cause : (c : CommandValue) (before : Option Held) (d : DocumentView) (world : ℕ) (f : ProgramFault) → IsChosen c before d world
     → IsModulesCause c before f → IsPlanCause c before f

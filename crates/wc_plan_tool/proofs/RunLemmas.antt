@@ -1,8 +1,7 @@
 -- A run of a command: why it could not be run where nothing was printed, and what became of its files where it was.
-use Rattle.std.proofs.Common.{◌≡◌, ◌≢◌, ◌⊎◌, ℕ, Bool, List, [], ◌∷◌, Option, Some, None, Result, Ok, Err, IfErr, OnOk, refl, sym, subst, append-nil, string_bytes, false, inl, inr, map, String, Global, length, take, drop, get_or, suc, arith, ◌<◌, ◌++◌, ap, ◌∙◌, zero}
+use Rattle.std.proofs.Common.{◌≡◌, ◌≢◌, ◌⊎◌, ℕ, List, [], ◌∷◌, Option, Result, Ok, Err, IfErr, OnOk, IfSome, refl, sym, subst, string_bytes, inl, inr, map, String, Global, length, take, drop, get_or, suc, arith, ◌<◌, ◌++◌, ap, ◌∙◌, zero}
 use Rattle.std.specs.Borrow.{Bor}
 use Rattle.std.proofs.lemmas.List.{map-append}
-use Rattle.std.specs.Io.KnownBytes.{Appends}
 use Rattle.wc_encoder.specs.EncoderParts.{EncoderView}
 use Rattle.wc_plan.specs.Faults.{IsFaultNamed, IsFirstFault, UseFault, no_lowering, no_memory, no_realloc}
 use Rattle.wc_plan.specs.declared.fault.PlanFault.{PlanFault}
@@ -14,23 +13,25 @@ use Rattle.wc_world.specs.Views.{ComponentWorldView}
 use Rattle.wc_world.specs.World.{IsWorldOf}
 use Rattle.wc_world.specs.declared.fault.WorldFault.{WorldFault}
 use Rattle.wc_world.specs.declared.fault.WorldFault.TheVariants.{Memory as world_memory}
-use Rattle.wc_plan_tool.specs.Arguments.{CommandValue, IsCommandLine}
+use Rattle.wc_plan_tool.specs.Arguments.{CommandValue, IsStop, Reading}
+use Rattle.wc_plan_tool.specs.Reading.{read_arguments}
+use Rattle.wc_plan_tool.specs.Screen.{Printing, nothing, printed}
+use Rattle.wc_plan_tool.specs.declared.arguments.NoCommand.{NoCommand}
+use Rattle.wc_plan_tool.specs.declared.arguments.NoCommand.TheVariants.{Memory, Help, Version, Wrong}
 use Rattle.wc_plan_tool.specs.Faults.{of_plan, of_world}
-use Rattle.wc_plan_tool.specs.Program.{EndsWell, HasPut, IsEncoderOf, IsFileFault, IsPlanCause, IsPlanned, IsUnwrittenFile, EndsWithoutMemory, file_view, ProgramEnds, Prints, WritesAll, files_of, printed_text, usage_text, wrong_arguments}
-use Rattle.wc_plan_tool.specs.Private.Runs.{IsWritingFault, Stops}
+use Rattle.wc_plan_tool.specs.Program.{CommandEnds, EndsWell, EndsWithoutMemory, IsEncoderOf, IsFileFault, IsPlanCause, IsPlanned, IsRunCause, IsUnwrittenFile, ProgramEnds, ReadingEnds, WritesAll, file_view, files_of, printed_text}
+use Rattle.wc_plan_tool.specs.Private.Runs.{AnswersStop, IsMakingFault, IsWritingFault}
 use Rattle.wc_plan_tool.specs.declared.faults.ProgramFault.{ProgramFault}
-use Rattle.wc_plan_tool.specs.declared.faults.ProgramFault.TheVariants.{Output, CannotWrite}
-
-appends_nothing : (known : Option (List ℕ)) → Appends known known []
-appends_nothing None = tt
-appends_nothing (Some xs) = sym (append-nil xs)
+use Rattle.wc_plan_tool.specs.declared.faults.ProgramFault.TheVariants.{CannotMake, CannotWrite, Output}
 
 module _ (c : CommandValue) (before : Option Held) where
-  -- nothing was printed
-  pub quiet : (written : Option (List ℕ)) (failed : Bool) (f : ProgramFault) → IsPlanCause c before f → Stops c before before written written failed f
-  quiet written failed Output h = absurd h
-  quiet written failed (CannotWrite path) h = absurd h
-  quiet written failed f h = ([], (h, refl, refl), appends_nothing written)
+  -- before files are written nothing is printed
+  pub quiet : (makes : List ℕ → Type 0) (out : Printing → Type 0) (f : ProgramFault) → out nothing → IsPlanCause c before f
+      → IsRunCause c before before makes out f
+  quiet makes out (CannotMake path) still h = absurd h
+  quiet makes out (CannotWrite path) still h = absurd h
+  quiet makes out Output still h = absurd h
+  quiet makes out f still h = (h, refl, still)
 
   -- a fault of the component's world
   pub world_cause : (e : EncoderView) (f : WorldFault) → IsEncoderOf c before e → IsWorldMemory e f ⊎ IsWorldCause e f → IsPlanCause c before (of_world f)
@@ -54,64 +55,72 @@ module _ (c : CommandValue) (before : Option Held) where
   plan_cause e w f encodes world (inl is) = subst (λ g. IsPlanCause c before (of_plan g)) (sym is) tt
   plan_cause e w f encodes world (inr h) = first_cause e w f encodes world h
 
-  module _ (after : Option Held) (w : ComponentWorldView) (planned : IsPlanned c before w) (files : List (List ℕ × List ℕ)) (outputs : files ≡ files_of c.out w)
+  module _ (after : Option Held) (makes : List ℕ → Type 0) (out : Printing → Type 0) (w : ComponentWorldView) (planned : IsPlanned c before w)
+      (files : List (List ℕ × List ℕ)) (outputs : files ≡ files_of c.out w)
     where
-      -- the lines were printed, and all files were written
-      pub all_written : {T : Type 0} (puts : List ℕ → Type 0) (failed : Bool) (r : Result T ProgramFault)
-          → OnOk r (puts (printed_text c.json w)) → OnOk r (failed ≡ false) → OnOk r (WritesAll before after files) → OnOk r (EndsWell c before after puts failed)
-      all_written puts failed (Ok x) printed works h =
-          (printed_text c.json w, record { world = w; planned = planned; printed = refl; written = subst (WritesAll before after) outputs h }, printed, works)
-      all_written puts failed (Err f) printed works h = tt
+      -- all files were written, and the lines printed
+      pub all_written : {T : Type 0} (r : Result T ProgramFault)
+          → OnOk r (IfSome c.out makes) → OnOk r (WritesAll before after files) → OnOk r (out (printed (printed_text c.json w)))
+          → OnOk r (EndsWell c before after makes out)
+      all_written (Ok x) made written shown =
+          (w, record { planned = planned; made = made; written = subst (WritesAll before after) outputs written }, shown)
+      all_written (Err f) made written shown = tt
 
-      -- the lines could not be printed, or a file could not be written
-      unwritten : (written put : Option (List ℕ)) (failed : Bool) (f : ProgramFault)
-          → IsWritingFault before after files f → HasPut (Appends written put) failed (printed_text c.json w) f → Stops c before after written put failed f
-      unwritten written put failed Output h p = ([], (h, refl), p)
-      unwritten written put failed (CannotWrite path) h p =
-          let stopped = subst (λ fs. IsUnwrittenFile before after fs (string_bytes path)) outputs h in
-          (printed_text c.json w, record { world = w; planned = planned; printed = refl; stopped = stopped }, p)
-      unwritten written put failed f h p = absurd h
+      -- the directory could not be made, a file not be written, or the lines not be printed
+      unwritten : (f : ProgramFault) → IsWritingFault c.out before after makes files out f → IsRunCause c before after makes out f
+      unwritten (CannotMake path) h = (record { world = w; planned = planned; directory = h.0; kept = h.1 }, h.2)
+      unwritten (CannotWrite path) h =
+          let stopped = subst (λ fs. IsUnwrittenFile before after fs (string_bytes path)) outputs h.1 in
+          (record { world = w; planned = planned; made = h.0; stopped = stopped }, h.2)
+      unwritten Output h = (w, record { planned = planned; made = h.0; written = subst (WritesAll before after) outputs h.1 }, h.2)
+      unwritten f h = absurd h
 
-      pub some_unwritten : {T : Type 0} (written put : Option (List ℕ)) (failed : Bool) (r : Result T ProgramFault)
-          → IfErr r (IsWritingFault before after files) → IfErr r (HasPut (Appends written put) failed (printed_text c.json w))
-          → IfErr r (Stops c before after written put failed)
-      some_unwritten written put failed (Ok x) h p = tt
-      some_unwritten written put failed (Err f) h p = unwritten written put failed f h p
+      pub some_unwritten : {T : Type 0} (r : Result T ProgramFault)
+          → IfErr r (IsWritingFault c.out before after makes files out) → IfErr r (IsRunCause c before after makes out)
+      some_unwritten (Ok x) h = tt
+      some_unwritten (Err f) h = unwritten f h
 
--- a file could not be written, after lines were printed
+-- parts of writing that fail
 
-is_writing_fault : (before after : Option Held) (files : List (List ℕ × List ℕ)) (f : ProgramFault) → IsFileFault before after files f
-    → IsWritingFault before after files f
-is_writing_fault before after files Output h = absurd h
-is_writing_fault before after files f h = h
+pub making_fault : (directory : Option (List ℕ)) (before after : Option Held) (makes : List ℕ → Type 0) (files : List (List ℕ × List ℕ))
+    (out : Printing → Type 0) (f : ProgramFault) → IsMakingFault directory f → after ≡ before → out nothing
+    → IsWritingFault directory before after makes files out f
+making_fault directory before after makes files out (CannotMake path) h kept still = (h, kept, still)
+making_fault directory before after makes files out f h kept still = absurd h
 
-pub writing_fault : {T : Type 0} (before after : Option Held) (files : List (List ℕ × List ℕ)) (r : Result T ProgramFault)
-    → IfErr r (IsFileFault before after files) → IfErr r (IsWritingFault before after files)
-writing_fault before after files (Ok x) h = tt
-writing_fault before after files (Err f) h = is_writing_fault before after files f h
+pub file_fault : (directory : Option (List ℕ)) (before middle after : Option Held) (makes : List ℕ → Type 0) (files : List (List ℕ × List ℕ))
+    (out : Printing → Type 0) (f : ProgramFault) → IfSome directory makes → middle ≡ before → IsFileFault middle after files f → out nothing
+    → IsWritingFault directory before after makes files out f
+file_fault directory before middle after makes files out (CannotWrite path) made kept h still =
+    (made, subst (λ (m : Option Held). IsUnwrittenFile m after files (string_bytes path)) kept h, still)
+file_fault directory before middle after makes files out f made kept h still = absurd h
 
-has_put : (before after : Option Held) (files : List (List ℕ × List ℕ)) (puts : List ℕ → Type 0) (failed : Bool) (lines : List ℕ) (f : ProgramFault)
-    → IsFileFault before after files f → puts lines → HasPut puts failed lines f
-has_put before after files puts failed lines Output h p = absurd h
-has_put before after files puts failed lines f h p = p
+-- how the program ends by what its arguments are read as
 
-pub put_before : {T : Type 0} (before after : Option Held) (files : List (List ℕ × List ℕ)) (puts : List ℕ → Type 0) (failed : Bool) (lines : List ℕ)
-    (r : Result T ProgramFault)
-    → IfErr r (IsFileFault before after files) → puts lines → IfErr r (HasPut puts failed lines)
-put_before before after files puts failed lines (Ok x) h p = tt
-put_before before after files puts failed lines (Err f) h p = has_put before after files puts failed lines f h p
+pub ends_by_reading : (arguments : List (List ℕ)) (before after : Option Held) (makes : List ℕ → Type 0) (out err : Printing → Type 0) (status : ℕ)
+    → arguments ≢ []
+    → ReadingEnds (read_arguments arguments) before after makes out err status ⊎ ((after ≡ before) × EndsWithoutMemory out err status)
+    → ProgramEnds arguments before after makes out err status
+ends_by_reading [] before after makes out err status some ends = absurd (some refl)
+ends_by_reading (x ∷ xs) before after makes out err status some ends = ends
 
--- arguments of no command, and arguments for whose command there is no memory
-pub ends_by_usage : (arguments : List (List ℕ)) (files : Option Held) (puts : List ℕ → Type 0) (failed : Bool) (status : ℕ) → arguments ≢ []
-    → ((c : CommandValue) → ¬ IsCommandLine arguments c) → Prints usage_text wrong_arguments puts failed status
-    → ProgramEnds arguments files files puts failed status
-ends_by_usage [] files puts failed status some none printed = absurd (some refl)
-ends_by_usage (x ∷ xs) files puts failed status some none printed = inr (inl (none, refl, printed))
+pub ends_by_command : (reading : Reading CommandValue) (c : CommandValue) (before after : Option Held) (makes : List ℕ → Type 0)
+    (out err : Printing → Type 0) (status : ℕ) → reading ≡ Ok c → CommandEnds c before after makes out err status
+    → ReadingEnds reading before after makes out err status ⊎ ((after ≡ before) × EndsWithoutMemory out err status)
+ends_by_command reading c before after makes out err status read ends =
+    inl (subst (λ (r : Reading CommandValue). ReadingEnds r before after makes out err status) (sym read) ends)
 
-pub ends_by_memory : (arguments : List (List ℕ)) (files : Option Held) (puts : List ℕ → Type 0) (failed : Bool) (status : ℕ) → arguments ≢ []
-    → EndsWithoutMemory puts failed status → ProgramEnds arguments files files puts failed status
-ends_by_memory [] files puts failed status some reported = absurd (some refl)
-ends_by_memory (x ∷ xs) files puts failed status some reported = inr (inr (refl, reported))
+pub ends_by_stop : (reading : Reading CommandValue) (e : NoCommand) (files : Option Held) (makes : List ℕ → Type 0)
+    (out err : Printing → Type 0) (status : ℕ) → IsStop reading e → AnswersStop e out err status
+    → ReadingEnds reading files files makes out err status ⊎ ((files ≡ files) × EndsWithoutMemory out err status)
+ends_by_stop reading Memory files makes out err status stops answer = inr (refl, answer)
+ends_by_stop reading Help files makes out err status stops answer =
+    inl (subst (λ (r : Reading CommandValue). ReadingEnds r files files makes out err status) (sym stops) (refl, answer))
+ends_by_stop reading Version files makes out err status stops answer =
+    inl (subst (λ (r : Reading CommandValue). ReadingEnds r files files makes out err status) (sym stops) (refl, answer))
+ends_by_stop reading (Wrong w) files makes out err status stops (inl answer) =
+    inl (subst (λ (r : Reading CommandValue). ReadingEnds r files files makes out err status) (sym stops) (refl, answer))
+ends_by_stop reading (Wrong w) files makes out err status stops (inr none) = inr (refl, none)
 
 -- files that are written one after another
 

@@ -1,50 +1,56 @@
--- Arguments as texts, of which options are read.
-use Rattle.std.proofs.Common.{◌≡◌, ◌≢◌, ◌==◌, false, ◌<◌, List, [], ◌∷◌, ◌++◌, length, map, string_bytes, String, Global, Some, Result, Ok, Err, refl, suc, ap, arith}
-use Rattle.std.specs.Borrow.{Bor}
-use Rattle.wc_plan_tool.specs.declared.arguments.CommandOption.{CommandOption}
-use Rattle.wc_plan_tool.specs.Arguments.{OptionValue, adapt, export, adapter_export, reject_legacy_names, realloc_via_memory_grow, json, out, option_arguments, option_value}
-use Rattle.wc_plan_tool.specs.Private.ArgumentReading.{option_of}
-use Rattle.wc_plan_tool.proofs.OptionLemmas.{option_valid, Read, Texts}
+-- Arguments as texts, which are read one after another.
+use Rattle.std.proofs.Common.{◌≡◌, ◌≢◌, ◌==◌, ◌+◌, true, false, ◌<◌, ℕ, List, [], ◌∷◌, length, map, drop, get_or, string_bytes, String, Global, Ok, Err, refl, sym, ◌∙◌, ap, arith}
+use Rattle.std.proofs.lemmas.List.{drop_more, nil_from_length}
+use Rattle.std.proofs.lemmas.Bool.Decides.{nat_tests}
+use Rattle.wc_plan_tool.specs.declared.arguments.NoCommand.{NoCommand}
+use Rattle.wc_plan_tool.specs.declared.arguments.NoCommand.TheVariants.{Memory, Help, Version, Wrong}
+use Rattle.wc_plan_tool.specs.Arguments.{CommandValue, IsStop, Reading, Stop, help, version, wrong, wrong_value}
+use Rattle.wc_plan_tool.specs.Reading.{DraftValue, go_on, read_from, take_up}
 
 abbrev pub Arguments : Type 0
 Arguments = List (String Global)
-
--- an option that was read, and the arguments after it
-abbrev pub option_view : CommandOption × Bor Arguments → Read
-option_view p = (option_value p.0, map string_bytes p.1.now)
 
 pub some_texts : (arguments : Arguments) → (length arguments == 0) ≡ false → map string_bytes arguments ≢ []
 some_texts [] some = absurd cc
 some_texts (x ∷ xs) some = λ e. absurd cc
 
-count_texts : (arguments : Arguments) → length (map string_bytes arguments) ≡ length arguments
-count_texts [] = refl
-count_texts (x ∷ xs) = ap suc (count_texts xs)
+pub no_texts : (arguments : Arguments) → (length arguments == 0) ≡ true → map string_bytes arguments ≡ []
+no_texts arguments none =
+    let empty : length arguments ≡ 0 = grind (arith, nat_tests) in
+    ap (λ xs. map string_bytes xs) (nil_from_length arguments empty)
 
--- an option has an argument at least
-option_some : (o : OptionValue) (after : Texts) → length after < length (option_arguments o ++ after)
-option_some (adapt name file) after = omega arith
-option_some (export key) after = omega arith
-option_some (adapter_export name key) after = omega arith
-option_some reject_legacy_names after = omega arith
-option_some realloc_via_memory_grow after = omega arith
-option_some json after = omega arith
-option_some (out directory) after = omega arith
+abbrev State : Type 0
+State = CommandValue × DraftValue
 
-pub fewer_left : (arguments after : Arguments) (o : OptionValue) → option_of (map string_bytes arguments) ≡ Some (o, map string_bytes after)
-    → length after < length arguments
-fewer_left arguments after o read =
-    let begins = option_valid (map string_bytes arguments) (map string_bytes after) o read in
-    let counted : length (map string_bytes arguments) ≡ length (option_arguments o ++ map string_bytes after) = ap length begins.0 in
-    let less = option_some o (map string_bytes after) in
-    let all = count_texts arguments in
-    let left = count_texts after in
-    omega arith
+-- what is left of arguments, from an index on
+abbrev pub read_left : Arguments → ℕ → State → Reading CommandValue
+read_left arguments k state = read_from (map string_bytes (drop k arguments)) state
 
--- a fault that is passed on, as the fault of a result of another type
-abbrev err_or : {T E : Type 0} → E → Result T E → E
-err_or d (Ok x) = d
-err_or d (Err e) = e
+next_read : (arguments : Arguments) (k : ℕ) (d : String Global) (text : List ℕ) (state : State) → k < length arguments
+    → text ≡ string_bytes (get_or arguments k d)
+    → read_left arguments k state ≡ go_on (read_from (map string_bytes (drop (k + 1) arguments))) (take_up state.0 state.1 text)
+next_read arguments k d text state lt is =
+    ap (λ l. read_from (map string_bytes l) state) (drop_more arguments k d lt)
+    ∙ ap (λ t. go_on (read_from (map string_bytes (drop (k + 1) arguments))) (take_up state.0 state.1 t)) (sym is)
 
-pub same_fault : {T U E : Type 0} (a b : E) → ◌≡◌ {A = Result T E} (Err a) (Err b) → ◌≡◌ {A = Result U E} (Err a) (Err b)
-same_fault a b e = ap Err (ap (err_or a) e)
+-- one more argument that was taken up
+pub taken_up : (arguments : Arguments) (k : ℕ) (d : String Global) (text : List ℕ) (state next : State) (all : Reading CommandValue) → k < length arguments
+    → text ≡ string_bytes (get_or arguments k d)
+    → take_up state.0 state.1 text ≡ Ok next → read_left arguments k state ≡ all → read_left arguments (k + 1) next ≡ all
+taken_up arguments k d text state next all lt is taken before =
+    sym (next_read arguments k d text state lt is ∙ ap (go_on (read_from (map string_bytes (drop (k + 1) arguments)))) taken) ∙ before
+
+-- one that was not
+stopped_by : (arguments : Arguments) (k : ℕ) (d : String Global) (text : List ℕ) (state : State) (all : Reading CommandValue) (stop : Stop)
+    → k < length arguments → text ≡ string_bytes (get_or arguments k d)
+    → take_up state.0 state.1 text ≡ Err stop → read_left arguments k state ≡ all → all ≡ Err stop
+stopped_by arguments k d text state all stop lt is stopped before =
+    sym before ∙ next_read arguments k d text state lt is ∙ ap (go_on (read_from (map string_bytes (drop (k + 1) arguments)))) stopped
+
+pub stopped_at : (arguments : Arguments) (k : ℕ) (d : String Global) (text : List ℕ) (state : State) (all : Reading CommandValue) (e : NoCommand)
+    → k < length arguments → text ≡ string_bytes (get_or arguments k d)
+    → IsStop (take_up state.0 state.1 text) e → read_left arguments k state ≡ all → IsStop all e
+stopped_at arguments k d text state all Memory lt is stopped before = tt
+stopped_at arguments k d text state all Help lt is stopped before = stopped_by arguments k d text state all help lt is stopped before
+stopped_at arguments k d text state all Version lt is stopped before = stopped_by arguments k d text state all version lt is stopped before
+stopped_at arguments k d text state all (Wrong w) lt is stopped before = stopped_by arguments k d text state all (wrong (wrong_value w)) lt is stopped before

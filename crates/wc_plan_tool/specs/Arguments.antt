@@ -1,11 +1,14 @@
--- Command lines.
-use Rattle.std.specs.Prelude.{◌≡◌, ◌≢◌, ℕ, Bool, true, false, List, [], ◌∷◌, ◌++◌, map, filter, codes, Option, Some, None, All, if◌then◌else◌}
+-- Commands, their options, and why there is no command.
+use Rattle.std.specs.Prelude.{◌≡◌, ℕ, Bool, List, map, Option, Result, Ok, Err, ⊤}
 use Rattle.std.specs.Borrow.{Bor}
-use Rattle.std.specs.List.{filter_map, flat_map}
-use Rattle.std.specs.Option.{option_map, option_to_list}
+use Rattle.std.specs.Option.{option_map}
 use Rattle.wc_plan_tool.specs.declared.arguments.Command.{Command}
 use Rattle.wc_plan_tool.specs.declared.arguments.CommandOption.{CommandOption}
 use Rattle.wc_plan_tool.specs.declared.arguments.CommandOption.TheVariants.{Adapt, Export, AdapterExport, RejectLegacyNames, ReallocViaMemoryGrow, Json, Out}
+use Rattle.wc_plan_tool.specs.declared.arguments.NoCommand.{NoCommand}
+use Rattle.wc_plan_tool.specs.declared.arguments.NoCommand.TheVariants.{Memory, Help, Version, Wrong}
+use Rattle.wc_plan_tool.specs.declared.arguments.WrongArgument.{WrongArgument}
+use Rattle.wc_plan_tool.specs.declared.arguments.WrongArgument.TheVariants.{UnknownOption, MissingValue, NotAPair, RepeatedOption, Unexpected, Missing}
 
 -- a command, with its texts as bytes
 pub record CommandValue : Type 0 where
@@ -59,73 +62,41 @@ option_value ReallocViaMemoryGrow = realloc_via_memory_grow
 option_value Json = json
 option_value (Out directory) = out directory.now
 
--- the code of `=`
-abbrev pub equals_sign : ℕ
-equals_sign = 61
+-- what is wrong with arguments
+pub data WrongValue : Type 0 where
+  unknown_option : (argument : List ℕ) → WrongValue
+  missing_value : (option : List ℕ) → WrongValue
+  not_a_pair : (option value : List ℕ) → WrongValue
+  repeated_option : (option : List ℕ) → WrongValue
+  unexpected : (argument : List ℕ) → WrongValue
+  missing : (name : List ℕ) → WrongValue
 
--- `NAME=VALUE`
-abbrev pub pair_text : List ℕ → List ℕ → List ℕ
-pair_text name value = name ++ (equals_sign ∷ value)
+abbrev pub wrong_value : WrongArgument → WrongValue
+wrong_value (UnknownOption argument) = unknown_option argument.now
+wrong_value (MissingValue option) = missing_value option.now
+wrong_value (NotAPair option value) = not_a_pair option.now value.now
+wrong_value (RepeatedOption option) = repeated_option option.now
+wrong_value (Unexpected argument) = unexpected argument.now
+wrong_value (Missing name) = missing name.now
 
--- the arguments that an option is written as
-abbrev pub option_arguments : OptionValue → List (List ℕ)
-option_arguments (adapt name file) = codes "--adapt" ∷ pair_text name file ∷ []
-option_arguments (export key) = codes "--export" ∷ key ∷ []
-option_arguments (adapter_export name key) = codes "--adapter-export" ∷ pair_text name key ∷ []
-option_arguments reject_legacy_names = codes "--reject-legacy-names" ∷ []
-option_arguments realloc_via_memory_grow = codes "--realloc-via-memory-grow" ∷ []
-option_arguments json = codes "--json" ∷ []
-option_arguments (out directory) = codes "--out" ∷ directory ∷ []
+-- why arguments are no command
+pub data Stop : Type 0 where
+  help : Stop
+  version : Stop
+  wrong : WrongValue → Stop
 
--- the name of an adapter has no `=`
-abbrev pub HasPlainName : OptionValue → Type 0
-HasPlainName (adapt name file) = All (λ c. c ≢ equals_sign) name
-HasPlainName (adapter_export name key) = All (λ c. c ≢ equals_sign) name
-HasPlainName option = Unit {0}
+-- what arguments are read as, or why reading stops
+abbrev pub Reading : Type 0 → Type 0
+Reading A = Result A Stop
 
--- what an option is of each kind
-abbrev pub adapter_in : OptionValue → Option (List ℕ × List ℕ)
-adapter_in (adapt name file) = Some (name, file)
-adapter_in option = None
+-- reading stops for this reason; where memory ran out, nothing is known
+abbrev pub IsStop : {A : Type 0} → Reading A → NoCommand → Type 0
+IsStop reading Memory = ⊤
+IsStop reading Help = reading ≡ Err help
+IsStop reading Version = reading ≡ Err version
+IsStop reading (Wrong w) = reading ≡ Err (wrong (wrong_value w))
 
-abbrev pub export_in : OptionValue → Option (List ℕ)
-export_in (export key) = Some key
-export_in option = None
-
-abbrev pub adapter_export_in : OptionValue → Option (List ℕ × List ℕ)
-adapter_export_in (adapter_export name key) = Some (name, key)
-adapter_export_in option = None
-
-abbrev pub is_reject_legacy_names : OptionValue → Bool
-is_reject_legacy_names reject_legacy_names = true
-is_reject_legacy_names option = false
-
-abbrev pub is_realloc_via_memory_grow : OptionValue → Bool
-is_realloc_via_memory_grow realloc_via_memory_grow = true
-is_realloc_via_memory_grow option = false
-
-abbrev pub is_json : OptionValue → Bool
-is_json json = true
-is_json option = false
-
-abbrev pub directory_in : OptionValue → Option (List ℕ)
-directory_in (out directory) = Some directory
-directory_in option = None
-
--- an option once, if it is given
-abbrev pub once_if : Bool → OptionValue → List OptionValue
-once_if given option = if given then option ∷ [] else []
-
--- the arguments of a command, after the program's name: two paths with a world between, and then options in any order, of
--- which those with a directory and those without a value are given at most once
-pub record IsCommandLine (arguments : List (List ℕ)) (c : CommandValue) : Type 0 where
-  pub options : List OptionValue
-  pub spelled : arguments ≡ c.worlds ∷ c.world ∷ c.main ∷ flat_map option_arguments options
-  pub plain : All HasPlainName options
-  pub adapters : filter_map adapter_in options ≡ c.adapters
-  pub exports : filter_map export_in options ≡ c.exports
-  pub adapter_exports : filter_map adapter_export_in options ≡ c.adapter_exports
-  pub rejects : filter is_reject_legacy_names options ≡ once_if c.reject_legacy_names reject_legacy_names
-  pub grows : filter is_realloc_via_memory_grow options ≡ once_if c.realloc_via_memory_grow realloc_via_memory_grow
-  pub asks_json : filter is_json options ≡ once_if c.json json
-  pub out : filter_map directory_in options ≡ option_to_list c.out
+-- the result is what is read, unless memory ran out
+abbrev pub IsRead : Result Command NoCommand → Reading CommandValue → Type 0
+IsRead (Ok c) reading = reading ≡ Ok (command_value c)
+IsRead (Err e) reading = IsStop reading e

@@ -1,6 +1,7 @@
 -- The fault for the fault of a call inside; and the texts of faults.
 use Rattle.std.specs.Prelude.{◌≡◌, ℕ, List, ◌++◌, codes, string_bytes}
 use Rattle.wc_tool.specs.FaultTexts.{memory_text}
+use Rattle.wc_json.specs.Escape.{escaped}
 use Rattle.wc_json.specs.Faults.{json_fault_text}
 use Rattle.wc_dedupe.specs.declared.fault.DedupeFault.{DedupeFault}
 use Rattle.wc_dedupe.specs.declared.fault.DedupeFault.TheVariants.{Memory as dedupe_memory}
@@ -15,9 +16,9 @@ use Rattle.wc_resolve.specs.declared.fault.ResolveFault.TheVariants.{Memory as r
 use Rattle.wc_world.specs.declared.fault.WorldFault.{WorldFault}
 use Rattle.wc_world.specs.declared.fault.WorldFault.TheVariants.{Memory as world_memory}
 use Rattle.wc_plan_tool.specs.declared.faults.SelectionFault.{SelectionFault}
-use Rattle.wc_plan_tool.specs.declared.faults.SelectionFault.TheVariants.{Memory as selection_memory, PackageRange, UnknownWorld, SeveralWorlds, RepeatedAdapter, UnknownAdapter, MainFile, UnknownKey, RepeatedKey}
+use Rattle.wc_plan_tool.specs.declared.faults.SelectionFault.TheVariants.{Memory as selection_memory, PackageRange, UnknownWorld, SeveralWorlds, RepeatedAdapter, UnknownAdapter, EmptyDirectory, FileName, MainFile, UnknownKey, RepeatedKey}
 use Rattle.wc_plan_tool.specs.declared.faults.ProgramFault.{ProgramFault}
-use Rattle.wc_plan_tool.specs.declared.faults.ProgramFault.TheVariants.{Memory, CannotRead, NotText, Json, Selection, Resolve, Dedupe, Encoder, World, Plan, Output, CannotWrite}
+use Rattle.wc_plan_tool.specs.declared.faults.ProgramFault.TheVariants.{Memory, CannotRead, NotText, Json, Selection, NoExport, Resolve, Dedupe, Encoder, World, Plan, CannotMake, CannotWrite, Output}
 
 abbrev pub of_json : JsonFault → ProgramFault
 of_json json_memory = Memory
@@ -59,25 +60,34 @@ selection_fault_text (UnknownWorld name) = quoted (codes "no world `") name.now 
 selection_fault_text (SeveralWorlds name) = quoted (codes "several worlds `") name.now (codes "`")
 selection_fault_text (RepeatedAdapter name) = quoted (codes "adapter `") name.now (codes "` twice")
 selection_fault_text (UnknownAdapter name) = quoted (codes "no adapter `") name.now (codes "`")
+selection_fault_text EmptyDirectory = codes "empty path of --out"
+selection_fault_text (FileName name) = quoted (codes "adapter `") name.now (codes "` is no file's name")
 selection_fault_text (MainFile name) = quoted (codes "adapter `") name.now (codes "` in the main module's file")
 selection_fault_text (UnknownKey key) = quoted (codes "no export `") key.now (codes "`")
 selection_fault_text (RepeatedKey key) = quoted (codes "export `") key.now (codes "` twice")
 
--- the name of a fault, and what `Display` writes of the fault that it carries
-abbrev pub IsCarried : List ℕ → List ℕ → Type 0
-IsCarried name text = (inside : List ℕ) × (text ≡ name ++ (codes ": " ++ inside))
+-- there is no export with a key, and what exports there are
+abbrev pub no_export_text : List ℕ → List ℕ → List ℕ
+no_export_text key listing = codes "no export `" ++ (key ++ (codes "`; exports:" ++ listing))
 
--- the text of a fault. It is open what `Display` writes of the faults of other libraries, but for those of JSON
+-- the name of a fault, and what `Display` writes of the fault that it carries, escaped
+abbrev pub IsCarried : List ℕ → List ℕ → Type 0
+IsCarried name text = (inside : List ℕ) × (text ≡ name ++ (codes ": " ++ escaped inside))
+
+-- the text of a fault. It is open what `Display` writes of the faults of other libraries, but for those of JSON, whose
+-- paths are escaped already
 abbrev pub IsTextOf : ProgramFault → List ℕ → Type 0
 IsTextOf Memory text = text ≡ memory_text
-IsTextOf (CannotRead path) text = text ≡ codes "cannot read " ++ path.now
+IsTextOf (CannotRead path) text = text ≡ codes "cannot read " ++ escaped path.now
 IsTextOf NotText text = text ≡ codes "Json: not UTF-8"
 IsTextOf (Json f) text = text ≡ codes "Json: " ++ json_fault_text f
-IsTextOf (Selection f) text = text ≡ selection_fault_text f
+IsTextOf (Selection f) text = text ≡ escaped (selection_fault_text f)
+IsTextOf (NoExport key listing) text = text ≡ escaped (no_export_text key.now (string_bytes listing))
 IsTextOf (Resolve f) text = IsCarried (codes "Resolve") text
 IsTextOf (Dedupe f) text = IsCarried (codes "Dedupe") text
 IsTextOf (Encoder f) text = IsCarried (codes "Encoder") text
 IsTextOf (World f) text = IsCarried (codes "World") text
 IsTextOf (Plan f) text = IsCarried (codes "Plan") text
-IsTextOf Output text = text ≡ codes "Output"
-IsTextOf (CannotWrite path) text = text ≡ codes "cannot write " ++ string_bytes path
+IsTextOf (CannotMake path) text = text ≡ codes "cannot make directory " ++ escaped path.now
+IsTextOf (CannotWrite path) text = text ≡ codes "cannot write " ++ escaped (string_bytes path)
+IsTextOf Output text = text ≡ codes "cannot print"

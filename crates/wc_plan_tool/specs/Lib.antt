@@ -1,6 +1,12 @@
 pub mod Arguments
+pub mod Reading
+pub mod Usage
 pub mod Faults
+pub mod FileNames
+pub mod Lines
 pub mod Selection
 pub mod RequiredExports
+pub mod Listing
+pub mod Screen
 pub mod Program
 pub mod Private

@@ -1,5 +1,5 @@
 -- The program: what it prints, what becomes of files, and its exit status.
-use Rattle.std.specs.Prelude.{◌≡◌, ◌≢◌, ◌⊎◌, ℕ, Bool, true, false, List, [], ◌∷◌, ◌++◌, map, codes, Option, Some, None, IsSomeAnd, if◌then◌else◌, Ok, Contains, String, string_bytes}
+use Rattle.std.specs.Prelude.{◌≡◌, ◌≢◌, ◌⊎◌, ℕ, Bool, List, [], ◌∷◌, ◌++◌, map, codes, Option, Some, None, IfSome, IsSomeAnd, if◌then◌else◌, Ok, Err, Contains, String, string_bytes}
 use Rattle.std.specs.declared.alloc.Global.{Global}
 use Rattle.std.specs.Borrow.{Bor}
 use Rattle.std.specs.List.{AllZip}
@@ -14,10 +14,10 @@ use Rattle.wc_encoder.specs.EncoderParts.{EncoderView}
 use Rattle.wc_encoder.specs.Fault.{IsCause as IsEncoderCause}
 use Rattle.wc_encoder.specs.WellFormed.{IsWellFormed}
 use Rattle.wc_encoder.specs.declared.fault.EncoderFault.TheVariants.{Memory as encoder_memory}
+use Rattle.wc_json.specs.Escape.{escaped}
 use Rattle.wc_json.specs.Document.{DocumentView, document_of, IsCause as IsJsonCause}
 use Rattle.wc_json.specs.declared.fault.JsonFault.TheVariants.{Memory as json_memory}
 use Rattle.wc_plan.specs.Faults.{HasNoFault, IsFirstFault}
-use Rattle.wc_plan.specs.Lines.{plan_text}
 use Rattle.wc_plan.specs.Plans.{plan_of}
 use Rattle.wc_record.specs.Texts.{world_text}
 use Rattle.wc_resolve.specs.Faults.{IsCause as IsResolveCause}
@@ -30,12 +30,19 @@ use Rattle.wc_world.specs.Options.{plain_options}
 use Rattle.wc_world.specs.Views.{ComponentWorldView, NamedWorldAdapter}
 use Rattle.wc_world.specs.World.{IsWorldOf}
 use Rattle.wc_world.specs.declared.fault.WorldFault.TheVariants.{Memory as world_memory}
-use Rattle.wc_plan_tool.specs.Arguments.{CommandValue, IsCommandLine}
+use Rattle.wc_plan_tool.specs.Arguments.{CommandValue, Reading, Stop, help, version, wrong}
 use Rattle.wc_plan_tool.specs.Faults.{IsTextOf}
-use Rattle.wc_plan_tool.specs.RequiredExports.{AreNamesThere, IsNamesCause, NamedKey, export_keys, required_keys, second_parts}
+use Rattle.wc_plan_tool.specs.Lines.{lines_text}
+use Rattle.wc_plan_tool.specs.Listing.{listing_text}
+use Rattle.wc_plan_tool.specs.Reading.{read_arguments}
+use Rattle.wc_plan_tool.specs.RequiredExports.{AreNamesThere, IsNamesCause, NamedKey, export_keys, required_keys, second_parts, texts_of}
+use Rattle.wc_plan_tool.specs.Screen.{Printing, nothing, printed, failed}
+use Rattle.wc_plan_tool.specs.Usage.{fault_and_usage, fault_line, help_text, no_text, usage_text, version_text, wrong_text}
 use Rattle.wc_plan_tool.specs.Selection.{IsSelected, IsSelectionCause}
+use Rattle.wc_plan_tool.specs.declared.faults.SelectionFault.{SelectionFault}
+use Rattle.wc_plan_tool.specs.declared.faults.SelectionFault.TheVariants.{UnknownKey}
 use Rattle.wc_plan_tool.specs.declared.faults.ProgramFault.{ProgramFault}
-use Rattle.wc_plan_tool.specs.declared.faults.ProgramFault.TheVariants.{Memory, CannotRead, NotText, Json, Selection, Resolve, Dedupe, Encoder, World, Plan, Output, CannotWrite}
+use Rattle.wc_plan_tool.specs.declared.faults.ProgramFault.TheVariants.{Memory, CannotRead, NotText, Json, Selection, NoExport, Resolve, Dedupe, Encoder, World, Plan, CannotMake, CannotWrite, Output}
 
 -- the exit statuses
 abbrev pub success : ℕ
@@ -46,16 +53,6 @@ failure = 1
 
 abbrev pub wrong_arguments : ℕ
 wrong_arguments = 2
-
--- the usage text
-abbrev pub usage_text : List ℕ
-usage_text =
-    codes "usage: wcplan WORLDS.json WORLD MAIN.wasm [--adapt NAME=FILE]... [--export KEY]... [--adapter-export NAME=KEY]...\n"
-    ++ codes "              [--reject-legacy-names] [--realloc-via-memory-grow] [--json] [--out DIR]\n"
-
--- the line that says why the program failed
-abbrev pub fault_line : List ℕ → List ℕ
-fault_line text = codes "wcplan: " ++ (text ++ codes "\n")
 
 -- a file has this text, which is JSON that is read as this document
 pub record IsDocumentIn (before : Option Held) (path : List ℕ) (d : DocumentView) : Type 0 where
@@ -116,7 +113,7 @@ pub record IsPlanned (c : CommandValue) (before : Option Held) (w : ComponentWor
   pub servable : HasNoFault w
 
 abbrev pub plan_lines : ComponentWorldView → List ℕ
-plan_lines w = plan_text (plan_of w)
+plan_lines w = lines_text (plan_of w)
 
 -- the record of a component's world, in a line
 abbrev pub record_line : ComponentWorldView → List ℕ
@@ -143,11 +140,10 @@ abbrev pub WritesAll : Option Held → Option Held → List (List ℕ × List �
 WritesAll before after [] = after ≡ before
 WritesAll before after (f ∷ fs) = (middle : Option Held) × Writes before middle f.0 f.1 × WritesAll middle after fs
 
--- the command did its work with these lines
-pub record IsDone (c : CommandValue) (before after : Option Held) (lines : List ℕ) : Type 0 where
-  pub world : ComponentWorldView
+-- the component's world of a command is there, its directory could be made, and all its files are written
+pub record IsWritten (c : CommandValue) (before after : Option Held) (makes : List ℕ → Type 0) (world : ComponentWorldView) : Type 0 where
   pub planned : IsPlanned c before world
-  pub printed : lines ≡ printed_text c.json world
+  pub made : IfSome c.out makes
   pub written : WritesAll before after (files_of c.out world)
 
 -- a path with the bytes of its file
@@ -168,15 +164,23 @@ abbrev pub IsFileFault : Option Held → Option Held → List (List ℕ × List 
 IsFileFault before after files (CannotWrite path) = IsUnwrittenFile before after files (string_bytes path)
 IsFileFault before after files f = ⊥
 
--- after these lines and some files one could not be written
-pub record IsUnwritten (c : CommandValue) (before after : Option Held) (lines path : List ℕ) : Type 0 where
+-- the directory of a command could not be made
+pub record IsUnmade (c : CommandValue) (before after : Option Held) (path : List ℕ) : Type 0 where
   pub world : ComponentWorldView
   pub planned : IsPlanned c before world
-  pub printed : lines ≡ printed_text c.json world
+  pub directory : c.out ≡ Some path
+  pub kept : after ≡ before
+
+-- it could, and after some files one could not be written
+pub record IsUnwritten (c : CommandValue) (before after : Option Held) (makes : List ℕ → Type 0) (path : List ℕ) : Type 0 where
+  pub world : ComponentWorldView
+  pub planned : IsPlanned c before world
+  pub made : IfSome c.out makes
   pub stopped : IsUnwrittenFile before after (files_of c.out world) path
 
 -- why a file, the worlds in it, or the main module in it, could not be read
 abbrev pub IsReadFault : List ℕ → ProgramFault → Type 0
+IsReadFault path Memory = Unit {0}
 IsReadFault path (CannotRead p) = p.now ≡ path
 IsReadFault path f = ⊥
 
@@ -208,76 +212,95 @@ IsModulesCause c before f = IsMainCause before c.main f
 abbrev pub IsAnyChosen : CommandValue → Option Held → Type 0
 IsAnyChosen c before = (d : DocumentView) × (world : ℕ) × IsChosen c before d world
 
+-- the fault of a program for a fault of names: that of a key that isn't there has what exports there are
+abbrev pub IsListed : SelectionFault → List (List ℕ) → ProgramFault → Type 0
+IsListed f texts Memory = Unit {0}
+IsListed (UnknownKey key) texts (NoExport k listing) = (k ≡ key) × (string_bytes listing ≡ listing_text texts)
+IsListed (UnknownKey key) texts g = ⊥
+IsListed f texts (Selection g) = g ≡ f
+IsListed f texts g = ⊥
+
+abbrev pub IsListedCause : CommandValue → List NamedKey → ProgramFault → Type 0
+IsListedCause c keys Memory = Unit {0}
+IsListedCause c keys (NoExport key listing) = IsNamesCause c keys (UnknownKey key) × (string_bytes listing ≡ listing_text (texts_of keys))
+IsListedCause c keys (Selection (UnknownKey key)) = ⊥
+IsListedCause c keys (Selection f) = IsNamesCause c keys f
+IsListedCause c keys f = ⊥
+
+-- names are not there, of a world that is selected of worlds that are well-formed
+abbrev pub IsUnnamed : CommandValue → Option Held → ProgramFault → Type 0
+IsUnnamed c before f =
+    (d : DocumentView) × (world : ℕ) × IsDocumentIn before c.worlds d × IsSelected d c.world world × IsResolve d.parts
+    × IsListedCause c (export_keys d.parts world) f
+
 -- why there is no plan
 abbrev pub IsPlanCause : CommandValue → Option Held → ProgramFault → Type 0
 IsPlanCause c before Memory = Unit {0}
 IsPlanCause c before (CannotRead path) = (path.now ≡ c.worlds) ⊎ (IsAnyChosen c before × IsModulesCause c before (CannotRead path))
 IsPlanCause c before NotText = IsDocumentCause before c.worlds NotText
 IsPlanCause c before (Json f) = IsDocumentCause before c.worlds (Json f)
-IsPlanCause c before (Selection f) =
-    (d : DocumentView) × IsDocumentIn before c.worlds d
-    × (IsSelectionCause d c.world f ⊎ ((world : ℕ) × IsSelected d c.world world × IsResolve d.parts × IsNamesCause c (export_keys d.parts world) f))
+IsPlanCause c before (Selection f) = ((d : DocumentView) × IsDocumentIn before c.worlds d × IsSelectionCause d c.world f) ⊎ IsUnnamed c before (Selection f)
+IsPlanCause c before (NoExport key listing) = IsUnnamed c before (NoExport key listing)
 IsPlanCause c before (Resolve f) =
     (d : DocumentView) × (world : ℕ) × IsDocumentIn before c.worlds d × IsSelected d c.world world × (f ≢ resolve_memory) × IsResolveCause d.parts f
 IsPlanCause c before (Dedupe f) = IsAnyChosen c before × IsMainCause before c.main (Dedupe f)
 IsPlanCause c before (Encoder f) = (e : EncoderView) × IsPartsOf c before e × (f ≢ encoder_memory) × IsEncoderCause e f
 IsPlanCause c before (World f) = (e : EncoderView) × IsEncoderOf c before e × (f ≢ world_memory) × (IsWorldMemory e f ⊎ IsWorldCause e f)
 IsPlanCause c before (Plan f) = (e : EncoderView) × (w : ComponentWorldView) × IsEncoderOf c before e × IsWorldOf plain_options e w × IsFirstFault w f
-IsPlanCause c before Output = ⊥
+IsPlanCause c before (CannotMake path) = ⊥
 IsPlanCause c before (CannotWrite path) = ⊥
+IsPlanCause c before Output = ⊥
 
--- why a command could not be run, after these lines
-abbrev pub IsRunCause : CommandValue → Option Held → Option Held → List ℕ → ProgramFault → Type 0
-IsRunCause c before after lines Output = (after ≡ before) × (lines ≡ [])
-IsRunCause c before after lines (CannotWrite path) = IsUnwritten c before after lines (string_bytes path)
-IsRunCause c before after lines f = IsPlanCause c before f × (after ≡ before) × (lines ≡ [])
+-- why a command could not be run; before all its files are written nothing is printed
+abbrev pub IsRunCause : CommandValue → Option Held → Option Held → (List ℕ → Type 0) → (Printing → Type 0) → ProgramFault → Type 0
+IsRunCause c before after makes out (CannotMake path) = IsUnmade c before after path.now × out nothing
+IsRunCause c before after makes out (CannotWrite path) = IsUnwritten c before after makes (string_bytes path) × out nothing
+IsRunCause c before after makes out Output = (world : ComponentWorldView) × IsWritten c before after makes world × out failed
+IsRunCause c before after makes out f = IsPlanCause c before f × (after ≡ before) × out nothing
 
--- these lines were put; or the fault is that they could not be, and the output is failed
-abbrev pub HasPut : (List ℕ → Type 0) → Bool → List ℕ → ProgramFault → Type 0
-HasPut puts failed lines Output = failed ≡ true
-HasPut puts failed lines f = puts lines
+-- the command did its work: all its files are written, and then its lines are printed
+abbrev pub EndsWell : CommandValue → Option Held → Option Held → (List ℕ → Type 0) → (Printing → Type 0) → Type 0
+EndsWell c before after makes out = (world : ComponentWorldView) × IsWritten c before after makes world × out (printed (printed_text c.json world))
+
+-- a text is printed and the status is this one; or the output fails, and the status is that of a failure
+abbrev pub Prints : List ℕ → ℕ → (Printing → Type 0) → ℕ → Type 0
+Prints text wanted out status = (out (printed text) × (status ≡ wanted)) ⊎ (out failed × (status ≡ failure))
 
 -- what is printed of a fault: its text, or that there was no memory for it
 abbrev pub IsPrintedOf : ProgramFault → List ℕ → Type 0
 IsPrintedOf fault text = IsTextOf fault text ⊎ (text ≡ memory_text)
 
--- why the command could not be run was printed after its lines, in a line
-pub record IsReported (puts : List ℕ → Type 0) (fault : ProgramFault) (lines : List ℕ) : Type 0 where
-  pub text : List ℕ
-  pub is_text : IsPrintedOf fault text
-  pub is_put : fault ≢ Output
-  pub printed : puts (lines ++ fault_line text)
+-- a fault is printed in a line
+abbrev pub IsReported : ProgramFault → (Printing → Type 0) → ℕ → Type 0
+IsReported fault err status = (text : List ℕ) × IsPrintedOf fault text × Prints (fault_line text) failure err status
 
--- the command did its work, and its lines were printed
-abbrev pub EndsWell : CommandValue → Option Held → Option Held → (List ℕ → Type 0) → Bool → Type 0
-EndsWell c before after puts failed = (lines : List ℕ) × IsDone c before after lines × puts lines × (failed ≡ false)
+-- there was no memory, which is printed
+abbrev pub EndsWithoutMemory : (Printing → Type 0) → (Printing → Type 0) → ℕ → Type 0
+EndsWithoutMemory out err status = out nothing × Prints (fault_line memory_text) failure err status
 
--- the command could not be run, and why was printed, unless the output failed
-abbrev pub EndsInFault : CommandValue → Option Held → Option Held → (List ℕ → Type 0) → Bool → Type 0
-EndsInFault c before after puts failed =
-    (fault : ProgramFault) × (lines : List ℕ) × IsRunCause c before after lines fault × (failed ≡ false → IsReported puts fault lines)
+-- a command did its work, or could not be run, and then its fault is printed to the other output
+abbrev pub CommandEnds : CommandValue → Option Held → Option Held → (List ℕ → Type 0) → (Printing → Type 0) → (Printing → Type 0) → ℕ → Type 0
+CommandEnds c before after makes out err status =
+    (EndsWell c before after makes out × err nothing × (status ≡ success))
+    ⊎ ((fault : ProgramFault) × IsRunCause c before after makes out fault × IsReported fault err status)
 
-abbrev pub CommandEnds : CommandValue → Option Held → Option Held → (List ℕ → Type 0) → Bool → ℕ → Type 0
-CommandEnds c before after puts failed status =
-    (EndsWell c before after puts failed × (status ≡ success)) ⊎ (EndsInFault c before after puts failed × (status ≡ failure))
+-- there is no command: what is asked for is printed; or what is wrong, and the usage text, to the other output
+abbrev pub StopEnds : Stop → (Printing → Type 0) → (Printing → Type 0) → ℕ → Type 0
+StopEnds help out err status = Prints help_text success out status × err nothing
+StopEnds version out err status = Prints version_text success out status × err nothing
+StopEnds (wrong w) out err status = out nothing × Prints (fault_and_usage (escaped (wrong_text w))) wrong_arguments err status
 
--- the text was printed and the status is this one; or the output failed, and the status is that of a failure
-abbrev pub Prints : List ℕ → ℕ → (List ℕ → Type 0) → Bool → ℕ → Type 0
-Prints text is_chosen puts failed status = (puts text × (failed ≡ false) × (status ≡ is_chosen)) ⊎ ((failed ≡ true) × (status ≡ failure))
+abbrev pub ReadingEnds : Reading CommandValue → Option Held → Option Held → (List ℕ → Type 0) → (Printing → Type 0) → (Printing → Type 0) → ℕ → Type 0
+ReadingEnds (Ok c) before after makes out err status = CommandEnds c before after makes out err status
+ReadingEnds (Err stop) before after makes out err status = (after ≡ before) × StopEnds stop out err status
 
--- there was no memory for the command, and that was printed, unless the output failed
-abbrev pub EndsWithoutMemory : (List ℕ → Type 0) → Bool → ℕ → Type 0
-EndsWithoutMemory puts failed status = (status ≡ failure) × (failed ≡ false → puts (fault_line memory_text))
-
--- how the program ends with these arguments
-abbrev pub ProgramEnds : List (List ℕ) → Option Held → Option Held → (List ℕ → Type 0) → Bool → ℕ → Type 0
-ProgramEnds [] before after puts failed status = (after ≡ before) × Prints usage_text success puts failed status
-ProgramEnds (x ∷ xs) before after puts failed status =
-    ((c : CommandValue) × IsCommandLine (x ∷ xs) c × CommandEnds c before after puts failed status)
-    ⊎ ((((c : CommandValue) → ¬ IsCommandLine (x ∷ xs) c) × (after ≡ before) × Prints usage_text wrong_arguments puts failed status)
-    ⊎ ((after ≡ before) × EndsWithoutMemory puts failed status))
+-- how the program ends with these arguments; for a fault of memory it may end in any other way
+abbrev pub ProgramEnds : List (List ℕ) → Option Held → Option Held → (List ℕ → Type 0) → (Printing → Type 0) → (Printing → Type 0) → ℕ → Type 0
+ProgramEnds [] before after makes out err status = (after ≡ before) × Prints usage_text success out status × err nothing
+ProgramEnds (x ∷ xs) before after makes out err status =
+    ReadingEnds (read_arguments (x ∷ xs)) before after makes out err status ⊎ ((after ≡ before) × EndsWithoutMemory out err status)
 
 -- how it ends where its arguments are not known: there was no memory for them, or they are no text
-pub record EndsWithoutArguments (no_memory : Type 0) (puts : List ℕ → Type 0) (failed : Bool) (status : ℕ) : Type 0 where
-  pub no_text : ¬ no_memory → Prints usage_text wrong_arguments puts failed status
-  pub reported : no_memory → EndsWithoutMemory puts failed status
+pub record EndsWithoutArguments (no_memory : Type 0) (out err : Printing → Type 0) (status : ℕ) : Type 0 where
+  pub unreadable : ¬ no_memory → out nothing × Prints (fault_and_usage no_text) wrong_arguments err status
+  pub reported : no_memory → EndsWithoutMemory out err status

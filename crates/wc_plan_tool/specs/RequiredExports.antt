@@ -1,5 +1,5 @@
 -- What modules have to export.
-use Rattle.std.specs.Prelude.{◌≡◌, ◌≢◌, ℕ, Bool, not, ◌&&◌, ◌∷◌, ◌++◌, [], List, map, filter, codes, Option, Some, None, All, Contains, String, string_bytes}
+use Rattle.std.specs.Prelude.{◌≡◌, ◌≢◌, ℕ, Bool, not, ◌&&◌, ◌∷◌, ◌++◌, [], List, map, filter, Option, Some, None, All, Contains, String, string_bytes}
 use Rattle.std.specs.List.{AllPairs, filter_map, list_any}
 use Rattle.std.specs.Option.{option_map, option_map_or}
 use Rattle.std.specs.Prelude.{slice_get}
@@ -11,8 +11,9 @@ use Rattle.wc_resolve.specs.Views.{ItemView, KeyView, WorldView, key_view}
 use Rattle.wc_resolve.specs.World.{ResolveView}
 use Rattle.wc_resolve.specs.declared.worlds.WorldKey.{WorldKey}
 use Rattle.wc_plan_tool.specs.Arguments.{CommandValue}
+use Rattle.wc_plan_tool.specs.FileNames.{AreFilesNamed, IsFilesCause}
 use Rattle.wc_plan_tool.specs.declared.faults.SelectionFault.{SelectionFault}
-use Rattle.wc_plan_tool.specs.declared.faults.SelectionFault.TheVariants.{Memory, RepeatedAdapter, UnknownAdapter, MainFile, UnknownKey, RepeatedKey}
+use Rattle.wc_plan_tool.specs.declared.faults.SelectionFault.TheVariants.{Memory, RepeatedAdapter, UnknownAdapter, EmptyDirectory, FileName, MainFile, UnknownKey, RepeatedKey}
 use Rattle.wc_plan_tool.specs.declared.required_exports.Exporter.{Exporter}
 use Rattle.wc_plan_tool.specs.declared.required_exports.Exporter.TheVariants.{Main, Adapter}
 
@@ -101,14 +102,6 @@ adapter_names c = first_parts c.adapters
 abbrev pub AreExportersThere : CommandValue → Type 0
 AreExportersThere c = All (Contains (adapter_names c)) (first_parts c.adapter_exports)
 
--- the name of the main module's file
-abbrev pub main_file : List ℕ
-main_file = codes "main"
-
--- an adapter would be written to the file of the main module
-abbrev pub IsMainFile : CommandValue → Type 0
-IsMainFile c = (c.out ≢ None) × Contains (adapter_names c) main_file
-
 abbrev pub texts_of : List NamedKey → List (List ℕ)
 texts_of keys = map (λ (k : NamedKey). k.1) keys
 
@@ -126,16 +119,18 @@ IsKeysCause given texts f = ⊥
 pub record AreNamesThere (c : CommandValue) (keys : List NamedKey) : Type 0 where
   pub adapters : AreDistinct (adapter_names c)
   pub exporters : AreExportersThere c
-  pub files : ¬ IsMainFile c
+  pub files : AreFilesNamed c.out (adapter_names c)
   pub keys_there : AreKeysThere (given_keys c) (texts_of keys)
 
 -- why the names of adapters and the keys of a command are not there, or are given twice: adapters are before keys
 abbrev pub AreAdaptersThere : CommandValue → Type 0
-AreAdaptersThere c = AreDistinct (adapter_names c) × AreExportersThere c × ¬ IsMainFile c
+AreAdaptersThere c = AreDistinct (adapter_names c) × AreExportersThere c × AreFilesNamed c.out (adapter_names c)
 
 abbrev pub IsNamesCause : CommandValue → List NamedKey → SelectionFault → Type 0
 IsNamesCause c keys Memory = Unit {0}
 IsNamesCause c keys (RepeatedAdapter name) = IsFirstRepeated (adapter_names c) name.now
 IsNamesCause c keys (UnknownAdapter name) = AreDistinct (adapter_names c) × IsFirstMissing (first_parts c.adapter_exports) (adapter_names c) name.now
-IsNamesCause c keys (MainFile name) = AreDistinct (adapter_names c) × AreExportersThere c × IsMainFile c × (name.now ≡ main_file)
+IsNamesCause c keys EmptyDirectory = AreDistinct (adapter_names c) × AreExportersThere c × IsFilesCause c.out (adapter_names c) EmptyDirectory
+IsNamesCause c keys (FileName name) = AreDistinct (adapter_names c) × AreExportersThere c × IsFilesCause c.out (adapter_names c) (FileName name)
+IsNamesCause c keys (MainFile name) = AreDistinct (adapter_names c) × AreExportersThere c × IsFilesCause c.out (adapter_names c) (MainFile name)
 IsNamesCause c keys f = AreAdaptersThere c × IsKeysCause (given_keys c) (texts_of keys) f

@@ -1,10 +1,10 @@
 //! The arguments of the program.
 
-ghost use Rattle.std.specs.Prelude.{◌≡◌, IfErr, IfOk, IsErrOf, None, OnOk, Some, false, map, string_bytes, true};
+ghost use Rattle.std.specs.Prelude.{◌≡◌, IfErr, IfOk, OnOk, None, Some, false, map, string_bytes, true};
 ghost use Rattle.std.specs.Option.{option_map};
-ghost use Rattle.wc_plan_tool.specs.Arguments.{CommandValue, IsCommandLine, command_value, option_value};
-ghost use Rattle.wc_plan_tool.specs.Private.ArgumentReading.{AddsNone, AddsOptions, flag_of, option_of, pair_of, plain_command, valued_of, with_option};
-ghost use Rattle.wc_plan_tool.specs.declared.arguments.ArgumentFault.TheVariants.{Memory};
+ghost use Rattle.wc_plan_tool.specs.Arguments.{IsRead, IsStop, command_value, option_value};
+ghost use Rattle.wc_plan_tool.specs.Reading.{add_option, add_path, add_value, draft_value, finish, flag_of, none_read, pair_of, plain_command, read_arguments, take_option, take_up, takes_value, valued_of};
+ghost use Rattle.wc_plan_tool.specs.declared.arguments.NoCommand.TheVariants.{Memory};
 
 use std::alloc::{AllocFailed, Global};
 
@@ -35,18 +35,39 @@ pub struct Command<'a> {
 
 /// Why there is no command.
 #[derive(Clone, Copy, Debug, PartialEq, Eq)]
-pub enum ArgumentFault {
+pub enum NoCommand<'a> {
     /// An allocation failed.
     Memory,
-    /// The arguments are those of no command.
-    Usage,
+    /// The help text is asked for.
+    Help,
+    /// The version is asked for.
+    Version,
+    /// An argument is wrong, or missing.
+    Wrong(WrongArgument<'a>),
 }
 
-impl<T: Drop> From<AllocFailed<T>> for ArgumentFault {
+/// What is wrong with arguments. An option is here by its name, as it was given.
+#[derive(Clone, Copy, Debug, PartialEq, Eq)]
+pub enum WrongArgument<'a> {
+    /// There is no such option.
+    UnknownOption(&'a str),
+    /// Nothing comes after this option, which has a value.
+    MissingValue(&'a str),
+    /// The value of this option has no `=`.
+    NotAPair { option: &'a str, value: &'a str },
+    /// This option is given twice, and may be given once.
+    RepeatedOption(&'a str),
+    /// This argument comes after the third that is no option, and is none.
+    Unexpected(&'a str),
+    /// The argument that the usage text calls so is missing.
+    Missing(&'a str),
+}
+
+impl<T: Drop> From<AllocFailed<T>> for NoCommand<'_> {
     ghost from_gives = { λ _ e. e ≡ Memory };
 
-    fn from(_e: AllocFailed<T>) -> ArgumentFault {
-        ArgumentFault::Memory
+    fn from(_e: AllocFailed<T>) -> Self {
+        NoCommand::Memory
     }
 }
 
@@ -62,48 +83,54 @@ enum CommandOption<'a> {
     Out { directory: &'a str },
 }
 
-/// The command of these arguments, the first of them the one after the program's name:
-/// `WORLDS.json WORLD MAIN.wasm`, which may be any strings, and after them options in any order. `--adapt NAME=FILE`,
-/// `--export KEY` and `--adapter-export NAME=KEY` may come several times, `--reject-legacy-names`,
-/// `--realloc-via-memory-grow`, `--json` and `--out DIR` once. What comes after the name of an option is its value, whatever it
-/// is; NAME ends at the first `=`.
+/// What was read of arguments besides options and their values.
+#[derive(Drop)]
+struct Draft<'a> {
+    /// The arguments that are no options, in order.
+    paths: Vec<&'a str>,
+    /// The option that has the next argument for its value.
+    pending: Option<&'a str>,
+    /// Whether no later argument is an option.
+    is_ended: bool,
+}
+
+/// The command of these arguments, the first of them the one after the program's name: `WORLDS.json`, `WORLD` and
+/// `MAIN.wasm` in this order, and options before, between and after them. `--adapt NAME=FILE`, `--export KEY` and
+/// `--adapter-export NAME=KEY` may come several times, `--reject-legacy-names`, `--realloc-via-memory-grow`, `--json`
+/// and `--out DIR` once. What comes after the name of an option that has a value is its value, whatever it is; in one
+/// argument there is a `=` between them, as in `--out=DIR`. NAME ends at the first `=`. `--` is not an argument, and
+/// says that those after it are no options. No option is `-` alone, nor what begins with another character.
 ///
 /// # Errors
 ///
-/// - `Usage`: they are the arguments of no command.
-/// - `Memory`: an allocation failed.
-pub fn parse(alloc: Global, arguments: &[String]) -> Result<Command<'_>, ArgumentFault>
-    ensures command { IfOk result (λ c. IsCommandLine (map string_bytes arguments.now)
-        (command_value c)) }
-    // No other command has these arguments.
-    ensures unique { IfOk result (λ c. (d : CommandValue)
-        → IsCommandLine (map string_bytes arguments.now) d → d ≡ command_value c) }
-    ensures usage { IsErrOf result ArgumentFault.Usage → (d : CommandValue)
-        → ¬ (IsCommandLine (map string_bytes arguments.now) d) }
+/// They are read in order, and the first of these is named:
+///
+/// - `Help`, `Version`: an option is `--help` or `-h`, or `--version`.
+/// - `Wrong`: an argument is wrong; or, after the last, the value of an option or one of the three arguments is missing.
+/// - `Memory`: an allocation failed. It may come in place of any other.
+pub fn parse(alloc: Global, arguments: &[String]) -> Result<Command<'_>, NoCommand<'_>>
+    ensures { IsRead result (read_arguments (map string_bytes arguments.now)) }
 {
-    match arguments {
-        [worlds, world, main, options @ ..] => {
-            let mut command = without_options(
-                alloc,
-                worlds.as_str(),
-                world.as_str(),
-                main.as_str(),
-            );
-            add_options(&mut command, options)?;
-            Ok(command)
-        }
-        _ => Err(ArgumentFault::Usage),
+    let mut command = no_options(alloc);
+    let mut draft = Draft {
+        paths: Vec::new(alloc),
+        pending: None,
+        is_ended: false,
+    };
+    for argument in arguments {
+        take_up(&mut command, &mut draft, argument.as_str())?;
     }
+    finish(command, &draft)
 }
 
-/// The command with these paths, this world, and no options.
-fn without_options<'a>(alloc: Global, worlds: &'a str, world: &'a str, main: &'a str) -> Command<'a>
-    ensures { command_value result ≡ plain_command worlds.now world.now main.now }
+/// The command without options, whose paths and world are empty.
+fn no_options<'a>(alloc: Global) -> Command<'a>
+    ensures { command_value result ≡ plain_command }
 {
     Command {
-        worlds,
-        world,
-        main,
+        worlds: "",
+        world: "",
+        main: "",
         adapters: Vec::new(alloc),
         exports: Vec::new(alloc),
         adapter_exports: Vec::new(alloc),
@@ -114,41 +141,113 @@ fn without_options<'a>(alloc: Global, worlds: &'a str, world: &'a str, main: &'a
     }
 }
 
-/// Adds the options that these arguments are to a command.
-fn add_options<'a>(command: &mut Command<'a>, arguments: &'a [String]) -> Result<(), ArgumentFault>
-    ensures added { OnOk result (AddsOptions (map string_bytes arguments.now)
-        (command_value command.old) (command_value command.new)) }
-    ensures usage { IsErrOf result ArgumentFault.Usage
-        → AddsNone (map string_bytes arguments.now) (command_value command.old) }
+/// Takes up the next argument.
+fn take_up<'a>(
+    command: &mut Command<'a>,
+    draft: &mut Draft<'a>,
+    argument: &'a str,
+) -> Result<(), NoCommand<'a>>
+    ensures taken { OnOk result (take_up (command_value command.old) (draft_value draft.old)
+        argument.now ≡ Ok (command_value command.new, draft_value draft.new)) }
+    ensures stops { IfErr result (IsStop (take_up (command_value command.old)
+        (draft_value draft.old) argument.now)) }
 {
-    let mut rest = arguments;
-    while !rest.is_empty() {
-        let Some((option, after)) = first_option(rest) else {
-            return Err(ArgumentFault::Usage);
-        };
-        add_option(command, option)?;
-        rest = after;
+    if draft.is_ended {
+        return add_path(draft, argument);
     }
+    if let Some(option) = draft.pending {
+        draft.pending = None;
+        return add_value(command, option, argument);
+    }
+    if argument == "--" {
+        draft.is_ended = true;
+        return Ok(());
+    }
+    if argument.starts_with('-') && argument != "-" {
+        take_option(command, draft, argument)
+    } else {
+        add_path(draft, argument)
+    }
+}
+
+/// Takes up an argument that is no option.
+fn add_path<'a>(draft: &mut Draft<'a>, argument: &'a str) -> Result<(), NoCommand<'a>>
+    ensures added { OnOk result (add_path (draft_value draft.old) argument.now
+        ≡ Ok (draft_value draft.new)) }
+    ensures stops { IfErr result (IsStop (add_path (draft_value draft.old) argument.now)) }
+{
+    if draft.paths.len() == 3 {
+        return Err(NoCommand::Wrong(WrongArgument::Unexpected(argument)));
+    }
+    draft.paths.push(argument)?;
     Ok(())
 }
 
-/// The option that begins with the first argument, and the arguments after it.
-fn first_option(arguments: &[String]) -> Option<(CommandOption<'_>, &[String])>
-    ensures { option_map (λ p. (option_value p.0, map string_bytes p.1.now)) result
-        ≡ option_of (map string_bytes arguments.now) }
+/// Takes up an argument that begins as options do.
+fn take_option<'a>(
+    command: &mut Command<'a>,
+    draft: &mut Draft<'a>,
+    argument: &'a str,
+) -> Result<(), NoCommand<'a>>
+    ensures taken { OnOk result (take_option (command_value command.old) (draft_value draft.old)
+        argument.now ≡ Ok (command_value command.new, draft_value draft.new)) }
+    ensures stops { IfErr result (IsStop (take_option (command_value command.old)
+        (draft_value draft.old) argument.now)) }
 {
-    let [argument, after @ ..] = arguments else {
-        return None;
-    };
-    if let Some(option) = flag(argument.as_str()) {
-        return Some((option, after));
+    if argument == "--help" || argument == "-h" {
+        return Err(NoCommand::Help);
     }
-    let [value, after @ ..] = after else {
-        return None;
-    };
-    match valued(argument.as_str(), value.as_str()) {
-        Some(option) => Some((option, after)),
-        None => None,
+    if argument == "--version" {
+        return Err(NoCommand::Version);
+    }
+    if let Some(option) = flag(argument) {
+        return add_option(command, argument, option);
+    }
+    if takes_value(argument) {
+        draft.pending = Some(argument);
+        return Ok(());
+    }
+    match pair(argument) {
+        Some((option, value)) if takes_value(option) => add_value(command, option, value),
+        _ => Err(NoCommand::Wrong(WrongArgument::UnknownOption(argument))),
+    }
+}
+
+/// Adds the option of this name with this value.
+fn add_value<'a>(
+    command: &mut Command<'a>,
+    option: &'a str,
+    value: &'a str,
+) -> Result<(), NoCommand<'a>>
+    ensures added { OnOk result (add_value (command_value command.old) option.now value.now
+        ≡ Ok (command_value command.new)) }
+    ensures stops { IfErr result (IsStop (add_value (command_value command.old)
+        option.now value.now)) }
+{
+    match valued(option, value) {
+        Some(valued) => add_option(command, option, valued),
+        None => Err(NoCommand::Wrong(WrongArgument::NotAPair { option, value })),
+    }
+}
+
+/// The command with the paths and the world that were read, if all three were.
+fn finish<'a>(command: Command<'a>, draft: &Draft<'a>) -> Result<Command<'a>, NoCommand<'a>>
+    ensures { IsRead result (finish (command_value command.entry) (draft_value draft.now)) }
+{
+    if let Some(option) = draft.pending {
+        return Err(NoCommand::Wrong(WrongArgument::MissingValue(option)));
+    }
+    let mut command = command;
+    match draft.paths.as_slice() {
+        [worlds, world, main, ..] => {
+            command.worlds = worlds;
+            command.world = world;
+            command.main = main;
+            Ok(command)
+        }
+        [_, _] => Err(NoCommand::Wrong(WrongArgument::Missing("MAIN.wasm"))),
+        [_] => Err(NoCommand::Wrong(WrongArgument::Missing("WORLD"))),
+        [] => Err(NoCommand::Wrong(WrongArgument::Missing("WORLDS.json"))),
     }
 }
 
@@ -167,7 +266,14 @@ fn flag(argument: &str) -> Option<CommandOption<'_>>
     }
 }
 
-/// The option that an argument is with the value after it.
+/// Whether an option of this name has a value.
+fn takes_value(option: &str) -> bool
+    ensures { result ≡ takes_value option.now }
+{
+    option == "--adapt" || option == "--export" || option == "--adapter-export" || option == "--out"
+}
+
+/// The option of this name with this value.
 fn valued<'a>(argument: &str, value: &'a str) -> Option<CommandOption<'a>>
     ensures { option_map option_value result ≡ valued_of argument.now value.now }
 {
@@ -193,23 +299,27 @@ fn pair(text: &str) -> Option<(&str, &str)>
     text.split_once('=')
 }
 
-/// Adds an option to a command. `Usage`, if the command has it, and can't have it again.
-fn add_option<'a>(command: &mut Command<'a>, option: CommandOption<'a>) -> Result<(), ArgumentFault>
-    ensures added { OnOk result (with_option (command_value command.old) (option_value option.entry)
-        ≡ Some (command_value command.new)) }
-    ensures usage { IsErrOf result ArgumentFault.Usage
-        → with_option (command_value command.old) (option_value option.entry) ≡ None }
+/// Adds an option of this name to a command.
+fn add_option<'a>(
+    command: &mut Command<'a>,
+    name: &'a str,
+    option: CommandOption<'a>,
+) -> Result<(), NoCommand<'a>>
+    ensures added { OnOk result (add_option (command_value command.old) name.now
+        (option_value option.entry) ≡ Ok (command_value command.new)) }
+    ensures stops { IfErr result (IsStop (add_option (command_value command.old) name.now
+        (option_value option.entry))) }
 {
     match option {
         CommandOption::Adapt { name, file } => command.adapters.push((name, file))?,
         CommandOption::Export { key } => command.exports.push(key)?,
         CommandOption::AdapterExport { name, key } => command.adapter_exports.push((name, key))?,
-        CommandOption::RejectLegacyNames => set(&mut command.reject_legacy_names)?,
-        CommandOption::ReallocViaMemoryGrow => set(&mut command.realloc_via_memory_grow)?,
-        CommandOption::Json => set(&mut command.json)?,
+        CommandOption::RejectLegacyNames => set(&mut command.reject_legacy_names, name)?,
+        CommandOption::ReallocViaMemoryGrow => set(&mut command.realloc_via_memory_grow, name)?,
+        CommandOption::Json => set(&mut command.json, name)?,
         CommandOption::Out { directory } => {
             if command.out.is_some() {
-                return Err(ArgumentFault::Usage);
+                return Err(NoCommand::Wrong(WrongArgument::RepeatedOption(name)));
             }
             command.out = Some(directory);
         }
@@ -217,13 +327,14 @@ fn add_option<'a>(command: &mut Command<'a>, option: CommandOption<'a>) -> Resul
     Ok(())
 }
 
-/// Sets a flag. `Usage`, if it is set.
-fn set(flag: &mut bool) -> Result<(), ArgumentFault>
+/// Sets the flag of an option of this name, which is given once.
+fn set<'a>(flag: &mut bool, name: &'a str) -> Result<(), NoCommand<'a>>
     ensures set { OnOk result ((flag.old ≡ false) × (flag.new ≡ true)) }
-    ensures usage { IfErr result (λ e. (e ≡ ArgumentFault.Usage) × (flag.old ≡ true)) }
+    ensures repeated { IfErr result (λ e. (e ≡ NoCommand.Wrong (WrongArgument.RepeatedOption name.entry))
+        × (flag.old ≡ true)) }
 {
     if *flag {
-        return Err(ArgumentFault::Usage);
+        return Err(NoCommand::Wrong(WrongArgument::RepeatedOption(name)));
     }
     *flag = true;
     Ok(())

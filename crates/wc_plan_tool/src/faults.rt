@@ -1,14 +1,15 @@
 //! Why the program could not do what its arguments say.
 
-ghost use Rattle.std.specs.Prelude.{◌≡◌, IfOk, Some, string_bytes};
-ghost use Rattle.wc_plan_tool.specs.Faults.{IsCarried, IsTextOf};
+ghost use Rattle.std.specs.Prelude.{◌≡◌, ◌++◌, IfOk, Some, string_bytes};
+ghost use Rattle.wc_json.specs.Escape.{escaped};
+ghost use Rattle.wc_plan_tool.specs.Faults.{IsCarried, IsTextOf, no_export_text, selection_fault_text};
 
 use std::alloc::{AllocError, AllocFailed, Global};
 use std::error::Error as StdError;
 use std::fmt;
 use wc_dedupe::DedupeFault;
 use wc_encoder::EncoderFault;
-use wc_json::JsonFault;
+use wc_json::{JsonFault, escaped};
 use wc_plan::PlanFault;
 use wc_resolve::ResolveFault;
 use wc_world::WorldFault;
@@ -30,6 +31,10 @@ pub enum SelectionFault<'a> {
     RepeatedAdapter(&'a str),
     /// No adapter has the name of one that has to export something.
     UnknownAdapter(&'a str),
+    /// The path of the directory that files are written to is empty.
+    EmptyDirectory,
+    /// The adapter of this name would be written to a file, and no file has this name.
+    FileName(&'a str),
     /// This adapter would be written to the file of the main module.
     MainFile(&'a str),
     /// The world has no export with this key.
@@ -51,6 +56,8 @@ impl fmt::Display for SelectionFault<'_> {
             SelectionFault::SeveralWorlds(name) => write!(f, "several worlds `{name}`"),
             SelectionFault::RepeatedAdapter(name) => write!(f, "adapter `{name}` twice"),
             SelectionFault::UnknownAdapter(name) => write!(f, "no adapter `{name}`"),
+            SelectionFault::EmptyDirectory => f.write_str("empty path of --out"),
+            SelectionFault::FileName(name) => write!(f, "adapter `{name}` is no file's name"),
             SelectionFault::MainFile(name) => {
                 write!(f, "adapter `{name}` in the main module's file")
             }
@@ -94,9 +101,11 @@ pub enum ProgramFault<'a> {
     NotText,
     /// The worlds could not be read. It carries why, never `Memory`.
     Json(JsonFault),
-    /// The arguments name a world, a key or an adapter that isn't there, or one of them twice. It carries why, never
-    /// `Memory`.
+    /// The arguments name a world or an adapter that isn't there, or a key or an adapter twice, or files can't be named.
+    /// It carries why, never `Memory` or `UnknownKey`.
     Selection(SelectionFault<'a>),
+    /// The world has no export with this key. It carries what exports it has, as a text.
+    NoExport(&'a str, String),
     /// The worlds are not well-formed. It carries why, never `Memory`.
     Resolve(ResolveFault),
     /// The imports of the main module could not be renamed. It carries why, never `Memory`.
@@ -107,15 +116,18 @@ pub enum ProgramFault<'a> {
     World(WorldFault),
     /// The component's world has no plan. It carries why, never `Memory`.
     Plan(PlanFault),
-    /// The lines could not be written.
-    Output,
+    /// The directory of this path could not be made.
+    CannotMake(&'a str),
     /// The file of this path could not be written.
     CannotWrite(String),
+    /// The lines could not be printed.
+    Output,
 }
 
 impl ProgramFault<'_> {
     /// The text of the fault, which the program prints: a path after what could not be done with it, the text of a
-    /// `SelectionFault`, or the name of a fault, `: `, and what `Display` writes of the one that it carries.
+    /// `SelectionFault`, or the name of a fault, `: `, and what `Display` writes of the one that it carries. Texts from
+    /// outside in it are escaped (`wc_json::escaped`).
     ///
     /// # Errors
     ///
@@ -125,26 +137,54 @@ impl ProgramFault<'_> {
     {
         match self {
             ProgramFault::Memory => String::from_str(alloc, "out of memory"),
-            ProgramFault::CannotRead(path) => format!(in alloc; "cannot read {path}"),
+            ProgramFault::CannotRead(path) => path_text(alloc, "cannot read ", path),
             ProgramFault::NotText => String::from_str(alloc, "Json: not UTF-8"),
             ProgramFault::Json(fault) => format!(in alloc; "Json: {fault}"),
-            ProgramFault::Selection(fault) => format!(in alloc; "{fault}"),
+            ProgramFault::Selection(fault) => selection_text(alloc, fault),
+            ProgramFault::NoExport(key, listing) => no_export_text(alloc, key, listing),
             ProgramFault::Resolve(fault) => carried_text(alloc, "Resolve", fault),
             ProgramFault::Dedupe(fault) => carried_text(alloc, "Dedupe", fault),
             ProgramFault::Encoder(fault) => carried_text(alloc, "Encoder", fault),
             ProgramFault::World(fault) => carried_text(alloc, "World", fault),
             ProgramFault::Plan(fault) => carried_text(alloc, "Plan", fault),
-            ProgramFault::Output => String::from_str(alloc, "Output"),
-            ProgramFault::CannotWrite(path) => format!(in alloc; "cannot write {path}"),
+            ProgramFault::CannotMake(path) => path_text(alloc, "cannot make directory ", path),
+            ProgramFault::CannotWrite(path) => path_text(alloc, "cannot write ", path),
+            ProgramFault::Output => String::from_str(alloc, "cannot print"),
         }
     }
 }
 
-/// The name of a fault, `: `, and what `Display` writes of the fault that it carries.
+/// What could not be done, and the path with which it could not be, escaped.
+fn path_text(alloc: Global, problem: &str, path: &str) -> Result<String, AllocError>
+    ensures { IfOk result (λ text. string_bytes text ≡ problem.now ++ escaped path.now) }
+{
+    let path = escaped(alloc, path)?;
+    format!(in alloc; "{problem}{path}")
+}
+
+/// The text of a fault, escaped.
+fn selection_text(alloc: Global, fault: &SelectionFault<'_>) -> Result<String, AllocError>
+    ensures { IfOk result (λ text. string_bytes text ≡ escaped (selection_fault_text fault.now)) }
+{
+    let text = format!(in alloc; "{fault}")?;
+    escaped(alloc, &text)
+}
+
+/// That there is no export with a key, and what exports there are, escaped.
+fn no_export_text(alloc: Global, key: &str, listing: &str) -> Result<String, AllocError>
+    ensures { IfOk result (λ text. string_bytes text
+        ≡ escaped (no_export_text key.now listing.now)) }
+{
+    let text = format!(in alloc; "no export `{key}`; exports:{listing}")?;
+    escaped(alloc, &text)
+}
+
+/// The name of a fault, `: `, and what `Display` writes of the fault that it carries, escaped.
 fn carried_text<F: fmt::Display>(alloc: Global, name: &str, fault: &F) -> Result<String, AllocError>
     ensures { IfOk result (λ text. IsCarried name.now (string_bytes text)) }
 {
     let text = fault.to_string(alloc)?;
+    let text = escaped(alloc, &text)?;
     format!(in alloc; "{name}: {text}")
 }
 

@@ -1,30 +1,34 @@
 //! The program: its arguments, its files, what it prints, and its exit status.
 
-ghost use Rattle.std.specs.Prelude.{◌≡◌, ◌++◌, IfErr, IfOk, IsErr, List, OnErr, OnOk, Some, codes, false, map, string_bytes, true, ℕ};
+ghost use Rattle.std.specs.Prelude.{◌≡◌, ◌++◌, IfErr, IfOk, IsErr, IfSome, None, OnErr, OnOk, Some, map, string_bytes};
 ghost use Rattle.std.specs.Option.{option_map};
 ghost use Rattle.std.specs.Cow.{cow_slice_items};
-ghost use Rattle.std.specs.Io.KnownBytes.{Appends};
 ghost use Rattle.std.specs.IoError.{error_kind};
 ghost use Rattle.wc_dedupe.specs.Dedupe.{IsDeduped, renames_in};
 ghost use Rattle.wc_encoder.specs.Adapters.{adapter_entry};
 ghost use Rattle.wc_encoder.specs.EncoderParts.{parts_view};
 ghost use Rattle.wc_json.specs.Document.{document_view};
 ghost use Rattle.wc_plan.specs.Faults.{AreNameable};
-ghost use Rattle.wc_plan.specs.Lines.{plan_text};
 ghost use Rattle.wc_plan.specs.PlanViews.{plan_view};
 ghost use Rattle.wc_plan.specs.Plans.{plan_of};
 ghost use Rattle.wc_tool.specs.Files.{Holds};
-ghost use Rattle.wc_tool.specs.Program.{HandsOn};
 ghost use Rattle.wc_world.specs.WorldViews.{world_view};
 ghost use Rattle.wc_plan_tool.specs.Arguments.{command_value, text_of};
-ghost use Rattle.wc_plan_tool.specs.RequiredExports.{AreDistinct, AreKeysApart, adapter_names, named_key};
-ghost use Rattle.wc_plan_tool.specs.Program.{AreAdaptersIn, CommandEnds, EndsWell, EndsWithoutArguments, HasPut, IsAdaptersCause, IsDocumentCause, IsDocumentIn, IsEncoderOf, IsFileFault, IsMainCause, IsMainIn, IsModulesCause, IsPartsWith, IsPlanCause, IsPlanned, IsPrintedOf, IsReadFault, IsRunCause, Prints, ProgramEnds, WritesAll, failure, fault_line, file_view, files_of, path_in, printed_text, usage_text};
-ghost use Rattle.wc_plan_tool.specs.Private.Runs.{IsMadeFor, IsWritingFault, Stops, description_text};
+ghost use Rattle.wc_plan_tool.specs.RequiredExports.{AreDistinct, AreKeysApart, AreNamesThere, adapter_names, named_key, texts_of};
+ghost use Rattle.wc_plan_tool.specs.Screen.{Becomes};
+ghost use Rattle.wc_plan_tool.specs.Program.{AreAdaptersIn, CommandEnds, EndsWell, EndsWithoutArguments, IsAdaptersCause, IsDocumentCause, IsDocumentIn, IsEncoderOf, IsFileFault, IsListed, IsListedCause, IsMainCause, IsMainIn, IsModulesCause, IsPartsWith, IsPlanCause, IsPlanned, IsReadFault, IsReported, IsRunCause, Prints, ProgramEnds, WritesAll, failure, file_view, files_of, path_in, printed_text, record_line, wrong_arguments};
+ghost use Rattle.wc_plan_tool.specs.Private.Runs.{AnswersStop, IsMadeFor, IsMakingFault, IsWritingFault};
+ghost use Rattle.wc_plan_tool.specs.Usage.{fault_and_usage, fault_line};
 
-use crate::arguments::{ArgumentFault, Command, parse};
-use crate::faults::ProgramFault;
+use crate::arguments::{Command, NoCommand, parse};
+use crate::faults::{ProgramFault, SelectionFault};
+use crate::lines::plan_lines;
+use crate::listing::listing;
 use crate::required_exports::{Exporter, check_names, export_keys, required_keys};
+use crate::screen::Screen;
 use crate::selection::select_world;
+use crate::store::DirectoryStore;
+use crate::usage::{AND_USAGE, NO_TEXT, OPTIONS, USAGE, VERSION};
 use indexmap::IndexMap;
 use std::alloc::{AllocError, Global};
 use std::borrow::CowSlice;
@@ -33,29 +37,12 @@ use wc_dedupe::ModuleImportMap;
 use wc_encoder::{Adapter, ComponentEncoder, EncoderParts, Metadata};
 use wc_json::{Document, document_from_json};
 use wc_plan::laws::worlds_nameable;
-use wc_plan::{Plan, plan, write_plan};
+use wc_plan::{Plan, plan};
 use wc_record::world_to_json;
 use wc_resolve::{Resolve, WorldId, WorldKey};
-use wc_tool::{FileStore, Output};
+use wc_tool::FileStore;
 use wc_world::{ComponentWorld, PlainOptions};
-use wc_write::{PutFailed, Sink};
-
-/// What is printed of a component's world.
-#[derive(Drop)]
-enum Description<'p> {
-    /// The lines of its plan.
-    Lines(&'p Plan),
-    /// Its record, as JSON.
-    Record(Vec<u8>),
-}
-
-const USAGE: &[u8] =
-    b"usage: wcplan WORLDS.json WORLD MAIN.wasm [--adapt NAME=FILE]... [--export KEY]... [--adapter-export NAME=KEY]...
-              [--reject-legacy-names] [--realloc-via-memory-grow] [--json] [--out DIR]
-";
-
-/// The end of a line.
-const LINE_FEED: &[u8] = b"\n";
+use wc_write::PutFailed;
 
 /// The exit status of a program that did what its arguments say.
 const SUCCESS: u8 = 0;
@@ -74,121 +61,143 @@ const OUT_OF_MEMORY: &[u8] = b"out of memory";
 ///
 /// | Status | Where | Printed |
 /// |---|---|---|
-/// | 0 | there are no arguments | the usage text |
-/// | 2 | the arguments are those of no command, or no text | the usage text |
-/// | 0 | the command was run | the lines of the plan, or with `--json` the record |
-/// | 1 | a file could not be written | the same, and then the line `wcplan: TEXT` |
-/// | 1 | the command could not be run otherwise | the line `wcplan: TEXT` |
-/// | 1 | there was no memory for the arguments | the line `wcplan: out of memory` |
-/// | 1 | `out` failed | not known |
+/// | 0 | there are no arguments | the usage text, to `out` |
+/// | 0 | `parse` answers `Help` or `Version` | the help text or the version, to `out` |
+/// | 0 | the command was run | the lines of the plan, or with `--json` the record, to `out` |
+/// | 1 | the command could not be run | the line `wcplan: TEXT`, to `err` |
+/// | 1 | there was no memory for the arguments | the line `wcplan: out of memory`, to `err` |
+/// | 2 | an argument is wrong, or no text | the line `wcplan: TEXT` and the usage text, to `err` |
+/// | 1 | `out` or `err` failed | not known there |
 ///
-/// TEXT is the text of `run_command`'s fault (`ProgramFault::text`), or `out of memory` where there was no memory for
-/// it. All that is printed is flushed. Files are as `run_command` leaves them;
-/// without a command they are unchanged.
-pub fn run<F: FileStore, O: Output>(
+/// TEXT is the text of `run_command`'s fault (`ProgramFault::text`) or of the wrong argument (`WrongArgument::text`), or
+/// `out of memory` where there was no memory for it; then the status is 1. All that is printed is flushed. Nothing is
+/// printed to the other output, unless `out` failed before. Files are as `run_command` leaves them; without a command
+/// they are unchanged.
+pub fn run<F: DirectoryStore, O: Screen, E: Screen>(
     alloc: Global,
     arguments: &io::Result<Vec<String>>,
     files: &mut F,
     out: &mut O,
+    err: &mut E,
 ) -> u8
     ensures known { IfOk arguments.now (λ v. ProgramEnds (map string_bytes v.items)
-        (F.held files.old) (F.held files.new)
-        (HandsOn (O.written out.old) (O.written out.new) (O.sent out.new)) (O.is_failed out.new)
-        result) }
+        (F.held files.old) (F.held files.new) (F.makes files.old)
+        (Becomes O.ends out.old out.new) (Becomes E.ends err.old err.new) result) }
     ensures unknown { IfErr arguments.now (λ e. EndsWithoutArguments
         (error_kind e ≡ ErrorKind.OutOfMemory)
-        (HandsOn (O.written out.old) (O.written out.new) (O.sent out.new)) (O.is_failed out.new)
-        result) }
+        (Becomes O.ends out.old out.new) (Becomes E.ends err.old err.new) result) }
     ensures kept { IsErr arguments.now → F.held files.new ≡ F.held files.old }
 {
     match arguments {
-        Ok(arguments) => run_with(alloc, arguments.as_slice(), files, out),
-        Err(e) if e.kind() == ErrorKind::OutOfMemory => print_fault(out, OUT_OF_MEMORY),
-        Err(_) => print_usage(out, WRONG_ARGUMENTS),
+        Ok(arguments) => run_with(alloc, arguments.as_slice(), files, out, err),
+        Err(e) if e.kind() == ErrorKind::OutOfMemory => print_fault(err, OUT_OF_MEMORY),
+        Err(_) => print_usage_fault(err, NO_TEXT),
     }
 }
 
 /// Runs the program with arguments that are known.
-fn run_with<F: FileStore, O: Output>(
+fn run_with<F: DirectoryStore, O: Screen, E: Screen>(
     alloc: Global,
     arguments: &[String],
     files: &mut F,
     out: &mut O,
+    err: &mut E,
 ) -> u8
-    ensures { ProgramEnds (map string_bytes arguments.now) (F.held files.old) (F.held files.new)
-        (HandsOn (O.written out.old) (O.written out.new) (O.sent out.new)) (O.is_failed out.new)
-        result }
+    ensures { ProgramEnds (map string_bytes arguments.now)
+        (F.held files.old) (F.held files.new) (F.makes files.old)
+        (Becomes O.ends out.old out.new) (Becomes E.ends err.old err.new) result }
 {
     if arguments.is_empty() {
-        return print_usage(out, SUCCESS);
+        return print(out, b"", USAGE, b"", SUCCESS);
     }
     match parse(alloc, arguments) {
-        Ok(command) => run_and_report(alloc, &command, files, out),
-        Err(ArgumentFault::Memory) => print_fault(out, OUT_OF_MEMORY),
-        Err(ArgumentFault::Usage) => print_usage(out, WRONG_ARGUMENTS),
+        Ok(command) => run_and_report(alloc, &command, files, out, err),
+        Err(stop) => answer_stop(alloc, &stop, out, err),
+    }
+}
+
+/// Prints what is asked for in place of a command, or what is wrong with the arguments. The answer is the exit status.
+fn answer_stop<O: Screen, E: Screen>(
+    alloc: Global,
+    stop: &NoCommand<'_>,
+    out: &mut O,
+    err: &mut E,
+) -> u8
+    ensures { AnswersStop stop.now
+        (Becomes O.ends out.old out.new) (Becomes E.ends err.old err.new) result }
+{
+    match stop {
+        NoCommand::Memory => print_fault(err, OUT_OF_MEMORY),
+        NoCommand::Help => print(out, USAGE, OPTIONS, b"", SUCCESS),
+        NoCommand::Version => print(out, b"", VERSION, b"", SUCCESS),
+        NoCommand::Wrong(wrong) => match wrong.text(alloc) {
+            Ok(text) => print_usage_fault(err, text.as_bytes()),
+            Err(AllocError) => print_fault(err, OUT_OF_MEMORY),
+        },
     }
 }
 
 /// Runs a command on its files, and prints why it could not be run. The answer is the exit status.
-fn run_and_report<F: FileStore, O: Output>(
+fn run_and_report<F: DirectoryStore, O: Screen, E: Screen>(
     alloc: Global,
     command: &Command<'_>,
     files: &mut F,
     out: &mut O,
+    err: &mut E,
 ) -> u8
-    ensures { CommandEnds (command_value command.now) (F.held files.old) (F.held files.new)
-        (HandsOn (O.written out.old) (O.written out.new) (O.sent out.new)) (O.is_failed out.new)
-        result }
+    ensures { CommandEnds (command_value command.now)
+        (F.held files.old) (F.held files.new) (F.makes files.old)
+        (Becomes O.ends out.old out.new) (Becomes E.ends err.old err.new) result }
 {
     match run_command(alloc, command, files, out) {
         Ok(()) => SUCCESS,
-        Err(fault) => report(alloc, out, &fault),
+        Err(fault) => report(alloc, err, &fault),
     }
 }
 
-/// Reads the worlds and the modules of a command, renames the main module's repeated imports, makes the component's
-/// world with `PlainOptions`, and prints the lines of its plan (`wc_plan::write_plan`), or with `--json` its record in a
-/// line (`wc_record::world_to_json`). If the command has a directory,
-/// it then writes `main.wasm` there, the main module as it was renamed, and `NAME.wasm` for each adapter of the
-/// component's world, as it was trimmed. Every other file stays the same.
+/// Reads the worlds and the modules of a command, renames the main module's repeated imports, and makes the component's
+/// world with `PlainOptions`. If the command has a directory, it makes this, and writes `main.wasm` there, the main module
+/// as it was renamed, and then `NAME.wasm` for each adapter of the component's world, as it was trimmed. Every other file
+/// stays the same. Then it prints the lines of the plan, as `wc_plan::write_plan` writes them, but each escaped
+/// (`wc_json::escaped`); or with `--json` the record in a line (`wc_record::world_to_json`).
 ///
 /// # Errors
 ///
-/// Of several causes the first in this order is named; `Memory` may come in place of any.
+/// Of several causes the first in this order is named; `Memory` may come in place of any before `CannotMake`.
 ///
 /// - `CannotRead`, `NotText`, `Json`: the worlds could not be read.
 /// - `Selection`: no world is selected.
 /// - `Resolve`: the worlds are not well-formed.
-/// - `Selection`: names of adapters, or keys, are not there, or are given twice.
+/// - `Selection`, `NoExport`: names of adapters, or keys, are not there, or are given twice; or files can't be named.
 /// - `CannotRead`, `Dedupe`: the main module could not be read, or not renamed.
 /// - `CannotRead`: an adapter could not be read; they are read in order.
 /// - `Encoder`, `World`, `Plan`: there is no encoder, no component's world, or no plan.
-/// - `Output`: the lines, or the record, could not be written. `out` is failed, and how much was written is left open.
-/// - `CannotWrite`: a file could not be written. The lines were printed, and the files before it written; what bytes it
-///   has is left open.
+/// - `CannotMake`: the directory could not be made.
+/// - `CannotWrite`: a file could not be written. The files before it were; what bytes it has is left open.
+/// - `Output`: the lines, or the record, could not be printed. All files were written; `out` is failed, and how much was
+///   printed is left open.
 /// - `Memory`: an allocation failed.
 ///
-/// After each fault but `Output` and `CannotWrite` nothing was printed; after each but `CannotWrite` no file was
-/// written.
-pub fn run_command<'a, F: FileStore, O: Output>(
+/// After each fault but `Output` nothing was printed; after each but `CannotWrite` and `Output` no file was written.
+pub fn run_command<'a, F: DirectoryStore, O: Screen>(
     alloc: Global,
     command: &Command<'a>,
     files: &mut F,
     out: &mut O,
 ) -> Result<(), ProgramFault<'a>>
     ensures done { OnOk result (EndsWell
-        (command_value command.now) (F.held files.old) (F.held files.new)
-        (HandsOn (O.written out.old) (O.written out.new) (O.sent out.new)) (O.is_failed out.new)) }
-    ensures fault { IfErr result (λ f. (lines : List ℕ)
-        × IsRunCause (command_value command.now) (F.held files.old) (F.held files.new) lines f
-        × HasPut (Appends (O.written out.old) (O.written out.new)) (O.is_failed out.new) lines f) }
+        (command_value command.now) (F.held files.old) (F.held files.new) (F.makes files.old)
+        (Becomes O.ends out.old out.new)) }
+    ensures fault { IfErr result (IsRunCause
+        (command_value command.now) (F.held files.old) (F.held files.new) (F.makes files.old)
+        (Becomes O.ends out.old out.new)) }
 {
     let encoder = read_encoder(alloc, command, files)?;
     run_encoder(alloc, command, &encoder, files, out)
 }
 
 /// Runs a command whose encoder this is.
-fn run_encoder<'a, F: FileStore, O: Output>(
+fn run_encoder<'a, F: DirectoryStore, O: Screen>(
     alloc: Global,
     command: &Command<'a>,
     encoder: &ComponentEncoder,
@@ -197,11 +206,11 @@ fn run_encoder<'a, F: FileStore, O: Output>(
 ) -> Result<(), ProgramFault<'a>>
     requires { IsEncoderOf (command_value command.now) (F.held files.old) encoder.now }
     ensures done { OnOk result (EndsWell
-        (command_value command.now) (F.held files.old) (F.held files.new)
-        (HandsOn (O.written out.old) (O.written out.new) (O.sent out.new)) (O.is_failed out.new)) }
-    ensures fault { IfErr result (Stops
-        (command_value command.now) (F.held files.old) (F.held files.new)
-        (O.written out.old) (O.written out.new) (O.is_failed out.new)) }
+        (command_value command.now) (F.held files.old) (F.held files.new) (F.makes files.old)
+        (Becomes O.ends out.old out.new)) }
+    ensures fault { IfErr result (IsRunCause
+        (command_value command.now) (F.held files.old) (F.held files.new) (F.makes files.old)
+        (Becomes O.ends out.old out.new)) }
 {
     // So what modules import can be named.
     worlds_nameable(encoder);
@@ -212,7 +221,7 @@ fn run_encoder<'a, F: FileStore, O: Output>(
 }
 
 /// Runs a command whose component's world this is.
-fn run_world<'a, F: FileStore, O: Output>(
+fn run_world<'a, F: DirectoryStore, O: Screen>(
     alloc: Global,
     command: &Command<'a>,
     world: &ComponentWorld<'_>,
@@ -223,11 +232,11 @@ fn run_world<'a, F: FileStore, O: Output>(
         (world_view world.now) }
     requires nameable { AreNameable (world_view world.now) }
     ensures done { OnOk result (EndsWell
-        (command_value command.now) (F.held files.old) (F.held files.new)
-        (HandsOn (O.written out.old) (O.written out.new) (O.sent out.new)) (O.is_failed out.new)) }
-    ensures fault { IfErr result (Stops
-        (command_value command.now) (F.held files.old) (F.held files.new)
-        (O.written out.old) (O.written out.new) (O.is_failed out.new)) }
+        (command_value command.now) (F.held files.old) (F.held files.new) (F.makes files.old)
+        (Becomes O.ends out.old out.new)) }
+    ensures fault { IfErr result (IsRunCause
+        (command_value command.now) (F.held files.old) (F.held files.new) (F.makes files.old)
+        (Becomes O.ends out.old out.new)) }
 {
     match plan(alloc, world) {
         Ok(plan) => run_plan(alloc, command, world, &plan, files, out),
@@ -236,7 +245,7 @@ fn run_world<'a, F: FileStore, O: Output>(
 }
 
 /// Runs a command that has this component's world, and its plan.
-fn run_plan<'a, F: FileStore, O: Output>(
+fn run_plan<'a, F: DirectoryStore, O: Screen>(
     alloc: Global,
     command: &Command<'a>,
     world: &ComponentWorld<'_>,
@@ -248,54 +257,84 @@ fn run_plan<'a, F: FileStore, O: Output>(
         (world_view world.now) }
     requires plan { plan_view plan.now ≡ plan_of (world_view world.now) }
     ensures done { OnOk result (EndsWell
-        (command_value command.now) (F.held files.old) (F.held files.new)
-        (HandsOn (O.written out.old) (O.written out.new) (O.sent out.new)) (O.is_failed out.new)) }
-    ensures fault { IfErr result (Stops
-        (command_value command.now) (F.held files.old) (F.held files.new)
-        (O.written out.old) (O.written out.new) (O.is_failed out.new)) }
+        (command_value command.now) (F.held files.old) (F.held files.new) (F.makes files.old)
+        (Becomes O.ends out.old out.new)) }
+    ensures fault { IfErr result (IsRunCause
+        (command_value command.now) (F.held files.old) (F.held files.new) (F.makes files.old)
+        (Becomes O.ends out.old out.new)) }
 {
     let outputs = outputs_of(alloc, command.out, world)?;
     let description = description_of(alloc, command, world, plan)?;
-    print_and_write(&description, outputs, files, out)
+    write_and_print(command.out, outputs, &description, files, out)
 }
 
 /// What a command prints of its component's world, which has this plan.
-fn description_of<'p>(
+fn description_of(
     alloc: Global,
     command: &Command<'_>,
     world: &ComponentWorld<'_>,
-    plan: &'p Plan,
-) -> Result<Description<'p>, AllocError>
+    plan: &Plan,
+) -> Result<Vec<u8>, AllocError>
     requires { plan_view plan.now ≡ plan_of (world_view world.now) }
-    ensures { IfOk result (λ description. description_text description
+    ensures { IfOk result (λ text. text.items
         ≡ printed_text command.now.json (world_view world.now)) }
 {
     if command.json {
-        Ok(Description::Record(world_to_json(alloc, world)?))
+        record_line(alloc, world)
     } else {
-        Ok(Description::Lines(plan))
+        Ok(plan_lines(alloc, plan)?.into_bytes())
     }
 }
 
-/// Prints a description, and then writes files, in order.
-fn print_and_write<'a, F: FileStore, O: Output>(
-    description: &Description<'_>,
+/// The record of a component's world, in a line.
+fn record_line(alloc: Global, world: &ComponentWorld<'_>) -> Result<Vec<u8>, AllocError>
+    ensures { IfOk result (λ text. text.items ≡ record_line (world_view world.now)) }
+{
+    let mut line = world_to_json(alloc, world)?;
+    line.push(b'\n')?;
+    Ok(line)
+}
+
+/// Makes a directory, if there is one; then writes files, in order; and then prints a text.
+fn write_and_print<'a, F: DirectoryStore, O: Screen>(
+    directory: Option<&'a str>,
     outputs: Vec<(String, &[u8])>,
+    text: &[u8],
     files: &mut F,
     out: &mut O,
 ) -> Result<(), ProgramFault<'a>>
-    ensures printed { OnOk result (HandsOn (O.written out.old) (O.written out.new)
-        (O.sent out.new) (description_text description.now)) }
-    ensures works { OnOk result (O.is_failed out.new ≡ false) }
+    ensures made { OnOk result (IfSome (option_map text_of directory.entry) (F.makes files.old)) }
     ensures written { OnOk result (WritesAll (F.held files.old) (F.held files.new)
         (map file_view outputs.entry.items)) }
-    ensures fault { IfErr result (IsWritingFault (F.held files.old) (F.held files.new)
-        (map file_view outputs.entry.items)) }
-    ensures put { IfErr result (HasPut (Appends (O.written out.old) (O.written out.new))
-        (O.is_failed out.new) (description_text description.now)) }
+    ensures printed { OnOk result (O.ends out.old out.new (Some text.now)) }
+    ensures fault { IfErr result (IsWritingFault (option_map text_of directory.entry)
+        (F.held files.old) (F.held files.new) (F.makes files.old)
+        (map file_view outputs.entry.items) (Becomes O.ends out.old out.new)) }
 {
-    print_description(description, out)?;
-    write_files(outputs, files)
+    make_directory(directory, files)?;
+    write_files(outputs, files)?;
+    match out.show(b"", text, b"") {
+        Ok(()) => Ok(()),
+        Err(PutFailed) => Err(ProgramFault::Output),
+    }
+}
+
+/// Makes a directory, if there is one.
+fn make_directory<'a, F: DirectoryStore>(
+    directory: Option<&'a str>,
+    files: &mut F,
+) -> Result<(), ProgramFault<'a>>
+    ensures made { OnOk result (IfSome (option_map text_of directory.entry) (F.makes files.old)) }
+    ensures fault { IfErr result (IsMakingFault (option_map text_of directory.entry)) }
+    ensures kept { F.held files.new ≡ F.held files.old }
+{
+    let Some(path) = directory else {
+        return Ok(());
+    };
+    match files.make_directory(path) {
+        Ok(()) => Ok(()),
+        Err(_) => Err(ProgramFault::CannotMake(path)),
+    }
 }
 
 /// The encoder of a command, from its files.
@@ -311,9 +350,44 @@ fn read_encoder<'a, F: FileStore>(
     let world = select_world(alloc, &document, command.world)?;
     let resolve = Resolve::build(alloc, document.parts)?;
     let keys = export_keys(alloc, &resolve, world)?;
-    check_names(alloc, command, &keys)?;
+    check_listed(alloc, command, &keys)?;
     let parts = read_parts(alloc, command, Metadata { resolve, world }, &keys, files)?;
     Ok(ComponentEncoder::build(alloc, parts)?)
+}
+
+/// Checks the names of adapters and the keys of a command, as `check_names` does. The fault of a key that isn't there has
+/// what exports there are.
+fn check_listed<'a>(
+    alloc: Global,
+    command: &Command<'a>,
+    keys: &[(WorldKey, String)],
+) -> Result<(), ProgramFault<'a>>
+    ensures there { OnOk result (AreNamesThere (command_value command.now)
+        (map named_key keys.now)) }
+    ensures fault { IfErr result (IsListedCause (command_value command.now)
+        (map named_key keys.now)) }
+{
+    match check_names(alloc, command, keys) {
+        Ok(()) => Ok(()),
+        Err(fault) => Err(listed_fault(alloc, fault, keys)),
+    }
+}
+
+/// A fault of names; that of a key that isn't there with what exports there are.
+fn listed_fault<'a>(
+    alloc: Global,
+    fault: SelectionFault<'a>,
+    keys: &[(WorldKey, String)],
+) -> ProgramFault<'a>
+    ensures { IsListed fault.entry (texts_of (map named_key keys.now)) result }
+{
+    match fault {
+        SelectionFault::UnknownKey(key) => match listing(alloc, keys) {
+            Ok(listing) => ProgramFault::NoExport(key, listing),
+            Err(AllocError) => ProgramFault::Memory,
+        },
+        _ => ProgramFault::from(fault),
+    }
 }
 
 /// The worlds in the file of this path.
@@ -340,6 +414,7 @@ fn read_file<'a, F: FileStore>(path: &'a str, files: &F) -> Result<Vec<u8>, Prog
 {
     match files.read(path) {
         Ok(bytes) => Ok(bytes),
+        Err(e) if e.kind() == ErrorKind::OutOfMemory => Err(ProgramFault::Memory),
         Err(_) => Err(ProgramFault::CannotRead(path)),
     }
 }
@@ -463,44 +538,6 @@ fn path_in(alloc: Global, directory: &str, name: &str) -> Result<String, AllocEr
     format!(in alloc; "{directory}/{name}.wasm")
 }
 
-/// Prints a description, and flushes.
-fn print_description<O: Output>(description: &Description<'_>, out: &mut O) -> Result<(), PutFailed>
-    ensures printed { OnOk result (HandsOn (O.written out.old) (O.written out.new)
-        (O.sent out.new) (description_text description.now)) }
-    ensures works { OnOk result (O.is_failed out.new ≡ false) }
-    ensures fails { OnErr result (O.is_failed out.new ≡ true) }
-{
-    match description {
-        Description::Lines(plan) => print_plan(plan, out),
-        Description::Record(bytes) => print_record(bytes, out),
-    }
-}
-
-/// Prints a record in a line, and flushes.
-fn print_record<O: Output>(text: &[u8], out: &mut O) -> Result<(), PutFailed>
-    ensures printed { OnOk result (HandsOn (O.written out.old) (O.written out.new)
-        (O.sent out.new) (text.now ++ codes "\n")) }
-    ensures works { OnOk result (O.is_failed out.new ≡ false) }
-    ensures fails { OnErr result (O.is_failed out.new ≡ true) }
-{
-    out.put(text)?;
-    out.put(LINE_FEED)?;
-    out.flush()
-}
-
-/// Prints the lines of a plan, and flushes.
-fn print_plan<O: Output>(plan: &Plan, out: &mut O) -> Result<(), PutFailed>
-    ensures printed { OnOk result (HandsOn (O.written out.old) (O.written out.new)
-        (O.sent out.new) (plan_text (plan_view plan.now))) }
-    ensures works { OnOk result (O.is_failed out.new ≡ false) }
-    ensures fails { OnErr result (O.is_failed out.new ≡ true) }
-{
-    match write_plan(plan, out) {
-        Ok(()) => out.flush(),
-        Err(_) => Err(PutFailed),
-    }
-}
-
 /// Writes files, in order.
 fn write_files<'a, F: FileStore>(
     outputs: Vec<(String, &[u8])>,
@@ -519,63 +556,38 @@ fn write_files<'a, F: FileStore>(
     Ok(())
 }
 
-/// Prints the usage text. The answer is `status`, or the status of a failure where `out` fails.
-fn print_usage<O: Output>(out: &mut O, status: u8) -> u8
-    ensures { Prints usage_text status
-        (HandsOn (O.written out.old) (O.written out.new) (O.sent out.new))
-        (O.is_failed out.new) result }
+/// Prints why the program failed. The answer is the status of a failure.
+fn report<E: Screen>(alloc: Global, err: &mut E, fault: &ProgramFault<'_>) -> u8
+    ensures { IsReported fault.now (Becomes E.ends err.old err.new) result }
 {
-    match put_usage(out) {
+    match fault.text(alloc) {
+        Ok(text) => print_fault(err, text.as_bytes()),
+        Err(AllocError) => print_fault(err, OUT_OF_MEMORY),
+    }
+}
+
+/// Prints the text of a fault in a line. The answer is the status of a failure.
+fn print_fault<E: Screen>(err: &mut E, text: &[u8]) -> u8
+    ensures { Prints (fault_line text.now) failure (Becomes E.ends err.old err.new) result }
+{
+    print(err, b"wcplan: ", text, b"\n", FAILURE)
+}
+
+/// Prints what is wrong with the arguments in a line, and the usage text. The answer is the exit status.
+fn print_usage_fault<E: Screen>(err: &mut E, text: &[u8]) -> u8
+    ensures { Prints (fault_and_usage text.now) wrong_arguments
+        (Becomes E.ends err.old err.new) result }
+{
+    print(err, b"wcplan: ", text, AND_USAGE, WRONG_ARGUMENTS)
+}
+
+/// Prints texts. The answer is `status`, or the status of a failure where the output fails.
+fn print<O: Screen>(out: &mut O, before: &[u8], text: &[u8], after: &[u8], status: u8) -> u8
+    ensures { Prints (before.now ++ (text.now ++ after.now)) status
+        (Becomes O.ends out.old out.new) result }
+{
+    match out.show(before, text, after) {
         Ok(()) => status,
         Err(PutFailed) => FAILURE,
     }
-}
-
-/// Puts the usage text, and flushes.
-fn put_usage<O: Output>(out: &mut O) -> Result<(), PutFailed>
-    ensures printed { OnOk result
-        (HandsOn (O.written out.old) (O.written out.new) (O.sent out.new) usage_text) }
-    ensures works { OnOk result (O.is_failed out.new ≡ false) }
-    ensures fails { OnErr result (O.is_failed out.new ≡ true) }
-{
-    out.put(USAGE)?;
-    out.flush()
-}
-
-/// Prints why the program failed. The answer is the status of a failure, also where `out` fails.
-fn report<O: Output>(alloc: Global, out: &mut O, fault: &ProgramFault<'_>) -> u8
-    ensures status { result ≡ failure }
-    ensures printed { O.is_failed out.new ≡ false → (text : List ℕ) × IsPrintedOf fault.now text
-        × HandsOn (O.written out.old) (O.written out.new) (O.sent out.new) (fault_line text) }
-    ensures refuses { O.is_failed out.new ≡ false → O.is_failed out.old ≡ false }
-{
-    match fault.text(alloc) {
-        Ok(text) => print_fault(out, text.as_bytes()),
-        Err(AllocError) => print_fault(out, OUT_OF_MEMORY),
-    }
-}
-
-/// Prints the text of a fault. The answer is the status of a failure, also where `out` fails.
-fn print_fault<O: Output>(out: &mut O, text: &[u8]) -> u8
-    ensures status { result ≡ failure }
-    ensures printed { O.is_failed out.new ≡ false → HandsOn (O.written out.old) (O.written out.new)
-        (O.sent out.new) (fault_line text.now) }
-    ensures refuses { O.is_failed out.new ≡ false → O.is_failed out.old ≡ false }
-{
-    let _ = put_fault(out, text);
-    FAILURE
-}
-
-/// Puts the line that says why the program failed, and flushes.
-fn put_fault<O: Output>(out: &mut O, text: &[u8]) -> Result<(), PutFailed>
-    ensures printed { OnOk result (HandsOn (O.written out.old) (O.written out.new)
-        (O.sent out.new) (fault_line text.now)) }
-    ensures refuses { OnOk result (O.is_failed out.old ≡ false) }
-    ensures works { OnOk result (O.is_failed out.new ≡ false) }
-    ensures fails { OnErr result (O.is_failed out.new ≡ true) }
-{
-    out.put(b"wcplan: ")?;
-    out.put(text)?;
-    out.put(b"\n")?;
-    out.flush()
 }

@@ -1,6 +1,6 @@
 //! What modules have to export.
 
-ghost use Rattle.std.specs.Prelude.{◌≡◌, ◌<◌, ◌&&◌, ◌++◌, IfErr, IfNone, IfOk, IfSome, OnOk, length, map, Contains, All, is_some, string_bytes};
+ghost use Rattle.std.specs.Prelude.{◌≡◌, ◌<◌, ◌&&◌, ◌++◌, IfErr, IfNone, IfOk, IfSome, OnOk, length, map, Contains, All, string_bytes};
 ghost use Rattle.std.specs.List.{list_any};
 ghost use Rattle.std.specs.Str.{bytes_eq};
 ghost use Rattle.std.specs.Option.{IsSome};
@@ -9,10 +9,11 @@ ghost use Rattle.wc_resolve.specs.Queries.{key_text};
 ghost use Rattle.wc_resolve.specs.Ranges.{IsKeyIn};
 ghost use Rattle.wc_resolve.specs.Views.{key_view, world_entry};
 ghost use Rattle.wc_plan_tool.specs.Arguments.{command_value, text_of, text_pair};
-ghost use Rattle.wc_plan_tool.specs.RequiredExports.{AreDistinct, AreKeysApart, AreKeysThere, AreNamesThere, IsFirstMissing, IsFirstRepeated, IsKeysCause, IsNamesCause, export_keys, exporter_name, first_parts, given_keys, is_required, main_file, named_key, named_keys, required_keys, second_parts, texts_of};
+ghost use Rattle.wc_plan_tool.specs.RequiredExports.{AreDistinct, AreKeysApart, AreKeysThere, AreNamesThere, IsFirstMissing, IsFirstRepeated, IsKeysCause, IsNamesCause, export_keys, exporter_name, first_parts, given_keys, is_required, named_key, named_keys, required_keys, second_parts, texts_of};
 
 use crate::arguments::Command;
 use crate::faults::SelectionFault;
+use crate::file_names::{file_fault, has_text};
 use indexmap::{IndexMap, IndexSet};
 use std::alloc::{AllocError, Global};
 use wc_resolve::{Resolve, WorldId, WorldItem, WorldKey};
@@ -24,9 +25,6 @@ pub(crate) enum Exporter<'a> {
     /// The adapter of this name.
     Adapter(&'a str),
 }
-
-/// The name of the file of the main module.
-const MAIN: &str = "main";
 
 /// The keys of a world's exports, in order, each with its text (`Resolve::name_world_key`).
 ///
@@ -78,7 +76,7 @@ fn named_keys(
 ///
 /// - `RepeatedAdapter`: two adapters have one name.
 /// - `UnknownAdapter`: no adapter has the name of one that has to export a key.
-/// - `MainFile`: files are to be written, and an adapter has the name `main`.
+/// - `EmptyDirectory`, `FileName`, `MainFile`: files are to be written, and can't be named (`file_fault`).
 /// - `UnknownKey`: the world doesn't export the key.
 /// - `RepeatedKey`: a key is given twice, for one module or for two.
 /// - `Memory`: an allocation failed.
@@ -100,18 +98,10 @@ pub(crate) fn check_names<'a>(
     if let Some(name) = first_missing(&exporters, &adapters) {
         return Err(SelectionFault::UnknownAdapter(name));
     }
-    if is_main_file(command, &adapters) {
-        return Err(SelectionFault::MainFile(MAIN));
+    if let Some(fault) = file_fault(command.out, &adapters) {
+        return Err(fault);
     }
     check_keys(alloc, command, keys)
-}
-
-/// Whether files are to be written, and one of these adapters would be in the file of the main module.
-fn is_main_file(command: &Command<'_>, adapters: &[&str]) -> bool
-    ensures { result ≡ (is_some command.now.out && list_any (λ t. bytes_eq t.now main_file)
-        adapters.now) }
-{
-    command.out.is_some() && has_text(adapters, MAIN)
 }
 
 /// Checks the keys of a command against a world's exports.
@@ -271,11 +261,4 @@ fn has_second(pairs: &[(&str, &str)], text: &str) -> bool
     ensures { result ≡ list_any (λ p. bytes_eq p.1.now text.now) pairs.now }
 {
     pairs.iter().any(|pair| pair.1 == text)
-}
-
-/// Whether one of the texts is this one.
-fn has_text(texts: &[&str], text: &str) -> bool
-    ensures { result ≡ list_any (λ t. bytes_eq t.now text.now) texts.now }
-{
-    texts.iter().any(|one| *one == text)
 }

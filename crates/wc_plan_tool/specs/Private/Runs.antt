@@ -1,23 +1,17 @@
 -- What parts of a run of a command do.
-use Rattle.std.specs.Prelude.{◌≡◌, ℕ, Bool, List, ◌++◌, codes, Option}
-use Rattle.std.specs.Io.KnownBytes.{Appends}
+use Rattle.std.specs.Prelude.{◌≡◌, ℕ, List, Option, Some, IfSome, string_bytes, ◌⊎◌}
 use Rattle.wc_encoder.specs.EncoderParts.{EncoderView}
-use Rattle.wc_plan.specs.Lines.{plan_text}
-use Rattle.wc_plan.specs.PlanViews.{plan_view}
 use Rattle.wc_tool.specs.Files.{Held}
 use Rattle.wc_world.specs.Options.{plain_options}
 use Rattle.wc_world.specs.Views.{ComponentWorldView}
 use Rattle.wc_world.specs.World.{IsWorldOf}
-use Rattle.wc_plan_tool.specs.Arguments.{CommandValue}
-use Rattle.wc_plan_tool.specs.Program.{HasPut, IsEncoderOf, IsFileFault, IsRunCause}
+use Rattle.wc_plan_tool.specs.Arguments.{CommandValue, help, version, wrong, wrong_value}
+use Rattle.wc_plan_tool.specs.Program.{EndsWithoutMemory, IsEncoderOf, IsUnwrittenFile, StopEnds, WritesAll}
+use Rattle.wc_plan_tool.specs.Screen.{Printing, nothing, failed}
+use Rattle.wc_plan_tool.specs.declared.arguments.NoCommand.{NoCommand}
+use Rattle.wc_plan_tool.specs.declared.arguments.NoCommand.TheVariants.{Memory, Help, Version, Wrong}
 use Rattle.wc_plan_tool.specs.declared.faults.ProgramFault.{ProgramFault}
-use Rattle.wc_plan_tool.specs.declared.faults.ProgramFault.TheVariants.{Output}
-use Rattle.wc_plan_tool.specs.declared.program.Description.{Description}
-use Rattle.wc_plan_tool.specs.declared.program.Description.TheVariants.{Lines, Record}
-
--- the cause of a fault, after what was printed
-abbrev pub Stops : CommandValue → Option Held → Option Held → Option (List ℕ) → Option (List ℕ) → Bool → ProgramFault → Type 0
-Stops c before after written put failed f = (lines : List ℕ) × IsRunCause c before after lines f × HasPut (Appends written put) failed lines f
+use Rattle.wc_plan_tool.specs.declared.faults.ProgramFault.TheVariants.{CannotMake, CannotWrite, Output}
 
 -- the component's world of a command, with plain options
 pub record IsMadeFor (c : CommandValue) (before : Option Held) (w : ComponentWorldView) : Type 0 where
@@ -25,12 +19,22 @@ pub record IsMadeFor (c : CommandValue) (before : Option Held) (w : ComponentWor
   pub encodes : IsEncoderOf c before encoder
   pub world : IsWorldOf plain_options encoder w
 
--- why lines could not be printed, and no file was written; or why a file could not be written after that
-abbrev pub IsWritingFault : Option Held → Option Held → List (List ℕ × List ℕ) → ProgramFault → Type 0
-IsWritingFault before after files Output = after ≡ before
-IsWritingFault before after files f = IsFileFault before after files f
+-- a directory could not be made
+abbrev pub IsMakingFault : Option (List ℕ) → ProgramFault → Type 0
+IsMakingFault directory (CannotMake path) = directory ≡ Some path.now
+IsMakingFault directory f = ⊥
 
--- what a description is printed as
-abbrev pub description_text : Description → List ℕ
-description_text (Lines plan) = plan_text (plan_view plan.now)
-description_text (Record bytes) = bytes.items ++ codes "\n"
+-- why a directory could not be made, or a file in it not written; or why nothing could be printed after that
+abbrev pub IsWritingFault : Option (List ℕ) → Option Held → Option Held → (List ℕ → Type 0) → List (List ℕ × List ℕ) → (Printing → Type 0) → ProgramFault → Type 0
+IsWritingFault directory before after makes files out (CannotMake path) = (directory ≡ Some path.now) × (after ≡ before) × out nothing
+IsWritingFault directory before after makes files out (CannotWrite path) =
+    IfSome directory makes × IsUnwrittenFile before after files (string_bytes path) × out nothing
+IsWritingFault directory before after makes files out Output = IfSome directory makes × WritesAll before after files × out failed
+IsWritingFault directory before after makes files out f = ⊥
+
+-- what is printed where there is no command; there may have been no memory for it
+abbrev pub AnswersStop : NoCommand → (Printing → Type 0) → (Printing → Type 0) → ℕ → Type 0
+AnswersStop Memory out err status = EndsWithoutMemory out err status
+AnswersStop Help out err status = StopEnds help out err status
+AnswersStop Version out err status = StopEnds version out err status
+AnswersStop (Wrong w) out err status = StopEnds (wrong (wrong_value w)) out err status ⊎ EndsWithoutMemory out err status

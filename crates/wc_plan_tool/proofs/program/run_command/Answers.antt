@@ -1,5 +1,7 @@
+use Rattle.std.proofs.Common.{refl}
 use Rattle.std.proofs.lemmas.Result.{err_from_is_err_and}
 use Rattle.wc_plan_tool.specs.Arguments.{command_value}
+use Rattle.wc_plan_tool.specs.Screen.{Becomes}
 use Rattle.wc_plan_tool.proofs.RunLemmas.{quiet}
 use Rattle.wc_plan_tool.proofs.program.run_command.Goals as goal
 
@@ -7,7 +9,7 @@ pub returns-in_err-encoder-clause-fault : goal.returns-in_err-encoder-clause-fau
 returns-in_err-encoder-clause-fault g c =
     let command = command_value c.args.command.now in
     let before = g.F.FileStore.held c.args.files.now in
-    let written = g.O.Sink.written c.args.out.now in
-    let failed = g.O.Sink.is_failed c.args.out.now in
+    let makes = g.F.DirectoryStore.makes c.args.files.now in
+    let out = Becomes g.O.Screen.ends c.args.out.now c.args.out.now in
     let p = err_from_is_err_and c.from_residual.result c.from_residual.ensures.1 in
-    rw (p.1, p.2) (quiet command before written failed c.in_err-encoder.field-0.0 c.in_err-encoder.ensures.fault)
+    rw (p.1, p.2) (quiet command before makes out c.in_err-encoder.field-0.0 refl c.in_err-encoder.ensures.fault)

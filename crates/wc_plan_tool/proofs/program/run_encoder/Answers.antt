@@ -1,7 +1,9 @@
+use Rattle.std.proofs.Common.{refl}
 use Rattle.wc_world.specs.Options.{plain_options}
 use Rattle.wc_world.specs.WorldViews.{world_view}
 use Rattle.wc_plan_tool.specs.Arguments.{command_value}
 use Rattle.wc_plan_tool.specs.Faults.{of_world}
+use Rattle.wc_plan_tool.specs.Screen.{Becomes}
 use Rattle.wc_plan_tool.proofs.RunLemmas.{quiet, world_cause}
 use Rattle.wc_plan_tool.proofs.program.run_encoder.Goals as goal
 
@@ -15,7 +17,7 @@ pub returns-in-Err-clause-fault : goal.returns-in-Err-clause-fault
 returns-in-Err-clause-fault g c =
     let command = command_value c.args.command.now in
     let before = g.F.FileStore.held c.args.files.now in
-    let written = g.O.Sink.written c.args.out.now in
-    let failed = g.O.Sink.is_failed c.args.out.now in
+    let makes = g.F.DirectoryStore.makes c.args.files.now in
+    let out = Becomes g.O.Screen.ends c.args.out.now c.args.out.now in
     let cause = world_cause command before c.args.encoder.now c.in-Err.fault c.requires c.in-Err.ensures.fault in
-    rw c.from.ensures (quiet command before written failed (of_world c.in-Err.fault) cause)
+    rw c.from.ensures (quiet command before makes out (of_world c.in-Err.fault) refl cause)

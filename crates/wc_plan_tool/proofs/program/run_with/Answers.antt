@@ -1,14 +1,25 @@
-use Rattle.std.proofs.Common.{◌∙◌, Err, ap, map, string_bytes, sym}
-use Rattle.wc_plan_tool.proofs.RunLemmas.{ends_by_memory, ends_by_usage}
-use Rattle.wc_plan_tool.proofs.TextsLemmas.{some_texts}
+use Rattle.std.proofs.Common.{◌∙◌, map, refl, string_bytes, sym}
+use Rattle.wc_plan_tool.specs.Arguments.{command_value}
+use Rattle.wc_plan_tool.specs.Reading.{read_arguments}
+use Rattle.wc_plan_tool.specs.Screen.{Becomes}
+use Rattle.wc_plan_tool.proofs.RunLemmas.{ends_by_command, ends_by_reading, ends_by_stop}
+use Rattle.wc_plan_tool.proofs.TextsLemmas.{no_texts, some_texts}
 use Rattle.wc_plan_tool.proofs.program.run_with.Goals as goal
 
-pub returns-in-Err-Memory : goal.returns-in-Err-Memory
-returns-in-Err-Memory g c =
-    ends_by_memory (map string_bytes c.args.arguments.now) _ _ _ _ (some_texts c.args.arguments.now (sym c.is_empty.ensures ∙ c.if-is_empty.false))
-    (c.print_fault.ensures.status, c.print_fault.ensures.printed)
+pub returns-in-Ok : goal.returns-in-Ok
+returns-in-Ok g c =
+    let arguments = map string_bytes c.args.arguments.now in
+    let some = some_texts c.args.arguments.now (sym c.is_empty.ensures ∙ c.if-is_empty.false) in
+    let reading = read_arguments arguments in
+    ends_by_reading arguments _ _ _ _ _ _ some (ends_by_command reading (command_value c.in-Ok.command) _ _ _ _ _ _ c.in-Ok.ensures c.run_and_report.ensures)
 
-pub returns-in-Err-Usage : goal.returns-in-Err-Usage
-returns-in-Err-Usage g c =
-    ends_by_usage (map string_bytes c.args.arguments.now) _ _ _ _ (some_texts c.args.arguments.now (sym c.is_empty.ensures ∙ c.if-is_empty.false))
-    (c.in-Err-Usage.ensures.usage (ap Err c.in-Err-Usage.field-0-is)) c.print_usage-in-Err-Usage.ensures
+pub returns-in-Err : goal.returns-in-Err
+returns-in-Err g c =
+    let arguments = map string_bytes c.args.arguments.now in
+    let some = some_texts c.args.arguments.now (sym c.is_empty.ensures ∙ c.if-is_empty.false) in
+    let reading = read_arguments arguments in
+    ends_by_reading arguments _ _ _ _ _ _ some (ends_by_stop reading c.in-Err.stop _ _ _ _ _ c.in-Err.ensures c.answer_stop.ensures)
+
+pub returns-then-is_empty : goal.returns-then-is_empty
+returns-then-is_empty g c =
+    rw (no_texts c.args.arguments.now (sym c.is_empty.ensures ∙ c.if-is_empty.true)) (refl, c.print.ensures, refl)

@@ -1,6 +1,8 @@
+use Rattle.std.proofs.Common.{refl}
 use Rattle.wc_world.specs.WorldViews.{world_view}
 use Rattle.wc_plan_tool.specs.Arguments.{command_value}
 use Rattle.wc_plan_tool.specs.Faults.{of_plan}
+use Rattle.wc_plan_tool.specs.Screen.{Becomes}
 use Rattle.wc_plan_tool.proofs.RunLemmas.{plan_cause, quiet}
 use Rattle.wc_plan_tool.proofs.program.run_world.Goals as goal
 
@@ -13,8 +15,8 @@ pub returns-in-Err-clause-fault : goal.returns-in-Err-clause-fault
 returns-in-Err-clause-fault g c =
     let command = command_value c.args.command.now in
     let before = g.F.FileStore.held c.args.files.now in
-    let written = g.O.Sink.written c.args.out.now in
-    let failed = g.O.Sink.is_failed c.args.out.now in
+    let makes = g.F.DirectoryStore.makes c.args.files.now in
+    let out = Becomes g.O.Screen.ends c.args.out.now c.args.out.now in
     let made = c.requires.made in
     let cause = plan_cause command before made.encoder (world_view c.args.world.now) c.in-Err.fault made.encodes made.world c.in-Err.ensures.fault in
-    rw c.from.ensures (quiet command before written failed (of_plan c.in-Err.fault) cause)
+    rw c.from.ensures (quiet command before makes out (of_plan c.in-Err.fault) refl cause)

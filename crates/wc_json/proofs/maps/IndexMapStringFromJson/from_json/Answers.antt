@@ -20,9 +20,9 @@ loop-member-preserved g c =
     let value = Reads_at_step view (key_step c.member-item.result.0.now) c.from_json.result
     (Ok c.in_ok-entry.entry) _ c.in_ok-entry.ensures c.from_json.ensures in
     c.loop-member.invariant
-    ∙ entries_after-member bytes_eq (λ k. k) reading members c.loop-member.member-index c.member-item.result c.loop-member-test.true c.member-item.is
+    ∙ entries_after-member bytes_eq (λ k a. k) reading members c.loop-member.member-index c.member-item.result c.loop-member-test.true c.member-item.is
     before (view c.in_ok-entry.entry) value
-    ∙ ap (λ es. entries_after bytes_eq (λ k. k) reading es rest)
+    ∙ ap (λ es. entries_after bytes_eq (λ k a. k) reading es rest)
     (sym (ap (entries_view string_eq bytes_eq string_bytes view (λ a b. refl)) c.in_ok-insert.ensures.entries
     ∙ entries_view-insert_entry string_eq bytes_eq string_bytes view (λ a b. refl) c.loop-member.map.entries c.in_ok-from_str.field-0 c.in_ok-entry.entry
     ∙ ap (λ k. insert_entry bytes_eq before k (view c.in_ok-entry.entry)) c.in_ok-from_str.ensures.ok))
@@ -35,7 +35,7 @@ returns-in_err-entry g c =
     let members = c.deref-member-items.result.now in
     let fault = c.in_err-entry.field-0.0 in
     let whole = entries-value_view bytes_eq
-    (λ k. k) reading c.args.value.now c.in-Object.members members c.in-Object.is c.deref-member-items.ensures.value ∙ c.loop-member.invariant in
+    (λ k a. k) reading c.args.value.now c.in-Object.members members c.in-Object.is c.deref-member-items.ensures.value ∙ c.loop-member.invariant in
     let value = Reads_at_step view (key_step c.member-item.result.0.now) c.from_json.result (Err fault) _ c.in_err-entry.ensures c.from_json.ensures in
     rw (p.1, p.2) (subst (IsFaultOf fault) (sym whole)
-    (IsFaultOf_member bytes_eq (λ k. k) reading members c.loop-member.member-index c.member-item.result c.loop-member-test.true c.member-item.is fault _ value))
+    (IsFaultOf_member bytes_eq (λ k a. k) reading members c.loop-member.member-index c.member-item.result c.loop-member-test.true c.member-item.is fault _ value))

@@ -8,5 +8,5 @@ abbrev pub invariant-loop-member : goal.invariant-loop-member
 invariant-loop-member g l =
     let reading = g.T.FromJson.reading in
     let view = g.T.FromJson.view in
-    entries_after bytes_eq (λ k. k) reading [] (members_view l.member-items) ≡ entries_after bytes_eq (λ k. k) reading
+    entries_after bytes_eq (λ k a. k) reading [] (members_view l.member-items) ≡ entries_after bytes_eq (λ k a. k) reading
     (map (λ e. (string_bytes e.0, view e.1)) l.map.entries) (members_view (drop l.member-index l.member-items))

@@ -6,7 +6,7 @@ use Rattle.wc_resolve.proofs.KeyLemmas.{key_view_eq, keys_viewed}
 use Rattle.wc_resolve.specs.Views.{item_view, key_view}
 use Rattle.wc_resolve.specs.contracts.worlds.WorldKeyPartialEq.TheImpl.{eq-value as key_eq}
 use Rattle.wc_json.specs.Faults.{IsFaultOf}
-use Rattle.wc_json.specs.Keys.{world_key}
+use Rattle.wc_json.specs.Keys.{item_key}
 use Rattle.wc_json.specs.Maps.{entries_after}
 use Rattle.wc_json.specs.Paths.{key_step}
 use Rattle.wc_json.specs.Worlds.{item}
@@ -22,21 +22,21 @@ loop-member-preserved c =
     let value = Reads_at_step item_view (key_step c.member-item.result.0.now) c.from_json.result
     (Ok c.in_ok-item.item) _ c.in_ok-item.ensures c.from_json.ensures in
     c.loop-member.invariant
-    ∙ entries_after-member key_view_eq world_key item members c.loop-member.member-index c.member-item.result c.loop-member-test.true c.member-item.is
+    ∙ entries_after-member key_view_eq item_key item members c.loop-member.member-index c.member-item.result c.loop-member-test.true c.member-item.is
     before (item_view c.in_ok-item.item) value
-    ∙ ap (λ es. entries_after key_view_eq world_key item es rest)
+    ∙ ap (λ es. entries_after key_view_eq item_key item es rest)
     (sym (ap (entries_view key_eq.it key_view_eq key_view item_view keys_viewed) c.in_ok-insert.ensures.entries
-    ∙ entries_view-insert_entry key_eq.it key_view_eq key_view item_view keys_viewed c.loop-member.items.entries c.in_ok-world_key.field-0 c.in_ok-item.item
-    ∙ ap (λ k. insert_entry key_view_eq before k (item_view c.in_ok-item.item)) c.in_ok-world_key.ensures))
+    ∙ entries_view-insert_entry key_eq.it key_view_eq key_view item_view keys_viewed c.loop-member.items.entries c.in_ok-item_key.field-0 c.in_ok-item.item
+    ∙ ap (λ k. insert_entry key_view_eq before k (item_view c.in_ok-item.item)) c.in_ok-item_key.ensures))
 
 pub returns-in_err-item : goal.returns-in_err-item
 returns-in_err-item c =
     let p = err_from_is_err_and c.from_residual.result c.from_residual.ensures.1 in
     let members = c.deref-member-items.result.now in
     let fault = c.in_err-item.field-0.0 in
-    let whole = entries-value_view key_view_eq world_key item c.args.value.now c.in-Object.members members c.in-Object.is
+    let whole = entries-value_view key_view_eq item_key item c.args.value.now c.in-Object.members members c.in-Object.is
     c.deref-member-items.ensures.value ∙ c.loop-member.invariant in
     let value = Reads_at_step item_view (key_step c.member-item.result.0.now) c.from_json.result (Err fault) _ c.in_err-item.ensures c.from_json.ensures in
     rw (p.1, p.2) (subst (IsFaultOf fault) (sym whole)
-    (IsFaultOf_member key_view_eq world_key item members c.loop-member.member-index c.member-item.result c.loop-member-test.true c.member-item.is
+    (IsFaultOf_member key_view_eq item_key item members c.loop-member.member-index c.member-item.result c.loop-member-test.true c.member-item.is
     fault _ value))
