@@ -27,6 +27,7 @@ use wc_rows::imports::imports_of;
 use wc_rows::input::{Stop, answered, bad_row, bytes_of};
 use wc_rows::lines::Lines;
 use wc_rows::rows::Row;
+use wc_rows::table::named;
 use wc_rows::values::{put_bytes_lines, put_fault};
 use wc_tool::ToolFault;
 
@@ -35,44 +36,71 @@ pub(crate) fn answer(alloc: Global, row: &Row<'_>, out: &mut Lines) -> Result<bo
     answered(answer_call(alloc, row, out))
 }
 
+/// The examples by their names.
+#[derive(Clone, Copy)]
+enum Example {
+    ExportsMemory,
+    ImportSection,
+    OriginalName,
+    InterfaceId,
+    DroppedResource,
+    EncoderFor,
+    PrintedLines,
+    ReachesMemory,
+    TrimBoth,
+    Summary,
+    PrintedPlan,
+    ImportedMemory,
+    CanUseSlot1,
+}
+
+const EXAMPLES: [(&str, Example); 13] = [
+    ("exports_memory", Example::ExportsMemory),
+    ("import_section", Example::ImportSection),
+    ("original_name", Example::OriginalName),
+    ("interface_id", Example::InterfaceId),
+    ("dropped_resource", Example::DroppedResource),
+    ("encoder_for", Example::EncoderFor),
+    ("printed_lines", Example::PrintedLines),
+    ("reaches_memory", Example::ReachesMemory),
+    ("trim_both", Example::TrimBoth),
+    ("summary", Example::Summary),
+    ("printed_plan", Example::PrintedPlan),
+    ("imported_memory", Example::ImportedMemory),
+    ("can_use_slot_1", Example::CanUseSlot1),
+];
+
 fn answer_call(alloc: Global, row: &Row<'_>, out: &mut Lines) -> Result<bool, Stop> {
     if row.call != "example" {
         return Ok(false);
     }
-    if argument(row, 0) == "exports_memory" {
-        answer_exports_memory(alloc, row, out)?;
-    } else if argument(row, 0) == "import_section" {
-        answer_import_section(alloc, row, out)?;
-    } else if argument(row, 0) == "original_name" {
-        answer_original_name(alloc, row, out)?;
-    } else if argument(row, 0) == "interface_id" {
-        answer_interface_id(alloc, row, out)?;
-    } else if argument(row, 0) == "dropped_resource" {
-        answer_dropped_resource(row, out);
-    } else if argument(row, 0) == "encoder_for" {
-        answer_encoder_for(alloc, row, out)?;
-    } else if argument(row, 0) == "printed_lines" {
-        answer_printed_lines(alloc, row, out)?;
-    } else {
-        answer_on_module(alloc, row, out)?;
+    match named(&EXAMPLES, argument(row, 0)) {
+        Some(example) => answer_example(alloc, example, row, out)?,
+        None => return Err(bad_row(out, "no example", argument(row, 0))),
     }
     Ok(true)
 }
 
-/// The examples of trimming, validation and worlds of components.
-fn answer_on_module(alloc: Global, row: &Row<'_>, out: &mut Lines) -> Result<(), Stop> {
-    if argument(row, 0) == "reaches_memory" {
-        answer_reaches_memory(alloc, row, out)
-    } else if argument(row, 0) == "trim_both" {
-        answer_trim_both(alloc, row, out)
-    } else if argument(row, 0) == "summary" {
-        answer_summary(alloc, row, out)
-    } else if argument(row, 0) == "printed_plan" {
-        answer_printed_plan(alloc, row, out)
-    } else if is_on_encoder(argument(row, 0)) {
-        answer_on_encoder(alloc, row, out)
-    } else {
-        Err(bad_row(out, "no example", argument(row, 0)))
+fn answer_example(
+    alloc: Global,
+    example: Example,
+    row: &Row<'_>,
+    out: &mut Lines,
+) -> Result<(), Stop> {
+    match example {
+        Example::ExportsMemory => answer_exports_memory(alloc, row, out),
+        Example::ImportSection => answer_import_section(alloc, row, out),
+        Example::OriginalName => answer_original_name(alloc, row, out),
+        Example::InterfaceId => answer_interface_id(alloc, row, out),
+        Example::DroppedResource => answer_dropped_resource(row, out),
+        Example::EncoderFor => answer_encoder_for(alloc, row, out),
+        Example::PrintedLines => answer_printed_lines(alloc, row, out),
+        Example::ReachesMemory => answer_reaches_memory(alloc, row, out),
+        Example::TrimBoth => answer_trim_both(alloc, row, out),
+        Example::Summary => answer_summary(alloc, row, out),
+        Example::PrintedPlan => answer_printed_plan(alloc, row, out),
+        Example::ImportedMemory => answer_imported_memory(alloc, row, out),
+        Example::CanUseSlot1 => answer_can_use_slot_1(alloc, row, out),
     }
 }
 
@@ -162,11 +190,12 @@ fn empty_world(alloc: Global) -> Result<Resolve, ResolveFault> {
 }
 
 /// `example dropped_resource NAME`.
-fn answer_dropped_resource(row: &Row<'_>, out: &mut Lines) {
+fn answer_dropped_resource(row: &Row<'_>, out: &mut Lines) -> Result<(), Stop> {
     match names::dropped_resource(argument(row, 1)) {
         Some(resource) => writeln!(out, "{resource:?}"),
         None => out.push_str("none\n"),
     }
+    Ok(())
 }
 
 /// `example encoder_for WORLD`: the encoder's module, and its world.
@@ -243,26 +272,24 @@ fn put_both(trimmed: Result<(Vec<u8>, Vec<u8>), GcFault>, out: &mut Lines) {
     }
 }
 
-fn is_on_encoder(example: &str) -> bool {
-    example == "imported_memory" || example == "can_use_slot_1"
-}
-
-/// The examples on an encoder of a world that imports and exports nothing.
-fn answer_on_encoder(alloc: Global, row: &Row<'_>, out: &mut Lines) -> Result<(), Stop> {
+/// `example imported_memory`: of the module, as the main module of a world that imports and exports nothing.
+fn answer_imported_memory(alloc: Global, row: &Row<'_>, out: &mut Lines) -> Result<(), Stop> {
     let module = bytes_of(alloc, &row.input, out)?;
     match empty_encoder(alloc, module) {
-        Ok(encoder) => put_on_encoder(alloc, argument(row, 0), &encoder, out),
+        Ok(encoder) => put_imported_memory(alloc, &encoder, out),
         Err(fault) => writeln!(out, "fault {fault}"),
     }
     Ok(())
 }
 
-fn put_on_encoder(alloc: Global, example: &str, encoder: &ComponentEncoder, out: &mut Lines) {
-    if example == "imported_memory" {
-        put_imported_memory(alloc, encoder, out);
-    } else {
-        put_can_use_slot_1(alloc, encoder, out);
+/// `example can_use_slot_1`: of the same.
+fn answer_can_use_slot_1(alloc: Global, row: &Row<'_>, out: &mut Lines) -> Result<(), Stop> {
+    let module = bytes_of(alloc, &row.input, out)?;
+    match empty_encoder(alloc, module) {
+        Ok(encoder) => put_can_use_slot_1(alloc, &encoder, out),
+        Err(fault) => writeln!(out, "fault {fault}"),
     }
+    Ok(())
 }
 
 /// An encoder of a main module without adapters, for a world that imports and exports nothing.

@@ -6,19 +6,46 @@ use wc_read::{
 };
 use wc_write::Built;
 
+/// Appends an item with its content decoded.
+fn push_item<'a, T: Copy, C: Drop>(
+    items: &mut Vec<Item<'a, T, C>>,
+    ty: T,
+    def: Result<Def<'a, C>, ReadFault>,
+) -> Result<(), ReadFault> {
+    items.push(Item { ty, def: def? })?;
+    Ok(())
+}
+
+fn local<'a, C: Drop>(content: Result<C, ReadFault>) -> Result<Def<'a, C>, ReadFault> {
+    match content {
+        Ok(content) => Ok(Def::Local(content)),
+        Err(fault) => Err(fault),
+    }
+}
+
+fn body_of<'a>(alloc: Global, def: Def<'a, &'a [u8]>) -> Result<Def<'a, Body<'a>>, ReadFault> {
+    match def {
+        Def::Import(module, name) => Ok(Def::Import(module, name)),
+        Def::Local(body) => local(read_body(alloc, body)),
+    }
+}
+
 fn bodies_of<'a>(
     alloc: Global,
     funcs: &[Func<'a>],
 ) -> Result<Vec<Item<'a, u32, Body<'a>>>, ReadFault> {
     let mut decoded = Vec::new(alloc);
     for func in funcs {
-        let def = match func.def {
-            Def::Import(module, name) => Def::Import(module, name),
-            Def::Local(body) => Def::Local(read_body(alloc, body)?),
-        };
-        decoded.push(Item { ty: func.ty, def })?;
+        push_item(&mut decoded, func.ty, body_of(alloc, func.def))?;
     }
     Ok(decoded)
+}
+
+fn init_of<'a>(alloc: Global, def: Def<'a, &'a [u8]>) -> Result<Def<'a, Init<'a>>, ReadFault> {
+    match def {
+        Def::Import(module, name) => Ok(Def::Import(module, name)),
+        Def::Local(init) => local(read_init(alloc, init)),
+    }
 }
 
 fn inits_of<'a>(
@@ -27,11 +54,7 @@ fn inits_of<'a>(
 ) -> Result<Vec<Item<'a, GlobalType, Init<'a>>>, ReadFault> {
     let mut decoded = Vec::new(alloc);
     for global in globals {
-        let def = match global.def {
-            Def::Import(module, name) => Def::Import(module, name),
-            Def::Local(init) => Def::Local(read_init(alloc, init)?),
-        };
-        decoded.push(Item { ty: global.ty, def })?;
+        push_item(&mut decoded, global.ty, init_of(alloc, global.def))?;
     }
     Ok(decoded)
 }

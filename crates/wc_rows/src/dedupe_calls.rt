@@ -1,93 +1,123 @@
 //! Calls of `wc_dedupe`, and of it with the reader: what was renamed is read.
 
 use crate::imports::{imports_of, is_import};
-use crate::input::{Stop, answered, bytes_of};
+use crate::input::bytes_of;
 use crate::lines::Lines;
-use crate::modules::put_module;
+use crate::read_calls::answer_module;
 use crate::rows::Row;
+use crate::table::named;
 use crate::values::{put_bytes_lines, put_fault, put_import};
 use std::alloc::{AllocError, Global};
 use std::borrow::CowSlice;
-use wc_dedupe::ModuleImportMap;
-use wc_read::{Import, ReadFault, frames, read_imports, read_module};
+use wc_dedupe::{DedupeFault, ModuleImportMap};
+use wc_read::{Import, Section, frames, read_imports};
 use wc_write::append_import_section;
 
 const HEADER: &[u8] = b"\0asm\x01\0\0\0";
 
 const IMPORT_SECTION: u8 = 2;
 
-/// Appends the answer of a call of `wc_dedupe`, and says whether the row's is one.
-pub fn answer(alloc: Global, row: &Row<'_>, out: &mut Lines) -> Result<bool, AllocError> {
-    answered(answer_call(alloc, row, out))
+#[derive(Clone, Copy)]
+enum Call {
+    Borrowed,
+    Owned,
+    /// The imports of a module of these imports, once it is renamed.
+    Imports,
+    /// The original names of described imports, by the map of a module.
+    Originals,
+    /// The module that the bytes are once it is renamed.
+    Read,
 }
 
-fn answer_call(alloc: Global, row: &Row<'_>, out: &mut Lines) -> Result<bool, Stop> {
-    if row.call == "dedupe" {
-        answer_borrowed(alloc, row, out)?;
-    } else if row.call == "dedupe_owned" {
-        answer_owned(alloc, row, out)?;
-    } else if row.call == "dedupe_imports" {
-        answer_imports(alloc, row, out)?;
-    } else if row.call == "original_names" {
-        answer_originals(alloc, row, out)?;
-    } else if row.call == "read_deduped" {
-        answer_read(alloc, row, out)?;
-    } else {
-        return Ok(false);
+const CALLS: [(&str, Call); 5] = [
+    ("dedupe", Call::Borrowed),
+    ("dedupe_owned", Call::Owned),
+    ("dedupe_imports", Call::Imports),
+    ("original_names", Call::Originals),
+    ("read_deduped", Call::Read),
+];
+
+/// Appends the answer of a call of `wc_dedupe`, and says whether the row's is one.
+pub fn answer(alloc: Global, row: &Row<'_>, out: &mut Lines) -> Result<bool, AllocError> {
+    match named(&CALLS, row.call) {
+        Some(Call::Imports) => answer_imports(alloc, row, out),
+        Some(Call::Originals) => answer_originals(alloc, row, out),
+        Some(call) => answer_bytes(alloc, call, row, out),
+        None => return Ok(false),
     }
     Ok(true)
 }
 
+fn answer_bytes(alloc: Global, call: Call, row: &Row<'_>, out: &mut Lines) {
+    if let Ok(bytes) = bytes_of(alloc, &row.input, out) {
+        answer_on_bytes(alloc, call, bytes, out);
+    }
+}
+
+fn answer_on_bytes(alloc: Global, call: Call, bytes: Vec<u8>, out: &mut Lines) {
+    match call {
+        Call::Owned => {
+            put_deduped(ModuleImportMap::new(alloc, CowSlice::Owned(bytes)), out);
+        }
+        Call::Read => put_deduped_module(alloc, &bytes, out),
+        _ => put_borrowed(alloc, &bytes, out),
+    }
+}
+
+fn put_borrowed(alloc: Global, bytes: &[u8], out: &mut Lines) {
+    put_deduped(ModuleImportMap::new(alloc, CowSlice::Borrowed(bytes)), out);
+}
+
+/// What deduping answers: a module, and the map of its imports.
+type Deduped<'a> = Result<(CowSlice<'a, u8>, Option<ModuleImportMap>), DedupeFault>;
+
+fn put_deduped(answer: Deduped<'_>, out: &mut Lines) {
+    match answer {
+        Ok((bytes, map)) => put_both(&bytes, &map, out),
+        Err(fault) => put_fault(out, fault),
+    }
+}
+
 /// The bytes, whether they are borrowed, and the map.
-fn put_deduped(out: &mut Lines, bytes: &CowSlice<'_, u8>, map: &Option<ModuleImportMap>) {
-    let word = match bytes {
-        CowSlice::Borrowed(_) => "borrowed",
-        CowSlice::Owned(_) => "owned",
-    };
-    put_bytes_lines(out, word, bytes.as_slice());
+fn put_both(bytes: &CowSlice<'_, u8>, map: &Option<ModuleImportMap>, out: &mut Lines) {
+    put_bytes_lines(out, owner_word(bytes), bytes.as_slice());
     match map {
         Some(map) => put_renames(out, map),
         None => out.push_str("no map\n"),
     }
 }
 
+fn owner_word(bytes: &CowSlice<'_, u8>) -> &'static str {
+    match bytes {
+        CowSlice::Borrowed(_) => "borrowed",
+        CowSlice::Owned(_) => "owned",
+    }
+}
+
 /// A line for each renamed import: its module, its original name and the new one.
 fn put_renames(out: &mut Lines, map: &ModuleImportMap) {
     for rename in map.renames() {
-        let module = rename.module.as_str();
-        let original = rename.original.as_str();
-        let name = rename.name.as_str();
-        writeln!(out, "renamed {module:?} {original:?} {name:?}");
+        out.quoted("renamed ", &rename.module);
+        out.quoted(" ", &rename.original);
+        out.quoted(" ", &rename.name);
+        out.end();
     }
-}
-
-fn answer_borrowed(alloc: Global, row: &Row<'_>, out: &mut Lines) -> Result<(), Stop> {
-    let bytes = bytes_of(alloc, &row.input, out)?;
-    match ModuleImportMap::new(alloc, CowSlice::Borrowed(&bytes)) {
-        Ok((deduped, map)) => put_deduped(out, &deduped, &map),
-        Err(fault) => put_fault(out, fault),
-    }
-    Ok(())
-}
-
-fn answer_owned(alloc: Global, row: &Row<'_>, out: &mut Lines) -> Result<(), Stop> {
-    let bytes = bytes_of(alloc, &row.input, out)?;
-    match ModuleImportMap::new(alloc, CowSlice::Owned(bytes)) {
-        Ok((deduped, map)) => put_deduped(out, &deduped, &map),
-        Err(fault) => put_fault(out, fault),
-    }
-    Ok(())
 }
 
 /// A line for each import, with its original name where it was renamed.
 fn put_originals(out: &mut Lines, map: &Option<ModuleImportMap>, imports: &[Import<'_>]) {
     for import in imports {
         put_import(out, import);
-        match original_name(map, import) {
-            Some(original) => writeln!(out, " was {original:?}"),
-            None => out.push_str("\n"),
-        }
+        put_original(out, original_name(map, import));
     }
+}
+
+fn put_original(out: &mut Lines, original: Option<&str>) {
+    match original {
+        Some(original) => out.quoted(" was ", original),
+        None => {}
+    }
+    out.end();
 }
 
 fn original_name<'a>(map: &'a Option<ModuleImportMap>, import: &Import<'_>) -> Option<&'a str> {
@@ -97,94 +127,107 @@ fn original_name<'a>(map: &'a Option<ModuleImportMap>, import: &Import<'_>) -> O
     }
 }
 
-/// The imports of a module's import sections, with their original names.
-fn put_sections(
+/// The imports of a module, with their original names.
+fn put_sections(alloc: Global, bytes: &[u8], map: &Option<ModuleImportMap>, out: &mut Lines) {
+    match frames(alloc, bytes) {
+        Ok(frames) => put_each_section(alloc, &frames.sections, map, out),
+        Err(fault) => put_fault(out, fault),
+    }
+}
+
+fn put_each_section(
     alloc: Global,
-    bytes: &[u8],
+    sections: &[Section<'_>],
     map: &Option<ModuleImportMap>,
     out: &mut Lines,
-) -> Result<(), ReadFault> {
-    let frames = frames(alloc, bytes)?;
-    for section in &frames.sections {
+) {
+    for section in sections {
         if section.id == IMPORT_SECTION {
-            let imports = read_imports(alloc, section.content)?;
-            put_originals(out, map, &imports);
+            put_import_section(alloc, section.content, map, out);
         }
     }
-    Ok(())
+}
+
+/// The imports of a section, with their original names.
+fn put_import_section(
+    alloc: Global,
+    content: &[u8],
+    map: &Option<ModuleImportMap>,
+    out: &mut Lines,
+) {
+    match read_imports(alloc, content) {
+        Ok(imports) => put_originals(out, map, &imports),
+        Err(fault) => put_fault(out, fault),
+    }
 }
 
 /// What `dedupe` answers with the imports of the module that it wrote.
 fn put_deduped_imports(alloc: Global, bytes: &[u8], out: &mut Lines) {
-    let (deduped, map) = match ModuleImportMap::new(alloc, CowSlice::Borrowed(bytes)) {
-        Ok(answer) => answer,
-        Err(fault) => return put_fault(out, fault),
-    };
-    match put_sections(alloc, deduped.as_slice(), &map, out) {
-        Ok(()) => {}
+    match ModuleImportMap::new(alloc, CowSlice::Borrowed(bytes)) {
+        Ok((deduped, map)) => put_sections(alloc, deduped.as_slice(), &map, out),
         Err(fault) => put_fault(out, fault),
     }
 }
 
-/// The imports of a module of these imports, once it is renamed.
-fn answer_imports(alloc: Global, row: &Row<'_>, out: &mut Lines) -> Result<(), Stop> {
-    let imports = imports_of(alloc, &row.input, out)?;
-    let mut bytes = Vec::from_slice(alloc, HEADER)?;
-    match append_import_section(&mut bytes, &imports) {
-        Ok(()) => put_deduped_imports(alloc, &bytes, out),
-        Err(fault) => put_fault(out, fault),
+fn answer_imports(alloc: Global, row: &Row<'_>, out: &mut Lines) {
+    if let Ok(imports) = imports_of(alloc, &row.input, out) {
+        put_of_imports(alloc, &imports, out);
     }
-    Ok(())
 }
 
-/// The lines of input that are bytes, and those that describe imports.
-fn split_input<'a>(
-    alloc: Global,
-    lines: &[&'a str],
-) -> Result<(Vec<&'a str>, Vec<&'a str>), AllocError> {
+fn put_of_imports(alloc: Global, imports: &[Import<'_>], out: &mut Lines) {
     let mut bytes = Vec::new(alloc);
-    let mut imports = Vec::new(alloc);
-    for line in lines {
-        if is_import(line) {
-            imports.push(*line)?;
-        } else {
-            bytes.push(*line)?;
+    if out.keep(bytes.extend_from_slice(HEADER)) {
+        match append_import_section(&mut bytes, imports) {
+            Ok(()) => put_deduped_imports(alloc, &bytes, out),
+            Err(fault) => put_fault(out, fault),
         }
     }
-    Ok((bytes, imports))
+}
+
+/// The lines of input that are bytes come before those that describe imports.
+fn answer_originals(alloc: Global, row: &Row<'_>, out: &mut Lines) {
+    let count = bytes_before(&row.input).min(row.input.len());
+    let (lines, described) = row.input.split_at(count);
+    if let Ok(bytes) = bytes_of(alloc, lines, out) {
+        put_original_names(alloc, &bytes, described, out);
+    }
+}
+
+/// How many lines there are before the first that describes an import.
+fn bytes_before(lines: &[&str]) -> usize {
+    let mut count: usize = 0;
+    for line in lines {
+        if is_import(line) {
+            return count;
+        }
+        count = count.saturating_add(1);
+    }
+    count
 }
 
 /// The original names of imports, by the map of the module that the bytes are.
-fn put_original_names(alloc: Global, bytes: &[u8], imports: &[Import<'_>], out: &mut Lines) {
+fn put_original_names(alloc: Global, bytes: &[u8], described: &[&str], out: &mut Lines) {
     match ModuleImportMap::new(alloc, CowSlice::Borrowed(bytes)) {
-        Ok((_deduped, map)) => put_originals(out, &map, imports),
+        Ok((_deduped, map)) => put_described(alloc, described, &map, out),
         Err(fault) => put_fault(out, fault),
     }
 }
 
-/// The original names of described imports, by the map of a module.
-fn answer_originals(alloc: Global, row: &Row<'_>, out: &mut Lines) -> Result<(), Stop> {
-    let (lines, described) = split_input(alloc, &row.input)?;
-    let bytes = bytes_of(alloc, &lines, out)?;
-    let imports = imports_of(alloc, &described, out)?;
-    put_original_names(alloc, &bytes, &imports, out);
-    Ok(())
+fn put_described(
+    alloc: Global,
+    described: &[&str],
+    map: &Option<ModuleImportMap>,
+    out: &mut Lines,
+) {
+    if let Ok(imports) = imports_of(alloc, described, out) {
+        put_originals(out, map, &imports);
+    }
 }
 
-/// The module that the bytes are once it is renamed.
 fn put_deduped_module(alloc: Global, bytes: &[u8], out: &mut Lines) {
-    let (deduped, _map) = match ModuleImportMap::new(alloc, CowSlice::Borrowed(bytes)) {
-        Ok(answer) => answer,
-        Err(fault) => return put_fault(out, fault),
-    };
-    match read_module(alloc, deduped.as_slice()) {
-        Ok(module) => put_module(out, &module),
+    match ModuleImportMap::new(alloc, CowSlice::Borrowed(bytes)) {
+        Ok((deduped, _map)) => answer_module(alloc, deduped.as_slice(), out),
         Err(fault) => put_fault(out, fault),
     }
-}
-
-fn answer_read(alloc: Global, row: &Row<'_>, out: &mut Lines) -> Result<(), Stop> {
-    let bytes = bytes_of(alloc, &row.input, out)?;
-    put_deduped_module(alloc, &bytes, out);
-    Ok(())
 }

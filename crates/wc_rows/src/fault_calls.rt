@@ -2,6 +2,7 @@
 
 use crate::lines::Lines;
 use crate::rows::Row;
+use crate::table::named;
 use crate::values::put_bytes_lines;
 use std::alloc::{AllocError, Global};
 use std::fmt::Display;
@@ -11,41 +12,60 @@ use wc_read::ReadFault;
 use wc_tool::{FaultText, ToolFault};
 use wc_write::{PutFailed, WriteFault, WriterSink};
 
+#[derive(Clone, Copy)]
+enum Call {
+    Read,
+    Write,
+    Dedupe,
+    Gc,
+    Tool,
+}
+
+const CALLS: [(&str, Call); 5] = [
+    ("read_faults", Call::Read),
+    ("write_faults", Call::Write),
+    ("dedupe_faults", Call::Dedupe),
+    ("gc_faults", Call::Gc),
+    ("tool_faults", Call::Tool),
+];
+
 /// Appends the answer of a call for the texts of faults, and says whether the row's is one.
 pub fn answer(alloc: Global, row: &Row<'_>, out: &mut Lines) -> Result<bool, AllocError> {
-    if row.call == "read_faults" {
-        put_read_faults(alloc, out)?;
-    } else if row.call == "write_faults" {
-        put_write_faults(alloc, out)?;
-    } else if row.call == "dedupe_faults" {
-        put_dedupe_faults(alloc, out)?;
-    } else if row.call == "gc_faults" {
-        put_gc_faults(alloc, out)?;
-    } else if row.call == "tool_faults" {
-        put_tool_faults(alloc, out)?;
-    } else {
-        return Ok(false);
+    match named(&CALLS, row.call) {
+        Some(Call::Read) => put_read_faults(alloc, out),
+        Some(Call::Write) => put_write_faults(alloc, out),
+        Some(Call::Dedupe) => put_dedupe_faults(alloc, out),
+        Some(Call::Gc) => put_gc_faults(alloc, out),
+        Some(Call::Tool) => put_tool_faults(alloc, out),
+        None => return Ok(false),
     }
     Ok(true)
 }
 
 /// The text that `Display` writes of a fault, and after it the bytes of the proved text, where that is another one.
-fn put_text<F: FaultText + Display>(
-    alloc: Global,
-    fault: &F,
-    out: &mut Lines,
-) -> Result<(), AllocError> {
-    let shown = format!(in alloc; "{fault}")?;
-    writeln!(out, "{shown}");
+fn put_text<F: FaultText + Display>(alloc: Global, fault: &F, out: &mut Lines) {
+    let mut shown = Lines::new(alloc);
+    write!(shown, "{fault}");
     let mut sink = WriterSink::new(Vec::new(alloc));
     if fault.put_text(&mut sink).is_err() {
-        return Err(AllocError);
+        return out.lack_memory();
     }
-    let proved = sink.into_inner();
-    if shown.as_bytes() != proved.as_slice() {
-        put_bytes_lines(out, "differs from", &proved);
+    put_shown(&shown, &sink.into_inner(), out);
+}
+
+fn put_shown(shown: &Lines, proved: &[u8], out: &mut Lines) {
+    match shown.text() {
+        Ok(text) => put_both(text, proved, out),
+        Err(_) => out.lack_memory(),
     }
-    Ok(())
+}
+
+fn put_both(shown: &str, proved: &[u8], out: &mut Lines) {
+    out.push_str(shown);
+    out.end();
+    if shown.as_bytes() != proved {
+        put_bytes_lines(out, "differs from", proved);
+    }
 }
 
 /// All faults of the reader, in their order.
@@ -72,54 +92,57 @@ const READ_FAULTS: [ReadFault; 19] = [
 ];
 
 /// Each with its number before it.
-fn put_read_faults(alloc: Global, out: &mut Lines) -> Result<(), AllocError> {
+fn put_read_faults(alloc: Global, out: &mut Lines) {
     for fault in READ_FAULTS {
-        let number = fault as u8;
-        write!(out, "{number} ");
-        put_text(alloc, &fault, out)?;
+        out.number("", fault as u64);
+        out.push_str(" ");
+        put_text(alloc, &fault, out);
     }
-    Ok(())
 }
 
 /// Those of writers, and that of sinks, which no other fault carries.
-fn put_write_faults(alloc: Global, out: &mut Lines) -> Result<(), AllocError> {
-    put_text(alloc, &WriteFault::Memory, out)?;
-    put_text(alloc, &WriteFault::TooLarge, out)?;
+fn put_write_faults(alloc: Global, out: &mut Lines) {
+    put_text(alloc, &WriteFault::Memory, out);
+    put_text(alloc, &WriteFault::TooLarge, out);
     writeln!(out, "{}", PutFailed);
-    Ok(())
 }
 
-fn put_dedupe_faults(alloc: Global, out: &mut Lines) -> Result<(), AllocError> {
-    put_text(alloc, &DedupeFault::Memory, out)?;
-    put_text(alloc, &DedupeFault::TooLarge, out)?;
+fn put_dedupe_faults(alloc: Global, out: &mut Lines) {
+    put_text(alloc, &DedupeFault::Memory, out);
+    put_text(alloc, &DedupeFault::TooLarge, out);
     for fault in READ_FAULTS {
-        put_text(alloc, &DedupeFault::Read(fault), out)?;
+        put_text(alloc, &DedupeFault::Read(fault), out);
     }
-    Ok(())
 }
 
-/// How many faults of trimming `gc_fault` has.
+/// How many faults of trimming there are that carry no fault of the reader.
 const GC_FAULTS: u32 = 14;
 
 /// A name that is longer than other texts of faults.
 const LONG_NAME: &str =
     "a name of an export that has more letters than all of the other texts of faults have";
 
-/// The faults of trimming that carry no fault of the reader, by numbers.
-fn gc_fault(alloc: Global, number: u32) -> Result<GcFault, AllocError> {
-    Ok(match number {
-        0 => GcFault::Memory,
-        1 => GcFault::MissingExport(String::from_str(alloc, "x")?),
-        2 => GcFault::MissingExport(String::new(alloc)),
-        3 => GcFault::MissingExport(String::from_str(alloc, LONG_NAME)?),
-        4 => GcFault::MissingExport(String::from_str(alloc, "`é`")?),
-        _ => plain_gc_fault(number),
-    })
+/// The names of missing exports.
+const NAMES: [&str; 4] = ["x", "", LONG_NAME, "`é`"];
+
+/// The faults of trimming that carry no fault of the reader, by numbers from 0 to 13.
+fn gc_fault(alloc: Global, number: u32, out: &mut Lines) -> GcFault {
+    if number < 1 || number > 4 {
+        return plain_gc_fault(number);
+    }
+    match String::from_str(alloc, NAMES[number as usize - 1]) {
+        Ok(name) => GcFault::MissingExport(name),
+        Err(_) => {
+            out.lack_memory();
+            GcFault::Memory
+        }
+    }
 }
 
-/// Those that carry nothing, but Memory.
+/// Those that carry nothing.
 fn plain_gc_fault(number: u32) -> GcFault {
     match number {
+        0 => GcFault::Memory,
         5 => GcFault::UnsupportedSection,
         6 => GcFault::LiveBody,
         7 => GcFault::SeveralNamed,
@@ -132,40 +155,33 @@ fn plain_gc_fault(number: u32) -> GcFault {
     }
 }
 
-fn put_gc_faults(alloc: Global, out: &mut Lines) -> Result<(), AllocError> {
+fn put_gc_faults(alloc: Global, out: &mut Lines) {
     for number in 0..GC_FAULTS {
-        let fault = gc_fault(alloc, number)?;
-        put_text(alloc, &fault, out)?;
+        let fault = gc_fault(alloc, number, out);
+        put_text(alloc, &fault, out);
     }
     for fault in READ_FAULTS {
-        put_text(alloc, &GcFault::Read(fault), out)?;
+        put_text(alloc, &GcFault::Read(fault), out);
     }
-    Ok(())
 }
 
-fn put_tool_faults(alloc: Global, out: &mut Lines) -> Result<(), AllocError> {
-    put_text(alloc, &ToolFault::Memory, out)?;
-    put_text(alloc, &ToolFault::Output, out)?;
-    put_text(alloc, &ToolFault::Dedupe(DedupeFault::Memory), out)?;
-    put_text(alloc, &ToolFault::Dedupe(DedupeFault::TooLarge), out)?;
-    put_tool_trims(alloc, out)?;
-    put_tool_reads(alloc, out)
-}
-
-fn put_tool_trims(alloc: Global, out: &mut Lines) -> Result<(), AllocError> {
+fn put_tool_faults(alloc: Global, out: &mut Lines) {
+    put_text(alloc, &ToolFault::Memory, out);
+    put_text(alloc, &ToolFault::Output, out);
+    put_text(alloc, &ToolFault::Dedupe(DedupeFault::Memory), out);
+    put_text(alloc, &ToolFault::Dedupe(DedupeFault::TooLarge), out);
     for number in 0..GC_FAULTS {
-        let fault = ToolFault::Trim(gc_fault(alloc, number)?);
-        put_text(alloc, &fault, out)?;
+        let fault = ToolFault::Trim(gc_fault(alloc, number, out));
+        put_text(alloc, &fault, out);
     }
-    Ok(())
+    put_tool_reads(alloc, out);
 }
 
 /// Those that carry a fault of the reader, or a fault that carries one.
-fn put_tool_reads(alloc: Global, out: &mut Lines) -> Result<(), AllocError> {
+fn put_tool_reads(alloc: Global, out: &mut Lines) {
     for fault in READ_FAULTS {
-        put_text(alloc, &ToolFault::Read(fault), out)?;
-        put_text(alloc, &ToolFault::Dedupe(DedupeFault::Read(fault)), out)?;
-        put_text(alloc, &ToolFault::Trim(GcFault::Read(fault)), out)?;
+        put_text(alloc, &ToolFault::Read(fault), out);
+        put_text(alloc, &ToolFault::Dedupe(DedupeFault::Read(fault)), out);
+        put_text(alloc, &ToolFault::Trim(GcFault::Read(fault)), out);
     }
-    Ok(())
 }

@@ -2,31 +2,64 @@
 
 ghost use Rattle.std.specs.Prelude.{IfSome, ◌≤◌};
 
-use crate::input::{Stop, answered, bad_row, bytes_of};
+use crate::input::{bad_row, bytes_of};
 use crate::lines::Lines;
 use crate::rows::Row;
 use crate::set_calls::answer_set;
-use crate::values::put_bytes_lines;
+use crate::table::named;
+use crate::values::{put_bytes_lines, put_fault};
 use indexmap::IndexSet;
 use std::alloc::{AllocError, Global};
 use wc_gc::{GcFault, LiveSet, Liveness, RangeSet, liveness_counted, run};
 
-/// Appends the answer of a call of `wc_gc`, and says whether the row's is one.
-pub fn answer(alloc: Global, row: &Row<'_>, out: &mut Lines) -> Result<bool, AllocError> {
-    answered(answer_call(alloc, row, out))
+/// The calls on bytes and names.
+#[derive(Clone, Copy)]
+enum Call {
+    /// `liveness_counted NAME..`: what the exports of these names reach.
+    Liveness,
+    /// `trim NAME..`: the adapter, cut to what the exports of these names reach.
+    Trim,
+    /// `trim_for REALLOC PAGE NAME..`: the same for a main module that exports a realloc of this name, none by `-`, with
+    /// an exponent of the page size.
+    TrimFor,
 }
 
-fn answer_call(alloc: Global, row: &Row<'_>, out: &mut Lines) -> Result<bool, Stop> {
-    if row.call == "liveness_counted" {
-        answer_liveness(alloc, row, out)?;
-    } else if row.call == "trim" {
-        answer_trim(alloc, row, out)?;
-    } else if row.call == "trim_for" {
-        answer_trim_for(alloc, row, out)?;
-    } else {
-        return answer_set(alloc, row, out);
+const CALLS: [(&str, Call); 3] = [
+    ("liveness_counted", Call::Liveness),
+    ("trim", Call::Trim),
+    ("trim_for", Call::TrimFor),
+];
+
+/// Appends the answer of a call of `wc_gc`, and says whether the row's is one.
+pub fn answer(alloc: Global, row: &Row<'_>, out: &mut Lines) -> Result<bool, AllocError> {
+    match named(&CALLS, row.call) {
+        Some(call) => {
+            answer_call(alloc, call, row, out);
+            Ok(true)
+        }
+        None => Ok(answer_set(alloc, row, out)),
     }
-    Ok(true)
+}
+
+fn answer_call(alloc: Global, call: Call, row: &Row<'_>, out: &mut Lines) {
+    if let Ok(bytes) = bytes_of(alloc, &row.input, out) {
+        answer_on_bytes(alloc, call, row, &bytes, out);
+    }
+}
+
+fn answer_on_bytes(alloc: Global, call: Call, row: &Row<'_>, bytes: &[u8], out: &mut Lines) {
+    match names_from(alloc, row, first_name(call)) {
+        Ok(names) => answer_on_names(alloc, call, row, bytes, &names, out),
+        Err(_) => out.lack_memory(),
+    }
+}
+
+/// The place of the first argument that is a name.
+fn first_name(call: Call) -> usize {
+    match call {
+        Call::TrimFor => 2,
+        _ => 0,
+    }
 }
 
 /// The arguments of a row from one on, as names.
@@ -37,54 +70,63 @@ pub fn names_from(
 ) -> Result<IndexSet<String>, AllocError> {
     let mut names = IndexSet::new(alloc);
     for name in row.arguments.iter().skip(first) {
-        names.insert(String::from_str(alloc, name)?)?;
+        add_name(alloc, &mut names, name)?;
     }
     Ok(names)
 }
 
-/// `liveness_counted NAME..`: what the exports of these names reach.
-fn answer_liveness(alloc: Global, row: &Row<'_>, out: &mut Lines) -> Result<(), Stop> {
-    let bytes = bytes_of(alloc, &row.input, out)?;
-    let required = names_from(alloc, row, 0)?;
-    put_answer(liveness_counted(alloc, &bytes, &required), out);
+fn add_name(alloc: Global, names: &mut IndexSet<String>, name: &str) -> Result<(), AllocError> {
+    let name = String::from_str(alloc, name)?;
+    names.insert(name)?;
     Ok(())
+}
+
+fn answer_on_names(
+    alloc: Global,
+    call: Call,
+    row: &Row<'_>,
+    bytes: &[u8],
+    names: &IndexSet<String>,
+    out: &mut Lines,
+) {
+    match call {
+        Call::Liveness => put_answer(liveness_counted(alloc, bytes, names), out),
+        Call::Trim => answer_trim(alloc, bytes, names, None, Some(16), out),
+        Call::TrimFor => {
+            answer_trim(alloc, bytes, names, realloc_of(row), exponent_of(row), out);
+        }
+    }
 }
 
 fn put_answer(found: Result<Liveness<RangeSet>, GcFault>, out: &mut Lines) {
     match found {
         Ok(found) => put_liveness(&found, out),
-        Err(fault) => writeln!(out, "fault {fault}"),
+        Err(fault) => put_fault(out, fault),
     }
 }
 
-/// `trim NAME..`: the adapter, cut to what the exports of these names reach.
-fn answer_trim(alloc: Global, row: &Row<'_>, out: &mut Lines) -> Result<(), Stop> {
-    let bytes = bytes_of(alloc, &row.input, out)?;
-    let required = names_from(alloc, row, 0)?;
-    if required.is_empty() {
-        return Err(bad_row(out, "no names", row.call));
+fn answer_trim(
+    alloc: Global,
+    bytes: &[u8],
+    names: &IndexSet<String>,
+    realloc: Option<&str>,
+    page: Option<u32>,
+    out: &mut Lines,
+)
+    requires { IfSome page (λ p. p ≤ 16) }
+{
+    match page {
+        Some(page) if !names.is_empty() => {
+            put_trimmed(run(alloc, bytes, names, realloc, page), out);
+        }
+        _ => {
+            let _ = bad_row(out, "no names or no exponent", "");
+        }
     }
-    put_trimmed(run(alloc, &bytes, &required, None, 16), out);
-    Ok(())
-}
-
-/// `trim_for REALLOC PAGE NAME..`: the same for a main module that exports a realloc of this name, none by `-`, with an
-/// exponent of the page size.
-fn answer_trim_for(alloc: Global, row: &Row<'_>, out: &mut Lines) -> Result<(), Stop> {
-    let bytes = bytes_of(alloc, &row.input, out)?;
-    let required = names_from(alloc, row, 2)?;
-    let Some(page) = exponent_of(row) else {
-        return Err(bad_row(out, "no exponent", row.call));
-    };
-    if required.is_empty() {
-        return Err(bad_row(out, "no names", row.call));
-    }
-    put_trimmed(run(alloc, &bytes, &required, realloc_of(row), page), out);
-    Ok(())
 }
 
 fn realloc_of<'a>(row: &Row<'a>) -> Option<&'a str> {
-    let name = *row.arguments.first()?;
+    let name = row.arguments.first().copied().unwrap_or("-");
     if name == "-" { None } else { Some(name) }
 }
 
@@ -99,7 +141,7 @@ fn exponent_of(row: &Row<'_>) -> Option<u32>
 fn put_trimmed(trimmed: Result<Vec<u8>, GcFault>, out: &mut Lines) {
     match trimmed {
         Ok(trimmed) => put_bytes_lines(out, "bytes", &trimmed),
-        Err(fault) => writeln!(out, "fault {fault}"),
+        Err(fault) => put_fault(out, fault),
     }
 }
 
@@ -112,8 +154,8 @@ fn put_liveness(found: &Liveness<RangeSet>, out: &mut Lines) {
     put_set("tables", &found.live.tables, out);
     put_set("memories", &found.live.memories, out);
     put_set("globals", &found.live.globals, out);
-    let turns = found.turns;
-    writeln!(out, "turns {turns}");
+    out.number("turns ", found.turns);
+    out.end();
 }
 
 /// A line for a set that has something: its numbers.
@@ -125,10 +167,10 @@ fn put_set(name: &str, set: &RangeSet, out: &mut Lines) {
                 out.push_str(name);
             }
             is_empty = false;
-            write!(out, " {number}");
+            out.number(" ", number as u64);
         }
     }
     if !is_empty {
-        out.push('\n');
+        out.end();
     }
 }

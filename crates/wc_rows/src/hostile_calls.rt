@@ -1,52 +1,76 @@
 //! Calls on modules that are cut off or have long chains of calls, and on sets for which memory runs out.
 
 use crate::gc_calls::names_from;
-use crate::input::{Stop, answered, bad_row, bytes_of};
+use crate::input::{bad_row, bytes_of};
 use crate::lines::Lines;
 use crate::rows::Row;
+use crate::set_calls::put_flag;
+use crate::table::named;
+use crate::values::put_fault;
 use indexmap::IndexSet;
 use std::alloc::{AllocError, Global};
 use wc_gc::{BitVec, GcFault, LiveSet, Liveness, RangeSet, liveness_counted, run};
 use wc_read::read_module;
 
-/// Appends the answer of a call on such modules, and says whether the row's is one.
-pub fn answer(alloc: Global, row: &Row<'_>, out: &mut Lines) -> Result<bool, AllocError> {
-    answered(answer_call(alloc, row, out))
+#[derive(Clone, Copy)]
+enum Call {
+    Fronts,
+    CallChain,
+    Inserted,
 }
 
-fn answer_call(alloc: Global, row: &Row<'_>, out: &mut Lines) -> Result<bool, Stop> {
-    if row.call == "fronts" {
-        answer_fronts(alloc, row, out)?;
-    } else if row.call == "call_chain" {
-        answer_call_chain(alloc, row, out)?;
-    } else if row.call == "inserted" {
-        answer_inserted(alloc, row, out)?;
-    } else {
-        return Ok(false);
+const CALLS: [(&str, Call); 3] = [
+    ("fronts", Call::Fronts),
+    ("call_chain", Call::CallChain),
+    ("inserted", Call::Inserted),
+];
+
+/// Appends the answer of a call on such modules, and says whether the row's is one.
+pub fn answer(alloc: Global, row: &Row<'_>, out: &mut Lines) -> Result<bool, AllocError> {
+    match named(&CALLS, row.call) {
+        Some(Call::Fronts) => answer_fronts(alloc, row, out),
+        Some(Call::CallChain) => answer_call_chain(alloc, row, out),
+        Some(Call::Inserted) => answer_inserted(alloc, row, out),
+        None => return Ok(false),
     }
     Ok(true)
 }
 
 /// `fronts NAME..`: of each front of a module, whether it is read and whether it is trimmed to the exports of these
 /// names.
-fn answer_fronts(alloc: Global, row: &Row<'_>, out: &mut Lines) -> Result<(), Stop> {
-    let bytes = bytes_of(alloc, &row.input, out)?;
-    let required = names_from(alloc, row, 0)?;
-    if required.is_empty() {
-        return Err(bad_row(out, "no names", row.call));
+fn answer_fronts(alloc: Global, row: &Row<'_>, out: &mut Lines) {
+    match names_from(alloc, row, 0) {
+        Ok(names) => answer_fronts_for(alloc, row, &names, out),
+        Err(_) => out.lack_memory(),
     }
+}
+
+fn answer_fronts_for(alloc: Global, row: &Row<'_>, names: &IndexSet<String>, out: &mut Lines) {
+    if let Ok(bytes) = bytes_of(alloc, &row.input, out) {
+        put_fronts(alloc, &bytes, names, out);
+    }
+}
+
+fn put_fronts(alloc: Global, bytes: &[u8], names: &IndexSet<String>, out: &mut Lines) {
     for length in 0..bytes.len() {
-        write!(out, "{length}");
+        out.number("", length as u64);
         put_read(alloc, &bytes[..length], out);
-        put_trimmed(run(alloc, &bytes[..length], &required, None, 16), out);
+        put_front(alloc, &bytes[..length], names, out);
     }
-    Ok(())
 }
 
 fn put_read(alloc: Global, front: &[u8], out: &mut Lines) {
     match read_module(alloc, front) {
         Ok(_) => out.push_str(" is a module, "),
         Err(fault) => write!(out, " {fault}, "),
+    }
+}
+
+fn put_front(alloc: Global, front: &[u8], names: &IndexSet<String>, out: &mut Lines) {
+    if names.is_empty() {
+        let _ = bad_row(out, "no names", "");
+    } else {
+        put_trimmed(run(alloc, front, names, None, 16), out);
     }
 }
 
@@ -59,25 +83,42 @@ fn put_trimmed(trimmed: Result<Vec<u8>, GcFault>, out: &mut Lines) {
 
 /// `call_chain COUNT`: how many of so many functions are live, each of which calls the next, and the turns. The first
 /// is exported, and the last is empty.
-fn answer_call_chain(alloc: Global, row: &Row<'_>, out: &mut Lines) -> Result<(), Stop> {
-    let Some(count) = count_of(row) else {
-        return Err(bad_row(out, "no count", row.call));
-    };
-    let bytes = call_chain(alloc, count)?;
-    let mut required = IndexSet::new(alloc);
-    required.insert(String::from_str(alloc, "a")?)?;
-    put_live(liveness_counted(alloc, &bytes, &required), count, out);
-    Ok(())
+fn answer_call_chain(alloc: Global, row: &Row<'_>, out: &mut Lines) {
+    let count = row.arguments.first().copied().unwrap_or("");
+    match count.parse::<u32>() {
+        Ok(count) => put_call_chain(alloc, count, out),
+        Err(_) => {
+            let _ = bad_row(out, "no count", count);
+        }
+    }
 }
 
-fn count_of(row: &Row<'_>) -> Option<u32> {
-    row.arguments.first()?.parse::<u32>().ok()
+fn put_call_chain(alloc: Global, count: u32, out: &mut Lines) {
+    let mut bytes = Vec::new(alloc);
+    match put_chain(alloc, count, &mut bytes) {
+        Ok(()) => put_found(alloc, &bytes, count, out),
+        Err(_) => out.lack_memory(),
+    }
+}
+
+fn put_found(alloc: Global, bytes: &[u8], count: u32, out: &mut Lines) {
+    match first_name(alloc) {
+        Ok(names) => put_live(liveness_counted(alloc, bytes, &names), count, out),
+        Err(_) => out.lack_memory(),
+    }
+}
+
+fn first_name(alloc: Global) -> Result<IndexSet<String>, AllocError> {
+    let mut names = IndexSet::new(alloc);
+    let name = String::from_str(alloc, "a")?;
+    names.insert(name)?;
+    Ok(names)
 }
 
 fn put_live(found: Result<Liveness<RangeSet>, GcFault>, count: u32, out: &mut Lines) {
     match found {
         Ok(found) => put_count(&found, count, out),
-        Err(fault) => writeln!(out, "fault {fault}"),
+        Err(fault) => put_fault(out, fault),
     }
 }
 
@@ -88,17 +129,18 @@ fn put_count(found: &Liveness<RangeSet>, count: u32, out: &mut Lines) {
             live = live.saturating_add(1);
         }
     }
-    let turns = found.turns;
-    writeln!(out, "{live} functions, {turns} turns");
+    out.number("", live as u64);
+    out.number(" functions, ", found.turns);
+    out.push_str(" turns\n");
 }
 
-/// A module of so many functions, each of which calls the next; the first is exported as `a`, and the last is empty.
-fn call_chain(alloc: Global, count: u32) -> Result<Vec<u8>, AllocError> {
-    let mut out = Vec::from_slice(alloc, b"\0asm\x01\0\0\0\x01\x04\x01\x60\0\0")?;
-    put_section(&mut out, 3, &types_of(alloc, count)?)?;
-    put_section(&mut out, 7, b"\x01\x01a\0\0")?;
-    put_section(&mut out, 10, &bodies_of(alloc, count)?)?;
-    Ok(out)
+/// Appends a module of so many functions, each of which calls the next; the first is exported as `a`, and the last is
+/// empty.
+fn put_chain(alloc: Global, count: u32, out: &mut Vec<u8>) -> Result<(), AllocError> {
+    out.extend_from_slice(b"\0asm\x01\0\0\0\x01\x04\x01\x60\0\0")?;
+    put_section(out, 3, &types_of(alloc, count)?)?;
+    put_section(out, 7, b"\x01\x01a\0\0")?;
+    put_section(out, 10, &bodies_of(alloc, count)?)
 }
 
 /// A count of functions, and for each the type 0.
@@ -148,32 +190,42 @@ const NUMBERS: u32 = 1024;
 
 /// `inserted NUMBER..`: what `insert` answers for each number, in a set that has those before it. Where memory runs out
 /// the answer ends with that, if the set has the numbers that it had.
-fn answer_inserted(alloc: Global, row: &Row<'_>, out: &mut Lines) -> Result<(), Stop> {
-    let mut set = RangeSet::new(alloc);
+fn answer_inserted(alloc: Global, row: &Row<'_>, out: &mut Lines) {
     let mut had = BitVec::new(alloc);
     // So all of its room is there.
-    had.insert(NUMBERS)?;
-    for text in row.arguments.iter() {
-        let Ok(number) = text.parse::<u32>() else {
-            return Err(bad_row(out, "no number", text));
-        };
-        match set.insert(number) {
-            Ok(is_new) => writeln!(out, "{is_new}"),
-            Err(_) => {
-                put_kept(&set, &had, out);
-                return Ok(());
-            }
-        }
-        had.insert(number)?;
+    match had.insert(NUMBERS) {
+        Ok(_) => put_inserted(alloc, &row.arguments, &mut had, out),
+        Err(_) => out.lack_memory(),
     }
-    Ok(())
+}
+
+fn put_inserted(alloc: Global, words: &[&str], had: &mut BitVec, out: &mut Lines) {
+    let mut set = RangeSet::new(alloc);
+    for word in words {
+        let number = word.parse::<u32>().unwrap_or(0);
+        if !put_insert(&mut set, had, number, out) {
+            return put_kept(&set, had, out);
+        }
+    }
+}
+
+/// False where memory runs out for an insert.
+fn put_insert(set: &mut RangeSet, had: &mut BitVec, number: u32, out: &mut Lines) -> bool {
+    match set.insert(number) {
+        Ok(is_new) => {
+            put_flag(is_new, out);
+            had.insert(number).is_ok()
+        }
+        Err(_) => false,
+    }
 }
 
 /// That memory ran out, or the first number that is in one of two sets alone.
 fn put_kept(set: &RangeSet, had: &BitVec, out: &mut Lines) {
     for number in 0..NUMBERS {
         if set.contains(number) != had.contains(number) {
-            return writeln!(out, "{number} was changed");
+            out.number("", number as u64);
+            return out.push_str(" was changed\n");
         }
     }
     out.push_str("fault out of memory\n");

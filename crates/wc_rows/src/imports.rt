@@ -2,10 +2,11 @@
 
 use crate::input::{Stop, bad_row};
 use crate::lines::Lines;
+use crate::table::named;
 use std::alloc::Global;
 use wc_read::{GlobalType, Import, ImportType, MemoryType, TableType, ValType};
 
-/// The imports that lines describe.
+/// The imports that lines describe. Where there are none, the answer says why, or memory ran out for it too.
 pub fn imports_of<'a>(
     alloc: Global,
     lines: &[&'a str],
@@ -14,11 +15,25 @@ pub fn imports_of<'a>(
     let mut imports = Vec::new(alloc);
     for line in lines {
         match parse_import(line) {
-            Some(import) => imports.push(import)?,
+            Some(import) => push_import(&mut imports, import, out)?,
             None => return Err(bad_row(out, "no import", line)),
         }
     }
     Ok(imports)
+}
+
+fn push_import<'a>(
+    imports: &mut Vec<Import<'a>>,
+    import: Import<'a>,
+    out: &mut Lines,
+) -> Result<(), Stop> {
+    match imports.push(import) {
+        Ok(()) => Ok(()),
+        Err(_) => {
+            out.lack_memory();
+            Err(Stop::Memory)
+        }
+    }
 }
 
 /// Whether a line describes an import.
@@ -27,8 +42,7 @@ pub fn is_import(line: &str) -> bool {
 }
 
 fn parse_import<'a>(line: &'a str) -> Option<Import<'a>> {
-    let rest = line.strip_prefix("import ")?;
-    let (module, rest) = cut_quoted(rest)?;
+    let (module, rest) = cut_quoted(line.strip_prefix("import ")?)?;
     let (name, rest) = cut_quoted(rest)?;
     let ty = parse_import_type(rest.trim_start())?;
     Some(Import { module, name, ty })
@@ -39,129 +53,140 @@ fn cut_quoted(text: &str) -> Option<(&str, &str)> {
     text.trim_start().strip_prefix('"')?.split_once('"')
 }
 
+/// The kinds of imports.
+#[derive(Clone, Copy)]
+enum Kind {
+    Func,
+    Table,
+    Memory,
+    Global,
+}
+
+const KINDS: [(&str, Kind); 4] = [
+    ("func", Kind::Func),
+    ("table", Kind::Table),
+    ("memory", Kind::Memory),
+    ("global", Kind::Global),
+];
+
 /// The type that a text describes.
 pub fn parse_import_type(text: &str) -> Option<ImportType> {
     let (kind, rest) = text.split_once(' ')?;
-    if kind == "func" {
-        Some(ImportType::Func(rest.parse::<u32>().ok()?))
-    } else if kind == "table" {
-        Some(ImportType::Table(parse_table_type(rest)?))
-    } else if kind == "memory" {
-        Some(ImportType::Memory(parse_memory_type(rest)?))
-    } else if kind == "global" {
-        Some(ImportType::Global(parse_global_type(rest)?))
-    } else {
-        None
+    match named(&KINDS, kind)? {
+        Kind::Func => parse_func_type(rest),
+        Kind::Table => parse_table_type(rest),
+        Kind::Memory => parse_memory_type(rest),
+        Kind::Global => parse_global_type(rest),
     }
 }
+
+fn parse_func_type(text: &str) -> Option<ImportType> {
+    Some(ImportType::Func(text.parse::<u32>().ok()?))
+}
+
+/// The value types of one word that holds no index.
+const VAL_TYPES: [(&str, ValType); 9] = [
+    ("i32", ValType::I32),
+    ("i64", ValType::I64),
+    ("f32", ValType::F32),
+    ("f64", ValType::F64),
+    ("v128", ValType::V128),
+    ("funcref", ValType::FuncRef),
+    ("externref", ValType::ExternRef),
+    ("ref:func", ValType::FuncRefNonNull),
+    ("ref:extern", ValType::ExternRefNonNull),
+];
 
 /// The value type that a word names; `None` of any other word.
 pub fn parse_val_type(word: &str) -> Option<ValType> {
-    if word == "i32" {
-        Some(ValType::I32)
-    } else if word == "i64" {
-        Some(ValType::I64)
-    } else if word == "f32" {
-        Some(ValType::F32)
-    } else if word == "f64" {
-        Some(ValType::F64)
-    } else if word == "v128" {
-        Some(ValType::V128)
-    } else if word == "funcref" {
-        Some(ValType::FuncRef)
-    } else if word == "externref" {
-        Some(ValType::ExternRef)
-    } else {
-        parse_reference(word)
+    match named(&VAL_TYPES, word) {
+        Some(ty) => Some(ty),
+        None => parse_reference(word),
     }
 }
 
-/// A reference by a word of two parts: `ref:func`, `ref:extern`, `ref:3` or `ref-null:3`.
+/// A reference to functions of a type, `ref:3`, or with null, `ref-null:3`.
 fn parse_reference(word: &str) -> Option<ValType> {
-    let (kind, target) = word.split_once(':')?;
-    if kind == "ref-null" {
-        parse_type_ref(true, target)
-    } else if kind != "ref" {
-        None
-    } else if target == "func" {
-        Some(ValType::FuncRefNonNull)
-    } else if target == "extern" {
-        Some(ValType::ExternRefNonNull)
-    } else {
-        parse_type_ref(false, target)
+    match word.strip_prefix("ref-null:") {
+        Some(index) => parse_type_ref(true, index),
+        None => parse_type_ref(false, word.strip_prefix("ref:")?),
     }
 }
 
 fn parse_type_ref(nullable: bool, index: &str) -> Option<ValType> {
-    Some(ValType::TypeRef {
-        nullable,
-        index: index.parse::<u32>().ok()?,
-    })
+    let index = index.parse::<u32>().ok()?;
+    Some(ValType::TypeRef { nullable, index })
 }
 
-/// The type of values that a word names.
-pub fn val_type_of(word: &str, out: &mut Lines) -> Result<ValType, Stop> {
-    match parse_val_type(word) {
-        Some(ty) => Ok(ty),
-        None => Err(bad_row(out, "no type", word)),
-    }
+/// Bounds, from `min`, `max` and `page`, each where it is there; `None` of any other text.
+#[derive(Clone, Copy)]
+struct Bounds {
+    initial: Option<u64>,
+    maximum: Option<u64>,
+    exponent: Option<u64>,
 }
 
-fn parse_table_type(text: &str) -> Option<TableType> {
+fn parse_bounds(text: &str) -> Option<Bounds> {
+    let (initial, rest) = cut_number(text, "min ")?;
+    let (maximum, rest) = cut_number(rest, "max ")?;
+    let (exponent, rest) = cut_number(rest, "page ")?;
+    let bounds = Bounds {
+        initial,
+        maximum,
+        exponent,
+    };
+    if rest.is_empty() { Some(bounds) } else { None }
+}
+
+fn parse_table_type(text: &str) -> Option<ImportType> {
     let (element_type, rest) = text.split_once(' ')?;
     let element_type = parse_val_type(element_type)?;
     let (table64, rest) = cut_word(rest, "64");
-    let (initial, rest) = cut_number(rest, "min ")?;
-    let (maximum, rest) = cut_number(rest, "max ")?;
-    if !rest.is_empty() {
-        return None;
-    }
-    Some(TableType {
-        element_type,
-        table64,
-        initial: initial?,
-        maximum,
-    })
+    table_type(element_type, table64, parse_bounds(rest)?)
 }
 
-fn parse_memory_type(text: &str) -> Option<MemoryType> {
+fn table_type(element_type: ValType, table64: bool, bounds: Bounds) -> Option<ImportType> {
+    let initial = bounds.initial?;
+    Some(ImportType::Table(TableType {
+        element_type,
+        table64,
+        initial,
+        maximum: bounds.maximum,
+    }))
+}
+
+fn parse_memory_type(text: &str) -> Option<ImportType> {
     let (memory64, rest) = cut_word(text, "64");
     let (shared, rest) = cut_word(rest, "shared");
-    let (initial, rest) = cut_number(rest, "min ")?;
-    let (maximum, rest) = cut_number(rest, "max ")?;
-    let (exponent, rest) = cut_number(rest, "page ")?;
-    if !rest.is_empty() {
-        return None;
-    }
-    let page_size_log2 = match exponent {
+    memory_type(memory64, shared, parse_bounds(rest)?)
+}
+
+fn memory_type(memory64: bool, shared: bool, bounds: Bounds) -> Option<ImportType> {
+    let initial = bounds.initial?;
+    let page_size_log2 = match bounds.exponent {
         Some(exponent) => Some(u32::try_from(exponent).ok()?),
         None => None,
     };
-    Some(MemoryType {
+    Some(ImportType::Memory(MemoryType {
         memory64,
         shared,
-        initial: initial?,
-        maximum,
+        initial,
+        maximum: bounds.maximum,
         page_size_log2,
-    })
+    }))
 }
 
-fn parse_global_type(text: &str) -> Option<GlobalType> {
+fn parse_global_type(text: &str) -> Option<ImportType> {
     let (content_type, rest) = text.split_once(' ').unwrap_or((text, ""));
     let content_type = parse_val_type(content_type)?;
-    if rest == "" {
-        Some(GlobalType {
-            content_type,
-            mutable: false,
-        })
-    } else if rest == "mut" {
-        Some(GlobalType {
-            content_type,
-            mutable: true,
-        })
-    } else {
-        None
+    let mutable = rest == "mut";
+    if !mutable && !rest.is_empty() {
+        return None;
     }
+    Some(ImportType::Global(GlobalType {
+        content_type,
+        mutable,
+    }))
 }
 
 /// Whether a word comes first, and what comes after it.

@@ -39,20 +39,35 @@ pub fn answered(answer: Result<bool, Stop>) -> Result<bool, AllocError> {
 
 /// Answers that `text` is wrong in a row.
 pub fn bad_row(out: &mut Lines, what: &str, text: &str) -> Stop {
-    writeln!(out, "bad row: {what} {text:?}");
+    out.push_str("bad row: ");
+    out.push_str(what);
+    out.quoted(" ", text);
+    out.end();
     Stop::BadRow
 }
 
-/// The bytes that lines of hex say.
+/// Why an answer that says no more ends.
+fn stop_of(out: &Lines) -> Stop {
+    if out.is_short() {
+        Stop::Memory
+    } else {
+        Stop::BadRow
+    }
+}
+
+/// The bytes that lines of hex say. Where there are none, the answer says why, or memory ran out for it too.
 pub fn bytes_of(alloc: Global, lines: &[&str], out: &mut Lines) -> Result<Vec<u8>, Stop> {
     let mut bytes = Vec::new(alloc);
     for line in lines {
-        put_line(alloc, &mut bytes, line, out)?;
+        if !put_line(alloc, &mut bytes, line, out) {
+            return Err(stop_of(out));
+        }
     }
     Ok(bytes)
 }
 
-fn put_line(alloc: Global, bytes: &mut Vec<u8>, line: &str, out: &mut Lines) -> Result<(), Stop> {
+/// Appends the bytes of a line. False where it has none.
+fn put_line(alloc: Global, bytes: &mut Vec<u8>, line: &str, out: &mut Lines) -> bool {
     match line.strip_prefix("repeat ") {
         Some(rest) => put_copies(alloc, bytes, rest, out),
         None => put_hex(alloc, bytes, line, out),
@@ -60,50 +75,61 @@ fn put_line(alloc: Global, bytes: &mut Vec<u8>, line: &str, out: &mut Lines) -> 
 }
 
 /// Appends so many copies of bytes, as `3 00` says.
-fn put_copies(alloc: Global, bytes: &mut Vec<u8>, line: &str, out: &mut Lines) -> Result<(), Stop> {
+fn put_copies(alloc: Global, bytes: &mut Vec<u8>, line: &str, out: &mut Lines) -> bool {
     let (count, hex) = line.split_once(' ').unwrap_or((line, ""));
-    let Ok(count) = count.parse::<u32>() else {
-        return Err(bad_row(out, "no count", count));
+    let Ok(number) = count.parse::<u32>() else {
+        let _ = bad_row(out, "no count", count);
+        return false;
     };
     let mut copied = Vec::new(alloc);
-    put_hex(alloc, &mut copied, hex, out)?;
-    for _ in 0..count {
-        bytes.extend_from_slice(&copied)?;
-    }
-    Ok(())
+    put_hex(alloc, &mut copied, hex, out) && put_times(bytes, &copied, number, out)
 }
 
-fn put_hex(alloc: Global, bytes: &mut Vec<u8>, line: &str, out: &mut Lines) -> Result<(), Stop> {
+fn put_times(bytes: &mut Vec<u8>, copied: &[u8], count: u32, out: &mut Lines) -> bool {
+    for _ in 0..count {
+        if !out.keep(bytes.extend_from_slice(copied)) {
+            return false;
+        }
+    }
+    true
+}
+
+fn put_hex(alloc: Global, bytes: &mut Vec<u8>, line: &str, out: &mut Lines) -> bool {
     let mut is_quoted = false;
     for piece in line.split('"') {
         if is_quoted {
-            bytes.extend_from_slice(piece.as_bytes())?;
+            if !out.keep(bytes.extend_from_slice(piece.as_bytes())) {
+                return false;
+            }
         } else if let Some((front, _)) = piece.split_once('#') {
             return put_digits(alloc, bytes, front, out);
-        } else {
-            put_digits(alloc, bytes, piece, out)?;
+        } else if !put_digits(alloc, bytes, piece, out) {
+            return false;
         }
         is_quoted = !is_quoted;
     }
-    if is_quoted {
-        Ok(())
-    } else {
-        Err(bad_row(out, "open quotes", line))
+    if !is_quoted {
+        let _ = bad_row(out, "open quotes", line);
     }
+    is_quoted
 }
 
-fn put_digits(
-    alloc: Global,
-    bytes: &mut Vec<u8>,
-    digits: &str,
-    out: &mut Lines,
-) -> Result<(), Stop> {
+fn put_digits(alloc: Global, bytes: &mut Vec<u8>, digits: &str, out: &mut Lines) -> bool {
     for word in digits.split_whitespace() {
-        match hex::decode(alloc, word) {
-            Ok(decoded) => bytes.extend_from_slice(&decoded)?,
-            Err(FromHexError::OutOfMemory) => return Err(Stop::Memory),
-            Err(_) => return Err(bad_row(out, "no hex", word)),
+        if !put_word(alloc, bytes, word, out) {
+            return false;
         }
     }
-    Ok(())
+    true
+}
+
+fn put_word(alloc: Global, bytes: &mut Vec<u8>, word: &str, out: &mut Lines) -> bool {
+    match hex::decode(alloc, word) {
+        Ok(decoded) => out.keep(bytes.extend_from_slice(&decoded)),
+        Err(FromHexError::OutOfMemory) => out.keep(Err(AllocError)),
+        Err(_) => {
+            let _ = bad_row(out, "no hex", word);
+            false
+        }
+    }
 }

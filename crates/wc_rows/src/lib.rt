@@ -19,6 +19,7 @@ pub mod read_calls;
 pub mod rows;
 pub mod set_calls;
 pub mod sink_calls;
+pub mod table;
 pub mod tool_calls;
 pub mod unfolding;
 pub mod values;

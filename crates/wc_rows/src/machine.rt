@@ -1,12 +1,13 @@
 //! The small machine as a program: it runs the bodies that trimming adds. There is one memory, and a call is one of a
 //! realloc, which waits for its answer.
 
-use std::alloc::{AllocError, Global};
+use std::alloc::Global;
 use wc_read::{BlockType, Immediates, Index, IndexKind, Instr, Opcode, Space};
 
 /// What all code shares, and the calls that wait.
 #[derive(Drop)]
 pub struct Machine {
+    alloc: Global,
     /// The exponent of the memory's page size, at most 32.
     pub page_size_log2: u32,
     pub globals: Vec<u32>,
@@ -29,7 +30,7 @@ struct Frame {
 }
 
 /// How far code ran.
-#[derive(Clone, Copy, Debug, PartialEq, Eq)]
+#[derive(Clone, Copy)]
 pub enum Outcome {
     /// To its end, with an operand left or none.
     Finished(Option<u32>),
@@ -40,6 +41,7 @@ pub enum Outcome {
     NoMeaning,
     /// Nothing ran.
     Nothing,
+    NoMemory,
 }
 
 /// What an operator does.
@@ -48,14 +50,17 @@ enum Step {
     GoesOn,
     /// On after the `end` of an `if`.
     Skips,
-    Traps,
     Calls(u32, [u32; 4]),
-    NoMeaning,
+    Ends(Outcome),
 }
+
+/// The step of an operator that has no meaning.
+const NO_MEANING: Step = Step::Ends(Outcome::NoMeaning);
 
 impl Machine {
     pub fn new(alloc: Global, page_size_log2: u32) -> Machine {
         Machine {
+            alloc,
             page_size_log2,
             globals: Vec::new(alloc),
             pages: 0,
@@ -80,132 +85,132 @@ impl Machine {
     }
 
     /// Calls code with arguments. It has so many locals of its own.
-    pub fn enter(
-        &mut self,
-        alloc: Global,
-        code: &[Instr<'_>],
-        args: &[u32],
-        own_locals: u32,
-    ) -> Result<Outcome, AllocError> {
+    pub fn enter(&mut self, code: &[Instr<'_>], args: &[u32], own_locals: u32) -> Outcome {
+        let mut frame = Frame {
+            locals: Vec::new(self.alloc),
+            operands: Vec::new(self.alloc),
+            position: 0,
+        };
         if self.has_stopped {
-            return Ok(Outcome::Nothing);
+            Outcome::Nothing
+        } else if frame.set_locals(args, own_locals) {
+            self.run(code, frame)
+        } else {
+            Outcome::NoMemory
         }
-        let mut locals = Vec::new(alloc);
-        locals.extend_from_slice(args)?;
-        for _ in 0..own_locals {
-            locals.push(0)?;
-        }
-        self.run(
-            code,
-            Frame {
-                locals,
-                operands: Vec::new(alloc),
-                position: 0,
-            },
-        )
     }
 
     /// Goes on with the last call that waits, after an answer.
-    pub fn resume(&mut self, code: &[Instr<'_>], answer: u32) -> Result<Outcome, AllocError> {
+    pub fn resume(&mut self, code: &[Instr<'_>], answer: u32) -> Outcome {
         if self.has_stopped {
-            return Ok(Outcome::Nothing);
+            return Outcome::Nothing;
         }
-        let Some(mut frame) = self.waiting.pop() else {
-            return Ok(Outcome::Nothing);
-        };
-        frame.operands.push(answer)?;
-        self.run(code, frame)
+        match self.waiting.pop() {
+            Some(frame) => self.go_on(code, frame, answer),
+            None => Outcome::Nothing,
+        }
+    }
+
+    fn go_on(&mut self, code: &[Instr<'_>], mut frame: Frame, answer: u32) -> Outcome {
+        match frame.push(answer) {
+            Step::GoesOn => self.run(code, frame),
+            _ => Outcome::NoMemory,
+        }
     }
 
     /// Runs code from where a call is.
-    fn run(&mut self, code: &[Instr<'_>], frame: Frame) -> Result<Outcome, AllocError> {
-        let outcome = self.outcome(code, frame)?;
-        if outcome == Outcome::Trapped || outcome == Outcome::NoMeaning {
-            self.has_stopped = true;
+    fn run(&mut self, code: &[Instr<'_>], mut frame: Frame) -> Outcome {
+        match self.walk(code, &mut frame) {
+            Step::Calls(func, args) => self.wait(frame, func, args),
+            Step::Ends(outcome) => self.stop(outcome),
+            Step::Skips => self.stop(Outcome::NoMeaning),
+            Step::GoesOn => Outcome::Finished(frame.operands.pop()),
         }
-        Ok(outcome)
     }
 
-    fn outcome(&mut self, code: &[Instr<'_>], mut frame: Frame) -> Result<Outcome, AllocError> {
+    fn wait(&mut self, frame: Frame, func: u32, args: [u32; 4]) -> Outcome {
+        match self.waiting.push(frame) {
+            Ok(()) => Outcome::Called(func, args),
+            Err(_) => Outcome::NoMemory,
+        }
+    }
+
+    fn stop(&mut self, outcome: Outcome) -> Outcome {
+        self.has_stopped = true;
+        outcome
+    }
+
+    /// Runs code up to the first step that does not go on. Of a code that ends in an `if` that is skipped it is that.
+    fn walk(&mut self, code: &[Instr<'_>], frame: &mut Frame) -> Step {
         let start = frame.position.min(code.len());
         let mut skipped: usize = 0;
         for position in start..code.len() {
             if skipped > 0 {
                 skipped = ends_after(&code[position], skipped);
-                continue;
-            }
-            match self.step(&mut frame, &code[position])? {
-                Step::GoesOn => {}
-                Step::Skips => skipped = 1,
-                Step::Traps => return Ok(Outcome::Trapped),
-                Step::NoMeaning => return Ok(Outcome::NoMeaning),
-                Step::Calls(func, args) => {
-                    frame.position = position + 1;
-                    self.waiting.push(frame)?;
-                    return Ok(Outcome::Called(func, args));
+            } else {
+                match self.step(frame, &code[position]) {
+                    Step::GoesOn => {}
+                    Step::Skips => skipped = 1,
+                    other => {
+                        frame.position = position + 1;
+                        return other;
+                    }
                 }
             }
         }
         if skipped > 0 {
-            return Ok(Outcome::NoMeaning);
+            Step::Skips
+        } else {
+            Step::GoesOn
         }
-        Ok(Outcome::Finished(frame.operands.pop()))
     }
 
-    fn step(&mut self, frame: &mut Frame, operator: &Instr<'_>) -> Result<Step, AllocError> {
+    fn step(&mut self, frame: &mut Frame, operator: &Instr<'_>) -> Step {
         let Opcode::Byte(code) = operator.opcode else {
-            return Ok(Step::NoMeaning);
+            return NO_MEANING;
         };
         match &operator.immediates {
             Immediates::None => frame.plain_step(code),
             Immediates::I32(number) if code == 0x41 => frame.push(bits_of(*number)),
-            Immediates::Block(BlockType::Empty) if code == 0x04 => Ok(frame.if_step()),
+            Immediates::Block(BlockType::Empty) if code == 0x04 => frame.if_step(),
             Immediates::Index(index) => self.index_step(frame, code, *index),
-            _ => Ok(Step::NoMeaning),
+            _ => NO_MEANING,
         }
     }
 
-    fn index_step(
-        &mut self,
-        frame: &mut Frame,
-        code: u8,
-        index: Index,
-    ) -> Result<Step, AllocError> {
-        match index.kind {
-            IndexKind::Local => frame.local_step(code, index.number as usize),
-            IndexKind::In(Space::Globals) => self.global_step(frame, code, index.number as usize),
-            IndexKind::In(Space::Memories) if code == 0x40 && index.number == 0 => self.grow_step(
-                frame,
-            ),
-            IndexKind::In(Space::Funcs) if code == 0x10 => Ok(frame.call_step(index.number)),
-            _ => Ok(Step::NoMeaning),
+    fn index_step(&mut self, frame: &mut Frame, code: u8, index: Index) -> Step {
+        let number = index.number;
+        match (index.kind, code) {
+            (IndexKind::Local, _) => frame.local_step(code, number as usize),
+            (IndexKind::In(Space::Globals), _) => self.global_step(frame, code, number as usize),
+            (IndexKind::In(Space::Memories), 0x40) if number == 0 => self.grow_step(frame),
+            (IndexKind::In(Space::Funcs), 0x10) => frame.call_step(number),
+            _ => NO_MEANING,
         }
     }
 
-    fn global_step(
-        &mut self,
-        frame: &mut Frame,
-        code: u8,
-        number: usize,
-    ) -> Result<Step, AllocError> {
+    fn global_step(&mut self, frame: &mut Frame, code: u8, number: usize) -> Step {
         if number >= self.globals.len() {
-            return Ok(Step::NoMeaning);
+            return NO_MEANING;
         }
         if code == 0x23 {
-            return frame.push(self.globals[number]);
+            let value = self.globals[number];
+            return frame.push(value);
         }
-        let Some(value) = frame.operands.pop() else {
-            return Ok(Step::NoMeaning);
-        };
-        self.globals[number] = value;
-        Ok(Step::GoesOn)
+        match frame.operands.pop() {
+            Some(value) => {
+                self.globals[number] = value;
+                Step::GoesOn
+            }
+            None => NO_MEANING,
+        }
     }
 
-    fn grow_step(&mut self, frame: &mut Frame) -> Result<Step, AllocError> {
-        let Some(more) = frame.operands.pop() else {
-            return Ok(Step::NoMeaning);
-        };
-        frame.push(self.grow(more))
+    fn grow_step(&mut self, frame: &mut Frame) -> Step {
+        match frame.operands.pop() {
+            Some(more) => frame.push(self.grow(more)),
+            None => NO_MEANING,
+        }
     }
 
     /// The old size, or the greatest number where growth is refused.
@@ -222,56 +227,80 @@ impl Machine {
 }
 
 impl Frame {
-    fn push(&mut self, operand: u32) -> Result<Step, AllocError> {
-        self.operands.push(operand)?;
-        Ok(Step::GoesOn)
+    /// Makes its locals: the arguments, and then zeros. False where memory ran out.
+    fn set_locals(&mut self, args: &[u32], own_locals: u32) -> bool {
+        if self.locals.extend_from_slice(args).is_err() {
+            return false;
+        }
+        for _ in 0..own_locals {
+            if self.locals.push(0).is_err() {
+                return false;
+            }
+        }
+        true
+    }
+
+    fn push(&mut self, operand: u32) -> Step {
+        match self.operands.push(operand) {
+            Ok(()) => Step::GoesOn,
+            Err(_) => Step::Ends(Outcome::NoMemory),
+        }
     }
 
     fn if_step(&mut self) -> Step {
         match self.operands.pop() {
             Some(0) => Step::Skips,
             Some(_) => Step::GoesOn,
-            None => Step::NoMeaning,
+            None => NO_MEANING,
         }
     }
 
-    fn plain_step(&mut self, code: u8) -> Result<Step, AllocError> {
+    fn plain_step(&mut self, code: u8) -> Step {
         match code {
-            0x00 => Ok(Step::Traps),
-            0x0b => Ok(Step::GoesOn),
+            0x00 => Step::Ends(Outcome::Trapped),
+            0x0b => Step::GoesOn,
             _ => self.binary_step(code),
         }
     }
 
-    fn binary_step(&mut self, code: u8) -> Result<Step, AllocError> {
-        let Some(second) = self.operands.pop() else {
-            return Ok(Step::NoMeaning);
-        };
-        let Some(first) = self.operands.pop() else {
-            return Ok(Step::NoMeaning);
-        };
-        match combine(code, first, second) {
-            Some(value) => self.push(value),
-            None => Ok(Step::NoMeaning),
+    fn binary_step(&mut self, code: u8) -> Step {
+        let second = self.operands.pop();
+        let first = self.operands.pop();
+        match (first, second) {
+            (Some(first), Some(second)) => self.push_some(combine(code, first, second)),
+            _ => NO_MEANING,
         }
     }
 
-    fn local_step(&mut self, code: u8, number: usize) -> Result<Step, AllocError> {
+    fn push_some(&mut self, value: Option<u32>) -> Step {
+        match value {
+            Some(value) => self.push(value),
+            None => NO_MEANING,
+        }
+    }
+
+    fn local_step(&mut self, code: u8, number: usize) -> Step {
         if number >= self.locals.len() {
-            return Ok(Step::NoMeaning);
+            return NO_MEANING;
         }
-        if code == 0x20 {
-            let value = self.locals[number];
-            return self.push(value);
+        match code {
+            0x20 => {
+                let value = self.locals[number];
+                self.push(value)
+            }
+            0x22 => self.tee_step(number),
+            _ => NO_MEANING,
         }
-        if code != 0x22 {
-            return Ok(Step::NoMeaning);
+    }
+
+    fn tee_step(&mut self, number: usize) -> Step {
+        match self.operands.pop() {
+            Some(value) if number < self.locals.len() => {
+                self.locals[number] = value;
+                self.push(value)
+            }
+            _ => NO_MEANING,
         }
-        let Some(value) = self.operands.pop() else {
-            return Ok(Step::NoMeaning);
-        };
-        self.locals[number] = value;
-        self.push(value)
     }
 
     fn call_step(&mut self, func: u32) -> Step {
@@ -279,7 +308,7 @@ impl Frame {
         for index in (0..4).rev() {
             match self.operands.pop() {
                 Some(operand) => args[index] = operand,
-                None => return Step::NoMeaning,
+                None => return NO_MEANING,
             }
         }
         Step::Calls(func, args)

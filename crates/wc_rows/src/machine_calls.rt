@@ -1,204 +1,242 @@
 //! The code that trimming adds, and runs of it on the small machine.
 
-use crate::input::{Stop, answered, bad_row, bytes_of};
+use crate::input::{bad_row, bytes_of};
 use crate::lines::Lines;
 use crate::machine::{Machine, Outcome};
 use crate::rows::Row;
+use crate::table::named;
 use crate::values::put_bytes_lines;
 use std::alloc::{AllocError, Global};
 use wc_gc::{allocate_stack_via_realloc, realloc_via_memory_grow};
 use wc_read::{Body, Locals, read_body};
 
-/// Appends the answer of a call, and says whether the row's is one of these.
-pub fn answer(alloc: Global, row: &Row<'_>, out: &mut Lines) -> Result<bool, AllocError> {
-    answered(answer_call(alloc, row, out))
+#[derive(Clone, Copy)]
+enum Call {
+    /// `realloc_via_memory_grow EXPONENT`
+    Growing,
+    /// `allocate_stack_via_realloc REALLOC STACK-POINTER [STATE]`
+    Stack,
+    /// `machine EXPONENT`: runs of code over a memory whose pages have 2^EXPONENT bytes. The first line says the code:
+    /// `growing`, `stack REALLOC STACK-POINTER [STATE]`, or `body` and bytes. Each other line is a step.
+    Machine,
 }
 
-fn answer_call(alloc: Global, row: &Row<'_>, out: &mut Lines) -> Result<bool, Stop> {
-    if row.call == "realloc_via_memory_grow" {
-        let numbers = arguments(alloc, row, out)?;
-        let body = growing_body(alloc, &numbers, out)?;
-        put_bytes_lines(out, "bytes", &body);
-    } else if row.call == "allocate_stack_via_realloc" {
-        let numbers = arguments(alloc, row, out)?;
-        let body = stack_body(alloc, &numbers, out)?;
-        put_bytes_lines(out, "bytes", &body);
-    } else if row.call == "machine" {
-        answer_machine(alloc, row, out)?;
-    } else {
-        return Ok(false);
+const CALLS: [(&str, Call); 3] = [
+    ("realloc_via_memory_grow", Call::Growing),
+    ("allocate_stack_via_realloc", Call::Stack),
+    ("machine", Call::Machine),
+];
+
+/// Appends the answer of a call, and says whether the row's is one of these.
+pub fn answer(alloc: Global, row: &Row<'_>, out: &mut Lines) -> Result<bool, AllocError> {
+    match named(&CALLS, row.call) {
+        Some(Call::Growing) => put_code(growing_body(alloc, &row.arguments, out), out),
+        Some(Call::Stack) => put_code(stack_body(alloc, &row.arguments, out), out),
+        Some(Call::Machine) => answer_machine(alloc, row, out),
+        None => return Ok(false),
     }
     Ok(true)
 }
 
-/// The words after a call's name, as numbers.
-fn arguments(alloc: Global, row: &Row<'_>, out: &mut Lines) -> Result<Vec<u32>, Stop> {
-    let mut numbers = Vec::new(alloc);
-    for word in &row.arguments {
-        numbers.push(number(word, out)?)?;
+fn put_code(code: Option<Vec<u8>>, out: &mut Lines) {
+    match code {
+        Some(code) => put_bytes_lines(out, "bytes", &code),
+        None => {}
     }
-    Ok(numbers)
 }
 
-/// The words of a line, as numbers.
-fn numbers_of(alloc: Global, line: &str, out: &mut Lines) -> Result<Vec<u32>, Stop> {
-    let mut numbers = Vec::new(alloc);
-    for word in line.split_whitespace() {
-        numbers.push(number(word, out)?)?;
+/// The bytes of a body, or that memory ran out.
+fn made(code: Result<Vec<u8>, AllocError>, out: &mut Lines) -> Option<Vec<u8>> {
+    if code.is_err() {
+        out.lack_memory();
     }
-    Ok(numbers)
+    code.ok()
 }
 
-fn number(word: &str, out: &mut Lines) -> Result<u32, Stop> {
+/// A word as a number; 0 where it is none, which the answer says.
+fn number(word: &str, out: &mut Lines) -> u32 {
     match word.parse::<u32>() {
-        Ok(number) => Ok(number),
-        Err(_) => Err(bad_row(out, "no number", word)),
+        Ok(number) => number,
+        Err(_) => {
+            let _ = bad_row(out, "no number", word);
+            0
+        }
     }
 }
 
 /// `EXPONENT`: the growing realloc over pages of 2^EXPONENT bytes.
-fn growing_body(alloc: Global, numbers: &[u32], out: &mut Lines) -> Result<Vec<u8>, Stop> {
-    match numbers {
-        [exponent] if *exponent <= 16 => Ok(realloc_via_memory_grow(alloc, *exponent)?),
-        _ => Err(bad_row(out, "no exponent of a page size", "")),
-    }
+fn growing_body(alloc: Global, words: &[&str], out: &mut Lines) -> Option<Vec<u8>> {
+    let word = words.first().copied().unwrap_or("");
+    let exponent = number(word, out).min(16);
+    made(realloc_via_memory_grow(alloc, exponent), out)
 }
 
 /// `REALLOC STACK-POINTER [STATE]`: the allocation of a stack.
-fn stack_body(alloc: Global, numbers: &[u32], out: &mut Lines) -> Result<Vec<u8>, Stop> {
-    match numbers {
-        [realloc, sp] => Ok(allocate_stack_via_realloc(alloc, *realloc, *sp, None)?),
-        [realloc, sp, state] => Ok(allocate_stack_via_realloc(alloc, *realloc, *sp, Some(*state))?),
-        _ => Err(bad_row(out, "no indices", "")),
+fn stack_body(alloc: Global, words: &[&str], out: &mut Lines) -> Option<Vec<u8>> {
+    match words {
+        [realloc, sp] => stack_code(alloc, number(realloc, out), number(sp, out), None, out),
+        [realloc, sp, state] => {
+            let state = number(state, out);
+            stack_code(
+                alloc,
+                number(realloc, out),
+                number(sp, out),
+                Some(state),
+                out,
+            )
+        }
+        _ => {
+            let _ = bad_row(out, "no indices", "");
+            None
+        }
     }
 }
 
-/// `machine EXPONENT`: runs of code over a memory whose pages have 2^EXPONENT bytes. The first line says the code:
-/// `growing`, `stack REALLOC STACK-POINTER [STATE]`, or `body` and bytes. Each other line is a step.
-fn answer_machine(alloc: Global, row: &Row<'_>, out: &mut Lines) -> Result<(), Stop> {
-    let exponent = arguments(alloc, row, out)?;
-    let Some((code, steps)) = row.input.split_first() else {
-        return Err(bad_row(out, "no code", ""));
-    };
-    let bytes = code_of(alloc, &exponent, code, out)?;
-    match read_body(alloc, &bytes) {
-        Ok(body) => put_run(alloc, &exponent, &body, steps, out),
-        Err(_) => Err(bad_row(out, "no code", code)),
+fn stack_code(
+    alloc: Global,
+    realloc: u32,
+    sp: u32,
+    state: Option<u32>,
+    out: &mut Lines,
+) -> Option<Vec<u8>> {
+    made(allocate_stack_via_realloc(alloc, realloc, sp, state), out)
+}
+
+fn answer_machine(alloc: Global, row: &Row<'_>, out: &mut Lines) {
+    match row.input.as_slice().split_first() {
+        Some((code, steps)) => answer_steps(alloc, row, code, steps, out),
+        None => {
+            let _ = bad_row(out, "no code", "");
+        }
+    }
+}
+
+fn answer_steps(alloc: Global, row: &Row<'_>, code: &str, steps: &[&str], out: &mut Lines) {
+    if let Some(bytes) = code_of(alloc, row, code, out) {
+        put_steps_of(alloc, row, &bytes, steps, out);
     }
 }
 
 /// The bytes of the code that a line says.
-fn code_of(alloc: Global, exponent: &[u32], line: &str, out: &mut Lines) -> Result<Vec<u8>, Stop> {
-    if line == "growing" {
-        return growing_body(alloc, exponent, out);
+fn code_of(alloc: Global, row: &Row<'_>, line: &str, out: &mut Lines) -> Option<Vec<u8>> {
+    let (word, rest) = line.split_once(' ').unwrap_or((line, ""));
+    if word == "growing" {
+        growing_body(alloc, &row.arguments, out)
+    } else if word == "stack" {
+        stack_body_of(alloc, rest, out)
+    } else {
+        bytes_of(alloc, &[rest], out).ok()
     }
-    if let Some(indices) = line.strip_prefix("stack ") {
-        let numbers = numbers_of(alloc, indices, out)?;
-        return stack_body(alloc, &numbers, out);
+}
+
+/// The allocation of a stack by the words of a line.
+fn stack_body_of(alloc: Global, line: &str, out: &mut Lines) -> Option<Vec<u8>> {
+    let (realloc, rest) = line.split_once(' ').unwrap_or((line, ""));
+    match rest.split_once(' ') {
+        Some((sp, state)) => stack_body(alloc, &[realloc, sp, state], out),
+        None => stack_body(alloc, &[realloc, rest], out),
     }
-    match line.strip_prefix("body ") {
-        Some(hex) => bytes_of(alloc, &[hex], out),
-        None => Err(bad_row(out, "no code", line)),
+}
+
+fn put_steps_of(alloc: Global, row: &Row<'_>, bytes: &[u8], steps: &[&str], out: &mut Lines) {
+    match read_body(alloc, bytes) {
+        Ok(body) => put_run(alloc, row, &body, steps, out),
+        Err(_) => {
+            let _ = bad_row(out, "no code", "");
+        }
     }
 }
 
 /// Runs code by steps.
-fn put_run(
-    alloc: Global,
-    exponent: &[u32],
-    body: &Body<'_>,
-    steps: &[&str],
-    out: &mut Lines,
-) -> Result<(), Stop> {
-    let [exponent] = exponent else {
-        return Err(bad_row(out, "no exponent of a page size", ""));
-    };
-    let mut machine = Machine::new(alloc, *exponent);
+fn put_run(alloc: Global, row: &Row<'_>, body: &Body<'_>, steps: &[&str], out: &mut Lines) {
+    let word = row.arguments.first().copied().unwrap_or("");
+    let mut machine = Machine::new(alloc, number(word, out));
     for step in steps {
-        if !set_part(alloc, &mut machine, step, out)?
-            && !put_event(alloc, &mut machine, body, step, out)?
-        {
-            return Err(bad_row(out, "no step of a machine", step));
+        put_step(alloc, &mut machine, body, step, out);
+    }
+}
+
+/// What a line does.
+#[derive(Clone, Copy)]
+enum Step {
+    Globals,
+    Pages,
+    Grants,
+    Write,
+    State,
+    Trap,
+    Enter,
+    Answer,
+}
+
+const STEPS: [(&str, Step); 8] = [
+    ("globals", Step::Globals),
+    ("pages", Step::Pages),
+    ("grants", Step::Grants),
+    ("write", Step::Write),
+    ("state", Step::State),
+    ("trap", Step::Trap),
+    ("enter", Step::Enter),
+    ("answer", Step::Answer),
+];
+
+/// Sets a part of the state: `globals VALUE..`, `pages COUNT`, `grants yes no ..`, `write GLOBAL VALUE`; says the state;
+/// or runs code: `enter ARGUMENT..`, `answer VALUE`, `trap`.
+fn put_step(alloc: Global, machine: &mut Machine, body: &Body<'_>, line: &str, out: &mut Lines) {
+    let (word, rest) = line.split_once(' ').unwrap_or((line, ""));
+    match named(&STEPS, word) {
+        Some(Step::Globals) => put_numbers(&mut machine.globals, rest, out),
+        Some(Step::Pages) => machine.pages = number(rest, out) as u64,
+        Some(Step::Grants) => set_grants(machine, rest, out),
+        Some(Step::Write) => write(machine, rest, out),
+        Some(Step::State) => put_state(machine, out),
+        Some(Step::Trap) => machine.trap(),
+        Some(Step::Enter) => enter(alloc, machine, body, rest, out),
+        Some(Step::Answer) => resume(machine, body, rest, out),
+        None => {
+            let _ = bad_row(out, "no step of a machine", line);
         }
     }
-    Ok(())
 }
 
-/// Sets a part of the state: `globals VALUE..`, `pages COUNT`, `grants yes no ..`, `write GLOBAL VALUE`. False where a
-/// step is none of these.
-fn set_part(
-    alloc: Global,
-    machine: &mut Machine,
-    step: &str,
-    out: &mut Lines,
-) -> Result<bool, Stop> {
-    if let Some(values) = step.strip_prefix("globals") {
-        machine.globals = numbers_of(alloc, values, out)?;
-    } else if let Some(count) = step.strip_prefix("pages ") {
-        machine.pages = pages(count, out)?;
-    } else if let Some(answers) = step.strip_prefix("grants ") {
-        set_grants(machine, answers, out)?;
-    } else if let Some(words) = step.strip_prefix("write ") {
-        let numbers = numbers_of(alloc, words, out)?;
-        write(machine, &numbers, out)?;
-    } else {
-        return Ok(false);
-    }
-    Ok(true)
-}
-
-fn pages(word: &str, out: &mut Lines) -> Result<u64, Stop> {
-    match word.parse::<u64>() {
-        Ok(count) => Ok(count),
-        Err(_) => Err(bad_row(out, "no number", word)),
+/// Makes numbers those of a line.
+fn put_numbers(numbers: &mut Vec<u32>, line: &str, out: &mut Lines) {
+    numbers.clear();
+    for word in line.split_whitespace() {
+        push_number(numbers, number(word, out), out);
     }
 }
 
-fn set_grants(machine: &mut Machine, answers: &str, out: &mut Lines) -> Result<(), Stop> {
+fn push_number(numbers: &mut Vec<u32>, number: u32, out: &mut Lines) {
+    if numbers.push(number).is_err() {
+        out.lack_memory();
+    }
+}
+
+fn set_grants(machine: &mut Machine, answers: &str, out: &mut Lines) {
     for word in answers.split_whitespace() {
-        if word != "yes" && word != "no" {
-            return Err(bad_row(out, "no answer to a growth", word));
+        if machine.grants.push(word == "yes").is_err() {
+            out.lack_memory();
         }
-        machine.grants.push(word == "yes")?;
     }
     machine.grants.reverse();
-    Ok(())
 }
 
-fn write(machine: &mut Machine, numbers: &[u32], out: &mut Lines) -> Result<(), Stop> {
-    match numbers {
-        [global, value] => {
-            machine.write(*global as usize, *value);
-            Ok(())
-        }
-        _ => Err(bad_row(out, "no global and value", "")),
-    }
+fn write(machine: &mut Machine, line: &str, out: &mut Lines) {
+    let (global, value) = line.split_once(' ').unwrap_or((line, ""));
+    machine.write(number(global, out) as usize, number(value, out));
 }
 
-/// Runs code: `enter ARGUMENT..`, `answer VALUE`, `trap`; or says the state. False where a step is none of these.
-fn put_event(
-    alloc: Global,
-    machine: &mut Machine,
-    body: &Body<'_>,
-    step: &str,
-    out: &mut Lines,
-) -> Result<bool, Stop> {
-    if step == "state" {
-        put_state(machine, out);
-    } else if step == "trap" {
-        machine.trap();
-    } else if let Some(words) = step.strip_prefix("enter") {
-        let args = numbers_of(alloc, words, out)?;
-        let outcome = machine.enter(alloc, &body.operators, &args, local_count(&body.locals))?;
-        put_outcome(outcome, out);
-    } else if let Some(word) = step.strip_prefix("answer ") {
-        let value = number(word, out)?;
-        let outcome = machine.resume(&body.operators, value)?;
-        put_outcome(outcome, out);
-    } else {
-        return Ok(false);
-    }
-    Ok(true)
+fn enter(alloc: Global, machine: &mut Machine, body: &Body<'_>, line: &str, out: &mut Lines) {
+    let mut args = Vec::new(alloc);
+    put_numbers(&mut args, line, out);
+    let outcome = machine.enter(&body.operators, &args, local_count(&body.locals));
+    put_outcome(outcome, out);
+}
+
+fn resume(machine: &mut Machine, body: &Body<'_>, word: &str, out: &mut Lines) {
+    let value = number(word, out);
+    put_outcome(machine.resume(&body.operators, value), out);
 }
 
 /// How many locals runs have; of a body that was read, fewer than 2^32.
@@ -211,34 +249,37 @@ fn local_count(runs: &[Locals]) -> u32 {
 }
 
 fn put_state(machine: &Machine, out: &mut Lines) {
-    let pages = machine.pages;
-    writeln!(out, "pages {pages}");
-    out.push_str("globals");
-    for value in &machine.globals {
-        write!(out, " {value}");
+    out.number("pages ", machine.pages);
+    out.push_str("\nglobals");
+    put_values(&machine.globals, out);
+}
+
+/// The end of a line: numbers, each with a space at the front.
+fn put_values(values: &[u32], out: &mut Lines) {
+    for value in values {
+        out.number(" ", *value as u64);
     }
-    out.push('\n');
+    out.end();
 }
 
 fn put_outcome(outcome: Outcome, out: &mut Lines) {
     match outcome {
-        Outcome::Finished(Some(value)) => put_result(value, out),
+        Outcome::Finished(Some(value)) => put_number("result ", value, out),
         Outcome::Finished(None) => out.push_str("end\n"),
         Outcome::Trapped => out.push_str("trap\n"),
         Outcome::Called(func, args) => put_call(func, &args, out),
         Outcome::NoMeaning => out.push_str("no meaning\n"),
         Outcome::Nothing => out.push_str("nothing\n"),
+        Outcome::NoMemory => out.lack_memory(),
     }
 }
 
-fn put_result(value: u32, out: &mut Lines) {
-    writeln!(out, "result {value}");
+fn put_number(word: &str, number: u32, out: &mut Lines) {
+    out.number(word, number as u64);
+    out.end();
 }
 
 fn put_call(func: u32, args: &[u32], out: &mut Lines) {
-    write!(out, "call {func}");
-    for arg in args {
-        write!(out, " {arg}");
-    }
-    out.push('\n');
+    out.number("call ", func as u64);
+    put_values(args, out);
 }

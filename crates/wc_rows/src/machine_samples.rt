@@ -1,9 +1,10 @@
 //! Runs of the code that trimming adds on the small machine, from states and over events that a generator makes.
 
-use crate::input::{Stop, answered, bad_row};
+use crate::input::bad_row;
 use crate::lines::Lines;
 use crate::machine::{Machine, Outcome};
 use crate::rows::Row;
+use crate::table::named;
 use std::alloc::{AllocError, Global};
 use wc_gc::{allocate_stack_via_realloc, realloc_via_memory_grow};
 use wc_read::{Instr, read_body};
@@ -31,47 +32,65 @@ impl Numbers {
     }
 }
 
-/// Appends the answer of a call, and says whether the row's is one of these.
-pub fn answer(alloc: Global, row: &Row<'_>, out: &mut Lines) -> Result<bool, AllocError> {
-    answered(answer_call(alloc, row, out))
+/// `growing_samples SEED COUNT`, `lazy_samples SEED COUNT`: in how many of so many runs the code did what it has to.
+#[derive(Clone, Copy)]
+enum Call {
+    Growing,
+    Lazy,
 }
 
-/// `growing_samples SEED COUNT`, `lazy_samples SEED COUNT`: in how many of so many runs the code did what it has to.
-fn answer_call(alloc: Global, row: &Row<'_>, out: &mut Lines) -> Result<bool, Stop> {
-    let is_growing = row.call == "growing_samples";
-    if !is_growing && row.call != "lazy_samples" {
-        return Ok(false);
+const CALLS: [(&str, Call); 2] = [
+    ("growing_samples", Call::Growing),
+    ("lazy_samples", Call::Lazy),
+];
+
+/// Appends the answer of a call, and says whether the row's is one of these.
+pub fn answer(alloc: Global, row: &Row<'_>, out: &mut Lines) -> Result<bool, AllocError> {
+    match named(&CALLS, row.call) {
+        Some(call) => {
+            answer_call(alloc, call, row, out);
+            Ok(true)
+        }
+        None => Ok(false),
     }
-    let (Some(seed), Some(count)) = (number(row, 0), number(row, 1)) else {
-        return Err(bad_row(out, "no seed and count", row.call));
-    };
-    let mut numbers = Numbers { seed };
-    let agreed = if is_growing {
-        growing_samples(alloc, &mut numbers, count)?
-    } else {
-        lazy_samples(alloc, &mut numbers, count)?
-    };
-    writeln!(out, "agree {agreed}");
-    Ok(true)
+}
+
+fn answer_call(alloc: Global, call: Call, row: &Row<'_>, out: &mut Lines) {
+    match (number(row, 0), number(row, 1)) {
+        (Some(seed), Some(count)) => put_samples(alloc, call, seed, count, out),
+        _ => {
+            let _ = bad_row(out, "no seed and count", row.call);
+        }
+    }
 }
 
 fn number(row: &Row<'_>, index: usize) -> Option<u32> {
     row.arguments.get(index)?.parse::<u32>().ok()
 }
 
-fn growing_samples(alloc: Global, numbers: &mut Numbers, count: u32) -> Result<u32, AllocError> {
+fn put_samples(alloc: Global, call: Call, seed: u32, count: u32, out: &mut Lines) {
+    let mut numbers = Numbers { seed };
+    let agreed = match call {
+        Call::Growing => growing_samples(alloc, &mut numbers, count, out),
+        Call::Lazy => lazy_samples(alloc, &mut numbers, count, out),
+    };
+    out.number("agree ", agreed as u64);
+    out.end();
+}
+
+fn growing_samples(alloc: Global, numbers: &mut Numbers, count: u32, out: &mut Lines) -> u32 {
     let mut agreed: u32 = 0;
     for _ in 0..count {
-        if growing_agrees(alloc, numbers)? {
+        if growing_agrees(alloc, numbers, out) {
             agreed = agreed.saturating_add(1);
         }
     }
-    Ok(agreed)
+    agreed
 }
 
 /// Whether the growing realloc traps, or answers and grows the memory, as it has to, in a state and with arguments that
 /// are mostly those of a request for a stack.
-fn growing_agrees(alloc: Global, numbers: &mut Numbers) -> Result<bool, AllocError> {
+fn growing_agrees(alloc: Global, numbers: &mut Numbers, out: &mut Lines) -> bool {
     let exponent = numbers.next() % 17;
     let args = [
         numbers.mostly(0),
@@ -79,29 +98,65 @@ fn growing_agrees(alloc: Global, numbers: &mut Numbers) -> Result<bool, AllocErr
         numbers.next(),
         numbers.mostly(STACK),
     ];
-    let mut machine = Machine::new(alloc, exponent);
-    machine.pages = some_pages(numbers, exponent);
+    let old = some_pages(numbers, exponent);
     let is_granted = numbers.next() % 4 != 0;
-    machine.grants.push(is_granted)?;
-    let old = machine.pages;
-    let outcome = growing_outcome(alloc, &mut machine, &args)?;
-    if !is_granted || !is_stack_request(&args) || !has_room(old, exponent) {
-        return Ok(outcome == Outcome::Trapped);
+    let (outcome, pages) = grown(alloc, exponent, old, is_granted, &args);
+    keep(outcome, out);
+    if is_granted && is_stack_request(&args) && has_room(old, exponent) {
+        is_grown(outcome, pages, old, exponent)
+    } else {
+        matches!(outcome, Outcome::Trapped)
     }
-    let bytes = ((old << exponent) % (1 << 32)) as u32;
-    let pages = old.saturating_add(u64::from(STACK >> exponent));
-    Ok(outcome == Outcome::Finished(Some(bytes)) && machine.pages == pages)
 }
 
-fn growing_outcome(
+/// Leaves the answer short where memory ran out for a run.
+fn keep(outcome: Outcome, out: &mut Lines) {
+    match outcome {
+        Outcome::NoMemory => out.lack_memory(),
+        _ => {}
+    }
+}
+
+/// Whether the realloc answered with the end of a memory of so many pages, which it made larger.
+fn is_grown(outcome: Outcome, pages: u64, old: u64, exponent: u32) -> bool {
+    let bytes = ((old << exponent.min(16)) % (1 << 32)) as u32;
+    let grown = old.saturating_add(u64::from(STACK >> exponent.min(16)));
+    match outcome {
+        Outcome::Finished(Some(value)) => value == bytes && pages == grown,
+        _ => false,
+    }
+}
+
+/// What the growing realloc answers, and the size of the memory then.
+fn grown(
     alloc: Global,
-    machine: &mut Machine,
+    exponent: u32,
+    pages: u64,
+    is_granted: bool,
     args: &[u32],
-) -> Result<Outcome, AllocError> {
-    let bytes = realloc_via_memory_grow(alloc, machine.page_size_log2.min(16))?;
-    match read_body(alloc, &bytes) {
-        Ok(body) => machine.enter(alloc, &body.operators, args, 1),
-        Err(_) => Ok(Outcome::NoMeaning),
+) -> (Outcome, u64) {
+    let mut machine = Machine::new(alloc, exponent);
+    machine.pages = pages;
+    let outcome = if machine.grants.push(is_granted).is_ok() {
+        growing_outcome(alloc, &mut machine, args)
+    } else {
+        Outcome::NoMemory
+    };
+    (outcome, machine.pages)
+}
+
+fn growing_outcome(alloc: Global, machine: &mut Machine, args: &[u32]) -> Outcome {
+    match realloc_via_memory_grow(alloc, machine.page_size_log2.min(16)) {
+        Ok(bytes) => outcome_of(alloc, machine, &bytes, args),
+        Err(_) => Outcome::NoMemory,
+    }
+}
+
+fn outcome_of(alloc: Global, machine: &mut Machine, bytes: &[u8], args: &[u32]) -> Outcome {
+    match read_body(alloc, bytes) {
+        Ok(body) => machine.enter(&body.operators, args, 1),
+        // It is code, so memory ran out.
+        Err(_) => Outcome::NoMemory,
     }
 }
 
@@ -127,68 +182,110 @@ fn some_pages(numbers: &mut Numbers, exponent: u32) -> u64 {
     }
 }
 
-fn lazy_samples(alloc: Global, numbers: &mut Numbers, count: u32) -> Result<u32, AllocError> {
-    let bytes = allocate_stack_via_realloc(alloc, 7, 0, Some(1))?;
-    let Ok(body) = read_body(alloc, &bytes) else {
-        return Ok(0);
-    };
+fn lazy_samples(alloc: Global, numbers: &mut Numbers, count: u32, out: &mut Lines) -> u32 {
+    match allocate_stack_via_realloc(alloc, 7, 0, Some(1)) {
+        Ok(bytes) => lazy_samples_of(alloc, &bytes, numbers, count, out),
+        Err(_) => short(out),
+    }
+}
+
+/// No sample agrees: memory ran out.
+fn short(out: &mut Lines) -> u32 {
+    out.lack_memory();
+    0
+}
+
+fn lazy_samples_of(
+    alloc: Global,
+    bytes: &[u8],
+    numbers: &mut Numbers,
+    count: u32,
+    out: &mut Lines,
+) -> u32 {
+    match read_body(alloc, bytes) {
+        Ok(body) => count_lazy(alloc, &body.operators, numbers, count, out),
+        // It is code, so memory ran out.
+        Err(_) => short(out),
+    }
+}
+
+fn count_lazy(
+    alloc: Global,
+    code: &[Instr<'_>],
+    numbers: &mut Numbers,
+    count: u32,
+    out: &mut Lines,
+) -> u32 {
     let mut agreed: u32 = 0;
     for _ in 0..count {
-        if lazy_agrees(alloc, numbers, &body.operators)? {
+        let mut machine = Machine::new(alloc, 16);
+        push_global(&mut machine, numbers.next(), out);
+        push_global(&mut machine, numbers.next() % 4, out);
+        if lazy_agrees(&mut machine, numbers, code, out) {
             agreed = agreed.saturating_add(1);
         }
     }
-    Ok(agreed)
+    agreed
+}
+
+fn push_global(machine: &mut Machine, value: u32, out: &mut Lines) {
+    if machine.globals.push(value).is_err() {
+        out.lack_memory();
+    }
 }
 
 /// Whether the lazy code calls the realloc at most once over some events, exactly once where a call finds 0, and its
 /// state is then 2 after the answer.
 fn lazy_agrees(
-    alloc: Global,
+    machine: &mut Machine,
     numbers: &mut Numbers,
     code: &[Instr<'_>],
-) -> Result<bool, AllocError> {
-    let mut machine = Machine::new(alloc, 16);
-    machine.globals.push(numbers.next())?;
-    machine.globals.push(numbers.next() % 4)?;
+    out: &mut Lines,
+) -> bool {
     let mut calls: u32 = 0;
     for _ in 0..12 {
-        let found = machine.globals.get(1).copied();
-        let event = numbers.next() % 8;
-        let outcome = event_outcome(alloc, &mut machine, numbers, code, event)?;
-        let state = machine.globals.get(1).copied();
-        match outcome {
-            Outcome::Called(..) if found == Some(0) && state == Some(1) => {
-                calls = calls.saturating_add(1);
-            }
-            Outcome::Finished(None) if event < 3 && found != Some(0) && state == found => {}
-            Outcome::Finished(None) if event >= 3 && state == Some(2) => {}
-            Outcome::Nothing => {}
-            _ => return Ok(false),
+        match calls_of_event(machine, numbers, code, out) {
+            Some(more) => calls = calls.saturating_add(more),
+            None => return false,
         }
     }
-    Ok(calls <= 1)
+    calls <= 1
+}
+
+/// How many calls of the realloc an event makes; None where the code does not do what it has to.
+fn calls_of_event(
+    machine: &mut Machine,
+    numbers: &mut Numbers,
+    code: &[Instr<'_>],
+    out: &mut Lines,
+) -> Option<u32> {
+    let found = machine.globals.get(1).copied();
+    let event = numbers.next() % 8;
+    let outcome = event_outcome(machine, numbers, code, event);
+    keep(outcome, out);
+    let state = machine.globals.get(1).copied();
+    match outcome {
+        Outcome::Called(..) if found == Some(0) && state == Some(1) => Some(1),
+        Outcome::Finished(None) if event < 3 && found != Some(0) && state == found => Some(0),
+        Outcome::Finished(None) if event >= 3 && state == Some(2) => Some(0),
+        Outcome::Nothing => Some(0),
+        _ => None,
+    }
 }
 
 /// What an event makes of a run: three of eight are calls of the code, two are answers, one is a trap, and in two other
 /// code writes the state.
 fn event_outcome(
-    alloc: Global,
     machine: &mut Machine,
     numbers: &mut Numbers,
     code: &[Instr<'_>],
     event: u32,
-) -> Result<Outcome, AllocError> {
+) -> Outcome {
     match event {
-        0..=2 => machine.enter(alloc, code, &[], 0),
-        3 | 4 => machine.resume(code, numbers.next()),
-        5 => {
-            machine.trap();
-            Ok(Outcome::Nothing)
-        }
-        _ => {
-            machine.write(1, numbers.next() % 3 + 1);
-            Ok(Outcome::Nothing)
-        }
+        0..=2 => return machine.enter(code, &[], 0),
+        3 | 4 => return machine.resume(code, numbers.next()),
+        5 => machine.trap(),
+        _ => machine.write(1, numbers.next() % 3 + 1),
     }
+    Outcome::Nothing
 }

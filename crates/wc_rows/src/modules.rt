@@ -5,19 +5,19 @@ use crate::values::{
     put_bytes_def, put_bytes_line, put_def, put_exports, put_func_type, put_global_type,
     put_imports, put_memory_type, put_table_type,
 };
+use indexmap::IndexMap;
 use wc_read::{Frames, Func, FuncType, Global, Memory, Module, Table};
 
 pub fn put_frames(out: &mut Lines, frames: &Frames<'_>) {
     for section in &frames.sections {
-        let id = section.id;
-        write!(out, "section {id}");
+        out.number("section ", section.id as u64);
         put_bytes_line(out, "", section.content);
     }
 }
 
 fn put_types(out: &mut Lines, types: &[FuncType]) {
     for (index, ty) in types.iter().enumerate() {
-        write!(out, "type {index}");
+        out.number("type ", index as u64);
         put_func_type(out, ty);
         out.push_str("\n");
     }
@@ -25,15 +25,15 @@ fn put_types(out: &mut Lines, types: &[FuncType]) {
 
 fn put_funcs(out: &mut Lines, funcs: &[Func<'_>]) {
     for (index, func) in funcs.iter().enumerate() {
-        let ty = func.ty;
-        write!(out, "func {index} type {ty}");
+        out.number("func ", index as u64);
+        out.number(" type ", func.ty as u64);
         put_bytes_def(out, &func.def, " body");
     }
 }
 
 fn put_tables(out: &mut Lines, tables: &[Table<'_>]) {
     for (index, table) in tables.iter().enumerate() {
-        write!(out, "table {index}");
+        out.number("table ", index as u64);
         put_table_type(out, &table.ty);
         put_def(out, &table.def);
     }
@@ -41,7 +41,7 @@ fn put_tables(out: &mut Lines, tables: &[Table<'_>]) {
 
 fn put_memories(out: &mut Lines, memories: &[Memory<'_>]) {
     for (index, memory) in memories.iter().enumerate() {
-        write!(out, "memory {index}");
+        out.number("memory ", index as u64);
         put_memory_type(out, &memory.ty);
         put_def(out, &memory.def);
     }
@@ -49,7 +49,7 @@ fn put_memories(out: &mut Lines, memories: &[Memory<'_>]) {
 
 fn put_globals(out: &mut Lines, globals: &[Global<'_>]) {
     for (index, global) in globals.iter().enumerate() {
-        write!(out, "global {index}");
+        out.number("global ", index as u64);
         put_global_type(out, &global.ty);
         put_bytes_def(out, &global.def, " init");
     }
@@ -58,20 +58,31 @@ fn put_globals(out: &mut Lines, globals: &[Global<'_>]) {
 /// The start function, names of globals, producers and ids of the sections of segments, where there are any.
 fn put_rest(out: &mut Lines, module: &Module<'_>) {
     if let Some(start) = module.start {
-        writeln!(out, "start {start}");
+        put_number_line(out, "start ", start);
     }
-    for (index, name) in &module.global_names {
-        writeln!(out, "name of global {index} {name:?}");
-    }
+    put_global_names(out, &module.global_names);
     if let Some(producers) = module.producers {
         put_bytes_line(out, "producers", producers);
     }
     put_ids(out, &module.ids);
 }
 
+fn put_number_line(out: &mut Lines, word: &str, number: u32) {
+    out.number(word, number as u64);
+    out.end();
+}
+
+fn put_global_names(out: &mut Lines, names: &IndexMap<u32, &str>) {
+    for (index, name) in names.iter() {
+        out.number("name of global ", *index as u64);
+        out.quoted(" ", name);
+        out.end();
+    }
+}
+
 fn put_ids(out: &mut Lines, ids: &[u8]) {
     for id in ids {
-        writeln!(out, "segments {id}");
+        put_number_line(out, "segments ", *id as u32);
     }
 }
 

@@ -29,10 +29,10 @@ fn kind_name(kind: IndexKind) -> &'static str {
 /// An operator's code: two hex digits, and the number after a prefix in decimal.
 pub fn put_opcode(out: &mut Lines, opcode: Opcode) {
     match opcode {
-        Opcode::Byte(code) => write!(out, "{code:02x}"),
-        Opcode::Misc(code) => write!(out, "fc {code}"),
-        Opcode::Vector(code) => write!(out, "fd {code}"),
-        Opcode::Atomic(code) => write!(out, "fe {code}"),
+        Opcode::Byte(code) => out.hex("", code),
+        Opcode::Misc(code) => out.number("fc ", code as u64),
+        Opcode::Vector(code) => out.number("fd ", code as u64),
+        Opcode::Atomic(code) => out.number("fe ", code as u64),
     }
 }
 
@@ -43,29 +43,32 @@ pub fn put_block_type(out: &mut Lines, ty: &BlockType) {
             out.push_str(" block ");
             put_val_type(out, *ty);
         }
-        BlockType::FuncType(index) => write!(out, " block type {index}"),
+        BlockType::FuncType(index) => out.number(" block type ", *index as u64),
     }
 }
 
 pub fn put_index(out: &mut Lines, index: &Index) {
-    let kind = kind_name(index.kind);
-    let number = index.number;
-    write!(out, " {kind} {number}");
+    out.push_str(" ");
+    out.push_str(kind_name(index.kind));
+    out.number(" ", index.number as u64);
 }
 
 fn put_labels(out: &mut Lines, labels: &[u32], default: u32) {
     out.push_str(" labels");
     for label in labels {
-        write!(out, " {label}");
+        out.number(" ", *label as u64);
     }
-    write!(out, " default {default}");
+    out.number(" default ", default as u64);
 }
 
 fn put_address(out: &mut Lines, address: &MemArg) {
-    let align = address.align;
-    let memory = address.memory;
-    let offset = address.offset;
-    write!(out, " align {align} memory {memory} offset {offset}");
+    out.number(" align ", address.align as u64);
+    out.number(" memory ", address.memory as u64);
+    out.number(" offset ", address.offset);
+}
+
+pub fn put_lane(out: &mut Lines, lane: u8) {
+    out.number(" lane ", lane as u64);
 }
 
 /// What comes after an operator's code, with a space at the front.
@@ -90,7 +93,7 @@ pub fn put_immediates(out: &mut Lines, immediates: &Immediates<'_>) {
         Immediates::MemArg(address) => put_address(out, address),
         Immediates::MemArgLane(address, lane) => {
             put_address(out, address);
-            write!(out, " lane {lane}");
+            put_lane(out, *lane);
         }
         Immediates::I32(number) => write!(out, " i32 {number}"),
         Immediates::I64(number) => write!(out, " i64 {number}"),
@@ -98,7 +101,7 @@ pub fn put_immediates(out: &mut Lines, immediates: &Immediates<'_>) {
             out.push_str(" bytes");
             put_bytes(out, bytes);
         }
-        Immediates::Lane(lane) => write!(out, " lane {lane}"),
+        Immediates::Lane(lane) => put_lane(out, *lane),
     }
 }
 
@@ -118,8 +121,8 @@ pub fn put_init(out: &mut Lines, init: &Init<'_>) {
 
 pub fn put_body(out: &mut Lines, body: &Body<'_>) {
     for run in &body.locals {
-        let count = run.count;
-        write!(out, "locals {count} ");
+        out.number("locals ", run.count as u64);
+        out.push_str(" ");
         put_val_type(out, run.ty);
         out.push_str("\n");
     }
@@ -127,18 +130,20 @@ pub fn put_body(out: &mut Lines, body: &Body<'_>) {
 }
 
 fn put_reference(out: &mut Lines, word: &str, reference: Option<(Space, u32)>) {
+    out.push_str(word);
     match reference {
         Some((space, number)) => {
-            let space = space_word(space);
-            writeln!(out, "{word} {space} {number}");
+            out.push_str(space_word(space));
+            out.number(" ", number as u64);
         }
-        None => writeln!(out, "{word} none"),
+        None => out.push_str("none"),
     }
+    out.end();
 }
 
 pub fn put_refs(out: &mut Lines, refs: &Refs) {
-    put_reference(out, "first", refs.first);
-    put_reference(out, "second", refs.second);
+    put_reference(out, "first ", refs.first);
+    put_reference(out, "second ", refs.second);
 }
 
 /// The shape of an operator's immediates.
@@ -147,13 +152,14 @@ pub fn put_form(out: &mut Lines, form: Form) {
         Form::None => out.push_str("nothing"),
         Form::Block => out.push_str("block"),
         Form::Index(kind) => {
-            let kind = kind_name(kind);
-            write!(out, "index {kind}");
+            out.push_str("index ");
+            out.push_str(kind_name(kind));
         }
         Form::Indices(first, second) => {
-            let first = kind_name(first);
-            let second = kind_name(second);
-            write!(out, "indices {first} {second}");
+            out.push_str("indices ");
+            out.push_str(kind_name(first));
+            out.push_str(" ");
+            out.push_str(kind_name(second));
         }
         Form::Labels => out.push_str("labels"),
         Form::ValTypes => out.push_str("types"),
@@ -162,7 +168,7 @@ pub fn put_form(out: &mut Lines, form: Form) {
         Form::MemArgLane => out.push_str("address lane"),
         Form::I32 => out.push_str("i32"),
         Form::I64 => out.push_str("i64"),
-        Form::Bytes(count) => write!(out, "bytes {count}"),
+        Form::Bytes(count) => out.number("bytes ", count as u64),
         Form::Lane => out.push_str("lane"),
         Form::Zero => out.push_str("zero"),
     }

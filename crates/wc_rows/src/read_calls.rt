@@ -1,11 +1,12 @@
 //! Calls of `wc_read`.
 
-use crate::imports::val_type_of;
-use crate::input::{Stop, answered, bad_row, bytes_of};
+use crate::imports::parse_val_type;
+use crate::input::{bad_row, bytes_of};
 use crate::lines::Lines;
 use crate::modules::{put_frames, put_module};
 use crate::operators::{put_body, put_form, put_init, put_opcode, put_refs};
 use crate::rows::Row;
+use crate::table::named;
 use crate::values::{put_fault, put_func_type, put_imports};
 use std::alloc::{AllocError, Global};
 use wc_read::{
@@ -13,63 +14,80 @@ use wc_read::{
     read_init, read_module, refs,
 };
 
-/// Appends the answer of a call of `wc_read`, and says whether the row's is one.
-pub fn answer(alloc: Global, row: &Row<'_>, out: &mut Lines) -> Result<bool, AllocError> {
-    answered(answer_call(alloc, row, out))
+/// The calls on bytes.
+#[derive(Clone, Copy)]
+enum OnBytes {
+    Frames,
+    Imports,
+    Module,
+    Init,
+    Body,
+    Refs,
+    Counts,
 }
 
-/// The calls on bytes.
-const ON_BYTES: [&str; 7] = [
-    "frames",
-    "read_imports",
-    "read_module",
-    "read_body",
-    "read_init",
-    "refs",
-    "count_operators",
+const ON_BYTES: [(&str, OnBytes); 7] = [
+    ("frames", OnBytes::Frames),
+    ("read_imports", OnBytes::Imports),
+    ("read_module", OnBytes::Module),
+    ("read_init", OnBytes::Init),
+    ("read_body", OnBytes::Body),
+    ("refs", OnBytes::Refs),
+    ("count_operators", OnBytes::Counts),
 ];
 
-fn is_on_bytes(call: &str) -> bool {
-    ON_BYTES.iter().any(|name| *name == call)
-}
-
-fn answer_call(alloc: Global, row: &Row<'_>, out: &mut Lines) -> Result<bool, Stop> {
-    if !is_on_bytes(row.call) {
-        return answer_other(alloc, row, out);
-    }
-    let bytes = bytes_of(alloc, &row.input, out)?;
-    answer_on_bytes(alloc, row.call, &bytes, out);
-    Ok(true)
-}
-
-fn answer_on_bytes(alloc: Global, call: &str, bytes: &[u8], out: &mut Lines) {
-    if call == "frames" {
-        answer_frames(alloc, bytes, out);
-    } else if call == "read_imports" {
-        answer_imports(alloc, bytes, out);
-    } else if call == "read_module" {
-        answer_module(alloc, bytes, out);
-    } else if call == "read_init" {
-        answer_init(alloc, bytes, out);
-    } else {
-        answer_body(alloc, call, bytes, out);
-    }
-}
-
 /// The calls on arguments.
-fn answer_other(alloc: Global, row: &Row<'_>, out: &mut Lines) -> Result<bool, Stop> {
-    if row.call == "form_of" {
-        answer_form(row, out)?;
-    } else if row.call == "forms" {
-        answer_forms(row, out)?;
-    } else if row.call == "page_size" {
-        answer_page_size(row, out)?;
-    } else if row.call == "func_type" {
-        answer_func_type(alloc, row, out)?;
-    } else {
-        return Ok(false);
+#[derive(Clone, Copy)]
+enum OnArguments {
+    FormOf,
+    Forms,
+    PageSize,
+    FuncType,
+}
+
+const ON_ARGUMENTS: [(&str, OnArguments); 4] = [
+    ("form_of", OnArguments::FormOf),
+    ("forms", OnArguments::Forms),
+    ("page_size", OnArguments::PageSize),
+    ("func_type", OnArguments::FuncType),
+];
+
+/// Appends the answer of a call of `wc_read`, and says whether the row's is one.
+pub fn answer(alloc: Global, row: &Row<'_>, out: &mut Lines) -> Result<bool, AllocError> {
+    match named(&ON_BYTES, row.call) {
+        Some(call) => {
+            answer_bytes(alloc, call, row, out);
+            Ok(true)
+        }
+        None => Ok(answer_other(alloc, row, out)),
     }
-    Ok(true)
+}
+
+fn answer_bytes(alloc: Global, call: OnBytes, row: &Row<'_>, out: &mut Lines) {
+    if let Ok(bytes) = bytes_of(alloc, &row.input, out) {
+        answer_on_bytes(alloc, call, &bytes, out);
+    }
+}
+
+fn answer_on_bytes(alloc: Global, call: OnBytes, bytes: &[u8], out: &mut Lines) {
+    match call {
+        OnBytes::Frames => answer_frames(alloc, bytes, out),
+        OnBytes::Imports => answer_imports(alloc, bytes, out),
+        OnBytes::Module => answer_module(alloc, bytes, out),
+        OnBytes::Init => answer_init(alloc, bytes, out),
+        _ => answer_body(alloc, call, bytes, out),
+    }
+}
+
+fn answer_other(alloc: Global, row: &Row<'_>, out: &mut Lines) -> bool {
+    match named(&ON_ARGUMENTS, row.call) {
+        Some(OnArguments::FormOf) => answer_form(row, out),
+        Some(OnArguments::Forms) => answer_forms(row, out),
+        Some(OnArguments::PageSize) => answer_page_size(row, out),
+        Some(OnArguments::FuncType) => answer_func_type(alloc, row, out),
+        None => return false,
+    }
+    true
 }
 
 fn answer_frames(alloc: Global, bytes: &[u8], out: &mut Lines) {
@@ -102,20 +120,18 @@ fn answer_init(alloc: Global, bytes: &[u8], out: &mut Lines) {
 }
 
 /// The calls on a body.
-fn answer_body(alloc: Global, call: &str, bytes: &[u8], out: &mut Lines) {
+fn answer_body(alloc: Global, call: OnBytes, bytes: &[u8], out: &mut Lines) {
     match read_body(alloc, bytes) {
         Ok(body) => put_of_body(call, &body, out),
         Err(fault) => put_fault(out, fault),
     }
 }
 
-fn put_of_body(call: &str, body: &Body<'_>, out: &mut Lines) {
-    if call == "refs" {
-        put_first_refs(body, out);
-    } else if call == "count_operators" {
-        put_counts(body, out);
-    } else {
-        put_body(out, body);
+fn put_of_body(call: OnBytes, body: &Body<'_>, out: &mut Lines) {
+    match call {
+        OnBytes::Refs => put_first_refs(body, out),
+        OnBytes::Counts => put_counts(body, out),
+        _ => put_body(out, body),
     }
 }
 
@@ -129,83 +145,101 @@ fn put_first_refs(body: &Body<'_>, out: &mut Lines) {
 
 /// How many operators a body has, and how many runs of locals.
 fn put_counts(body: &Body<'_>, out: &mut Lines) {
-    let runs = body.locals.len();
-    let operators = body.operators.len();
-    writeln!(out, "{runs} runs of locals, {operators} operators");
+    out.number("", body.locals.len() as u64);
+    out.number(" runs of locals, ", body.operators.len() as u64);
+    out.push_str(" operators\n");
 }
 
 /// An argument of a row that has so many or less; it is empty where there are fewer.
 fn argument<'a>(row: &Row<'a>, index: usize) -> &'a str {
-    match row.arguments.get(index) {
-        Some(argument) => *argument,
-        None => "",
+    row.arguments.get(index).copied().unwrap_or("")
+}
+
+/// The families of codes.
+#[derive(Clone, Copy)]
+enum Family {
+    Byte,
+    Misc,
+    Vector,
+    Atomic,
+}
+
+const FAMILIES: [(&str, Family); 4] = [
+    ("byte", Family::Byte),
+    ("fc", Family::Misc),
+    ("fd", Family::Vector),
+    ("fe", Family::Atomic),
+];
+
+fn opcode_of(family: Family, code: u32) -> Opcode {
+    match family {
+        Family::Misc => Opcode::Misc(code),
+        Family::Vector => Opcode::Vector(code),
+        Family::Atomic => Opcode::Atomic(code),
+        Family::Byte => Opcode::Byte((code & 0xff) as u8),
     }
 }
 
-/// The prefix of a family of codes: `fc`, `fd` or `fe`; any other word stands for codes of one byte.
-fn opcode_of(prefix: &str, code: u32) -> Opcode {
-    if prefix == "fc" {
-        Opcode::Misc(code)
-    } else if prefix == "fd" {
-        Opcode::Vector(code)
-    } else if prefix == "fe" {
-        Opcode::Atomic(code)
-    } else {
-        Opcode::Byte((code & 0xff) as u8)
+/// The code that arguments are: `d0`, `fd 84`.
+fn opcode_in(row: &Row<'_>) -> Option<Opcode> {
+    if row.arguments.len() == 1 {
+        let code = u8::from_str_radix(argument(row, 0), 16).ok()?;
+        return Some(Opcode::Byte(code));
     }
+    let family = named(&FAMILIES, argument(row, 0))?;
+    let code = argument(row, 1).parse::<u32>().ok()?;
+    Some(opcode_of(family, code))
 }
 
 /// The shape of a code's immediates: `form_of d0`, `form_of fd 84`.
-fn answer_form(row: &Row<'_>, out: &mut Lines) -> Result<(), Stop> {
-    let prefix = argument(row, 0);
-    let opcode = match row.arguments.len() {
-        1 => match u8::from_str_radix(prefix, 16) {
-            Ok(code) => Opcode::Byte(code),
-            Err(_) => return Err(bad_row(out, "no code", prefix)),
-        },
-        _ => match argument(row, 1).parse::<u32>() {
-            Ok(code) => opcode_of(prefix, code),
-            Err(_) => return Err(bad_row(out, "no code", argument(row, 1))),
-        },
-    };
+fn answer_form(row: &Row<'_>, out: &mut Lines) {
+    match opcode_in(row) {
+        Some(opcode) => put_form_of(opcode, out),
+        None => {
+            let _ = bad_row(out, "no code", argument(row, 0));
+        }
+    }
+}
+
+fn put_form_of(opcode: Opcode, out: &mut Lines) {
     match form_of(opcode) {
         Some(form) => put_form(out, form),
         None => out.push_str("no operator"),
     }
-    out.push_str("\n");
-    Ok(())
+    out.end();
 }
 
 /// The codes below 512 of a family that are operators', in runs of one form; `forms byte` those of one byte.
-fn answer_forms(row: &Row<'_>, out: &mut Lines) -> Result<(), Stop> {
-    let prefix = argument(row, 0);
-    let codes = if prefix == "byte" {
-        0x100
-    } else if prefix == "fc" || prefix == "fd" || prefix == "fe" {
-        0x200
-    } else {
-        return Err(bad_row(out, "no prefix", prefix));
-    };
+fn answer_forms(row: &Row<'_>, out: &mut Lines) {
+    match named(&FAMILIES, argument(row, 0)) {
+        Some(Family::Byte) => put_runs(Family::Byte, 0x100, out),
+        Some(family) => put_runs(family, 0x200, out),
+        None => {
+            let _ = bad_row(out, "no prefix", argument(row, 0));
+        }
+    }
+}
+
+fn put_runs(family: Family, codes: u32, out: &mut Lines) {
     let mut first = 0;
-    let mut form = form_of(opcode_of(prefix, 0));
+    let mut form = form_of(opcode_of(family, 0));
     for code in 1..=codes {
         let next = if code < codes {
-            form_of(opcode_of(prefix, code))
+            form_of(opcode_of(family, code))
         } else {
             None
         };
         if next != form {
             put_forms(
                 out,
-                opcode_of(prefix, first),
-                opcode_of(prefix, code - 1),
+                opcode_of(family, first),
+                opcode_of(family, code - 1),
                 form,
             );
             first = code;
             form = next;
         }
     }
-    Ok(())
 }
 
 /// A line for a run of codes, where they are operators'.
@@ -220,18 +254,16 @@ fn put_forms(out: &mut Lines, first: Opcode, last: Opcode, form: Option<Form>) {
     }
     out.push_str(" ");
     put_form(out, form);
-    out.push_str("\n");
+    out.end();
 }
 
 /// The bytes in a page of the exponent that is the argument, or of none.
-fn answer_page_size(row: &Row<'_>, out: &mut Lines) -> Result<(), Stop> {
-    let exponent = match row.arguments.first() {
-        Some(argument) => match argument.parse::<u32>() {
-            Ok(exponent) => Some(exponent),
-            Err(_) => return Err(bad_row(out, "no exponent", argument)),
-        },
-        None => None,
-    };
+fn answer_page_size(row: &Row<'_>, out: &mut Lines) {
+    let exponent = argument(row, 0).parse::<u32>().ok();
+    if exponent.is_none() && !row.arguments.is_empty() {
+        let _ = bad_row(out, "no exponent", argument(row, 0));
+        return;
+    }
     let ty = MemoryType {
         memory64: false,
         shared: false,
@@ -239,39 +271,67 @@ fn answer_page_size(row: &Row<'_>, out: &mut Lines) -> Result<(), Stop> {
         maximum: None,
         page_size_log2: exponent,
     };
-    let size = ty.page_size();
-    writeln!(out, "{size}");
-    Ok(())
-}
-
-/// The types that words name.
-fn val_types(alloc: Global, words: &[&str], out: &mut Lines) -> Result<Vec<ValType>, Stop> {
-    let mut types = Vec::new(alloc);
-    for word in words {
-        types.push(val_type_of(word, out)?)?;
-    }
-    Ok(types)
+    out.number("", ty.page_size());
+    out.end();
 }
 
 /// A function type and its copy: `func_type i32 f64 -> externref`.
-fn answer_func_type(alloc: Global, row: &Row<'_>, out: &mut Lines) -> Result<(), Stop> {
-    let mut parts = row.arguments.as_slice().split(|word| *word == "->");
-    let (Some(params), Some(results)) = (parts.next(), parts.next()) else {
-        return Err(bad_row(out, "no arrow", ""));
-    };
-    let params = val_types(alloc, params, out)?;
-    let results = val_types(alloc, results, out)?;
-    put_func_type_and_copy(alloc, &FuncType::new(params, results), out)?;
-    Ok(())
+fn answer_func_type(alloc: Global, row: &Row<'_>, out: &mut Lines) {
+    let mut params = Vec::new(alloc);
+    let mut results = Vec::new(alloc);
+    let is_read = put_val_types(&row.arguments, &mut params, &mut results, out);
+    if is_read {
+        put_func_type_and_copy(alloc, &FuncType::new(params, results), out);
+    }
 }
 
-fn put_func_type_and_copy(alloc: Global, ty: &FuncType, out: &mut Lines) -> Result<(), AllocError> {
-    let copy = ty.clone(alloc)?;
+/// Appends the types that words before an arrow name, and those that words after it name.
+fn put_val_types(
+    words: &[&str],
+    params: &mut Vec<ValType>,
+    results: &mut Vec<ValType>,
+    out: &mut Lines,
+) -> bool {
+    let mut is_result = false;
+    for word in words {
+        if *word == "->" {
+            is_result = true;
+        } else if is_result {
+            push_val_type(results, word, out);
+        } else {
+            push_val_type(params, word, out);
+        }
+    }
+    is_result
+}
+
+fn push_val_type(types: &mut Vec<ValType>, word: &str, out: &mut Lines) {
+    match parse_val_type(word) {
+        Some(ty) => push_type(types, ty, out),
+        None => {
+            let _ = bad_row(out, "no type", word);
+        }
+    }
+}
+
+fn push_type(types: &mut Vec<ValType>, ty: ValType, out: &mut Lines) {
+    if types.push(ty).is_err() {
+        out.lack_memory();
+    }
+}
+
+fn put_func_type_and_copy(alloc: Global, ty: &FuncType, out: &mut Lines) {
+    match ty.clone(alloc) {
+        Ok(copy) => put_both(ty, &copy, out),
+        Err(_) => out.lack_memory(),
+    }
+}
+
+fn put_both(ty: &FuncType, copy: &FuncType, out: &mut Lines) {
     out.push_str("type");
     put_func_type(out, ty);
     out.push_str("\ncopy");
-    put_func_type(out, &copy);
-    let equal = copy == *ty;
-    writeln!(out, "\nequal {equal}");
-    Ok(())
+    put_func_type(out, copy);
+    out.flag("\nequal ", *copy == *ty);
+    out.end();
 }

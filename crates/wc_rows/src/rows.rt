@@ -10,7 +10,9 @@
 //! - `with NAME`: all lines of input of a fixture, in this line's place;
 //! - `out TEXT`: a line of the answer.
 
+use crate::table::named;
 use std::alloc::{AllocError, Global};
+use std::mem;
 
 /// A row: a call, what it is asked with, and the answer that is wanted.
 #[derive(Drop)]
@@ -57,6 +59,26 @@ pub struct Paragraph<'a> {
     is_fixture: bool,
 }
 
+/// What a line of a paragraph says.
+#[derive(Clone, Copy)]
+enum Part {
+    Row,
+    Fixture,
+    Call,
+    Input,
+    Answer,
+    With,
+}
+
+const PARTS: [(&str, Part); 6] = [
+    ("row", Part::Row),
+    ("fixture", Part::Fixture),
+    ("call", Part::Call),
+    ("in", Part::Input),
+    ("out", Part::Answer),
+    ("with", Part::With),
+];
+
 impl<'a> Paragraph<'a> {
     fn new(alloc: Global) -> Paragraph<'a> {
         Paragraph {
@@ -67,61 +89,68 @@ impl<'a> Paragraph<'a> {
     }
 
     /// Takes up a line that is no comment and not blank. `fixtures` are those that came before.
-    fn add(
-        &mut self,
-        alloc: Global,
-        line: &'a str,
-        fixtures: &[Row<'a>],
-    ) -> Result<(), AllocError> {
+    fn add(&mut self, line: &'a str, fixtures: &[Paragraph<'a>]) -> Result<(), AllocError> {
         let (word, rest) = line.split_once(' ').unwrap_or((line, ""));
-        if word == "row" {
-            self.row.name = rest;
-        } else if word == "fixture" {
-            self.row.name = rest;
-            self.is_fixture = true;
-        } else if word == "call" {
-            self.set_call(alloc, rest)?;
-        } else if word == "in" {
-            self.row.input.push(rest)?;
-        } else if word == "out" {
-            self.row.answer.push(rest)?;
-        } else if word == "with" {
-            self.add_fixture(rest, fixtures)?;
-        } else {
-            self.find(Flaw::Line(line));
+        match named(&PARTS, word) {
+            Some(Part::Row) => self.set_name(rest, false),
+            Some(Part::Fixture) => self.set_name(rest, true),
+            Some(Part::Call) => self.set_call(rest),
+            Some(Part::Input) => push_line(&mut self.row.input, rest),
+            Some(Part::Answer) => push_line(&mut self.row.answer, rest),
+            Some(Part::With) => self.add_fixture(rest, fixtures),
+            None => self.find(Flaw::Line(line)),
         }
+    }
+
+    fn set_name(&mut self, name: &'a str, is_fixture: bool) -> Result<(), AllocError> {
+        self.row.name = name;
+        self.is_fixture = is_fixture;
         Ok(())
     }
 
-    fn set_call(&mut self, alloc: Global, line: &'a str) -> Result<(), AllocError> {
+    fn set_call(&mut self, line: &'a str) -> Result<(), AllocError> {
         let (call, rest) = line.split_once(' ').unwrap_or((line, ""));
         self.row.call = call;
-        self.row.arguments = rest.split_whitespace().collect(alloc)?;
-        Ok(())
+        push_words(&mut self.row.arguments, rest)
     }
 
-    fn add_fixture(&mut self, name: &'a str, fixtures: &[Row<'a>]) -> Result<(), AllocError> {
-        match fixtures.iter().find(|fixture| fixture.name == name) {
-            Some(fixture) => self.row.input.extend_from_slice(&fixture.input),
-            None => {
-                self.find(Flaw::Fixture(name));
-                Ok(())
+    fn add_fixture(&mut self, name: &'a str, fixtures: &[Paragraph<'a>]) -> Result<(), AllocError> {
+        for fixture in fixtures {
+            if fixture.row.name == name {
+                return self.row.input.extend_from_slice(&fixture.row.input);
             }
         }
+        self.find(Flaw::Fixture(name))
     }
 
-    fn find(&mut self, flaw: Flaw<'a>) {
+    fn find(&mut self, flaw: Flaw<'a>) -> Result<(), AllocError> {
         if self.flaw.is_none() {
             self.flaw = Some(flaw);
         }
+        Ok(())
     }
+}
+
+fn push_line<'a>(lines: &mut Vec<&'a str>, line: &'a str) -> Result<(), AllocError> {
+    lines.push(line)?;
+    Ok(())
+}
+
+fn push_words<'a>(words: &mut Vec<&'a str>, line: &'a str) -> Result<(), AllocError> {
+    for word in line.split_whitespace() {
+        words.push(word)?;
+    }
+    Ok(())
 }
 
 /// The rows of a file, and the fixtures that it defines.
 #[derive(Drop)]
 pub struct Rows<'a> {
     pub rows: Vec<Paragraph<'a>>,
-    fixtures: Vec<Row<'a>>,
+    fixtures: Vec<Paragraph<'a>>,
+    /// The paragraph that the lines so far leave open.
+    open: Paragraph<'a>,
+    is_open: bool,
 }
 
 impl<'a> Rows<'a> {
@@ -130,48 +159,46 @@ impl<'a> Rows<'a> {
         let mut rows = Rows {
             rows: Vec::new(alloc),
             fixtures: Vec::new(alloc),
+            open: Paragraph::new(alloc),
+            is_open: false,
         };
-        let mut paragraph: Option<Paragraph<'a>> = None;
-        for line in text.lines() {
-            let line = line.trim_end();
-            if line.starts_with('#') {
-                continue;
-            }
-            if line.is_empty() {
-                rows.end(paragraph.take())?;
-                continue;
-            }
-            rows.add(alloc, &mut paragraph, line)?;
-        }
-        rows.end(paragraph)?;
+        rows.add_lines(alloc, text)?;
         Ok(rows)
     }
 
-    /// Adds a line to the paragraph, which it begins where there is none.
-    fn add(
-        &self,
-        alloc: Global,
-        paragraph: &mut Option<Paragraph<'a>>,
-        line: &'a str,
-    ) -> Result<(), AllocError> {
-        let mut entry_read = match paragraph.take() {
-            Some(entry_read) => entry_read,
-            None => Paragraph::new(alloc),
-        };
-        entry_read.add(alloc, line, &self.fixtures)?;
-        *paragraph = Some(entry_read);
+    fn add_lines(&mut self, alloc: Global, text: &'a str) -> Result<(), AllocError> {
+        for line in text.lines() {
+            self.add(alloc, line.trim_end())?;
+        }
+        self.end(alloc)
+    }
+
+    fn add(&mut self, alloc: Global, line: &'a str) -> Result<(), AllocError> {
+        if line.is_empty() {
+            self.end(alloc)
+        } else if line.starts_with('#') {
+            Ok(())
+        } else {
+            self.is_open = true;
+            self.open.add(line, &self.fixtures)
+        }
+    }
+
+    /// Keeps the paragraph that is open.
+    fn end(&mut self, alloc: Global) -> Result<(), AllocError> {
+        if self.is_open {
+            self.is_open = false;
+            let ended = mem::replace(&mut self.open, Paragraph::new(alloc));
+            self.keep(ended)?;
+        }
         Ok(())
     }
 
-    /// Keeps a paragraph.
-    fn end(&mut self, paragraph: Option<Paragraph<'a>>) -> Result<(), AllocError> {
-        let Some(entry_read) = paragraph else {
-            return Ok(());
-        };
-        if entry_read.is_fixture && entry_read.flaw.is_none() {
-            self.fixtures.push(entry_read.row)?;
+    fn keep(&mut self, ended: Paragraph<'a>) -> Result<(), AllocError> {
+        if ended.is_fixture && ended.flaw.is_none() {
+            self.fixtures.push(ended)?;
         } else {
-            self.rows.push(entry_read)?;
+            self.rows.push(ended)?;
         }
         Ok(())
     }

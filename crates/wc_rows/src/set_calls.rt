@@ -1,86 +1,116 @@
 //! Calls on sets of numbers.
 
-use crate::input::{Stop, bad_row};
+use crate::input::bad_row;
 use crate::lines::Lines;
 use crate::rows::Row;
+use crate::table::named;
 use std::alloc::{AllocError, Global};
 use wc_gc::{BitVec, LiveSet, RangeSet, Ranks};
 
+#[derive(Clone, Copy)]
+enum Call {
+    BitVec,
+    RangeSet,
+    Rank,
+}
+
+const CALLS: [(&str, Call); 3] = [
+    ("bit_vec", Call::BitVec),
+    ("range_set", Call::RangeSet),
+    ("rank", Call::Rank),
+];
+
 /// Appends the answer of a call on a set, and says whether the row's is one.
-pub fn answer_set(alloc: Global, row: &Row<'_>, out: &mut Lines) -> Result<bool, Stop> {
-    if row.call == "bit_vec" {
-        answer_bit_vec(alloc, row, out)?;
-    } else if row.call == "range_set" {
-        answer_range_set(alloc, row, out)?;
-    } else if row.call == "rank" {
-        answer_rank(alloc, row, out)?;
-    } else {
-        return Ok(false);
+pub fn answer_set(alloc: Global, row: &Row<'_>, out: &mut Lines) -> bool {
+    match named(&CALLS, row.call) {
+        Some(Call::BitVec) => answer_bit_vec(alloc, row, out),
+        Some(Call::RangeSet) => answer_range_set(alloc, row, out),
+        Some(Call::Rank) => answer_rank(alloc, row, out),
+        None => return false,
     }
-    Ok(true)
+    true
 }
 
 /// `bit_vec`, with lines `insert NUMBER` and `contains NUMBER`: a line for what each answers.
-fn answer_bit_vec(alloc: Global, row: &Row<'_>, out: &mut Lines) -> Result<(), Stop> {
+fn answer_bit_vec(alloc: Global, row: &Row<'_>, out: &mut Lines) {
     let mut set = BitVec::new(alloc);
-    put_steps(&mut set, &row.input, out)
+    put_steps(&mut set, &row.input, out);
 }
 
 /// `range_set`, with the same lines: what each answers, and then the ranges.
-fn answer_range_set(alloc: Global, row: &Row<'_>, out: &mut Lines) -> Result<(), Stop> {
+fn answer_range_set(alloc: Global, row: &Row<'_>, out: &mut Lines) {
     let mut set = RangeSet::new(alloc);
-    put_steps(&mut set, &row.input, out)?;
+    put_steps(&mut set, &row.input, out);
     put_ranges(set.ranges(), out);
-    Ok(())
 }
 
 fn put_ranges(ranges: &[(u32, u32)], out: &mut Lines) {
     out.push_str("ranges");
     for (first, last) in ranges {
-        write!(out, " ({first}, {last})");
+        out.number(" (", *first as u64);
+        out.number(", ", *last as u64);
+        out.push_str(")");
     }
-    out.push('\n');
+    out.end();
 }
 
-fn put_steps<L: LiveSet>(set: &mut L, lines: &[&str], out: &mut Lines) -> Result<(), Stop> {
+fn put_steps<L: LiveSet>(set: &mut L, lines: &[&str], out: &mut Lines) {
     for line in lines {
-        if !put_step(set, line, out)? {
-            return Err(bad_row(out, "no step of a set", line));
+        let (word, number) = line.split_once(' ').unwrap_or((*line, ""));
+        match number.parse::<u32>() {
+            Ok(number) => put_step(set, word, number, out),
+            Err(_) => {
+                let _ = bad_row(out, "no step of a set", line);
+            }
         }
     }
-    Ok(())
 }
 
-/// What a step answers. False where the line is none.
-fn put_step<L: LiveSet>(set: &mut L, line: &str, out: &mut Lines) -> Result<bool, AllocError> {
-    if let Some(number) = number_after(line, "insert ") {
-        let is_new = set.insert(number)?;
-        writeln!(out, "{is_new}");
-        return Ok(true);
+/// What a step answers.
+fn put_step<L: LiveSet>(set: &mut L, word: &str, number: u32, out: &mut Lines) {
+    if word == "insert" {
+        put_insert(set, number, out);
+    } else {
+        put_flag(set.contains(number), out);
     }
-    let Some(number) = number_after(line, "contains ") else {
-        return Ok(false);
-    };
-    let is_there = set.contains(number);
-    writeln!(out, "{is_there}");
-    Ok(true)
 }
 
-fn number_after(line: &str, word: &str) -> Option<u32> {
-    line.strip_prefix(word)?.parse::<u32>().ok()
+fn put_insert<L: LiveSet>(set: &mut L, number: u32, out: &mut Lines) {
+    match set.insert(number) {
+        Ok(is_new) => put_flag(is_new, out),
+        Err(_) => out.lack_memory(),
+    }
+}
+
+/// `true` or `false`, on a line.
+pub fn put_flag(is_set: bool, out: &mut Lines) {
+    out.flag("", is_set);
+    out.end();
 }
 
 /// `rank SET NUMBER..`, with lines of numbers, which are put into a set: the rank of each argument in it, and the
 /// probes. SET is `bits` or `ranges`.
-fn answer_rank(alloc: Global, row: &Row<'_>, out: &mut Lines) -> Result<(), Stop> {
-    let ranks = match row.arguments.first() {
-        Some(word) if *word == "bits" => ranks_of::<BitVec>(alloc, &row.input)?,
-        _ => ranks_of::<RangeSet>(alloc, &row.input)?,
-    };
-    for argument in row.arguments.iter().skip(1) {
-        put_rank(&ranks, argument, out);
+fn answer_rank(alloc: Global, row: &Row<'_>, out: &mut Lines) {
+    match row.arguments.as_slice().split_first() {
+        Some((word, numbers)) if *word == "bits" => {
+            put_ranks(ranks_of::<BitVec>(alloc, &row.input), numbers, out);
+        }
+        Some((_, numbers)) => put_ranks(ranks_of::<RangeSet>(alloc, &row.input), numbers, out),
+        None => {}
     }
-    Ok(())
+}
+
+fn put_ranks(ranks: Result<Ranks, AllocError>, numbers: &[&str], out: &mut Lines) {
+    match ranks {
+        Ok(ranks) => put_each_rank(&ranks, numbers, out),
+        Err(_) => out.lack_memory(),
+    }
+}
+
+fn put_each_rank(ranks: &Ranks, numbers: &[&str], out: &mut Lines) {
+    for number in numbers {
+        put_rank(ranks, number, out);
+    }
 }
 
 /// The ranks in the set of the numbers in lines.
@@ -98,7 +128,9 @@ fn put_rank(ranks: &Ranks, argument: &str, out: &mut Lines) {
     match argument.parse::<u32>() {
         Ok(number) => {
             let (rank, probes) = ranks.rank_counted(number);
-            writeln!(out, "{rank} by {probes}");
+            out.number("", rank as u64);
+            out.number(" by ", probes as u64);
+            out.end();
         }
         Err(_) => out.push_str("no number\n"),
     }

@@ -1,28 +1,39 @@
 //! Calls of sinks that fail: `WriterSink` over a writer that fails, and commands over a sink that does.
 
-use crate::input::{Stop, answered, bad_row, bytes_of};
+ghost use Rattle.wc_tool.specs.Command.{IsExecutable, command_value};
+
+use crate::input::{bad_row, bytes_of};
 use crate::lines::Lines;
 use crate::rows::Row;
+use crate::table::named;
 use crate::tool_calls::{named_command, put_answer};
 use std::alloc::{AllocError, Global};
 use std::io::{self, Write};
-use wc_tool::execute;
+use wc_tool::{Command, execute};
 use wc_write::{PutFailed, Sink, WriterSink};
+
+#[derive(Clone, Copy)]
+enum Call {
+    Writer,
+    /// `execute_failing COMMAND PUTS`: the command, over a sink that fails after so many puts.
+    Failing,
+    /// `each_put_failing COMMAND`: the command, over sinks that fail after no put, after one, after two, and so on, until
+    /// all puts pass. A line for each, and the answer.
+    EachFailing,
+}
+
+const CALLS: [(&str, Call); 3] = [
+    ("writer_sink", Call::Writer),
+    ("execute_failing", Call::Failing),
+    ("each_put_failing", Call::EachFailing),
+];
 
 /// Appends the answer of a call of a sink, and says whether the row's is one.
 pub fn answer(alloc: Global, row: &Row<'_>, out: &mut Lines) -> Result<bool, AllocError> {
-    answered(answer_call(alloc, row, out))
-}
-
-fn answer_call(alloc: Global, row: &Row<'_>, out: &mut Lines) -> Result<bool, Stop> {
-    if row.call == "writer_sink" {
-        answer_writer(alloc, row, out)?;
-    } else if row.call == "execute_failing" {
-        answer_failing(alloc, row, out)?;
-    } else if row.call == "each_put_failing" {
-        answer_each_failing(alloc, row, out)?;
-    } else {
-        return Ok(false);
+    match named(&CALLS, row.call) {
+        Some(Call::Writer) => answer_writer(alloc, row, out),
+        Some(call) => answer_bytes(alloc, call, row, out),
+        None => return Ok(false),
     }
     Ok(true)
 }
@@ -57,32 +68,9 @@ impl Write for FailingWriter {
 }
 
 /// The number at an argument of the call; 0 where there is none.
-fn number_at(row: &Row<'_>, index: usize, out: &mut Lines) -> Result<u32, Stop> {
-    let Some(text) = row.arguments.get(index) else {
-        return Ok(0);
-    };
-    match text.parse::<u32>() {
-        Ok(number) => Ok(number),
-        Err(_) => Err(bad_row(out, "no number", text)),
-    }
-}
-
-/// The sink over a writer that fails at the write and the flush that the arguments name, and at no other: it has room
-/// for 4,096 bytes.
-fn failing_sink(
-    alloc: Global,
-    row: &Row<'_>,
-    out: &mut Lines,
-) -> Result<WriterSink<FailingWriter>, Stop> {
-    let failing_write = number_at(row, 0, out)?;
-    let failing_flush = number_at(row, 1, out)?;
-    Ok(WriterSink::new(FailingWriter {
-        failing_write,
-        failing_flush,
-        writes: 0,
-        flushes: 0,
-        taken: Vec::with_capacity(alloc, 4096)?,
-    }))
+fn number_at(row: &Row<'_>, index: usize) -> u32 {
+    let word = row.arguments.get(index).copied().unwrap_or("0");
+    word.parse::<u32>().unwrap_or(0)
 }
 
 /// Does what a line says: `put TEXT` or `flush`.
@@ -98,27 +86,42 @@ fn put_step(sink: &mut WriterSink<FailingWriter>, line: &str, out: &mut Lines) {
         Ok(()) => out.push_str("ok"),
         Err(fault) => write!(out, "fault {fault}"),
     }
-    let failed = sink.failed();
-    writeln!(out, ", failed {failed}");
+    out.flag(", failed ", sink.failed());
+    out.end();
 }
 
 fn put_writer(out: &mut Lines, writer: &FailingWriter) {
-    let (writes, flushes) = (writer.writes, writer.flushes);
+    out.number("writes ", writer.writes as u64);
+    out.number("\nflushes ", writer.flushes as u64);
     let taken = &writer.taken;
-    writeln!(out, "writes {writes}\nflushes {flushes}\ntaken {taken:?}");
+    writeln!(out, "\ntaken {taken:?}");
 }
 
-fn answer_writer(alloc: Global, row: &Row<'_>, out: &mut Lines) -> Result<(), Stop> {
-    let mut sink = failing_sink(alloc, row, out)?;
+/// The sink is over a writer that fails at the write and the flush that the arguments name, and at no other: it has room
+/// for 4,096 bytes.
+fn answer_writer(alloc: Global, row: &Row<'_>, out: &mut Lines) {
+    match Vec::with_capacity(alloc, 4096) {
+        Ok(taken) => put_steps(row, taken, out),
+        Err(_) => out.lack_memory(),
+    }
+}
+
+fn put_steps(row: &Row<'_>, taken: Vec<u8>, out: &mut Lines) {
+    let mut sink = WriterSink::new(FailingWriter {
+        failing_write: number_at(row, 0),
+        failing_flush: number_at(row, 1),
+        writes: 0,
+        flushes: 0,
+        taken,
+    });
     for line in &row.input {
         put_step(&mut sink, line, out);
     }
     put_writer(out, &sink.into_inner());
-    Ok(())
 }
 
 /// A sink that takes some puts, and fails at the next.
-#[derive(Debug, Drop)]
+#[derive(Drop)]
 struct FailingSink {
     puts: u32,
     failed: bool,
@@ -145,39 +148,58 @@ impl Sink for FailingSink {
     }
 }
 
-/// `execute_failing COMMAND PUTS`: the command, over a sink that fails after so many puts.
-fn answer_failing(alloc: Global, row: &Row<'_>, out: &mut Lines) -> Result<(), Stop> {
-    let command = named_command(row, out)?;
-    let puts = number_at(row, 1, out)?;
-    let input = bytes_of(alloc, &row.input, out)?;
+fn answer_bytes(alloc: Global, call: Call, row: &Row<'_>, out: &mut Lines) {
+    if let Ok(bytes) = bytes_of(alloc, &row.input, out) {
+        answer_on_bytes(alloc, call, row, &bytes, out);
+    }
+}
+
+fn answer_on_bytes(alloc: Global, call: Call, row: &Row<'_>, input: &[u8], out: &mut Lines) {
+    match (named_command(row), call) {
+        (Some(command), Call::Failing) => {
+            put_failing(alloc, &command, input, number_at(row, 1), out);
+        }
+        (Some(command), _) => put_each_failing(alloc, &command, input, out),
+        (None, _) => {
+            let _ = bad_row(out, "no command", row.call);
+        }
+    }
+}
+
+fn put_failing(alloc: Global, command: &Command<'_>, input: &[u8], puts: u32, out: &mut Lines)
+    requires { IsExecutable (command_value command.now) }
+{
     let mut sink = FailingSink {
         puts,
         failed: false,
     };
-    let answer = execute(alloc, &command, &input, &mut sink);
-    put_answer(out, &answer);
-    let failed = sink.failed;
-    writeln!(out, "failed {failed}");
-    Ok(())
+    put_answer(out, &execute(alloc, command, input, &mut sink));
+    out.flag("failed ", sink.failed);
+    out.end();
 }
 
-/// `each_put_failing COMMAND`: the command, over sinks that fail after no put, after one, after two, and so on, until
-/// all puts pass. A line for each, and the answer.
-fn answer_each_failing(alloc: Global, row: &Row<'_>, out: &mut Lines) -> Result<(), Stop> {
-    let command = named_command(row, out)?;
-    let input = bytes_of(alloc, &row.input, out)?;
+fn put_each_failing(alloc: Global, command: &Command<'_>, input: &[u8], out: &mut Lines)
+    requires { IsExecutable (command_value command.now) }
+{
     for puts in 0..1000u32 {
-        let mut sink = FailingSink {
-            puts,
-            failed: false,
-        };
-        let answer = execute(alloc, &command, &input, &mut sink);
-        let failed = sink.failed;
-        write!(out, "{puts}: failed {failed}, ");
-        put_answer(out, &answer);
-        if !failed {
-            return Ok(());
+        if !put_fails(alloc, command, input, puts, out) {
+            return;
         }
     }
-    Ok(())
+}
+
+/// Whether the sink fails that takes so many puts.
+fn put_fails(alloc: Global, command: &Command<'_>, input: &[u8], puts: u32, out: &mut Lines) -> bool
+    requires { IsExecutable (command_value command.now) }
+{
+    let mut sink = FailingSink {
+        puts,
+        failed: false,
+    };
+    let answer = execute(alloc, command, input, &mut sink);
+    out.number("", puts as u64);
+    out.flag(": failed ", sink.failed);
+    out.push_str(", ");
+    put_answer(out, &answer);
+    sink.failed
 }

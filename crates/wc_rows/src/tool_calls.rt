@@ -1,12 +1,13 @@
 //! Calls of `wc_tool`.
 
-ghost use Rattle.std.specs.Prelude.{IfOk, None};
+ghost use Rattle.std.specs.Prelude.{IfSome, None};
 ghost use Rattle.wc_tool.specs.Command.{IsExecutable, command_value};
 
-use crate::input::{Stop, answered, bad_row, bytes_of};
+use crate::input::{bad_row, bytes_of};
 use crate::lines::Lines;
 use crate::rows::Row;
-use crate::values::put_bytes_lines;
+use crate::table::named;
+use crate::values::{put_bytes_lines, put_fault};
 use std::alloc::{AllocError, Global};
 use std::{io, str};
 use wc_tool::{Command, FileStore, Output, ToolFault, execute, parse, run};
@@ -15,20 +16,27 @@ use wc_write::{PutFailed, Sink, WriterSink};
 /// Bytes of room for what is printed and written, made before a command runs. So memory runs out in the command alone.
 const ROOM: usize = 4096;
 
-/// Appends the answer of a call of `wc_tool`, and says whether the row's is one.
-pub fn answer(alloc: Global, row: &Row<'_>, out: &mut Lines) -> Result<bool, AllocError> {
-    answered(answer_call(alloc, row, out))
+#[derive(Clone, Copy)]
+enum Call {
+    Parse,
+    /// `execute COMMAND`, `execute trim NAME..`
+    Execute,
+    /// `run_program ARGUMENT..`: what the program prints, its status, and the bytes of `out.wasm` where it was written.
+    Program,
 }
 
-fn answer_call(alloc: Global, row: &Row<'_>, out: &mut Lines) -> Result<bool, Stop> {
-    if row.call == "parse" {
-        answer_parse(alloc, row, out)?;
-    } else if row.call == "execute" {
-        answer_execute(alloc, row, out)?;
-    } else if row.call == "run_program" {
-        answer_program(alloc, row, out)?;
-    } else {
-        return Ok(false);
+const CALLS: [(&str, Call); 3] = [
+    ("parse", Call::Parse),
+    ("execute", Call::Execute),
+    ("run_program", Call::Program),
+];
+
+/// Appends the answer of a call of `wc_tool`, and says whether the row's is one.
+pub fn answer(alloc: Global, row: &Row<'_>, out: &mut Lines) -> Result<bool, AllocError> {
+    match named(&CALLS, row.call) {
+        Some(Call::Parse) => answer_parse(alloc, row, out),
+        Some(call) => answer_bytes(alloc, call, row, out),
+        None => return Ok(false),
     }
     Ok(true)
 }
@@ -41,89 +49,135 @@ fn arguments_of(alloc: Global, lines: &[&str]) -> Result<Vec<String>, AllocError
     Ok(words)
 }
 
+fn answer_bytes(alloc: Global, call: Call, row: &Row<'_>, out: &mut Lines) {
+    if let Ok(bytes) = bytes_of(alloc, &row.input, out) {
+        answer_on_bytes(alloc, call, row, &bytes, out);
+    }
+}
+
+fn answer_on_bytes(alloc: Global, call: Call, row: &Row<'_>, bytes: &[u8], out: &mut Lines) {
+    let word = row.arguments.first().copied().unwrap_or("");
+    match call {
+        Call::Program => answer_program(alloc, row, bytes, out),
+        _ if word == "trim" => answer_trim(alloc, row, bytes, out),
+        _ => answer_execute(alloc, row, bytes, out),
+    }
+}
+
+/// A command's name.
 fn command_word(command: &Command<'_>) -> &'static str {
     match command {
-        Command::Dedupe { .. } => "dedupe",
-        Command::Trim { .. } => "trim",
-        Command::Scan { .. } => "scan",
+        Command::Dedupe { .. } => "dedupe\nreads ",
+        Command::Trim { .. } => "trim\nreads ",
+        Command::Scan { .. } => "scan\nreads ",
     }
 }
 
 /// The options of a trim, and the exports that it keeps.
 fn put_options(out: &mut Lines, command: &Command<'_>) {
-    if let Command::Trim {
-        realloc,
-        page,
-        exports,
-        ..
-    } = command
-    {
-        writeln!(out, "realloc {realloc:?}\npage {page}");
-        for export in exports.iter() {
-            writeln!(out, "export {export:?}");
+    match command {
+        Command::Trim {
+            realloc,
+            page,
+            exports,
+            ..
+        } => {
+            put_realloc(out, *realloc);
+            out.number("\npage ", *page as u64);
+            out.end();
+            put_exports(out, exports);
         }
+        _ => {}
+    }
+}
+
+fn put_realloc(out: &mut Lines, realloc: Option<&str>) {
+    match realloc {
+        Some(realloc) => {
+            out.quoted("realloc Some(", realloc);
+            out.push_str(")");
+        }
+        None => out.push_str("realloc None"),
+    }
+}
+
+fn put_exports(out: &mut Lines, exports: &[String]) {
+    for export in exports {
+        out.quoted("export ", export);
+        out.end();
     }
 }
 
 /// A command, the file that it reads and the one that it writes.
 fn put_command(out: &mut Lines, command: &Command<'_>) {
-    let word = command_word(command);
-    let source = command.source();
-    write!(out, "{word}\nreads {source:?}\nwrites ");
+    out.quoted(command_word(command), command.source());
     match command.target() {
-        Some(target) => writeln!(out, "{target:?}"),
-        None => out.push_str("nothing\n"),
+        Some(target) => out.quoted("\nwrites ", target),
+        None => out.push_str("\nwrites nothing"),
     }
+    out.end();
     put_options(out, command);
 }
 
-fn answer_parse(alloc: Global, row: &Row<'_>, out: &mut Lines) -> Result<(), Stop> {
-    let words = arguments_of(alloc, &row.input)?;
-    match parse(words.as_slice()) {
+fn answer_parse(alloc: Global, row: &Row<'_>, out: &mut Lines) {
+    match arguments_of(alloc, &row.input) {
+        Ok(words) => put_parsed(out, &words),
+        Err(_) => out.lack_memory(),
+    }
+}
+
+fn put_parsed(out: &mut Lines, words: &[String]) {
+    match parse(words) {
         Ok(command) => put_command(out, &command),
         Err(_) => out.push_str("usage\n"),
     }
-    Ok(())
 }
 
 /// The command that the first argument names.
-pub fn named_command(row: &Row<'_>, out: &mut Lines) -> Result<Command<'static>, Stop>
-    ensures { IfOk result (λ c. IsExecutable (command_value c)) }
+pub fn named_command(row: &Row<'_>) -> Option<Command<'static>>
+    ensures { IfSome result (λ c. IsExecutable (command_value c)) }
 {
-    let word = match row.arguments.first() {
-        Some(word) => *word,
-        None => "",
-    };
+    let word = row.arguments.first().copied().unwrap_or("");
     if word == "dedupe" {
-        Ok(Command::Dedupe {
+        Some(Command::Dedupe {
             source: "in.wasm",
             target: "out.wasm",
         })
     } else if word == "scan" {
-        Ok(Command::Scan { source: "in.wasm" })
+        Some(Command::Scan { source: "in.wasm" })
     } else {
-        Err(bad_row(out, "no command", word))
+        None
     }
 }
 
-fn answer_execute(alloc: Global, row: &Row<'_>, out: &mut Lines) -> Result<(), Stop> {
-    let input = bytes_of(alloc, &row.input, out)?;
-    if row.arguments.first() == Some(&"trim") {
-        return answer_trim(alloc, row, &input, out);
+fn answer_execute(alloc: Global, row: &Row<'_>, input: &[u8], out: &mut Lines) {
+    match named_command(row) {
+        Some(command) => put_executed(alloc, &command, input, out),
+        None => {
+            let _ = bad_row(out, "no command", row.call);
+        }
     }
-    let command = named_command(row, out)?;
-    put_executed(alloc, &command, &input, out)?;
-    Ok(())
 }
 
 /// `execute trim NAME..`.
-fn answer_trim(alloc: Global, row: &Row<'_>, input: &[u8], out: &mut Lines) -> Result<(), Stop> {
-    let names = arguments_of(alloc, &row.arguments)?;
-    let Some((_, exports)) = names.as_slice().split_first() else {
-        return Err(bad_row(out, "no exports", row.call));
-    };
+fn answer_trim(alloc: Global, row: &Row<'_>, input: &[u8], out: &mut Lines) {
+    match row.arguments.as_slice().split_first() {
+        Some((_, names)) => put_trim(alloc, arguments_of(alloc, names), input, out),
+        None => {}
+    }
+}
+
+fn put_trim(alloc: Global, names: Result<Vec<String>, AllocError>, input: &[u8], out: &mut Lines) {
+    match names {
+        Ok(names) => put_trim_to(alloc, &names, input, out),
+        Err(_) => out.lack_memory(),
+    }
+}
+
+fn put_trim_to(alloc: Global, exports: &[String], input: &[u8], out: &mut Lines) {
     if exports.is_empty() {
-        return Err(bad_row(out, "no exports", row.call));
+        let _ = bad_row(out, "no exports", "");
+        return;
     }
     let command = Command::Trim {
         source: "in.wasm",
@@ -132,33 +186,40 @@ fn answer_trim(alloc: Global, row: &Row<'_>, input: &[u8], out: &mut Lines) -> R
         page: 16,
         exports,
     };
-    put_executed(alloc, &command, input, out)?;
-    Ok(())
+    put_executed(alloc, &command, input, out);
 }
 
 /// What a command prints, and its answer.
-fn put_executed(
-    alloc: Global,
-    command: &Command<'_>,
-    input: &[u8],
-    out: &mut Lines,
-) -> Result<(), AllocError>
+fn put_executed(alloc: Global, command: &Command<'_>, input: &[u8], out: &mut Lines)
     requires { IsExecutable (command_value command.now) }
 {
-    let mut sink = WriterSink::new(Vec::with_capacity(alloc, ROOM)?);
+    match Vec::with_capacity(alloc, ROOM) {
+        Ok(room) => put_printed(alloc, command, input, room, out),
+        Err(_) => out.lack_memory(),
+    }
+}
+
+fn put_printed(alloc: Global, command: &Command<'_>, input: &[u8], room: Vec<u8>, out: &mut Lines)
+    requires { IsExecutable (command_value command.now) }
+{
+    let mut sink = WriterSink::new(room);
     let answer = execute(alloc, command, input, &mut sink);
     put_lines(out, &sink.into_inner());
     put_answer(out, &answer);
-    Ok(())
 }
 
 /// The lines that were printed, or their bytes where they are no text.
 fn put_lines(out: &mut Lines, bytes: &[u8]) {
-    let Ok(text) = str::from_utf8(bytes) else {
-        return put_bytes_lines(out, "printed", bytes);
-    };
+    match str::from_utf8(bytes) {
+        Ok(text) => put_quoted_lines(out, text),
+        Err(_) => put_bytes_lines(out, "printed", bytes),
+    }
+}
+
+fn put_quoted_lines(out: &mut Lines, text: &str) {
     for line in text.lines() {
-        writeln!(out, "line {line:?}");
+        out.quoted("line ", line);
+        out.end();
     }
 }
 
@@ -238,40 +299,66 @@ impl Output for Printed {
     }
 }
 
-/// `run_program ARGUMENT..`: what the program prints, its status, and the bytes of `out.wasm` where it was written.
-fn answer_program(alloc: Global, row: &Row<'_>, out: &mut Lines) -> Result<(), Stop> {
-    let arguments = Ok(arguments_of(alloc, &row.arguments)?);
-    let input = bytes_of(alloc, &row.input, out)?;
+fn answer_program(alloc: Global, row: &Row<'_>, input: &[u8], out: &mut Lines) {
+    match Vec::with_capacity(alloc, ROOM) {
+        Ok(room) => answer_files(alloc, row, input, room, out),
+        Err(_) => out.lack_memory(),
+    }
+}
+
+fn answer_files(alloc: Global, row: &Row<'_>, input: &[u8], output: Vec<u8>, out: &mut Lines) {
     let mut files = RowFiles {
         alloc,
-        input: &input,
-        output: Vec::with_capacity(alloc, ROOM)?,
+        input,
+        output,
         is_written: false,
     };
+    match Vec::with_capacity(alloc, ROOM) {
+        Ok(bytes) => answer_run(alloc, row, &mut files, bytes, out),
+        Err(_) => out.lack_memory(),
+    }
+}
+
+fn answer_run(
+    alloc: Global,
+    row: &Row<'_>,
+    files: &mut RowFiles<'_>,
+    bytes: Vec<u8>,
+    out: &mut Lines,
+) {
     let mut printed = Printed {
-        bytes: Vec::with_capacity(alloc, ROOM)?,
+        bytes,
         failed: false,
     };
-    let status = run(alloc, &arguments, &mut files, &mut printed);
-    if printed.bytes.as_slice() == UNREAD {
-        return Err(Stop::Memory);
+    match arguments_of(alloc, &row.arguments) {
+        Ok(arguments) => {
+            let status = run(alloc, &Ok(arguments), files, &mut printed);
+            put_program(out, &printed.bytes, status);
+            put_output(out, files);
+        }
+        Err(_) => out.lack_memory(),
     }
-    put_program(out, &printed.bytes, status);
-    put_output(out, &files);
-    Ok(())
 }
 
 /// The lines that a program printed, as they are, and its status.
 fn put_program(out: &mut Lines, bytes: &[u8], status: u8) {
+    if bytes == UNREAD {
+        return out.lack_memory();
+    }
     match str::from_utf8(bytes) {
-        Ok(text) => {
-            for line in text.lines() {
-                writeln!(out, "printed {line}");
-            }
-        }
+        Ok(text) => put_printed_lines(out, text),
         Err(_) => put_bytes_lines(out, "printed", bytes),
     }
-    writeln!(out, "status {status}");
+    out.number("status ", status as u64);
+    out.end();
+}
+
+fn put_printed_lines(out: &mut Lines, text: &str) {
+    for line in text.lines() {
+        out.push_str("printed ");
+        out.push_str(line);
+        out.end();
+    }
 }
 
 fn put_output(out: &mut Lines, files: &RowFiles<'_>) {

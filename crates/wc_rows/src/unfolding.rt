@@ -2,13 +2,18 @@
 //! that it names, in their order, down to a depth; `..` is where the depth ends.
 
 use crate::gc_calls::names_from;
-use crate::input::{Stop, answered, bad_row, bytes_of};
+use crate::input::{bad_row, bytes_of};
 use crate::lines::Lines;
-use crate::operators::{put_block_type, put_immediates, put_index, put_opcode, space_word};
-use crate::rows::Row;
-use crate::values::{
-    put_def, put_fault, put_memory_type, put_mutable, put_table_limits, put_val_type,
+use crate::operators::{
+    put_block_type, put_immediates, put_index, put_lane, put_opcode, space_word,
 };
+use crate::rows::Row;
+use crate::table::named;
+use crate::values::{
+    put_def, put_fault, put_import_names, put_memory_type, put_mutable, put_table_limits,
+    put_val_type,
+};
+use indexmap::IndexSet;
 use std::alloc::{AllocError, Global};
 use wc_gc::{realloc_via_memory_grow, run};
 use wc_read::{
@@ -19,99 +24,131 @@ use wc_read::{
 /// The exponent of the page size of all memories.
 const PAGE: u32 = 16;
 
-/// The names of the imports of the main module's realloc.
-const REALLOCS: [&str; 2] = ["cabi_realloc", "canonical_abi_realloc"];
+#[derive(Clone, Copy)]
+enum Call {
+    /// `unfolding EXPORT DEPTH`: of the item that a module exports.
+    Plain,
+    /// `unfolding_trimmed`: the same after the module was trimmed to that export.
+    Trimmed,
+    /// `unfolding_edited`: the same where each import of the main module's realloc is the realloc that grows memory.
+    Edited,
+}
+
+const CALLS: [(&str, Call); 3] = [
+    ("unfolding", Call::Plain),
+    ("unfolding_trimmed", Call::Trimmed),
+    ("unfolding_edited", Call::Edited),
+];
 
 /// Appends the answer of a call, and says whether the row's is one of these.
 pub fn answer(alloc: Global, row: &Row<'_>, out: &mut Lines) -> Result<bool, AllocError> {
-    answered(answer_call(alloc, row, out))
-}
-
-/// `unfolding EXPORT DEPTH`: of the item that a module exports; `unfolding_trimmed`: the same after the module was
-/// trimmed to that export; `unfolding_edited`: the same where each import of the main module's realloc is the realloc
-/// that grows memory.
-fn answer_call(alloc: Global, row: &Row<'_>, out: &mut Lines) -> Result<bool, Stop> {
-    if row.call == "unfolding" {
-        let bytes = bytes_of(alloc, &row.input, out)?;
-        answer_bytes(alloc, row, &bytes, None, out)?;
-    } else if row.call == "unfolding_trimmed" {
-        answer_trimmed(alloc, row, out)?;
-    } else if row.call == "unfolding_edited" {
-        answer_edited(alloc, row, out)?;
-    } else {
-        return Ok(false);
+    match named(&CALLS, row.call) {
+        Some(call) => {
+            answer_call(alloc, call, row, out);
+            Ok(true)
+        }
+        None => Ok(false),
     }
-    Ok(true)
 }
 
-fn answer_trimmed(alloc: Global, row: &Row<'_>, out: &mut Lines) -> Result<(), Stop> {
-    let bytes = bytes_of(alloc, &row.input, out)?;
-    let mut required = names_from(alloc, row, 0)?;
-    required.truncate(1);
-    if required.is_empty() {
-        return Err(bad_row(out, "no export", row.call));
+fn answer_call(alloc: Global, call: Call, row: &Row<'_>, out: &mut Lines) {
+    if let Ok(bytes) = bytes_of(alloc, &row.input, out) {
+        answer_on_bytes(alloc, call, row, &bytes, out);
     }
-    match run(alloc, &bytes, &required, None, PAGE) {
-        Ok(trimmed) => answer_bytes(alloc, row, &trimmed, None, out)?,
-        Err(fault) => put_fault(out, fault),
+}
+
+fn answer_on_bytes(alloc: Global, call: Call, row: &Row<'_>, bytes: &[u8], out: &mut Lines) {
+    match call {
+        Call::Plain => put_read(alloc, row, bytes, None, out),
+        Call::Trimmed => answer_trimmed(alloc, row, bytes, out),
+        Call::Edited => answer_edited(alloc, row, bytes, out),
     }
-    Ok(())
 }
 
-fn answer_edited(alloc: Global, row: &Row<'_>, out: &mut Lines) -> Result<(), Stop> {
-    let bytes = bytes_of(alloc, &row.input, out)?;
-    let realloc = realloc_via_memory_grow(alloc, PAGE)?;
-    answer_bytes(alloc, row, &bytes, Some(&realloc), out)
+fn answer_trimmed(alloc: Global, row: &Row<'_>, bytes: &[u8], out: &mut Lines) {
+    match names_from(alloc, row, 0) {
+        Ok(mut names) => {
+            names.truncate(1);
+            put_trimmed(alloc, row, bytes, &names, out);
+        }
+        Err(_) => out.lack_memory(),
+    }
 }
 
-/// The unfolding of what a row asks for, in the module that bytes are; a realloc is the body of what replaces imports.
-fn answer_bytes(
+fn put_trimmed(
     alloc: Global,
     row: &Row<'_>,
     bytes: &[u8],
-    realloc: Option<&[u8]>,
+    names: &IndexSet<String>,
     out: &mut Lines,
-) -> Result<(), Stop> {
-    let [export, depth] = row.arguments.as_slice() else {
-        return Err(bad_row(out, "no export and depth", row.call));
-    };
-    let Ok(depth) = depth.parse::<u32>() else {
-        return Err(bad_row(out, "no depth", depth));
-    };
-    Ok(put_read(alloc, out, bytes, realloc, export, depth)?)
-}
-
-fn put_read(
-    alloc: Global,
-    out: &mut Lines,
-    bytes: &[u8],
-    realloc: Option<&[u8]>,
-    name: &str,
-    depth: u32,
-) -> Result<(), AllocError> {
-    match read_module(alloc, bytes) {
-        Ok(module) => put_export(alloc, out, &module, realloc, name, depth)?,
+) {
+    if names.is_empty() {
+        let _ = bad_row(out, "no export", row.call);
+        return;
+    }
+    match run(alloc, bytes, names, None, PAGE) {
+        Ok(trimmed) => put_read(alloc, row, &trimmed, None, out),
         Err(fault) => put_fault(out, fault),
     }
-    Ok(())
+}
+
+fn answer_edited(alloc: Global, row: &Row<'_>, bytes: &[u8], out: &mut Lines) {
+    match realloc_via_memory_grow(alloc, PAGE) {
+        Ok(realloc) => put_read(alloc, row, bytes, Some(&realloc), out),
+        Err(_) => out.lack_memory(),
+    }
+}
+
+/// The unfolding of what a row asks for, in the module that bytes are; a realloc is the body of what replaces imports.
+fn put_read(alloc: Global, row: &Row<'_>, bytes: &[u8], realloc: Option<&[u8]>, out: &mut Lines) {
+    match read_module(alloc, bytes) {
+        Ok(module) => put_asked(alloc, row, &module, realloc, out),
+        Err(fault) => put_fault(out, fault),
+    }
+}
+
+fn put_asked(
+    alloc: Global,
+    row: &Row<'_>,
+    module: &Module<'_>,
+    realloc: Option<&[u8]>,
+    out: &mut Lines,
+) {
+    let name = row.arguments.first().copied().unwrap_or("");
+    let depth = row.arguments.get(1).copied().unwrap_or("");
+    match depth.parse::<u32>() {
+        Ok(depth) => put_export(alloc, name, depth, module, realloc, out),
+        Err(_) => {
+            let _ = bad_row(out, "no depth", depth);
+        }
+    }
 }
 
 fn put_export(
     alloc: Global,
-    out: &mut Lines,
-    module: &Module<'_>,
-    realloc: Option<&[u8]>,
     name: &str,
     depth: u32,
-) -> Result<(), AllocError> {
-    for export in &module.exports {
-        if export.name == name {
-            let item = (space_of(export.kind), export.index);
-            return put_unfolding(alloc, out, module, realloc, item, depth);
+    module: &Module<'_>,
+    realloc: Option<&[u8]>,
+    out: &mut Lines,
+) {
+    match exported(module, name) {
+        Some(item) => put_unfolding(alloc, module, realloc, item, depth, out),
+        None => {
+            out.quoted("no export ", name);
+            out.end();
         }
     }
-    writeln!(out, "no export {name:?}");
-    Ok(())
+}
+
+/// The item that a module exports under a name.
+fn exported(module: &Module<'_>, name: &str) -> Option<(Space, u32)> {
+    for export in &module.exports {
+        if export.name == name {
+            return Some((space_of(export.kind), export.index));
+        }
+    }
+    None
 }
 
 fn space_of(kind: ExportKind) -> Space {
@@ -133,132 +170,139 @@ struct Waiting {
 /// The lines of an item's unfolding.
 fn put_unfolding(
     alloc: Global,
-    out: &mut Lines,
     module: &Module<'_>,
     realloc: Option<&[u8]>,
     item: (Space, u32),
     depth: u32,
-) -> Result<(), AllocError> {
+    out: &mut Lines,
+) {
     let mut left = Vec::new(alloc);
-    left.push(Waiting { item, level: 0 })?;
+    push_waiting(&mut left, item, 0, out);
     for _ in 0..u64::MAX {
-        let Some(next) = left.pop() else {
-            break;
-        };
-        if next.level < depth {
-            put_next(alloc, out, module, realloc, next, &mut left)?;
-        } else {
-            put_lines(out, next.level, "..");
+        match left.pop() {
+            Some(next) if next.level < depth => {
+                put_next(alloc, module, realloc, next, &mut left, out);
+            }
+            Some(next) => put_lines(out, next.level, ".."),
+            None => return,
         }
     }
-    Ok(())
+}
+
+fn push_waiting(left: &mut Vec<Waiting>, item: (Space, u32), level: u32, out: &mut Lines) {
+    if left.push(Waiting { item, level }).is_err() {
+        out.lack_memory();
+    }
 }
 
 /// The lines of an item itself; those that it names are put before all that is left.
 fn put_next(
     alloc: Global,
-    out: &mut Lines,
     module: &Module<'_>,
     realloc: Option<&[u8]>,
     next: Waiting,
     left: &mut Vec<Waiting>,
-) -> Result<(), AllocError> {
-    let mut entry = Lines::new(alloc);
-    let mut named = Vec::new(alloc);
-    put_entry(alloc, &mut entry, module, realloc, next.item, &mut named)?;
-    put_lines(out, next.level, entry.text()?);
-    push_named(left, &named, next.level.saturating_add(1))
+    out: &mut Lines,
+) {
+    let mut entry = Entry {
+        lines: Lines::new(alloc),
+        named: Vec::new(alloc),
+    };
+    put_entry(alloc, module, realloc, next.item, &mut entry);
+    put_text(out, next.level, &entry.lines);
+    push_named(left, &entry.named, next.level.saturating_add(1), out);
 }
 
-fn push_named(
-    left: &mut Vec<Waiting>,
-    named: &[(Space, u32)],
-    level: u32,
-) -> Result<(), AllocError> {
-    for item in named.iter().rev() {
-        left.push(Waiting { item: *item, level })?;
+fn put_text(out: &mut Lines, level: u32, lines: &Lines) {
+    match lines.text() {
+        Ok(text) => put_lines(out, level, text),
+        Err(_) => out.lack_memory(),
     }
-    Ok(())
+}
+
+fn push_named(left: &mut Vec<Waiting>, named: &[(Space, u32)], level: u32, out: &mut Lines) {
+    for item in named.iter().rev() {
+        push_waiting(left, *item, level, out);
+    }
 }
 
 /// Lines at a level.
 fn put_lines(out: &mut Lines, level: u32, text: &str) {
     for line in text.lines() {
-        for _ in 0..level {
-            out.push_str("  ");
-        }
+        put_spaces(out, level);
         out.push_str(line);
-        out.push_str("\n");
+        out.end();
+    }
+}
+
+fn put_spaces(out: &mut Lines, level: u32) {
+    for _ in 0..level {
+        out.push_str("  ");
     }
 }
 
 /// The lines of an item without its indices, and the items that it names.
+#[derive(Drop)]
+struct Entry {
+    lines: Lines,
+    named: Vec<(Space, u32)>,
+}
+
+impl Entry {
+    fn name(&mut self, space: Space, index: u32) {
+        if self.named.push((space, index)).is_err() {
+            self.lines.lack_memory();
+        }
+    }
+}
+
 fn put_entry(
     alloc: Global,
-    out: &mut Lines,
     module: &Module<'_>,
     realloc: Option<&[u8]>,
     item: (Space, u32),
-    named: &mut Vec<(Space, u32)>,
-) -> Result<(), AllocError> {
+    entry: &mut Entry,
+) {
     let index = item.1 as usize;
     match item.0 {
-        Space::Types => put_type(out, module, index, named)?,
-        Space::Funcs => put_func(alloc, out, module, realloc, index, named)?,
-        Space::Tables => put_table(out, module, index, named)?,
-        Space::Memories => put_memory(out, module, index),
-        Space::Globals => put_global(alloc, out, module, index, named)?,
+        Space::Types => put_type(module, index, entry),
+        Space::Funcs => put_func(alloc, module, realloc, index, entry),
+        Space::Tables => put_table(module, index, entry),
+        Space::Memories => put_memory(module, index, &mut entry.lines),
+        Space::Globals => put_global(alloc, module, index, entry),
     }
-    Ok(())
 }
 
 fn put_none(out: &mut Lines) {
     out.push_str("none\n");
 }
 
-fn put_type(
-    out: &mut Lines,
-    module: &Module<'_>,
-    index: usize,
-    named: &mut Vec<(Space, u32)>,
-) -> Result<(), AllocError> {
+fn put_type(module: &Module<'_>, index: usize, entry: &mut Entry) {
     let Some(ty) = module.types.get(index) else {
-        put_none(out);
-        return Ok(());
+        return put_none(&mut entry.lines);
     };
-    out.push_str("type");
-    put_blank_types(out, ty.params(), named)?;
-    out.push_str(" ->");
-    put_blank_types(out, ty.results(), named)?;
-    out.push_str("\n");
-    Ok(())
+    entry.lines.push_str("type");
+    put_blank_types(ty.params(), entry);
+    entry.lines.push_str(" ->");
+    put_blank_types(ty.results(), entry);
+    entry.lines.end();
 }
 
 /// Value types without their indices, and the types that they name.
-fn put_blank_types(
-    out: &mut Lines,
-    types: &[ValType],
-    named: &mut Vec<(Space, u32)>,
-) -> Result<(), AllocError> {
+fn put_blank_types(types: &[ValType], entry: &mut Entry) {
     for ty in types {
-        out.push_str(" ");
-        put_blank_type(out, *ty, named)?;
+        entry.lines.push_str(" ");
+        put_blank_type(*ty, entry);
     }
-    Ok(())
 }
 
 /// A value type without its index, and the type that it names.
-fn put_blank_type(
-    out: &mut Lines,
-    ty: ValType,
-    named: &mut Vec<(Space, u32)>,
-) -> Result<(), AllocError> {
-    put_val_type(out, blank(ty));
+fn put_blank_type(ty: ValType, entry: &mut Entry) {
+    put_val_type(&mut entry.lines, blank(ty));
     match ty {
-        ValType::TypeRef { index, .. } => named.push((Space::Types, index))?,
+        ValType::TypeRef { index, .. } => entry.name(Space::Types, index),
         _ => {}
     }
-    Ok(())
 }
 
 /// A value type with 0 in the place of its index.
@@ -269,24 +313,17 @@ fn blank(ty: ValType) -> ValType {
     }
 }
 
-fn put_table(
-    out: &mut Lines,
-    module: &Module<'_>,
-    index: usize,
-    named: &mut Vec<(Space, u32)>,
-) -> Result<(), AllocError> {
+fn put_table(module: &Module<'_>, index: usize, entry: &mut Entry) {
     let Some(table) = module.tables.get(index) else {
-        put_none(out);
-        return Ok(());
+        return put_none(&mut entry.lines);
     };
-    out.push_str("table ");
-    put_blank_type(out, table.ty.element_type, named)?;
-    put_table_limits(out, &table.ty);
-    put_def(out, &table.def);
-    Ok(())
+    entry.lines.push_str("table ");
+    put_blank_type(table.ty.element_type, entry);
+    put_table_limits(&mut entry.lines, &table.ty);
+    put_def(&mut entry.lines, &table.def);
 }
 
-fn put_memory(out: &mut Lines, module: &Module<'_>, index: usize) {
+fn put_memory(module: &Module<'_>, index: usize, out: &mut Lines) {
     let Some(memory) = module.memories.get(index) else {
         return put_none(out);
     };
@@ -297,144 +334,117 @@ fn put_memory(out: &mut Lines, module: &Module<'_>, index: usize) {
 
 fn put_func(
     alloc: Global,
-    out: &mut Lines,
     module: &Module<'_>,
     realloc: Option<&[u8]>,
     index: usize,
-    named: &mut Vec<(Space, u32)>,
-) -> Result<(), AllocError> {
+    entry: &mut Entry,
+) {
     let Some(func) = module.funcs.get(index) else {
-        put_none(out);
-        return Ok(());
+        return put_none(&mut entry.lines);
     };
-    named.push((Space::Types, func.ty))?;
-    out.push_str("func");
-    match func.def {
-        Def::Import(module, name) => match realloc {
-            Some(body) if is_realloc(module, name) => put_body(alloc, out, body, named)?,
-            _ => writeln!(out, " import {module:?} {name:?}"),
-        },
-        Def::Local(body) => put_body(alloc, out, body, named)?,
+    entry.name(Space::Types, func.ty);
+    entry.lines.push_str("func");
+    match (func.def, realloc) {
+        (Def::Import(module, name), Some(body)) if is_realloc(module, name) => {
+            put_body(alloc, body, entry);
+        }
+        (Def::Import(module, name), _) => put_import_names(&mut entry.lines, module, name),
+        (Def::Local(body), _) => put_body(alloc, body, entry),
     }
-    Ok(())
 }
 
 /// Whether an import is the main module's realloc.
 fn is_realloc(module: &str, name: &str) -> bool {
-    module == "__main_module__" && REALLOCS.iter().any(|realloc| *realloc == name)
+    module == "__main_module__" && (name == "cabi_realloc" || name == "canonical_abi_realloc")
 }
 
 /// The rest of a function's lines.
-fn put_body(
-    alloc: Global,
-    out: &mut Lines,
-    bytes: &[u8],
-    named: &mut Vec<(Space, u32)>,
-) -> Result<(), AllocError> {
-    out.push_str("\n");
+fn put_body(alloc: Global, bytes: &[u8], entry: &mut Entry) {
+    entry.lines.end();
     match read_body(alloc, bytes) {
-        Ok(body) => put_code(out, &body, named)?,
-        Err(fault) => put_fault(out, fault),
+        Ok(body) => put_code(&body, entry),
+        Err(fault) => put_fault(&mut entry.lines, fault),
     }
-    Ok(())
 }
 
-fn put_code(
-    out: &mut Lines,
-    body: &Body<'_>,
-    named: &mut Vec<(Space, u32)>,
-) -> Result<(), AllocError> {
+fn put_code(body: &Body<'_>, entry: &mut Entry) {
     for run in &body.locals {
-        let count = run.count;
-        write!(out, "locals {count} ");
-        put_blank_type(out, run.ty, named)?;
-        out.push_str("\n");
+        entry.lines.number("locals ", run.count as u64);
+        entry.lines.push_str(" ");
+        put_blank_type(run.ty, entry);
+        entry.lines.end();
     }
-    put_operators(out, &body.operators, named)
+    put_operators(&body.operators, entry);
 }
 
-fn put_global(
-    alloc: Global,
-    out: &mut Lines,
-    module: &Module<'_>,
-    index: usize,
-    named: &mut Vec<(Space, u32)>,
-) -> Result<(), AllocError> {
+fn put_global(alloc: Global, module: &Module<'_>, index: usize, entry: &mut Entry) {
     let Some(global) = module.globals.get(index) else {
-        put_none(out);
-        return Ok(());
+        return put_none(&mut entry.lines);
     };
-    out.push_str("global ");
-    put_blank_type(out, global.ty.content_type, named)?;
-    put_mutable(out, &global.ty);
+    entry.lines.push_str("global ");
+    put_blank_type(global.ty.content_type, entry);
+    put_mutable(&mut entry.lines, &global.ty);
     match global.def {
-        Def::Import(module, name) => writeln!(out, " import {module:?} {name:?}"),
-        Def::Local(init) => put_init(alloc, out, init, named)?,
+        Def::Import(module, name) => put_import_names(&mut entry.lines, module, name),
+        Def::Local(init) => put_init(alloc, init, entry),
     }
-    Ok(())
 }
 
 /// The rest of a global's lines.
-fn put_init(
-    alloc: Global,
-    out: &mut Lines,
-    bytes: &[u8],
-    named: &mut Vec<(Space, u32)>,
-) -> Result<(), AllocError> {
-    out.push_str("\n");
+fn put_init(alloc: Global, bytes: &[u8], entry: &mut Entry) {
+    entry.lines.end();
     match read_init(alloc, bytes) {
-        Ok(init) => put_operators(out, &init.operators, named)?,
-        Err(fault) => put_fault(out, fault),
+        Ok(init) => put_operators(&init.operators, entry),
+        Err(fault) => put_fault(&mut entry.lines, fault),
     }
-    Ok(())
 }
 
 /// A line for each operator, without indices of items.
-fn put_operators(
-    out: &mut Lines,
-    operators: &[Instr<'_>],
-    named: &mut Vec<(Space, u32)>,
-) -> Result<(), AllocError> {
+fn put_operators(operators: &[Instr<'_>], entry: &mut Entry) {
     for operator in operators {
-        out.push_str("operator ");
-        put_opcode(out, operator.opcode);
-        put_blank(out, &operator.immediates, named)?;
-        out.push_str("\n");
-        push_refs(named, operator)?;
+        entry.lines.push_str("operator ");
+        put_opcode(&mut entry.lines, operator.opcode);
+        put_blank(&operator.immediates, entry);
+        entry.lines.end();
+        name_refs(operator, entry);
     }
-    Ok(())
 }
 
 /// The items that an operator names, but for the types of a `select`.
-fn push_refs(named: &mut Vec<(Space, u32)>, operator: &Instr<'_>) -> Result<(), AllocError> {
+fn name_refs(operator: &Instr<'_>, entry: &mut Entry) {
     let refs = refs(operator);
-    push_some(named, refs.first)?;
-    push_some(named, refs.second)
+    name_some(refs.first, entry);
+    name_some(refs.second, entry);
 }
 
-fn push_some(named: &mut Vec<(Space, u32)>, item: Option<(Space, u32)>) -> Result<(), AllocError> {
-    if let Some(item) = item {
-        named.push(item)?;
+fn name_some(item: Option<(Space, u32)>, entry: &mut Entry) {
+    match item {
+        Some((space, index)) => entry.name(space, index),
+        None => {}
     }
-    Ok(())
 }
 
 /// What comes after an operator's code, without indices of items, and the types that a `select` names.
-fn put_blank(
-    out: &mut Lines,
-    immediates: &Immediates<'_>,
-    named: &mut Vec<(Space, u32)>,
-) -> Result<(), AllocError> {
+fn put_blank(immediates: &Immediates<'_>, entry: &mut Entry) {
+    match immediates {
+        Immediates::ValTypes(types) => {
+            entry.lines.push_str(" types");
+            put_blank_types(types, entry);
+        }
+        _ => put_blank_immediates(immediates, &mut entry.lines),
+    }
+}
+
+fn put_blank_immediates(immediates: &Immediates<'_>, out: &mut Lines) {
     match immediates {
         Immediates::Block(BlockType::FuncType(_)) => out.push_str(" block type"),
         Immediates::Block(BlockType::Value(ty)) => {
             put_block_type(out, &BlockType::Value(blank(*ty)));
         }
-        Immediates::ValTypes(types) => {
-            out.push_str(" types");
-            put_blank_types(out, types, named)?;
+        Immediates::RefType(ty) => {
+            out.push_str(" reference ");
+            put_val_type(out, blank(*ty));
         }
-        Immediates::RefType(ty) => put_immediates(out, &Immediates::RefType(blank(*ty))),
         Immediates::Index(index) => put_blank_index(out, *index),
         Immediates::Indices(first, second) => {
             put_blank_index(out, *first);
@@ -443,25 +453,23 @@ fn put_blank(
         Immediates::MemArg(address) => put_blank_address(out, address),
         Immediates::MemArgLane(address, lane) => {
             put_blank_address(out, address);
-            write!(out, " lane {lane}");
+            put_lane(out, *lane);
         }
         _ => put_immediates(out, immediates),
     }
-    Ok(())
 }
 
 fn put_blank_index(out: &mut Lines, index: Index) {
     match index.kind {
         IndexKind::In(space) => {
-            let space = space_word(space);
-            write!(out, " {space}");
+            out.push_str(" ");
+            out.push_str(space_word(space));
         }
         _ => put_index(out, &index),
     }
 }
 
 fn put_blank_address(out: &mut Lines, address: &MemArg) {
-    let align = address.align;
-    let offset = address.offset;
-    write!(out, " align {align} memory offset {offset}");
+    out.number(" align ", address.align as u64);
+    out.number(" memory offset ", address.offset);
 }

@@ -9,13 +9,14 @@ use wc_read::{
 
 /// A fault's line.
 pub fn put_fault(out: &mut Lines, fault: impl Display + Drop) {
-    writeln!(out, "fault {fault}");
+    out.push_str("fault ");
+    writeln!(out, "{fault}");
 }
 
 /// Bytes in hex, each with a space at the front.
 pub fn put_bytes(out: &mut Lines, bytes: &[u8]) {
     for byte in bytes {
-        write!(out, " {byte:02x}");
+        out.hex(" ", *byte);
     }
 }
 
@@ -54,11 +55,8 @@ pub fn put_val_type(out: &mut Lines, ty: ValType) {
 }
 
 fn put_type_ref(out: &mut Lines, nullable: bool, index: u32) {
-    if nullable {
-        write!(out, "ref-null:{index}")
-    } else {
-        write!(out, "ref:{index}")
-    }
+    let word = if nullable { "ref-null:" } else { "ref:" };
+    out.number(word, index as u64);
 }
 
 /// Types, each with a space at the front.
@@ -77,9 +75,9 @@ pub fn put_func_type(out: &mut Lines, ty: &FuncType) {
 }
 
 fn put_bounds(out: &mut Lines, initial: u64, maximum: Option<u64>) {
-    write!(out, " min {initial}");
+    out.number(" min ", initial);
     match maximum {
-        Some(maximum) => write!(out, " max {maximum}"),
+        Some(maximum) => out.number(" max ", maximum),
         None => {}
     }
 }
@@ -107,7 +105,7 @@ pub fn put_memory_type(out: &mut Lines, ty: &MemoryType) {
     }
     put_bounds(out, ty.initial, ty.maximum);
     match ty.page_size_log2 {
-        Some(exponent) => write!(out, " page {exponent}"),
+        Some(exponent) => out.number(" page ", exponent as u64),
         None => {}
     }
 }
@@ -127,7 +125,7 @@ pub fn put_mutable(out: &mut Lines, ty: &GlobalType) {
 
 fn put_import_type(out: &mut Lines, ty: &ImportType) {
     match ty {
-        ImportType::Func(index) => write!(out, "func {index}"),
+        ImportType::Func(index) => out.number("func ", *index as u64),
         ImportType::Table(table) => {
             out.push_str("table");
             put_table_type(out, table);
@@ -145,9 +143,9 @@ fn put_import_type(out: &mut Lines, ty: &ImportType) {
 
 /// An import, without the end of its line.
 pub fn put_import(out: &mut Lines, import: &Import<'_>) {
-    let module = import.module;
-    let name = import.name;
-    write!(out, "import {module:?} {name:?} ");
+    out.quoted("import ", import.module);
+    out.quoted(" ", import.name);
+    out.push_str(" ");
     put_import_type(out, &import.ty);
 }
 
@@ -158,28 +156,36 @@ pub fn put_imports(out: &mut Lines, imports: &[Import<'_>]) {
     }
 }
 
+/// The word of an export's kind, with a space at the front.
 fn kind_name(kind: ExportKind) -> &'static str {
     match kind {
-        ExportKind::Func => "func",
-        ExportKind::Table => "table",
-        ExportKind::Memory => "memory",
-        ExportKind::Global => "global",
+        ExportKind::Func => " func",
+        ExportKind::Table => " table",
+        ExportKind::Memory => " memory",
+        ExportKind::Global => " global",
     }
 }
 
 pub fn put_exports(out: &mut Lines, exports: &[Export<'_>]) {
     for export in exports {
-        let name = export.name;
-        let kind = kind_name(export.kind);
-        let index = export.index;
-        writeln!(out, "export {name:?} {kind} {index}");
+        out.quoted("export ", export.name);
+        out.push_str(kind_name(export.kind));
+        out.number(" ", export.index as u64);
+        out.end();
     }
+}
+
+/// The names of an import: the end of an item's line.
+pub fn put_import_names(out: &mut Lines, module: &str, name: &str) {
+    out.quoted(" import ", module);
+    out.quoted(" ", name);
+    out.end();
 }
 
 /// Where an item comes from that has no content: the end of its line.
 pub fn put_def(out: &mut Lines, def: &Def<'_, ()>) {
     match def {
-        Def::Import(module, name) => writeln!(out, " import {module:?} {name:?}"),
+        Def::Import(module, name) => put_import_names(out, module, name),
         Def::Local(()) => out.push_str(" defined\n"),
     }
 }
@@ -187,7 +193,7 @@ pub fn put_def(out: &mut Lines, def: &Def<'_, ()>) {
 /// Where an item comes from, or the bytes of its content: the end of its line.
 pub fn put_bytes_def(out: &mut Lines, def: &Def<'_, &[u8]>, word: &str) {
     match def {
-        Def::Import(module, name) => writeln!(out, " import {module:?} {name:?}"),
+        Def::Import(module, name) => put_import_names(out, module, name),
         Def::Local(bytes) => put_bytes_line(out, word, bytes),
     }
 }

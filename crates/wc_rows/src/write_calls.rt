@@ -2,100 +2,121 @@
 
 use crate::built::built_of;
 use crate::imports::imports_of;
-use crate::input::{Stop, answered, bad_row, bytes_of};
+use crate::input::{bad_row, bytes_of};
 use crate::lines::Lines;
 use crate::rows::Row;
+use crate::table::named;
 use crate::values::{put_bytes_lines, put_fault};
 use std::alloc::{AllocError, Global};
-use wc_read::{Def, Func, read_body, read_imports, read_module};
+use wc_read::{Body, Def, Func, read_body, read_imports, read_module};
 use wc_write::{
-    WriteFault, append_import_section, append_raw_section, raw_section, write_body,
+    Built, WriteFault, append_import_section, append_raw_section, raw_section, write_body,
     write_import_section, write_module,
 };
 
-/// Appends the answer of a call of `wc_write`, and says whether the row's is one.
-pub fn answer(alloc: Global, row: &Row<'_>, out: &mut Lines) -> Result<bool, AllocError> {
-    answered(answer_call(alloc, row, out))
+/// The calls on bytes.
+#[derive(Clone, Copy)]
+enum OnBytes {
+    RewriteImports,
+    WriteBody,
+    WriteBodies,
+    WriteModule,
 }
 
-/// The calls on bytes.
-const ON_BYTES: [&str; 4] = [
-    "rewrite_import_section",
-    "write_body",
-    "write_bodies",
-    "write_module",
+const ON_BYTES: [(&str, OnBytes); 4] = [
+    ("rewrite_import_section", OnBytes::RewriteImports),
+    ("write_body", OnBytes::WriteBody),
+    ("write_bodies", OnBytes::WriteBodies),
+    ("write_module", OnBytes::WriteModule),
 ];
 
-fn is_on_bytes(call: &str) -> bool {
-    ON_BYTES.iter().any(|name| *name == call)
-}
-
-fn answer_call(alloc: Global, row: &Row<'_>, out: &mut Lines) -> Result<bool, Stop> {
-    if !is_on_bytes(row.call) {
-        return answer_other(alloc, row, out);
-    }
-    let bytes = bytes_of(alloc, &row.input, out)?;
-    answer_on_bytes(alloc, row.call, &bytes, out);
-    Ok(true)
-}
-
-fn answer_on_bytes(alloc: Global, call: &str, bytes: &[u8], out: &mut Lines) {
-    if call == "rewrite_import_section" {
-        answer_rewritten_imports(alloc, bytes, out);
-    } else if call == "write_body" {
-        put_body_text(alloc, bytes, out);
-    } else if call == "write_bodies" {
-        answer_bodies(alloc, bytes, out);
-    } else {
-        answer_module(alloc, bytes, out);
-    }
-}
-
 /// The calls on imports and contents of sections.
-fn answer_other(alloc: Global, row: &Row<'_>, out: &mut Lines) -> Result<bool, Stop> {
-    if row.call == "write_import_section" {
-        answer_import_section(alloc, row, out)?;
-    } else if row.call == "append_import_section" {
-        answer_appended_imports(alloc, row, out)?;
-    } else if row.call == "raw_section" {
-        answer_raw_section(alloc, row, out)?;
-    } else if row.call == "append_raw_section" {
-        answer_appended_section(alloc, row, out)?;
-    } else {
-        return Ok(false);
+#[derive(Clone, Copy)]
+enum OnParts {
+    Imports,
+    AppendImports,
+    Section,
+    AppendSection,
+}
+
+const ON_PARTS: [(&str, OnParts); 4] = [
+    ("write_import_section", OnParts::Imports),
+    ("append_import_section", OnParts::AppendImports),
+    ("raw_section", OnParts::Section),
+    ("append_raw_section", OnParts::AppendSection),
+];
+
+/// Appends the answer of a call of `wc_write`, and says whether the row's is one.
+pub fn answer(alloc: Global, row: &Row<'_>, out: &mut Lines) -> Result<bool, AllocError> {
+    match named(&ON_BYTES, row.call) {
+        Some(call) => {
+            answer_bytes(alloc, call, row, out);
+            Ok(true)
+        }
+        None => Ok(answer_other(alloc, row, out)),
     }
-    Ok(true)
+}
+
+fn answer_bytes(alloc: Global, call: OnBytes, row: &Row<'_>, out: &mut Lines) {
+    if let Ok(bytes) = bytes_of(alloc, &row.input, out) {
+        answer_on_bytes(alloc, call, &bytes, out);
+    }
+}
+
+fn answer_on_bytes(alloc: Global, call: OnBytes, bytes: &[u8], out: &mut Lines) {
+    match call {
+        OnBytes::RewriteImports => answer_rewritten_imports(alloc, bytes, out),
+        OnBytes::WriteBody => put_body_text(alloc, bytes, out),
+        OnBytes::WriteBodies => answer_bodies(alloc, bytes, out),
+        OnBytes::WriteModule => answer_module(alloc, bytes, out),
+    }
+}
+
+fn answer_other(alloc: Global, row: &Row<'_>, out: &mut Lines) -> bool {
+    match named(&ON_PARTS, row.call) {
+        Some(OnParts::Imports) => answer_import_section(alloc, row, out),
+        Some(OnParts::AppendImports) => answer_appended_imports(alloc, row, out),
+        Some(OnParts::Section) => answer_raw_section(alloc, row, out),
+        Some(OnParts::AppendSection) => answer_appended_section(alloc, row, out),
+        None => return false,
+    }
+    true
 }
 
 /// The bytes that were written, or why there are none.
-fn put_written(out: &mut Lines, written: &Result<Vec<u8>, WriteFault>) {
+pub fn put_written(out: &mut Lines, written: &Result<Vec<u8>, WriteFault>) {
     match written {
         Ok(bytes) => put_bytes_lines(out, "bytes", bytes),
         Err(fault) => put_fault(out, *fault),
     }
 }
 
-/// What an appending call answered, and the bytes after it.
-fn put_appended(out: &mut Lines, answer: Result<(), WriteFault>, bytes: &[u8]) {
-    if let Err(fault) = answer {
-        put_fault(out, fault);
+/// What an appending call answered.
+fn put_outcome(out: &mut Lines, answer: Result<(), WriteFault>) {
+    match answer {
+        Ok(()) => {}
+        Err(fault) => put_fault(out, fault),
     }
-    put_bytes_lines(out, "bytes", bytes);
 }
 
-fn answer_import_section(alloc: Global, row: &Row<'_>, out: &mut Lines) -> Result<(), Stop> {
-    let imports = imports_of(alloc, &row.input, out)?;
-    put_written(out, &write_import_section(alloc, &imports));
-    Ok(())
+fn answer_import_section(alloc: Global, row: &Row<'_>, out: &mut Lines) {
+    if let Ok(imports) = imports_of(alloc, &row.input, out) {
+        put_written(out, &write_import_section(alloc, &imports));
+    }
 }
 
 /// Appends to the bytes that the arguments are.
-fn answer_appended_imports(alloc: Global, row: &Row<'_>, out: &mut Lines) -> Result<(), Stop> {
-    let imports = imports_of(alloc, &row.input, out)?;
-    let mut bytes = bytes_of(alloc, &row.arguments, out)?;
-    let answer = append_import_section(&mut bytes, &imports);
-    put_appended(out, answer, &bytes);
-    Ok(())
+fn answer_appended_imports(alloc: Global, row: &Row<'_>, out: &mut Lines) {
+    if let Ok(mut bytes) = bytes_of(alloc, &row.arguments, out) {
+        put_appended_imports(alloc, row, &mut bytes, out);
+    }
+}
+
+fn put_appended_imports(alloc: Global, row: &Row<'_>, bytes: &mut Vec<u8>, out: &mut Lines) {
+    if let Ok(imports) = imports_of(alloc, &row.input, out) {
+        put_outcome(out, append_import_section(bytes, &imports));
+        put_bytes_lines(out, "bytes", bytes);
+    }
 }
 
 /// The section of imports that are read out of a section's content.
@@ -106,40 +127,71 @@ fn answer_rewritten_imports(alloc: Global, content: &[u8], out: &mut Lines) {
     }
 }
 
-/// The id that the first argument is, and the other arguments.
-fn section_id<'a, 'b>(row: &'b Row<'a>, out: &mut Lines) -> Result<(u8, &'b [&'a str]), Stop> {
-    let Some((first, rest)) = row.arguments.as_slice().split_first() else {
-        return Err(bad_row(out, "no id", ""));
-    };
+/// The id that the first argument is.
+fn section_id(row: &Row<'_>, out: &mut Lines) -> Option<u8> {
+    let first = row.arguments.first().copied().unwrap_or("");
     match first.parse::<u8>() {
-        Ok(id) => Ok((id, rest)),
-        Err(_) => Err(bad_row(out, "no id", first)),
+        Ok(id) => Some(id),
+        Err(_) => {
+            let _ = bad_row(out, "no id", first);
+            None
+        }
     }
 }
 
-fn answer_raw_section(alloc: Global, row: &Row<'_>, out: &mut Lines) -> Result<(), Stop> {
-    let (id, _) = section_id(row, out)?;
-    let content = bytes_of(alloc, &row.input, out)?;
-    put_written(out, &raw_section(alloc, id, &content));
-    Ok(())
+fn answer_raw_section(alloc: Global, row: &Row<'_>, out: &mut Lines) {
+    if let Some(id) = section_id(row, out) {
+        put_raw_section(alloc, id, row, out);
+    }
+}
+
+fn put_raw_section(alloc: Global, id: u8, row: &Row<'_>, out: &mut Lines) {
+    if let Ok(content) = bytes_of(alloc, &row.input, out) {
+        put_written(out, &raw_section(alloc, id, &content));
+    }
 }
 
 /// Appends to the bytes that the arguments after the id are.
-fn answer_appended_section(alloc: Global, row: &Row<'_>, out: &mut Lines) -> Result<(), Stop> {
-    let (id, rest) = section_id(row, out)?;
-    let content = bytes_of(alloc, &row.input, out)?;
-    let mut bytes = bytes_of(alloc, rest, out)?;
-    let answer = append_raw_section(&mut bytes, id, &content);
-    put_appended(out, answer, &bytes);
-    Ok(())
+fn answer_appended_section(alloc: Global, row: &Row<'_>, out: &mut Lines) {
+    match row.arguments.as_slice().split_first() {
+        Some((_, rest)) => answer_appended(alloc, row, rest, out),
+        None => {
+            let _ = bad_row(out, "no id", "");
+        }
+    }
+}
+
+fn answer_appended(alloc: Global, row: &Row<'_>, before: &[&str], out: &mut Lines) {
+    if let Some(id) = section_id(row, out) {
+        if let Ok(mut bytes) = bytes_of(alloc, before, out) {
+            put_appended_section(alloc, id, row, &mut bytes, out);
+        }
+    }
+}
+
+fn put_appended_section(
+    alloc: Global,
+    id: u8,
+    row: &Row<'_>,
+    bytes: &mut Vec<u8>,
+    out: &mut Lines,
+) {
+    if let Ok(content) = bytes_of(alloc, &row.input, out) {
+        put_outcome(out, append_raw_section(bytes, id, &content));
+        put_bytes_lines(out, "bytes", bytes);
+    }
 }
 
 /// The text of the body that the bytes are.
 fn put_body_text(alloc: Global, bytes: &[u8], out: &mut Lines) {
     match read_body(alloc, bytes) {
-        Ok(body) => put_written(out, &write_body(alloc, &body)),
+        Ok(body) => put_written_body(alloc, &body, out),
         Err(fault) => put_fault(out, fault),
     }
+}
+
+fn put_written_body(alloc: Global, body: &Body<'_>, out: &mut Lines) {
+    put_written(out, &write_body(alloc, body));
 }
 
 fn put_body_texts(alloc: Global, funcs: &[Func<'_>], out: &mut Lines) {
@@ -161,7 +213,11 @@ fn answer_bodies(alloc: Global, bytes: &[u8], out: &mut Lines) {
 /// The text of the module that the bytes are.
 fn answer_module(alloc: Global, bytes: &[u8], out: &mut Lines) {
     match built_of(alloc, bytes) {
-        Ok(built) => put_written(out, &write_module(alloc, &built)),
+        Ok(built) => put_module_text(alloc, &built, out),
         Err(fault) => put_fault(out, fault),
     }
+}
+
+fn put_module_text(alloc: Global, built: &Built<'_>, out: &mut Lines) {
+    put_written(out, &write_module(alloc, built));
 }

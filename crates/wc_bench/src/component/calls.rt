@@ -1,6 +1,6 @@
 //! The calls of `wc_world`.
 
-use crate::component::shown::put_part;
+use crate::component::shown::put_named_part;
 use bitflags::Flags;
 use std::alloc::{AllocError, Global};
 use wc_encoder::ComponentEncoder;
@@ -36,27 +36,21 @@ fn put_world(
     world: &Result<ComponentWorld<'_>, WorldFault>,
     parts: &[&str],
     out: &mut Lines,
-) -> Result<(), AllocError> {
+) {
     match world {
         Ok(world) => {
             for part in parts {
-                put_part(alloc, world, part, out)?;
+                put_named_part(alloc, world, part, out);
             }
         }
         Err(fault) => put_fault(fault, out),
     }
-    Ok(())
 }
 
 /// `component_world PART..`, by plain options.
-fn component_world(
-    alloc: Global,
-    encoder: &ComponentEncoder,
-    parts: &[&str],
-    out: &mut Lines,
-) -> Result<(), AllocError> {
+fn component_world(alloc: Global, encoder: &ComponentEncoder, parts: &[&str], out: &mut Lines) {
     let world = ComponentWorld::new(alloc, encoder, &PlainOptions);
-    put_world(alloc, &world, parts, out)
+    put_world(alloc, &world, parts, out);
 }
 
 /// Where the input has a script, the main module is the one that its lines describe.
@@ -131,10 +125,12 @@ fn answered<'a>(alloc: Global, row: &'a Row<'a>, out: &mut Lines) -> Result<(), 
         return plain_options(&resolve, &mut argument_words(alloc, row)?, out);
     }
     match described_encoder(alloc, &row.input) {
-        Ok(encoder) => component_world(alloc, &encoder, &row.arguments, out)?,
-        Err(stop) => return Err(stop),
+        Ok(encoder) => {
+            component_world(alloc, &encoder, &row.arguments, out);
+            Ok(())
+        }
+        Err(stop) => Err(stop),
     }
-    Ok(())
 }
 
 /// The calls of `wc_world`.

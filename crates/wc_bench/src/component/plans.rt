@@ -62,52 +62,44 @@ fn put_fault(fault: &PlanFault, out: &mut Lines) {
 }
 
 /// The lines of a plan, over a sink that fails after so many puts; or why there is no plan.
-fn put_plan(
-    alloc: Global,
-    plan: &Result<Plan, PlanFault>,
-    puts: u32,
-    out: &mut Lines,
-) -> Result<(), AllocError> {
-    let plan = match plan {
-        Ok(plan) => plan,
-        Err(fault) => {
-            put_fault(fault, out);
-            return Ok(());
-        }
-    };
+fn put_plan(alloc: Global, plan: &Result<Plan, PlanFault>, puts: u32, out: &mut Lines) {
+    match plan {
+        Ok(plan) => put_lines(alloc, plan, puts, out),
+        Err(fault) => put_fault(fault, out),
+    }
+}
+
+fn put_lines(alloc: Global, plan: &Plan, puts: u32, out: &mut Lines) {
     let mut printed = Printed {
         lines: Lines::new(alloc),
         puts,
         failed: false,
     };
     match write_plan(plan, &mut printed) {
-        Ok(()) => out.push_str(printed.lines.text()?),
+        Ok(()) => out.push_lines(&printed.lines),
         Err(fault) => put_fault(&fault, out),
     }
-    Ok(())
 }
 
 /// A plan as JSON; or why there is none.
-fn put_record(
-    alloc: Global,
-    plan: &Result<Plan, PlanFault>,
-    out: &mut Lines,
-) -> Result<(), AllocError> {
+fn put_record(alloc: Global, plan: &Result<Plan, PlanFault>, out: &mut Lines) {
     match plan {
         Ok(plan) => put_json(alloc, plan, out),
-        Err(fault) => {
-            put_fault(fault, out);
-            Ok(())
-        }
+        Err(fault) => put_fault(fault, out),
     }
 }
 
-fn put_json(alloc: Global, plan: &Plan, out: &mut Lines) -> Result<(), AllocError> {
-    let bytes = plan_to_json(alloc, plan)?;
-    if let Ok(text) = str::from_utf8(&bytes) {
+fn put_json(alloc: Global, plan: &Plan, out: &mut Lines) {
+    match plan_to_json(alloc, plan) {
+        Ok(bytes) => put_text(&bytes, out),
+        Err(_) => out.lack_memory(),
+    }
+}
+
+fn put_text(bytes: &[u8], out: &mut Lines) {
+    if let Ok(text) = str::from_utf8(bytes) {
         writeln!(out, "{text}");
     }
-    Ok(())
 }
 
 /// The plan of the encoder's world, all of whose lowerings are taken away.
@@ -151,6 +143,18 @@ fn answered<'a>(alloc: Global, row: &'a Row<'a>, out: &mut Lines) -> Result<(), 
         put_faults(alloc, out)?;
         return Ok(());
     }
+    let puts = puts_of(alloc, row)?;
+    match described_encoder(alloc, &row.input) {
+        Ok(encoder) => {
+            put_planned(alloc, row.call, &encoder, puts, out);
+            Ok(())
+        }
+        Err(stop) => Err(stop),
+    }
+}
+
+/// After how many puts the sink fails: as the argument of `plan_failing` says.
+fn puts_of<'a>(alloc: Global, row: &'a Row<'a>) -> Result<u32, Stop<'a>> {
     let mut words = argument_words(alloc, row)?;
     let puts = if row.call == "plan_failing" {
         words.number()?
@@ -158,18 +162,21 @@ fn answered<'a>(alloc: Global, row: &'a Row<'a>, out: &mut Lines) -> Result<(), 
         u32::MAX
     };
     words.end()?;
-    let encoder = described_encoder(alloc, &row.input)?;
-    let plan = if row.call == "plan_without_lowerings" {
-        plan_without_lowerings(alloc, &encoder)
+    Ok(puts)
+}
+
+/// What a call says of the plan of an encoder's world.
+fn put_planned(alloc: Global, call: &str, encoder: &ComponentEncoder, puts: u32, out: &mut Lines) {
+    let plan = if call == "plan_without_lowerings" {
+        plan_without_lowerings(alloc, encoder)
     } else {
-        plan_encoder(alloc, &encoder, &PlainOptions)
+        plan_encoder(alloc, encoder, &PlainOptions)
     };
-    if row.call == "plan_json" {
-        put_record(alloc, &plan, out)?;
+    if call == "plan_json" {
+        put_record(alloc, &plan, out);
     } else {
-        put_plan(alloc, &plan, puts, out)?;
+        put_plan(alloc, &plan, puts, out);
     }
-    Ok(())
 }
 
 /// The calls of `wc_plan`.

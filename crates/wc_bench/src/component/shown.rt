@@ -1,7 +1,7 @@
 //! The parts of a component's world, as lines.
 
 use indexmap::IndexMap;
-use std::alloc::{AllocError, Global};
+use std::alloc::Global;
 use std::borrow::CowSlice;
 use std::collections::HashSet;
 use wc_fixtures::shown_names::{put_id, put_name, put_optional_name};
@@ -9,6 +9,7 @@ use wc_module_rows::validation::export_calls::{put_exports, put_found_reallocs};
 use wc_module_rows::validation::shown_modules::put_modules;
 use wc_resolve::{AbiVariant, InterfaceId, Resolve};
 use wc_rows::lines::Lines;
+use wc_rows::table::named;
 use wc_rows::values::put_bytes_lines;
 use wc_world::{ComponentWorld, ImportedInterface, Lowering, WorldAdapter};
 
@@ -24,17 +25,12 @@ fn put_adapter_name(name: &str, adapter: &WorldAdapter<'_>, out: &mut Lines) {
 }
 
 /// The adapters and libraries, each with what is recorded of its imports and exports.
-fn put_adapters(
-    alloc: Global,
-    world: &ComponentWorld<'_>,
-    out: &mut Lines,
-) -> Result<(), AllocError> {
+fn put_adapters(alloc: Global, world: &ComponentWorld<'_>, out: &mut Lines) {
     for (name, adapter) in world.adapters.iter() {
         put_adapter_name(name, adapter, out);
-        put_modules(alloc, &adapter.info.imports, out)?;
+        put_modules(alloc, &adapter.info.imports, out);
         put_exports(&adapter.info.exports, out);
     }
-    Ok(())
 }
 
 /// The adapters and libraries, each with its bytes, and whether they are borrowed.
@@ -129,32 +125,57 @@ fn put_live(world: &ComponentWorld<'_>, out: &mut Lines) {
     }
 }
 
+/// The parts that a world is asked for.
+#[derive(Clone, Copy)]
+enum Part {
+    Main,
+    Adapters,
+    Reallocs,
+    Bytes,
+    Imports,
+    Used,
+    Live,
+    Slot1,
+}
+
+const PARTS: [(&str, Part); 8] = [
+    ("main", Part::Main),
+    ("adapters", Part::Adapters),
+    ("reallocs", Part::Reallocs),
+    ("bytes", Part::Bytes),
+    ("imports", Part::Imports),
+    ("used", Part::Used),
+    ("live", Part::Live),
+    ("slot-1", Part::Slot1),
+];
+
 /// What a part of a world is asked for by its name.
-pub(crate) fn put_part(
+pub(crate) fn put_named_part(
     alloc: Global,
     world: &ComponentWorld<'_>,
     part: &str,
     out: &mut Lines,
-) -> Result<(), AllocError> {
-    if part == "main" {
-        put_modules(alloc, &world.info.imports, out)?;
-    } else if part == "adapters" {
-        put_adapters(alloc, world, out)?;
-    } else if part == "reallocs" {
-        put_adapter_reallocs(world, out);
-    } else if part == "bytes" {
-        put_adapter_bytes(world, out);
-    } else if part == "imports" {
-        put_import_map(world, out);
-    } else if part == "used" {
-        put_used(world, out);
-    } else if part == "live" {
-        put_live(world, out);
-    } else if part == "slot-1" {
-        let can_use = world.can_use_context_slot_1();
-        writeln!(out, "slot-1 {can_use}");
-    } else {
-        writeln!(out, "bad row: no part of a world: {part}");
+) {
+    match named(&PARTS, part) {
+        Some(part) => put_part(alloc, world, part, out),
+        None => writeln!(out, "bad row: no part of a world: {part}"),
     }
-    Ok(())
+}
+
+fn put_part(alloc: Global, world: &ComponentWorld<'_>, part: Part, out: &mut Lines) {
+    match part {
+        Part::Main => put_modules(alloc, &world.info.imports, out),
+        Part::Adapters => put_adapters(alloc, world, out),
+        Part::Reallocs => put_adapter_reallocs(world, out),
+        Part::Bytes => put_adapter_bytes(world, out),
+        Part::Imports => put_import_map(world, out),
+        Part::Used => put_used(world, out),
+        Part::Live => put_live(world, out),
+        Part::Slot1 => put_slot(world, out),
+    }
+}
+
+fn put_slot(world: &ComponentWorld<'_>, out: &mut Lines) {
+    let can_use = world.can_use_context_slot_1();
+    writeln!(out, "slot-1 {can_use}");
 }

@@ -1,4 +1,4 @@
-//! A component's parts, built in code. Its world is
+//! A component's parts: its world as JSON, and what is said besides in code. The world is
 //!
 //!     package my:demo;
 //!
@@ -33,32 +33,95 @@ use indexmap::{IndexMap, IndexSet};
 use std::alloc::{AllocError, Global};
 use thiserror::Error;
 use wc_encoder::{Adapter, ComponentEncoder, EncoderFault, EncoderParts, Metadata};
-use wc_resolve::{
-    Function, FunctionKind, Handle, Interface, InterfaceId, Package, PackageId, PackageName, Parts,
-    Resolve, ResolveFault, TypeDef, TypeDefKind, TypeId, TypeOwner, WitType, World, WorldId,
-    WorldItem, WorldKey,
-};
+use wc_json::{JsonFault, document_from_json};
+use wc_resolve::{InterfaceId, Resolve, ResolveFault, WorldId, WorldKey};
 
-// The ids of types and interfaces: their indices in the lists of `Parts`.
-const FILE: TypeId = TypeId(0);
-
-const OWN_FILE: TypeId = TypeId(1);
-
-const BORROWED_FILE: TypeId = TypeId(2);
-
-const ENTRY: TypeId = TypeId(3);
-
-const OUTCOME: TypeId = TypeId(4);
-
-const ENTRY_OF_NAMES: TypeId = TypeId(5);
-
-const STORE: InterfaceId = InterfaceId(0);
-
+/// The interface `names`: its index in the list of interfaces.
 const NAMES: InterfaceId = InterfaceId(1);
 
+/// The world, as `wasm-tools component wit --json` prints it.
+const WORLDS: &str = r#"{
+  "worlds": [
+    {
+      "name": "guest",
+      "imports": { "interface-0": { "interface": { "id": 0 } } },
+      "exports": { "interface-1": { "interface": { "id": 1 } } },
+      "package": 0
+    }
+  ],
+  "interfaces": [
+    {
+      "name": "store",
+      "types": { "file": 0, "entry": 3, "outcome": 4 },
+      "functions": {
+        "[method]file.size": {
+          "name": "[method]file.size", "kind": { "method": 0 },
+          "params": [{ "name": "self", "type": 2 }], "result": "u32"
+        },
+        "[method]file.entry": {
+          "name": "[method]file.entry", "kind": { "method": 0 },
+          "params": [{ "name": "self", "type": 2 }], "result": 3
+        },
+        "open": {
+          "name": "open", "kind": "freestanding",
+          "params": [{ "name": "path", "type": "string" }], "result": 1
+        },
+        "remove": {
+          "name": "remove", "kind": "freestanding",
+          "params": [{ "name": "path", "type": "string" }], "result": 4
+        }
+      },
+      "package": 0
+    },
+    {
+      "name": "names",
+      "types": { "entry": 5 },
+      "functions": {
+        "describe": {
+          "name": "describe", "kind": "freestanding",
+          "params": [{ "name": "path", "type": "string" }], "result": 5
+        },
+        "size": {
+          "name": "size", "kind": "freestanding",
+          "params": [{ "name": "path", "type": "string" }], "result": "u32"
+        }
+      },
+      "package": 0
+    }
+  ],
+  "types": [
+    { "name": "file", "kind": "resource", "owner": { "interface": 0 } },
+    { "name": null, "kind": { "handle": { "own": 0 } }, "owner": null },
+    { "name": null, "kind": { "handle": { "borrow": 0 } }, "owner": null },
+    {
+      "name": "entry",
+      "kind": { "record": { "fields": [
+        { "name": "name", "type": "string" }, { "name": "size", "type": "u32" }
+      ] } },
+      "owner": { "interface": 0 }
+    },
+    {
+      "name": "outcome",
+      "kind": { "enum": { "cases": [{ "name": "removed" }, { "name": "missing" }] } },
+      "owner": { "interface": 0 }
+    },
+    { "name": "entry", "kind": { "type": 3 }, "owner": { "interface": 1 } }
+  ],
+  "packages": [
+    {
+      "name": "my:demo",
+      "interfaces": { "store": 0, "names": 1 },
+      "worlds": { "guest": 0 }
+    }
+  ]
+}"#;
+
 /// Why there is no encoder.
-#[derive(Clone, Copy, Debug, Error)]
+#[derive(Debug, Drop, Error)]
 pub(crate) enum DemoFault {
+    /// The text is not that of worlds.
+    #[error("Json: {0}")]
+    Json(#[from] JsonFault),
     /// The parts are not well-formed.
     #[error("Resolve: {0}")]
     Resolve(#[from] ResolveFault),
@@ -87,10 +150,10 @@ pub(crate) fn demo_encoder(
     Ok(encoder_of(alloc, main, adapter, resolve)?)
 }
 
-/// Has the parts checked.
-fn demo_resolve(alloc: Global) -> Result<Resolve, ResolveFault> {
-    let parts = demo_parts(alloc)?;
-    Resolve::build(alloc, parts)
+/// Reads the world, and has it checked.
+fn demo_resolve(alloc: Global) -> Result<Resolve, DemoFault> {
+    let document = document_from_json(alloc, WORLDS)?;
+    Ok(Resolve::build(alloc, document.parts)?)
 }
 
 fn encoder_of(
@@ -154,218 +217,4 @@ fn demo_adapters(alloc: Global, wasm: &[u8]) -> Result<IndexMap<String, Adapter>
     let mut adapters = IndexMap::new(alloc);
     adapters.insert(String::from_str(alloc, "old-files")?, adapter)?;
     Ok(adapters)
-}
-
-fn demo_parts(alloc: Global) -> Result<Parts, AllocError> {
-    Ok(Parts {
-        worlds: vec![in alloc; demo_world(alloc)?]?,
-        interfaces: demo_interfaces(alloc)?,
-        types: demo_types(alloc)?,
-        packages: vec![in alloc; demo_package(alloc)?]?,
-    })
-}
-
-/// `world guest`.
-fn demo_world(alloc: Global) -> Result<World, AllocError> {
-    Ok(World {
-        name: String::from_str(alloc, "guest")?,
-        imports: one_interface(alloc, STORE)?,
-        exports: one_interface(alloc, NAMES)?,
-    })
-}
-
-/// An interface under its own id.
-fn one_interface(
-    alloc: Global,
-    id: InterfaceId,
-) -> Result<IndexMap<WorldKey, WorldItem>, AllocError> {
-    let item = WorldItem::Interface {
-        id,
-        external_id: None,
-    };
-    let mut items = IndexMap::new(alloc);
-    items.insert(WorldKey::Interface(id), item)?;
-    Ok(items)
-}
-
-/// `package my:demo`.
-fn demo_package(alloc: Global) -> Result<Package, AllocError> {
-    let name = PackageName {
-        namespace: String::from_str(alloc, "my")?,
-        name: String::from_str(alloc, "demo")?,
-        version: None,
-    };
-    let mut interfaces = IndexMap::new(alloc);
-    interfaces.insert(String::from_str(alloc, "store")?, STORE)?;
-    interfaces.insert(String::from_str(alloc, "names")?, NAMES)?;
-    Ok(Package { name, interfaces })
-}
-
-fn demo_interfaces(alloc: Global) -> Result<Vec<Interface>, AllocError> {
-    let of_store = [("file", FILE), ("entry", ENTRY), ("outcome", OUTCOME)];
-    let store = interface(alloc, "store", &of_store, store_functions(alloc)?)?;
-    let of_names = [("entry", ENTRY_OF_NAMES)];
-    let names = interface(alloc, "names", &of_names, names_functions(alloc)?)?;
-    Ok(vec![in alloc; store, names]?)
-}
-
-/// An interface of the package, with types by their names.
-fn interface(
-    alloc: Global,
-    name: &str,
-    types: &[(&str, TypeId)],
-    functions: IndexMap<String, Function>,
-) -> Result<Interface, AllocError> {
-    let mut named = IndexMap::new(alloc);
-    for (type_name, id) in types {
-        named.insert(String::from_str(alloc, type_name)?, *id)?;
-    }
-    Ok(Interface {
-        name: Some(String::from_str(alloc, name)?),
-        types: named,
-        functions,
-        package: Some(PackageId(0)),
-        clone_of: None,
-    })
-}
-
-fn store_functions(alloc: Global) -> Result<IndexMap<String, Function>, AllocError> {
-    let method = FunctionKind::Method(FILE);
-    let file = ("self", WitType::Id(BORROWED_FILE));
-    let path = ("path", WitType::String);
-    let mut all = IndexMap::new(alloc);
-    add_function(
-        alloc,
-        &mut all,
-        "[method]file.size",
-        method,
-        file,
-        WitType::U32,
-    )?;
-    add_function(
-        alloc,
-        &mut all,
-        "[method]file.entry",
-        method,
-        file,
-        WitType::Id(ENTRY),
-    )?;
-    add_function(
-        alloc,
-        &mut all,
-        "open",
-        FunctionKind::Freestanding,
-        path,
-        WitType::Id(OWN_FILE),
-    )?;
-    add_function(
-        alloc,
-        &mut all,
-        "remove",
-        FunctionKind::Freestanding,
-        path,
-        WitType::Id(OUTCOME),
-    )?;
-    Ok(all)
-}
-
-fn names_functions(alloc: Global) -> Result<IndexMap<String, Function>, AllocError> {
-    let kind = FunctionKind::Freestanding;
-    let path = ("path", WitType::String);
-    let mut all = IndexMap::new(alloc);
-    add_function(
-        alloc,
-        &mut all,
-        "describe",
-        kind,
-        path,
-        WitType::Id(ENTRY_OF_NAMES),
-    )?;
-    add_function(alloc, &mut all, "size", kind, path, WitType::U32)?;
-    Ok(all)
-}
-
-/// Adds a function of one parameter under its name.
-fn add_function(
-    alloc: Global,
-    all: &mut IndexMap<String, Function>,
-    name: &str,
-    kind: FunctionKind,
-    param: (&str, WitType),
-    outcome: WitType,
-) -> Result<(), AllocError> {
-    let mut params = Vec::new(alloc);
-    params.push((String::from_str(alloc, param.0)?, param.1))?;
-    let function = Function {
-        name: String::from_str(alloc, name)?,
-        kind,
-        params,
-        result: Some(outcome),
-    };
-    all.insert(String::from_str(alloc, name)?, function)?;
-    Ok(())
-}
-
-/// All types, in the order of their ids.
-fn demo_types(alloc: Global) -> Result<Vec<TypeDef>, AllocError> {
-    let mut all = Vec::new(alloc);
-    add_type(alloc, &mut all, "file", STORE, TypeDefKind::Resource)?;
-    all.push(handle_type(Handle::Own(FILE)))?;
-    all.push(handle_type(Handle::Borrow(FILE)))?;
-    add_value_types(alloc, &mut all)?;
-    Ok(all)
-}
-
-fn add_value_types(alloc: Global, all: &mut Vec<TypeDef>) -> Result<(), AllocError> {
-    add_type(alloc, all, "entry", STORE, entry_kind(alloc)?)?;
-    add_type(alloc, all, "outcome", STORE, outcome_kind(alloc)?)?;
-    add_type(
-        alloc,
-        all,
-        "entry",
-        NAMES,
-        TypeDefKind::Alias(WitType::Id(ENTRY)),
-    )
-}
-
-/// Adds a type that an interface has under a name.
-fn add_type(
-    alloc: Global,
-    all: &mut Vec<TypeDef>,
-    name: &str,
-    owner: InterfaceId,
-    kind: TypeDefKind,
-) -> Result<(), AllocError> {
-    let name = String::from_str(alloc, name)?;
-    all.push(TypeDef {
-        name: Some(name),
-        kind,
-        owner: TypeOwner::Interface(owner),
-    })?;
-    Ok(())
-}
-
-/// A handle, which has no name.
-fn handle_type(handle: Handle) -> TypeDef {
-    TypeDef {
-        name: None,
-        kind: TypeDefKind::Handle(handle),
-        owner: TypeOwner::None,
-    }
-}
-
-/// `record entry`.
-fn entry_kind(alloc: Global) -> Result<TypeDefKind, AllocError> {
-    let mut fields = Vec::new(alloc);
-    fields.push((String::from_str(alloc, "name")?, WitType::String))?;
-    fields.push((String::from_str(alloc, "size")?, WitType::U32))?;
-    Ok(TypeDefKind::Record(fields))
-}
-
-/// `enum outcome`.
-fn outcome_kind(alloc: Global) -> Result<TypeDefKind, AllocError> {
-    let mut cases = Vec::new(alloc);
-    cases.push(String::from_str(alloc, "removed")?)?;
-    cases.push(String::from_str(alloc, "missing")?)?;
-    Ok(TypeDefKind::Enum(cases))
 }

@@ -110,7 +110,8 @@ fn put_meaning<N: NameMangling>(
         return put_lookups(alloc, context, name, out);
     }
     let found = scheme.payload_intrinsic(alloc, context, name)?;
-    put_found_import(alloc, &found, out)
+    put_found_import(alloc, &found, out);
+    Ok(())
 }
 
 /// `imports NAME` or `exports NAME`, where before the name may be `of INTERFACE` and `under KEY`.

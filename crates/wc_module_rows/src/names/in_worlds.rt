@@ -15,6 +15,7 @@ use wc_fixtures::words::Words;
 use wc_names::NameIndexes;
 use wc_resolve::{InterfaceId, Resolve, WorldItem, WorldKey};
 use wc_rows::lines::Lines;
+use wc_rows::table::named;
 
 fn put_found(out: &mut Lines, found: &Option<(WorldKey, InterfaceId)>) {
     match found {
@@ -79,14 +80,37 @@ pub(crate) fn put_world_line<N: NameIndexes>(
     words: &mut Words,
     out: &mut Lines,
 ) -> Result<(), Bad> {
-    if call == "module_to_interface" || call == "interface_names" {
-        interface_line(scheme, call, resolve, words, out)?;
-    } else if call == "payload" {
-        payload_line(resolve, words, out)?;
-    } else if call == "match_wit_export" || call == "match_wit_resource_dtor" {
-        export_line(scheme, call, resolve, words, out)?;
-    } else {
-        context_line(scheme, call, resolve, words, out)?;
-    }
+    put_answer(scheme, call, resolve, words, out)?;
     words.end()
+}
+
+/// What is asked of a name in a world; of all others, what it means in a context.
+#[derive(Clone, Copy)]
+enum Asked {
+    Interface,
+    Payload,
+    Export,
+}
+
+const CALLS: [(&str, Asked); 5] = [
+    ("module_to_interface", Asked::Interface),
+    ("interface_names", Asked::Interface),
+    ("payload", Asked::Payload),
+    ("match_wit_export", Asked::Export),
+    ("match_wit_resource_dtor", Asked::Export),
+];
+
+fn put_answer<N: NameIndexes>(
+    scheme: &N,
+    call: &str,
+    resolve: &Resolve,
+    words: &mut Words,
+    out: &mut Lines,
+) -> Result<(), Bad> {
+    match named(&CALLS, call) {
+        Some(Asked::Interface) => interface_line(scheme, call, resolve, words, out),
+        Some(Asked::Payload) => payload_line(resolve, words, out),
+        Some(Asked::Export) => export_line(scheme, call, resolve, words, out),
+        None => context_line(scheme, call, resolve, words, out),
+    }
 }

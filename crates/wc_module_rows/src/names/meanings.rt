@@ -2,7 +2,7 @@
 
 use crate::names::core_types::func_type;
 use crate::names::shown_imports::{put_copy, put_found_import};
-use std::alloc::{AllocError, Global};
+use std::alloc::Global;
 use std::fmt::Debug;
 use wc_fixtures::bad::Bad;
 use wc_fixtures::shown_names::put_name;
@@ -53,18 +53,13 @@ fn put_others<N: NameMangling>(scheme: &N, name: &str, out: &mut Lines) {
 }
 
 /// The built-in for threads.
-fn put_thread<N: NameMangling>(
-    alloc: Global,
-    scheme: &N,
-    name: &str,
-    out: &mut Lines,
-) -> Result<(), AllocError> {
+fn put_thread<N: NameMangling>(alloc: Global, scheme: &N, name: &str, out: &mut Lines) {
     match scheme.thread_intrinsic(name) {
         Some(import) => {
             out.push_str(" thread_intrinsic ");
-            put_copy(alloc, &import, out)
+            put_copy(alloc, &import, out);
         }
-        None => Ok(()),
+        None => {}
     }
 }
 
@@ -104,33 +99,23 @@ fn put_exported<N: NameMangling>(scheme: &N, name: &str, out: &mut Lines) {
 }
 
 /// Each function of the scheme that has an answer for the name, and its answer.
-fn put_meanings<N: NameMangling>(
-    alloc: Global,
-    scheme: &N,
-    name: &str,
-    out: &mut Lines,
-) -> Result<(), AllocError> {
+fn put_meanings<N: NameMangling>(alloc: Global, scheme: &N, name: &str, out: &mut Lines) {
     put_plain(scheme, name, out);
     put_others(scheme, name, out);
-    put_thread(alloc, scheme, name, out)?;
+    put_thread(alloc, scheme, name, out);
     put_lowered(scheme, name, out);
     put_subjects(scheme, name, out);
     put_exported(scheme, name, out);
-    Ok(())
 }
 
 /// What a name means, or ` none`.
-fn meanings<N: NameMangling>(
-    alloc: Global,
-    scheme: &N,
-    name: &str,
-    out: &mut Lines,
-) -> Result<(), AllocError> {
+fn meanings<N: NameMangling>(alloc: Global, scheme: &N, name: &str, out: &mut Lines) {
     let mut found = Lines::new(alloc);
-    put_meanings(alloc, scheme, name, &mut found)?;
-    let text = found.text()?;
-    out.push_str(if text.is_empty() { " none" } else { text });
-    Ok(())
+    put_meanings(alloc, scheme, name, &mut found);
+    if found.is_empty() {
+        out.push_str(" none");
+    }
+    out.push_lines(&found);
 }
 
 fn put_function(out: &mut Lines, word: &str, name: &str, abi: AbiVariant) {
@@ -156,7 +141,7 @@ fn environment<N: NameMangling>(
 ) -> Result<(), Bad> {
     let ty = func_type(words)?;
     out.push(' ');
-    put_found_import(words.alloc, &scheme.env_import(name, &ty), out)?;
+    put_found_import(words.alloc, &scheme.env_import(name, &ty), out);
     Ok(())
 }
 
@@ -175,7 +160,7 @@ pub(crate) fn put_name_line<N: NameMangling>(
     } else if call == "env_import" {
         environment(scheme, words, &name, out)?;
     } else {
-        meanings(words.alloc, scheme, &name, out)?;
+        meanings(words.alloc, scheme, &name, out);
     }
     words.end()?;
     out.push('\n');

@@ -27,14 +27,14 @@ fn put_asked(validated: &ValidatedModule, words: &mut Words, out: &mut Lines) ->
     if words.take("reallocs") {
         put_found_reallocs(&validated.exports, out);
     } else if words.take("imports") {
-        put_imports(words.alloc, imports, out)?;
+        put_imports(words.alloc, imports, out);
     } else if words.take("memory") {
         put_memory(imports, out);
     } else if words.take("required") {
         let adapter = words.name()?;
         put_required(words.alloc, imports, &adapter, out)?;
     } else {
-        put_modules(words.alloc, imports, out)?;
+        put_modules(words.alloc, imports, out);
     }
     words.end()
 }
@@ -61,31 +61,25 @@ fn put_validated(
 }
 
 /// What single imports are, without their names.
-fn put_own(alloc: Global, instance: &ImportInstance, out: &mut Lines) -> Result<(), AllocError> {
+fn put_own(alloc: Global, instance: &ImportInstance, out: &mut Lines) {
     if let ImportInstance::Names(names) = instance {
         for (_, import) in names.iter() {
-            put_copy(alloc, import, out)?;
+            put_copy(alloc, import, out);
         }
     }
-    Ok(())
 }
 
 /// What is recorded of the one import of a module, or why the module was refused.
-fn put_alone(
-    alloc: Global,
-    validated: &Result<ValidatedModule, ValidateFault>,
-    out: &mut Lines,
-) -> Result<(), AllocError> {
+fn put_alone(alloc: Global, validated: &Result<ValidatedModule, ValidateFault>, out: &mut Lines) {
     match validated {
         Ok(validated) => {
             for (_, instance) in validated.imports.modules().iter() {
-                put_own(alloc, instance, out)?;
+                put_own(alloc, instance, out);
             }
             out.push('\n');
         }
         Err(fault) => writeln!(out, "fault {fault}"),
     }
-    Ok(())
 }
 
 /// The import of a line, in a module of its own.
@@ -100,7 +94,7 @@ fn classify_line(
     described.put_names(out);
     let bytes = described.into_bytes(alloc)?;
     encoder.well_formedness();
-    put_alone(alloc, &validate_module(alloc, encoder, &bytes, None), out)?;
+    put_alone(alloc, &validate_module(alloc, encoder, &bytes, None), out);
     Ok(())
 }
 

@@ -12,6 +12,7 @@ use wc_fixtures::types::type_id;
 use wc_fixtures::words::Words;
 use wc_rows::lines::Lines;
 use wc_rows::rows::Row;
+use wc_rows::table::named;
 use wc_validate::{ExportMap, ValidateFault, ValidatedModule, validate_module};
 
 /// `NAME: EXPORT`, for each export that is recorded.
@@ -61,21 +62,45 @@ pub fn put_found_reallocs(exports: &ExportMap, out: &mut Lines) {
 }
 
 /// What the exports of one kind are asked.
-fn put_of_kind(exports: &ExportMap, question: &str, out: &mut Lines) -> Result<(), Bad> {
+#[derive(Clone, Copy)]
+enum OfKind {
+    Reallocs,
+    Memory,
+    GeneralPurposeRealloc,
+    ImportReallocFallback,
+    ReallocToImportIntoAdapter,
+    IndirectFunctionTable,
+    WasmTaskHook,
+    Initialize,
+}
+
+const OF_KINDS: [(&str, OfKind); 8] = [
+    ("reallocs", OfKind::Reallocs),
+    ("memory", OfKind::Memory),
+    ("general_purpose_realloc", OfKind::GeneralPurposeRealloc),
+    ("import_realloc_fallback", OfKind::ImportReallocFallback),
+    (
+        "realloc_to_import_into_adapter",
+        OfKind::ReallocToImportIntoAdapter,
+    ),
+    ("indirect_function_table", OfKind::IndirectFunctionTable),
+    ("wasm_task_hook", OfKind::WasmTaskHook),
+    ("initialize", OfKind::Initialize),
+];
+
+fn put_of_kind(exports: &ExportMap, question: OfKind, out: &mut Lines) {
     match question {
-        "reallocs" => put_reallocs(exports, out),
-        "memory" => put_memory(exports, out),
-        "general_purpose_realloc" => put_found(exports.general_purpose_realloc(), out),
-        "import_realloc_fallback" => put_found(exports.import_realloc_fallback(), out),
-        "realloc_to_import_into_adapter" => {
+        OfKind::Reallocs => put_reallocs(exports, out),
+        OfKind::Memory => put_memory(exports, out),
+        OfKind::GeneralPurposeRealloc => put_found(exports.general_purpose_realloc(), out),
+        OfKind::ImportReallocFallback => put_found(exports.import_realloc_fallback(), out),
+        OfKind::ReallocToImportIntoAdapter => {
             put_found(exports.realloc_to_import_into_adapter(), out)
         }
-        "indirect_function_table" => put_found(exports.indirect_function_table(), out),
-        "wasm_task_hook" => put_found(exports.wasm_task_hook(), out),
-        "initialize" => put_found(exports.initialize(), out),
-        _ => return Err(Bad::Line("no question on exports")),
+        OfKind::IndirectFunctionTable => put_found(exports.indirect_function_table(), out),
+        OfKind::WasmTaskHook => put_found(exports.wasm_task_hook(), out),
+        OfKind::Initialize => put_found(exports.initialize(), out),
     }
-    Ok(())
 }
 
 /// What is asked of a function, `KEY func NAME: FUNCTION`.
@@ -116,18 +141,30 @@ fn put_of_name(
 /// The answer to a question: `resource_dtor ID`, `abi KEY func NAME: FUNCTION`, ...
 fn put_answer(exports: &ExportMap, words: &mut Words, out: &mut Lines) -> Result<(), Bad> {
     let question = words.name()?;
-    match question.as_str() {
+    match named(&OF_KINDS, &question) {
+        Some(question) => put_of_kind(exports, question, out),
+        None => put_of_item(exports, &question, words, out)?,
+    }
+    words.end()
+}
+
+/// The answer to a question on one item.
+fn put_of_item(
+    exports: &ExportMap,
+    question: &str,
+    words: &mut Words,
+    out: &mut Lines,
+) -> Result<(), Bad> {
+    match question {
         "resource_dtor" => {
             let id = type_id(words)?;
             put_found(exports.resource_dtor(id), out);
+            Ok(())
         }
-        "post_return" | "callback" | "abi" => put_of_function(exports, &question, words, out)?,
-        "export_realloc_for" | "import_realloc_for" => {
-            put_of_name(exports, &question, words, out)?
-        }
-        _ => put_of_kind(exports, &question, out)?,
+        "post_return" | "callback" | "abi" => put_of_function(exports, question, words, out),
+        "export_realloc_for" | "import_realloc_for" => put_of_name(exports, question, words, out),
+        _ => Err(Bad::Line("no question on exports")),
     }
-    words.end()
 }
 
 /// The answers to the lines `do ask QUESTION`, each after its question.

@@ -17,35 +17,23 @@ pub(crate) fn put_record(
     name: &str,
     import: &Import,
     out: &mut Lines,
-) -> Result<(), AllocError> {
+) {
     put_name(out, module_name);
     out.push(' ');
     put_name(out, name);
     out.push_str(": ");
-    put_copy(alloc, import, out)?;
+    put_copy(alloc, import, out);
     out.push('\n');
-    Ok(())
 }
 
-fn put_names(
-    alloc: Global,
-    module_name: &str,
-    names: &IndexMap<String, Import>,
-    out: &mut Lines,
-) -> Result<(), AllocError> {
+fn put_names(alloc: Global, module_name: &str, names: &IndexMap<String, Import>, out: &mut Lines) {
     for (name, import) in names.iter() {
-        put_record(alloc, module_name, name, import, out)?;
+        put_record(alloc, module_name, name, import, out);
     }
-    Ok(())
 }
 
 /// All that is recorded of a module: a line `MODULE: WHICH`, or a line for each import.
-fn put_instance(
-    alloc: Global,
-    module_name: &str,
-    instance: &ImportInstance,
-    out: &mut Lines,
-) -> Result<(), AllocError> {
+fn put_instance(alloc: Global, module_name: &str, instance: &ImportInstance, out: &mut Lines) {
     match instance {
         ImportInstance::Whole(which) => {
             put_name(out, module_name);
@@ -53,29 +41,22 @@ fn put_instance(
             put_which(out, which);
             out.push('\n');
         }
-        ImportInstance::Names(names) => put_names(alloc, module_name, names, out)?,
+        ImportInstance::Names(names) => put_names(alloc, module_name, names, out),
     }
-    Ok(())
 }
 
 /// All that is recorded, module by module.
-pub fn put_modules(alloc: Global, imports: &ImportMap, out: &mut Lines) -> Result<(), AllocError> {
+pub fn put_modules(alloc: Global, imports: &ImportMap, out: &mut Lines) {
     for (module_name, instance) in imports.modules().iter() {
-        put_instance(alloc, module_name, instance, out)?;
+        put_instance(alloc, module_name, instance, out);
     }
-    Ok(())
 }
 
 /// All single imports.
-pub(crate) fn put_imports(
-    alloc: Global,
-    imports: &ImportMap,
-    out: &mut Lines,
-) -> Result<(), AllocError> {
+pub(crate) fn put_imports(alloc: Global, imports: &ImportMap, out: &mut Lines) {
     for (module_name, name, import) in imports.imports() {
-        put_record(alloc, module_name, name, import, out)?;
+        put_record(alloc, module_name, name, import, out);
     }
-    Ok(())
 }
 
 /// The functions that are imported from an adapter, with their types.
