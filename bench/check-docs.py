@@ -26,12 +26,12 @@ MOST_WORDS = 40
 TESTS = {"wc_rows", "wc_fixtures", "wc_module_rows", "wc_bench"}
 NO_LIBRARIES = TESTS | {"wctrim"}
 # parts of paths of files that are made, and may be missing
-MADE = ("out/", "bench/data", "lang/antt/", "target/")
+MADE = ("out/", "bench/data", "lang/antt/", "target/", "rust/unproved")
 # files that programs and scripts write
 WRITTEN = {"out.wasm", "main.wasm", "adapter.wasm", "no-repeats.wasm", "one-repeat.wasm", "repeats-10000.wasm",
            "repeats-100000.wasm"}
 # names of the Rust crates and of the kit, which no source of the repository has
-FOREIGN = {"TypeRef", "Default", "Dec", "wasm-component-ld"}
+FOREIGN = {"TypeRef", "Default", "Dec", "ValidatedAdapter", "wasm-component-ld"}
 
 faults = []
 
@@ -151,6 +151,8 @@ def words_of_sources():
     sources = [path for part in ("src", "specs", "proofs", "data", "must-fail")
                for path in files("crates", "*", part, "**", "*")]
     others = [path for part in ("edits", "examples", "bench") for path in files(part, "**", "*")]
+    others += files("rust", "*") + [path for part in ("src", "tests", "examples")
+                                    for path in files("rust", "nuigatre", part, "**", "*.rs")]
     for path in [*sources, *others, *files("crates.txt"), *files("HANDLES"), *files("wctrim")]:
         is_text = not path.endswith((".wasm", ".md", "check-docs.py")) and "/bench/data/" not in path
         if os.path.isfile(path) and is_text:

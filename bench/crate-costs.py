@@ -1,0 +1,159 @@
+#!/usr/bin/env python3
+"""Checks one crate as the gate proves it, and prints what that spends its time on.
+
+    bench/crate-costs.py [--from CHECKOUT] [--lines N] CRATE [--only FUNCTION]... [FLAG..]
+
+The statements of the crates below are those that a whole `rt ci` has left in crates/*/out/rlib, of this checkout or of
+CHECKOUT, whose sources of these crates have to be the same. The check keeps each module that it has proved in a folder of
+its own, and the time of a file there says when: so the processor time between two files is the second one's. Printed are
+the processor time in all, and what went by before the first module (reading, and making modules); the time by kinds of
+modules, of which `Lts` is what a function can do step by step; by drops (`Destruct`), derived impls, and all others; and
+the dearest functions (40, or N) with their kinds.
+
+What is loaded for the first time is in the module that needs it. With `--only` some functions are checked alone, with
+those that they call. Further flags are rattle's.
+"""
+
+import argparse
+import bisect
+import collections
+import os
+import re
+import subprocess
+import sys
+import tempfile
+import time
+
+TOP = os.path.dirname(os.path.dirname(os.path.abspath(__file__)))
+KIT = "/opt/rattle"
+TICK = os.sysconf("SC_CLK_TCK")
+# what comes after a type's name in the path of a derived function
+DERIVED = re.compile(r"(Clone|Debug|Hash|PartialEq|Eq|Ord|PartialOrd|Default|Display|Error)\.\w+$")
+
+
+def crates(top):
+    """The libraries that each crate uses, and the crates that are static libraries."""
+    uses, static = {}, set()
+    with open(f"{top}/crates.txt", encoding="utf-8") as file:
+        for line in file:
+            head, colon, tail = line.partition("#")[0].partition(":")
+            if colon:
+                name, *kinds = head.split()
+                uses[name] = tail.split()
+                static |= {name} if "staticlib" in kinds else set()
+    return uses, static
+
+
+def command(crate, built, flags):
+    """The check of a crate over the statements in `built`."""
+    uses, static = crates(TOP)
+    if crate not in uses:
+        sys.exit(f"crate-costs.py: crates.txt lists no crate {crate}")
+    rlib = lambda name: f"{built}/crates/{name}/out/rlib"
+    below, todo = [], [it for it in uses[crate] if it in uses]
+    while todo:
+        name = todo.pop()
+        if name not in below:
+            below.append(name)
+            todo += [it for it in uses[name] if it in uses]
+    for name in below:
+        if not os.path.isdir(f"{rlib(name)}/{name}.rlib"):
+            sys.exit(f"crate-costs.py: no statements of {name} in {rlib(name)}: run `rt ci` in {built} first")
+    root = next(it for it in ("src/main.rt", "src/lib.rt") if os.path.exists(f"{TOP}/crates/{crate}/{it}"))
+    words = [f"{KIT}/bin/rattle", "check", "--crate-name", crate, root, "--extern", f"std={KIT}/rlibs/std.rlib"]
+    for name in uses[crate]:
+        words += ["--extern", f"{name}={rlib(name)}/{name}.rlib" if name in uses else f"{name}={KIT}/rlibs/{name}.rlib"]
+    words += ["-L", f"dependency={KIT}/rlibs"]
+    for name in below:
+        words += ["-L", f"dependency={rlib(name)}"]
+    words += ["--crate-type", "staticlib"] if crate in static else []
+    words += ["--antt-project", f"{KIT}/rattle/logic/antt-project.json", "--logic-built", f"{KIT}/logic_built"]
+    return [*words, "--links", f"{crate}=", *flags]
+
+
+def kind(name):
+    if "Destruct" in name:
+        return "drops"
+    return "derived" if DERIVED.search(name) else "functions"
+
+
+def spent(pid):
+    """The processor seconds of a process and of those that come from it."""
+    try:
+        with open(f"/proc/{pid}/stat", encoding="utf-8", errors="replace") as file:
+            words = file.read().rsplit(")", 1)[1].split()
+        with open(f"/proc/{pid}/task/{pid}/children", encoding="utf-8") as file:
+            children = file.read().split()
+    except (OSError, IndexError):
+        return 0.0
+    return sum(map(int, words[11:15])) / TICK + sum(map(spent, children))
+
+
+def run(words, folder):
+    """Runs the check; gives its last line, and the processor seconds at moments."""
+    moments = []
+    with tempfile.TemporaryFile("w+", errors="replace") as said:
+        check = subprocess.Popen(words, cwd=folder, stdout=said, stderr=subprocess.STDOUT)
+        while check.poll() is None:
+            seconds = spent(check.pid)
+            moments.append((time.time(), max(seconds, moments[-1][1]) if moments else seconds))
+            time.sleep(0.05)
+        said.seek(0)
+        lines = said.read().rstrip().split("\n")
+    for line in lines:
+        if re.search(r": error|error\[|: not proved", line):
+            print(line, file=sys.stderr)
+    return lines[-1], moments
+
+
+def modules(kept, moments):
+    """The processor seconds of each module that was kept, in the order of their times."""
+    found = []
+    for at, _, names in os.walk(kept):
+        found += [(os.stat(f"{at}/{it}").st_mtime, it[:-6]) for it in names if it.endswith(".oantt") and "/records" not in at]
+    times, before, each = [it for it, _ in moments], None, []
+    for when, name in sorted(found):
+        now = moments[min(bisect.bisect_left(times, when), len(moments) - 1)][1]
+        each.append((now - before if before is not None else 0.0, name))
+        first = now if before is None else first
+        before = now
+    return each, first if found else 0.0
+
+
+def part(name, crate):
+    """The function or type that a module is of, and the module's kind."""
+    name = re.sub(rf"^Rattle-{crate}-(proofs|specs)\.?(contracts\.)?", "", name)
+    found = re.search(r"\.(Lts(\.\w+)?|Tie|Proof|Code(\.\w+)?|TheLink|Named|Layout|Kinds|Met|Reads|Statement|Symbol|Key)$", name)
+    return (name[: found.start()], found[1].split(".")[0]) if found else (name, "other")
+
+
+def main():
+    parser = argparse.ArgumentParser(usage=__doc__.split("\n\n")[1].strip())
+    parser.add_argument("--from", dest="built", default=TOP)
+    parser.add_argument("--lines", type=int, default=40)
+    parser.add_argument("crate")
+    given, flags = parser.parse_known_args()
+    with tempfile.TemporaryDirectory() as kept:
+        words = command(given.crate, os.path.abspath(given.built), [*flags, "--incremental", kept])
+        end, moments = run(words, f"{TOP}/crates/{given.crate}")
+        each, first = modules(kept, moments)
+    print(f"{given.crate}: {end}")
+    clock = moments[-1][0] - moments[0][0]
+    print(f"{moments[-1][1]:.0f} s of processor time, {clock:.0f} s by the clock; {first:.0f} s before the first module")
+    functions, kinds, groups = {}, collections.Counter(), collections.Counter()
+    for seconds, name in each:
+        base, of = part(name, given.crate)
+        functions.setdefault(base, collections.Counter())[of] += seconds
+        kinds[of] += seconds
+        groups[kind(base)] += seconds
+    print("by kinds: " + ", ".join(f"{of} {seconds:.0f}" for of, seconds in kinds.most_common()))
+    print("by groups: " + ", ".join(f"{of} {seconds:.0f}" for of, seconds in groups.most_common()))
+    dearest = sorted(functions.items(), key=lambda it: -sum(it[1].values()))
+    for base, of in dearest[: given.lines]:
+        shown = ", ".join(f"{one} {seconds:.1f}" for one, seconds in of.most_common() if seconds >= 0.1)
+        print(f"{sum(of.values()):7.1f} {base}  {shown}")
+    return 0 if "not-proved" not in end else 1
+
+
+if __name__ == "__main__":
+    sys.exit(main())

@@ -1,0 +1,203 @@
+#!/usr/bin/env python3
+"""Runs the merge gate, and makes the table of what each crate costs.
+
+    bench/gate-costs.py [--write] [--cores LIST] [-- ARGUMENT..]   # `rt ci --anew`, or `rt ci ARGUMENT..`
+    bench/gate-costs.py [--write] --join FILE..                     # of the records of several runs
+
+It runs `rt ci` in this checkout and reads, twice a second, which processes it has and the processor time of each. So
+that the figures mean something the machine has to have nothing else to do; the load before the run is in the record.
+`--cores 0,1` keeps the run to these processors. A run leaves its record in bench/data/gate-COMMIT-N.json. Printed are the
+processor minutes of each crate's proof and of its edits, when its proof began and ended by the clock, and what the whole
+took; then by how long a run on two and on four processors would take if each proof had one (the longest chain of crates
+that wait for each other decides that). With --write the table is put into docs/MAP.md. Of a crate that several records
+have the last counts.
+"""
+
+import argparse
+import heapq
+import json
+import os
+import re
+import subprocess
+import sys
+import tempfile
+import time
+
+TOP = os.path.dirname(os.path.dirname(os.path.abspath(__file__)))
+DATA = f"{TOP}/bench/data"
+TICK = os.sysconf("SC_CLK_TCK")
+BEGIN, END = "<!-- costs: bench/gate-costs.py -->", "<!-- end of costs -->"
+
+
+def processes():
+    """The parent, the processor seconds and the start of each process."""
+    found = {}
+    for name in os.listdir("/proc"):
+        if name.isdigit():
+            try:
+                with open(f"/proc/{name}/stat", encoding="utf-8", errors="replace") as file:
+                    words = file.read().rsplit(")", 1)[1].split()
+            except (OSError, IndexError):
+                continue
+            found[int(name)] = int(words[1]), (int(words[11]) + int(words[12])) / TICK, int(words[19])
+    return found
+
+
+def below(root, found):
+    """The processes that come from one."""
+    children = {}
+    for one, (parent, _, _) in found.items():
+        children.setdefault(parent, []).append(one)
+    todo, seen = [root], []
+    while todo:
+        one = todo.pop()
+        seen.append(one)
+        todo += children.get(one, [])
+    return seen
+
+
+def label(one):
+    """The crate that a process is for, and whether it tries an edit."""
+    try:
+        with open(f"/proc/{one}/cmdline", encoding="utf-8", errors="replace") as file:
+            words = file.read().split("\0")
+        folder = os.readlink(f"/proc/{one}/cwd")
+    except OSError:
+        return None
+    crate = words[words.index("--crate-name") + 1] if "--crate-name" in words[:-1] else ""
+    if not crate:
+        return ("", os.path.basename(words[0])) if words and words[0] else None
+    # the proof that edits are compared with, and the edits, are made in folders of their own
+    is_edit = "/rt-edit" in folder or any("/rt-edits-" in it for it in words)
+    return crate, "edits" if is_edit else "proof"
+
+
+def record(words, cores):
+    """Runs the gate, and gives what it took."""
+    load = os.getloadavg()[0]
+    began = time.time()
+    start = (lambda: os.sched_setaffinity(0, cores)) if cores else None
+    # a file, since what a full pipe holds up would stop the gate
+    said = tempfile.TemporaryFile("w+", errors="replace")
+    gate = subprocess.Popen(["rt", "ci", *words], cwd=TOP, stdout=said, stderr=subprocess.STDOUT, preexec_fn=start)
+    seen = {}
+    while gate.poll() is None:
+        found = processes()
+        for one in below(gate.pid, found):
+            key = one, found[one][2]
+            at = seen.setdefault(key, [label(one), 0.0, time.time() - began, 0.0])
+            at[0] = label(one) or at[0]
+            at[1], at[3] = max(at[1], found[one][1]), time.time() - began
+        time.sleep(0.5)
+    with said:
+        said.seek(0)
+        lines = said.read().rstrip().split("\n")
+    print("\n".join(it for it in lines if it.startswith("rt: ") or it is lines[-1]))
+    crates, other = {}, 0.0
+    for what, seconds, first, last in seen.values():
+        if what is None or not what[0]:
+            other += seconds
+            continue
+        of = crates.setdefault(what[0], {"proof": 0.0, "edits": 0.0, "first": first, "last": last})
+        of[what[1]] += seconds
+        if what[1] == "proof":
+            of["first"], of["last"] = min(of["first"], first), max(of["last"], last)
+    commit = subprocess.run(["git", "rev-parse", "--short", "HEAD"], cwd=TOP, stdout=subprocess.PIPE, text=True).stdout.strip()
+    return {"commit": commit, "answer": lines[-1], "load": load, "cores": sorted(cores or os.sched_getaffinity(0)), "clock": time.time() - began, "other": other, "crates": crates}
+
+
+def uses():
+    """The crates that each crate waits for, in the order of crates.txt."""
+    found = {}
+    with open(f"{TOP}/crates.txt", encoding="utf-8") as file:
+        for line in file:
+            head, colon, tail = line.partition("#")[0].partition(":")
+            if colon:
+                found[head.split()[0]] = tail.split()
+    return {name: [it for it in of if it in found] for name, of in found.items()}
+
+
+def by_the_clock(crates, processors):
+    """The minutes that proofs and edits take on so many processors, those first that most waits for."""
+    waits = uses()
+    minutes = {name: crates.get(name, {}).get("proof", 0.0) / 60 for name in waits}
+    after = {name: minutes[name] for name in waits}
+    for name in reversed(list(waits)):
+        for it in waits[name]:
+            after[it] = max(after[it], minutes[it] + after[name])
+    edits = [crates[it]["edits"] / 60 for it in crates if crates[it]["edits"]]
+    now, running, done, left = 0.0, [], set(), sorted(waits, key=lambda it: -after[it])
+    while left or running or edits:
+        ready = [it for it in left if all(below in done for below in waits[it])]
+        while len(running) < processors and (ready or edits and not running):
+            if ready:
+                name = ready.pop(0)
+                left.remove(name)
+                heapq.heappush(running, (now + minutes[name], name))
+            else:
+                heapq.heappush(running, (now + edits.pop(), ""))
+        while len(running) < processors and edits and not ready:
+            heapq.heappush(running, (now + edits.pop(), ""))
+        now, name = heapq.heappop(running)
+        done.add(name)
+    return now
+
+
+def table(runs):
+    crates = {}
+    for run in runs:
+        for name, of in run["crates"].items():
+            if of["proof"] or name not in crates:
+                crates[name] = of
+    lines = ["| Crate | Proof | Edits |", "|---|---|---|"]
+    for name in uses():
+        of = crates.get(name, {"proof": 0.0, "edits": 0.0})
+        edits = f"{of['edits'] / 60:.1f}" if of["edits"] else ""
+        lines.append(f"| `{name}` | {of['proof'] / 60:.1f} | {edits} |")
+    proofs, edits = (sum(of[it] for of in crates.values()) / 60 for it in ("proof", "edits"))
+    other = sum(run["other"] for run in runs) / 60
+    lines += [f"| all | {proofs:.1f} | {edits:.1f} |", ""]
+    lines.append(f"With {other:.1f} minutes for linking, running and the rest that is {proofs + edits + other:.0f} processor minutes.")
+    two, four = by_the_clock(crates, 2), by_the_clock(crates, 4)
+    lines.append(f"With one processor for each proof that takes {two:.0f} minutes on two processors, and {four:.0f} on four.")
+    for run in (it for it in runs if it["clock"]):
+        whole = f"`{run['commit']}`: {run['clock'] / 60:.0f} minutes by the clock on {len(run['cores'])} processors"
+        lines.append(f"Run {whole}, with a load of {run['load']:.1f} before it; {run['answer']}.")
+    return "\n".join(lines)
+
+
+def main():
+    parser = argparse.ArgumentParser(usage=__doc__.split("\n\n")[1].strip())
+    parser.add_argument("--write", action="store_true")
+    parser.add_argument("--cores", default="")
+    parser.add_argument("--join", nargs="+")
+    parser.add_argument("rest", nargs="*")
+    given = parser.parse_args()
+    if given.join:
+        runs = []
+        for path in given.join:
+            with open(path, encoding="utf-8") as file:
+                runs.append(json.load(file))
+    else:
+        runs = [record(given.rest or ["--anew"], {int(it) for it in given.cores.split(",") if it})]
+        os.makedirs(DATA, exist_ok=True)
+        number = 1
+        while os.path.exists(path := f"{DATA}/gate-{runs[0]['commit']}-{number}.json"):
+            number += 1
+        with open(path, "w", encoding="utf-8") as file:
+            json.dump(runs[0], file, indent=1)
+        print(f"the record is {os.path.relpath(path, TOP)}")
+    text = table(runs)
+    print(text)
+    if given.write:
+        page = f"{TOP}/docs/MAP.md"
+        with open(page, encoding="utf-8") as file:
+            old = file.read()
+        new = re.sub(f"(?s){re.escape(BEGIN)}.*{re.escape(END)}", lambda _: f"{BEGIN}\n\n{text}\n\n{END}", old)
+        with open(page, "w", encoding="utf-8") as file:
+            file.write(new)
+    return 0 if all(re.fullmatch(r"\d+ passed, 0 failed", run["answer"]) for run in runs) else 1
+
+
+if __name__ == "__main__":
+    sys.exit(main())
