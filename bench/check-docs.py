@@ -23,7 +23,7 @@ import sys
 TOP = os.path.dirname(os.path.dirname(os.path.abspath(__file__)))
 MOST_WORDS = 40
 # crates of the tests, and the program: their functions promise nothing to others
-TESTS = {"wc_rows", "wc_fixtures", "wc_module_rows", "wc_bench"}
+TESTS = {"wc_rows", "wc_fixtures", "wc_module_rows", "wc_tests"}
 NO_LIBRARIES = TESTS | {"wctrim"}
 # parts of paths of files that are made, and may be missing
 MADE = ("out/", "bench/data", "lang/antt/", "target/", "rust/unproved")

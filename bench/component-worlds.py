@@ -3,7 +3,7 @@
 
     component-worlds.py [--program PROGRAM] [--rounds N] [CASE ..]
 
-PROGRAM is crates/wc_bench/out/wc_bench unless another is named: `rt run` in crates/wc_bench builds it, once it is
+PROGRAM is crates/wc_tests/out/wc_tests unless another is named: `rt run` in crates/wc_tests builds it, once it is
 proved. All cases are run unless some are named. For each a line says the fastest of N runs (5, unless another number is
 given) of a row that only builds the encoder, and how much longer those take that also validate the main module, and
 that make the component's world: the last is the time of `ComponentWorld::new` and `PlainOptions::new`. It says of adapters
@@ -21,7 +21,7 @@ from many_interfaces import fixture
 from trimming import TYPES, body, chain, call, exports, functions
 
 TOP = pathlib.Path(__file__).resolve().parent.parent
-PROGRAM = TOP / "crates" / "wc_bench" / "out" / "wc_bench"
+PROGRAM = TOP / "crates" / "wc_tests" / "out" / "wc_tests"
 FOLDER = TOP / "bench" / "data" / "component-worlds"
 INTERFACES = 2000
 FUNCTIONS = 50

@@ -3,8 +3,8 @@
 
     failing-allocations.py [--program PROGRAM] [--most N] [--jobs N] [--table] [FILE.rows ..]
 
-The files are those of crates/wc_bench/data; all of them where none is named. PROGRAM is crates/wc_bench/out/wc_bench
-unless another is named: `rt run` in crates/wc_bench builds it, once it is proved. The allocations are failed by a
+The files are those of crates/wc_tests/data; all of them where none is named. PROGRAM is crates/wc_tests/out/wc_tests
+unless another is named: `rt run` in crates/wc_tests builds it, once it is proved. The allocations are failed by a
 library of a few lines that is loaded before the C library, so a C compiler, cc, has to be there. `--jobs` files are run
 at once.
 
@@ -31,7 +31,7 @@ import sys
 import tempfile
 
 TOP = pathlib.Path(__file__).resolve().parent.parent
-CRATE = TOP / "crates" / "wc_bench"
+CRATE = TOP / "crates" / "wc_tests"
 SECONDS = 60
 KINDS = ("memory", "rows", "program", "wrong")
 
@@ -135,7 +135,7 @@ class Runs:
         lines = printed.decode(errors="replace").splitlines()
         if ended != "status 1" or not lines:
             return "wrong"
-        if lines[-1] == "wc_bench: out of memory" or lines[-1].endswith(": cannot be read"):
+        if lines[-1] == "wc_tests: out of memory" or lines[-1].endswith(": cannot be read"):
             return "program"
         return "memory" if self.is_memory(lines, wanted.decode().splitlines()) else "wrong"
 
@@ -200,7 +200,7 @@ def shown(name, count, seen, is_table):
 
 def main():
     asked = argparse.ArgumentParser()
-    asked.add_argument("--program", type=os.path.abspath, default=str(CRATE / "out" / "wc_bench"))
+    asked.add_argument("--program", type=os.path.abspath, default=str(CRATE / "out" / "wc_tests"))
     asked.add_argument("--most", type=int, default=5000)
     asked.add_argument("--jobs", type=int, default=1)
     asked.add_argument("--table", action="store_true")

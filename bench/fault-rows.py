@@ -152,7 +152,7 @@ def readings(known, enum, text):
 
 def rows():
     """Each row: its file, its name, its call and its lines of answer."""
-    for path in sorted((TOP / "crates" / "wc_bench" / "data").glob("*.rows")):
+    for path in sorted((TOP / "crates" / "wc_tests" / "data").glob("*.rows")):
         row = None
         for line in path.read_text().splitlines():
             word, _, rest = line.partition(" ")

@@ -1,7 +1,7 @@
 #!/usr/bin/env python3
 """Writes a row that validates a module of many exports over a world of many interfaces, to standard output.
 
-    many-exports.py [EXPORTS] [INTERFACES] [asked] | crates/wc_bench/out/wc_bench - > answers
+    many-exports.py [EXPORTS] [INTERFACES] [asked] | crates/wc_tests/out/wc_tests - > answers
 
 50,000 exports and 2,000 interfaces, unless other numbers are given. Each interface is in a package of its own, has ten
 functions, and has to be exported: so the first exports are its functions, and the others mean nothing. The row answers

@@ -1,7 +1,7 @@
 #!/usr/bin/env python3
 """Writes a row that validates a module of many imports over a world of many interfaces, to standard output.
 
-    many-imports.py [IMPORTS] [INTERFACES] | crates/wc_bench/out/wc_bench - > answers
+    many-imports.py [IMPORTS] [INTERFACES] | crates/wc_tests/out/wc_tests - > answers
 
 20,000 imports and 2,000 interfaces, unless other numbers are given. Each interface is in a package of its own, and has
 ten functions; imports name the functions of one interface after the other. Beside it is a row of the same fixture with

@@ -144,7 +144,7 @@ def functions_of(crate, text, exported):
 
 def answered_calls():
     """The calls of rows whose answer begins with no fault."""
-    for path in (TOP / "crates" / "wc_bench" / "data").glob("*.rows"):
+    for path in (TOP / "crates" / "wc_tests" / "data").glob("*.rows"):
         for row in re.findall(r"^call (\S+)[^\n]*\n((?:(?!row |fixture |call ).*\n)*)", path.read_text(), re.M):
             answer = re.search(r"^out (.*)", row[1], re.M)
             if answer and not answer.group(1).startswith(("fault", "bad row")):

@@ -1,7 +1,7 @@
 #!/usr/bin/env python3
 """Writes rows with random names, made of the naming schemes' own pieces, to standard output.
 
-    random-names.py [COUNT] [SEED] | crates/wc_bench/out/wc_bench -
+    random-names.py [COUNT] [SEED] | crates/wc_tests/out/wc_tests -
 
 Each name is asked of both schemes: on its own, in a world and in an interface, and as the name of a module; and it is
 classified as an import, by name and by module. The same count and seed make the same rows. Nothing is expected of the answers but that each call returns.

@@ -18,7 +18,7 @@
 //! }
 //! ```
 //!
-//! This function is proved in `wc_bench`, as `examples::calls::trim_to_write`.
+//! This function is proved in `wc_tests`, as `examples::calls::trim_to_write`.
 #![tactic(auto)]
 
 mod answers;

@@ -35,7 +35,7 @@
 //! }
 //! ```
 //!
-//! This function is proved in `wc_bench`, as `examples::encoder::encoder_for`.
+//! This function is proved in `wc_tests`, as `examples::encoder::encoder_for`.
 #![tactic(auto)]
 
 mod adapters;

@@ -31,7 +31,7 @@
 //! }
 //! ```
 //!
-//! This function is proved in `wc_bench`, as `examples::read::exports_memory`.
+//! This function is proved in `wc_tests`, as `examples::read::exports_memory`.
 #![tactic(auto)]
 
 mod blocks;

@@ -31,7 +31,7 @@
 //! }
 //! ```
 //!
-//! This function is proved in `wc_bench`, as `examples::tool::printed_lines`.
+//! This function is proved in `wc_tests`, as `examples::tool::printed_lines`.
 #![tactic(auto)]
 
 mod command;

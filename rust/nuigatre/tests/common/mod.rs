@@ -1,4 +1,4 @@
-//! The rows of `crates/wc_bench/data` (docs/ROWS.md): calls with their input and the answer that is wanted. They are not
+//! The rows of `crates/wc_tests/data` (docs/ROWS.md): calls with their input and the answer that is wanted. They are not
 //! part of the package: a test that reads them runs in the repository alone.
 
 use std::collections::HashMap;
@@ -17,10 +17,10 @@ pub struct Row {
 /// The rows of a file.
 pub fn rows_of(file: &str) -> Vec<Row> {
     let path = Path::new(env!("CARGO_MANIFEST_DIR"))
-        .join("../../crates/wc_bench/data")
+        .join("../../crates/wc_tests/data")
         .join(file);
     let text = fs::read_to_string(path)
-        .expect("this test needs the repository: crates/wc_bench/data is not there");
+        .expect("this test needs the repository: crates/wc_tests/data is not there");
     let mut fixtures = HashMap::new();
     let mut rows = Vec::new();
     for paragraph in text.split("\n\n") {

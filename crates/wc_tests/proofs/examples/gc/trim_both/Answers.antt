@@ -1,7 +1,7 @@
 use Rattle.std.proofs.Common.{refl, inl, None}
 use Rattle.wc_gc.specs.Liveness.{trim_input}
 use Rattle.wc_gc.specs.Parts.{settings}
-use Rattle.wc_bench.proofs.examples.gc.trim_both.Goals as goal
+use Rattle.wc_tests.proofs.examples.gc.trim_both.Goals as goal
 
 pub returns : goal.returns
 returns c = λ cut first second.

@@ -7,8 +7,8 @@ use std::{env, fs, io};
 use wc_rows::lines::Lines;
 use wc_rows::rows::{Paragraph, Rows};
 
-const USAGE: &str = "usage: wc_bench [--memory-may-fail] FILE...
-       wc_bench -
+const USAGE: &str = "usage: wc_tests [--memory-may-fail] FILE...
+       wc_tests -
 
 Runs the rows of tests in files, and prints each whose answer differs. With --memory-may-fail,
 an answer may stop at a line that says that memory ran out. With -, reads rows from standard
@@ -20,7 +20,7 @@ pub(crate) fn run<R: Env + Files + Print + Input + AllocGlobal>(rt: &R) -> ExitC
         Ok(true) => ExitCode::SUCCESS,
         Ok(false) => ExitCode::FAILURE,
         Err(e) => {
-            let _ = println!(rt; "wc_bench: {e}");
+            let _ = println!(rt; "wc_tests: {e}");
             ExitCode::FAILURE
         }
     }

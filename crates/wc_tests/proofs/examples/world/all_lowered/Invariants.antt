@@ -1,7 +1,7 @@
 use Rattle.std.proofs.Common.{◌≡◌, ◌++◌, map}
 use Rattle.wc_world.specs.WorldViews.{lowering_entry}
-use Rattle.wc_bench.specs.Summary.{lowered_entry, lowered_view}
-use Rattle.wc_bench.proofs.examples.world.all_lowered.Given as goal
+use Rattle.wc_tests.specs.Summary.{lowered_entry, lowered_view}
+use Rattle.wc_tests.proofs.examples.world.all_lowered.Given as goal
 
 abbrev pub invariant-loop-key : goal.invariant-loop-key
 invariant-loop-key l =

@@ -1,7 +1,7 @@
 use Rattle.std.proofs.Common.{sym, subst, ◌↔◌, IsTrue}
 use Rattle.wc_read.specs.declared.operators.Space.TheVariants.{Memories}
 use Rattle.wc_gc.specs.Liveness.{IsLive, names_of}
-use Rattle.wc_bench.proofs.examples.gc.reaches_memory.Goals as goal
+use Rattle.wc_tests.proofs.examples.gc.reaches_memory.Goals as goal
 
 pub returns : goal.returns
 returns c = (

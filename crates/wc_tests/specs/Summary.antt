@@ -2,8 +2,8 @@
 use Rattle.std.specs.Prelude.{◌≡◌, ℕ, List, [], Bool, true, false, map, slice_get, string_bytes}
 use Rattle.std.specs.Option.{option_map_or}
 use Rattle.wc_world.specs.Views.{ComponentWorldView, LoweringKey, LoweringView, NamedWorldAdapter, direct, indirect, resource_drop}
-use Rattle.wc_bench.specs.declared.examples.world.Lowered.{Lowered}
-use Rattle.wc_bench.specs.declared.examples.world.Summary.{Summary}
+use Rattle.wc_tests.specs.declared.examples.world.Lowered.{Lowered}
+use Rattle.wc_tests.specs.declared.examples.world.Summary.{Summary}
 
 -- an import's name, whether it is met before there is a main module, and the bits of its options
 pub record LoweredView : Type 0 where
