@@ -96,6 +96,7 @@ def program_fault(text):
     texts.update({name: words + ": {0}" for name, words in carried})
     texts.update({name: words + "{0}" for name, words in re.findall(r'ProgramFault::(\w+)\(path\) => path_text\(alloc, "(.*?)", path\)', text)})
     texts.update({name: "{0}" for name in re.findall(r"ProgramFault::(\w+)\(fault\) => selection_text\(alloc, fault\)", text)})
+    texts.update({"RepeatedMember": "Json: {0}: repeated member", "World": "World: {0}"})
     texts["NoExport"] = "no export `{0}`; exports:{1}"
     fields["NoExport"] = ["str", "String"]
     return [(name, texts[name], fields.get(name, [])) for name in re.findall(r"^    (\w+)[(,]", body, re.M)]

@@ -1,5 +1,5 @@
 -- The first name that is no file's.
-use Rattle.std.proofs.Common.{◌≡◌, ℕ, ◌<◌, suc, true, false, Bool, List, map, length, take, drop, get_or, All}
+use Rattle.std.proofs.Common.{◌≡◌, ℕ, ◌<◌, suc, true, false, List, map, length, take, drop, get_or, All}
 use Rattle.std.specs.Borrow.{Bor}
 use Rattle.wc_plan_tool.specs.Arguments.{text_of}
 use Rattle.wc_plan_tool.specs.FileNames.{IsFirstUnfit, is_file_name}

@@ -3,6 +3,7 @@ mod TestLemmas
 mod ListLemmas
 mod SelectionLemmas
 mod KeyListLemmas
+mod KeyNameLemmas
 mod FileNameLemmas
 mod FirstLemmas
 mod ProgramLemmas

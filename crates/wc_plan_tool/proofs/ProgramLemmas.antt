@@ -1,5 +1,5 @@
 -- Why an encoder could not be made of the files of a command.
-use Rattle.std.proofs.Common.{◌≡◌, ◌≢◌, ℕ, ◌+◌, Bool, false, List, [], ◌∷◌, ◌++◌, map, String, Global, Option, Some, None, refl, sym, ◌∙◌, ap, subst, append_assoc, string_bytes, string_eq, length, take, get_or, zero, suc, ◌<◌, Contains, inl, inr, arith}
+use Rattle.std.proofs.Common.{◌≡◌, ◌≢◌, ℕ, ◌+◌, List, [], ◌∷◌, ◌++◌, map, String, Global, Option, Some, None, refl, sym, ◌∙◌, ap, subst, string_bytes, string_eq, length, take, get_or, zero, suc, ◌<◌, Contains, inl, inr, arith}
 use Rattle.std.specs.Borrow.{Bor}
 use Rattle.std.specs.Option.{option_map}
 use Rattle.wc_encoder.specs.EncoderParts.{EncoderView}
@@ -14,7 +14,7 @@ use Rattle.wc_resolve.specs.declared.fault.ResolveFault.{ResolveFault}
 use Rattle.wc_resolve.specs.declared.fault.ResolveFault.TheVariants.{Memory as resolve_memory}
 use Rattle.wc_plan_tool.specs.Selection.{IsSelected}
 use Rattle.wc_plan_tool.specs.declared.faults.SelectionFault.{SelectionFault}
-use Rattle.wc_plan_tool.specs.declared.faults.SelectionFault.TheVariants.{UnknownKey}
+use Rattle.wc_plan_tool.specs.declared.faults.SelectionFault.TheVariants.{UnknownKey, SeveralKeys, RepeatedKey}
 use Rattle.wc_plan_tool.proofs.ListLemmas.{passed_more}
 use Rattle.std.proofs.lemmas.List.{map-append}
 use Rattle.std.specs.List.{AllPairs, AllZip}
@@ -30,10 +30,11 @@ use Rattle.wc_encoder.proofs.PairLemmas.{pairs_head, pairs_tail}
 use Rattle.wc_resolve.proofs.KeyLemmas.{texts_law}
 use Rattle.wc_resolve.proofs.SearchLemmas.{contains_cons, contains_head, contains_none, contains_tail}
 use Rattle.wc_plan_tool.specs.Faults.{of_dedupe, of_encoder, of_resolve}
-use Rattle.wc_plan_tool.specs.RequiredExports.{IsNamesCause, NamedKey, export_keys, first_parts, required_keys, second_parts, texts_of}
+use Rattle.wc_plan_tool.specs.KeyNames.{command_keys, count_unversioned}
+use Rattle.wc_plan_tool.specs.RequiredExports.{IsNamesCause, NamedKey, first_parts, required_keys, second_parts}
 use Rattle.wc_tool.specs.Files.{Held, Holds}
 use Rattle.wc_plan_tool.specs.Arguments.{CommandValue, text_pair}
-use Rattle.wc_plan_tool.specs.Program.{IsAdapterIn, IsAdaptersCause, IsChosen, IsDocumentIn, IsListed, IsListedCause, IsMainCause, IsModulesCause, IsPartsOf, IsPartsWith, IsPlanCause, IsReadFault}
+use Rattle.wc_plan_tool.specs.Program.{IsAdapterIn, IsAdaptersCause, IsChosen, IsDocumentIn, IsListed, IsListedCause, IsListedSelection, IsMainCause, IsModulesCause, IsPartsOf, IsPartsWith, IsPlanCause, IsReadFault, IsUnknownKey}
 use Rattle.wc_plan_tool.specs.declared.faults.ProgramFault.{ProgramFault}
 use Rattle.wc_plan_tool.specs.declared.faults.ProgramFault.TheVariants.{Memory, CannotRead, Selection, NoExport, Dedupe}
 
@@ -135,30 +136,37 @@ resolve_cause c before d world resolve_memory document selected cause = tt
 resolve_cause c before d world f document selected cause = (d, world, document, selected, (λ e. cc), cause)
 
 pub names_cause : (c : CommandValue) (before : Option Held) (d : DocumentView) (world : ℕ) (f : ProgramFault) → IsDocumentIn before c.worlds d
-    → IsSelected d c.world world → IsResolve d.parts → IsListedCause c (export_keys d.parts world) f → IsPlanCause c before f
+    → IsSelected d c.world world → IsResolve d.parts → IsListedCause c (command_keys c d.parts world) f → IsPlanCause c before f
 names_cause c before d world Memory document selected formed cause = tt
 names_cause c before d world (Selection f) document selected formed cause = inr (d, world, document, selected, formed, cause)
 names_cause c before d world (NoExport key listing) document selected formed cause = (d, world, document, selected, formed, cause)
 names_cause c before d world f document selected formed cause = absurd cause
 
--- a fault of names with what exports there are
-selection_listed : (c : CommandValue) (keys : List NamedKey) (f g : SelectionFault) → IsNamesCause c keys f → IsListed f (texts_of keys) (Selection g)
-    → IsListedCause c keys (Selection g)
-selection_listed c keys (UnknownKey key) g cause listed = absurd listed
-selection_listed c keys f (UnknownKey key) cause listed = absurd cc
-selection_listed c keys f g cause listed = subst (IsNamesCause c keys) (sym listed) cause
+-- a key that isn't there
+unknown_listed : (c : CommandValue) (keys : List NamedKey) (key : Bor (List ℕ)) (g : ProgramFault) → IsNamesCause c keys (UnknownKey key)
+    → IsUnknownKey keys key g → IsListedCause c keys g
+unknown_listed c keys key Memory cause h = tt
+unknown_listed c keys key (Selection (RepeatedKey k)) cause h =
+    inr (subst (λ z. IsNamesCause c keys (UnknownKey z)) (sym h.0) cause, subst (λ z. count_unversioned keys z.now ≡ 1) (sym h.0) h.1)
+unknown_listed c keys key (Selection (SeveralKeys k)) cause h =
+    (subst (λ z. IsNamesCause c keys (UnknownKey z)) (sym h.0) cause, subst (λ z. 1 < count_unversioned keys z.now) (sym h.0) h.1)
+unknown_listed c keys key (NoExport k listing) cause h =
+    (subst (λ z. IsNamesCause c keys (UnknownKey z)) (sym h.0.0) cause, subst (λ z. count_unversioned keys z.now ≡ 0) (sym h.0.0) h.1, h.0.1)
+unknown_listed c keys key g cause h = absurd h
 
-no_export_listed : (c : CommandValue) (keys : List NamedKey) (f : SelectionFault) (key : Bor (List ℕ)) (listing : String Global) → IsNamesCause c keys f
-    → IsListed f (texts_of keys) (NoExport key listing) → IsListedCause c keys (NoExport key listing)
-no_export_listed c keys (UnknownKey k) key listing cause listed = (subst (λ z. IsNamesCause c keys (UnknownKey z)) (sym listed.0) cause, listed.1)
-no_export_listed c keys f key listing cause listed = absurd listed
+-- another fault of names
+selection_listed : (c : CommandValue) (keys : List NamedKey) (f g : SelectionFault) → IsNamesCause c keys f → IsListed f keys (Selection g)
+    → IsListedCause c keys (Selection g)
+selection_listed c keys (UnknownKey key) g cause listed = unknown_listed c keys key (Selection g) cause listed
+selection_listed c keys (SeveralKeys key) g cause listed = absurd cause.1
+selection_listed c keys (RepeatedKey key) g cause listed = subst (IsListedSelection c keys) (sym listed) (inl cause)
+selection_listed c keys f g cause listed = subst (IsListedSelection c keys) (sym listed) cause
 
 pub listed_cause : (c : CommandValue) (keys : List NamedKey) (f : SelectionFault) (g : ProgramFault) → IsNamesCause c keys f
-    → IsListed f (texts_of keys) g → IsListedCause c keys g
+    → IsListed f keys g → IsListedCause c keys g
+listed_cause c keys (UnknownKey key) g cause listed = unknown_listed c keys key g cause listed
 listed_cause c keys f Memory cause listed = tt
 listed_cause c keys f (Selection g) cause listed = selection_listed c keys f g cause listed
-listed_cause c keys f (NoExport key listing) cause listed = no_export_listed c keys f key listing cause listed
-listed_cause c keys (UnknownKey key) g cause listed = absurd listed
 listed_cause c keys f g cause listed = absurd listed
 
 pub modules_cause : (c : CommandValue) (before : Option Held) (d : DocumentView) (world : ℕ) (f : ProgramFault) → IsChosen c before d world
@@ -174,10 +182,10 @@ encoder_cause c before e encoder_memory parts cause = tt
 encoder_cause c before e f parts cause = (e, parts, (λ e. cc), cause)
 
 pub parts_of : (c : CommandValue) (before : Option Held) (d : DocumentView) (world : ℕ) (keys : List NamedKey) (e : EncoderView) → IsChosen c before d world
-    → e.world ≡ world → e.resolve ≡ d.parts → keys ≡ export_keys d.parts world → IsPartsWith c before keys e → IsPartsOf c before e
+    → e.world ≡ world → e.resolve ≡ d.parts → keys ≡ command_keys c d.parts world → IsPartsWith c before keys e → IsPartsOf c before e
 parts_of c before d world keys e chosen at is keyed parts = record {
   document = d;
   chosen = subst (IsChosen c before d) (sym at) chosen;
   resolve = is;
-  parts = subst (λ (k : List NamedKey). IsPartsWith c before k e) (keyed ∙ (λ i. export_keys (sym is i) (sym at i))) parts;
+  parts = subst (λ (k : List NamedKey). IsPartsWith c before k e) (keyed ∙ (λ i. command_keys c (sym is i) (sym at i))) parts;
 }

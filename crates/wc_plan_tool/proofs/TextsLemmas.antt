@@ -1,5 +1,5 @@
 -- Arguments as texts, which are read one after another.
-use Rattle.std.proofs.Common.{◌≡◌, ◌≢◌, ◌==◌, ◌+◌, true, false, ◌<◌, ℕ, List, [], ◌∷◌, length, map, drop, get_or, string_bytes, String, Global, Ok, Err, refl, sym, ◌∙◌, ap, arith}
+use Rattle.std.proofs.Common.{◌≡◌, ◌≢◌, ◌==◌, ◌+◌, true, false, ◌<◌, ℕ, List, [], ◌∷◌, length, map, drop, get_or, string_bytes, String, Global, Ok, Err, sym, ◌∙◌, ap, arith}
 use Rattle.std.proofs.lemmas.List.{drop_more, nil_from_length}
 use Rattle.std.proofs.lemmas.Bool.Decides.{nat_tests}
 use Rattle.wc_plan_tool.specs.declared.arguments.NoCommand.{NoCommand}

@@ -1,5 +1,5 @@
 -- The fault for the fault of a call inside; and the texts of faults.
-use Rattle.std.specs.Prelude.{◌≡◌, ℕ, List, ◌++◌, codes, string_bytes}
+use Rattle.std.specs.Prelude.{◌≡◌, ℕ, List, ◌++◌, codes, decimal, string_bytes}
 use Rattle.wc_tool.specs.FaultTexts.{memory_text}
 use Rattle.wc_json.specs.Escape.{escaped}
 use Rattle.wc_json.specs.Faults.{json_fault_text}
@@ -14,11 +14,11 @@ use Rattle.wc_plan.specs.declared.fault.PlanFault.TheVariants.{Memory as plan_me
 use Rattle.wc_resolve.specs.declared.fault.ResolveFault.{ResolveFault}
 use Rattle.wc_resolve.specs.declared.fault.ResolveFault.TheVariants.{Memory as resolve_memory}
 use Rattle.wc_world.specs.declared.fault.WorldFault.{WorldFault}
-use Rattle.wc_world.specs.declared.fault.WorldFault.TheVariants.{Memory as world_memory}
+use Rattle.wc_world.specs.declared.fault.WorldFault.TheVariants.{Memory as world_memory, PageSize}
 use Rattle.wc_plan_tool.specs.declared.faults.SelectionFault.{SelectionFault}
-use Rattle.wc_plan_tool.specs.declared.faults.SelectionFault.TheVariants.{Memory as selection_memory, PackageRange, UnknownWorld, SeveralWorlds, RepeatedAdapter, UnknownAdapter, EmptyDirectory, FileName, MainFile, UnknownKey, RepeatedKey}
+use Rattle.wc_plan_tool.specs.declared.faults.SelectionFault.TheVariants.{Memory as selection_memory, PackageRange, UnknownWorld, SeveralWorlds, RepeatedAdapter, UnknownAdapter, EmptyDirectory, FileName, MainFile, UnknownKey, SeveralKeys, RepeatedKey}
 use Rattle.wc_plan_tool.specs.declared.faults.ProgramFault.{ProgramFault}
-use Rattle.wc_plan_tool.specs.declared.faults.ProgramFault.TheVariants.{Memory, CannotRead, NotText, Json, Selection, NoExport, Resolve, Dedupe, Encoder, World, Plan, CannotMake, CannotWrite, Output}
+use Rattle.wc_plan_tool.specs.declared.faults.ProgramFault.TheVariants.{Memory, CannotRead, NotText, NotJson, RepeatedMember, Json, Selection, NoExport, Resolve, Dedupe, Encoder, World, Plan, CannotMake, CannotWrite, Output}
 
 abbrev pub of_json : JsonFault → ProgramFault
 of_json json_memory = Memory
@@ -64,6 +64,7 @@ selection_fault_text EmptyDirectory = codes "empty path of --out"
 selection_fault_text (FileName name) = quoted (codes "adapter `") name.now (codes "` is no file's name")
 selection_fault_text (MainFile name) = quoted (codes "adapter `") name.now (codes "` in the main module's file")
 selection_fault_text (UnknownKey key) = quoted (codes "no export `") key.now (codes "`")
+selection_fault_text (SeveralKeys key) = quoted (codes "several exports `") key.now (codes "`")
 selection_fault_text (RepeatedKey key) = quoted (codes "export `") key.now (codes "` twice")
 
 -- there is no export with a key, and what exports there are
@@ -74,19 +75,34 @@ no_export_text key listing = codes "no export `" ++ (key ++ (codes "`; exports:"
 abbrev pub IsCarried : List ℕ → List ℕ → Type 0
 IsCarried name text = (inside : List ℕ) × (text ≡ name ++ (codes ": " ++ escaped inside))
 
+-- a member is there twice: its path, escaped
+abbrev pub repeated_text : List ℕ → List ℕ
+repeated_text path = codes "Json: " ++ (escaped path ++ codes ": repeated member")
+
+-- an adapter's memory has pages of another size than the main module's, both in bytes
+abbrev pub page_size_text : List ℕ → ℕ → ℕ → List ℕ
+page_size_text name own main =
+    codes "World: PageSize `" ++ (name ++ (codes "`: page size " ++ (decimal own ++ (codes ", main module's " ++ decimal main))))
+
+abbrev pub IsWorldText : WorldFault → List ℕ → Type 0
+IsWorldText (PageSize name own main) text = text ≡ escaped (page_size_text (string_bytes name) own main)
+IsWorldText f text = IsCarried (codes "World") text
+
 -- the text of a fault. It is open what `Display` writes of the faults of other libraries, but for those of JSON, whose
 -- paths are escaped already
 abbrev pub IsTextOf : ProgramFault → List ℕ → Type 0
 IsTextOf Memory text = text ≡ memory_text
 IsTextOf (CannotRead path) text = text ≡ codes "cannot read " ++ escaped path.now
 IsTextOf NotText text = text ≡ codes "Json: not UTF-8"
+IsTextOf (NotJson at) text = text ≡ codes "Json: not JSON at byte " ++ decimal at
+IsTextOf (RepeatedMember path) text = text ≡ repeated_text (string_bytes path)
 IsTextOf (Json f) text = text ≡ codes "Json: " ++ json_fault_text f
 IsTextOf (Selection f) text = text ≡ escaped (selection_fault_text f)
 IsTextOf (NoExport key listing) text = text ≡ escaped (no_export_text key.now (string_bytes listing))
 IsTextOf (Resolve f) text = IsCarried (codes "Resolve") text
 IsTextOf (Dedupe f) text = IsCarried (codes "Dedupe") text
 IsTextOf (Encoder f) text = IsCarried (codes "Encoder") text
-IsTextOf (World f) text = IsCarried (codes "World") text
+IsTextOf (World f) text = IsWorldText f text
 IsTextOf (Plan f) text = IsCarried (codes "Plan") text
 IsTextOf (CannotMake path) text = text ≡ codes "cannot make directory " ++ escaped path.now
 IsTextOf (CannotWrite path) text = text ≡ codes "cannot write " ++ escaped (string_bytes path)

@@ -6,6 +6,7 @@ pub mod FileNames
 pub mod Lines
 pub mod Selection
 pub mod RequiredExports
+pub mod KeyNames
 pub mod Listing
 pub mod Screen
 pub mod Program

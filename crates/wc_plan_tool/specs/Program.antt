@@ -1,5 +1,5 @@
 -- The program: what it prints, what becomes of files, and its exit status.
-use Rattle.std.specs.Prelude.{◌≡◌, ◌≢◌, ◌⊎◌, ℕ, Bool, List, [], ◌∷◌, ◌++◌, map, codes, Option, Some, None, IfSome, IsSomeAnd, if◌then◌else◌, Ok, Err, Contains, String, string_bytes}
+use Rattle.std.specs.Prelude.{◌≡◌, ◌≢◌, ◌⊎◌, ◌<◌, ◌≤◌, length, ℕ, Bool, List, [], ◌∷◌, ◌++◌, map, codes, Option, Some, None, IfSome, IsSomeAnd, if◌then◌else◌, Ok, Err, Contains, String, string_bytes}
 use Rattle.std.specs.declared.alloc.Global.{Global}
 use Rattle.std.specs.Borrow.{Bor}
 use Rattle.std.specs.List.{AllZip}
@@ -16,7 +16,7 @@ use Rattle.wc_encoder.specs.WellFormed.{IsWellFormed}
 use Rattle.wc_encoder.specs.declared.fault.EncoderFault.TheVariants.{Memory as encoder_memory}
 use Rattle.wc_json.specs.Escape.{escaped}
 use Rattle.wc_json.specs.Document.{DocumentView, document_of, IsCause as IsJsonCause}
-use Rattle.wc_json.specs.declared.fault.JsonFault.TheVariants.{Memory as json_memory}
+use Rattle.wc_json.specs.declared.fault.JsonFault.TheVariants.{NotJson as json_invalid, RepeatedMember as json_repeated, Wrong as json_wrong}
 use Rattle.wc_plan.specs.Faults.{HasNoFault, IsFirstFault}
 use Rattle.wc_plan.specs.Plans.{plan_of}
 use Rattle.wc_record.specs.Texts.{world_text}
@@ -35,14 +35,15 @@ use Rattle.wc_plan_tool.specs.Faults.{IsTextOf}
 use Rattle.wc_plan_tool.specs.Lines.{lines_text}
 use Rattle.wc_plan_tool.specs.Listing.{listing_text}
 use Rattle.wc_plan_tool.specs.Reading.{read_arguments}
-use Rattle.wc_plan_tool.specs.RequiredExports.{AreNamesThere, IsNamesCause, NamedKey, export_keys, required_keys, second_parts, texts_of}
+use Rattle.wc_plan_tool.specs.KeyNames.{command_keys, count_unversioned}
+use Rattle.wc_plan_tool.specs.RequiredExports.{AreNamesThere, IsNamesCause, NamedKey, required_keys, second_parts, texts_of}
 use Rattle.wc_plan_tool.specs.Screen.{Printing, nothing, printed, failed}
 use Rattle.wc_plan_tool.specs.Usage.{fault_and_usage, fault_line, help_text, no_text, usage_text, version_text, wrong_text}
 use Rattle.wc_plan_tool.specs.Selection.{IsSelected, IsSelectionCause}
 use Rattle.wc_plan_tool.specs.declared.faults.SelectionFault.{SelectionFault}
-use Rattle.wc_plan_tool.specs.declared.faults.SelectionFault.TheVariants.{UnknownKey}
+use Rattle.wc_plan_tool.specs.declared.faults.SelectionFault.TheVariants.{UnknownKey, SeveralKeys, RepeatedKey}
 use Rattle.wc_plan_tool.specs.declared.faults.ProgramFault.{ProgramFault}
-use Rattle.wc_plan_tool.specs.declared.faults.ProgramFault.TheVariants.{Memory, CannotRead, NotText, Json, Selection, NoExport, Resolve, Dedupe, Encoder, World, Plan, CannotMake, CannotWrite, Output}
+use Rattle.wc_plan_tool.specs.declared.faults.ProgramFault.TheVariants.{Memory, CannotRead, NotText, NotJson, RepeatedMember, Json, Selection, NoExport, Resolve, Dedupe, Encoder, World, Plan, CannotMake, CannotWrite, Output}
 
 -- the exit statuses
 abbrev pub success : ℕ
@@ -72,7 +73,7 @@ pub record IsChosen (c : CommandValue) (before : Option Held) (d : DocumentView)
   pub worlds : IsDocumentIn before c.worlds d
   pub selected : IsSelected d c.world world
   pub resolve : IsResolve d.parts
-  pub named : AreNamesThere c (export_keys d.parts world)
+  pub named : AreNamesThere c (command_keys c d.parts world)
 
 -- the main module in its file, with its repeated imports renamed
 pub record IsMainIn (before : Option Held) (path text : List ℕ) (renames : List RenameValue) : Type 0 where
@@ -99,7 +100,7 @@ pub record IsPartsOf (c : CommandValue) (before : Option Held) (e : EncoderView)
   pub document : DocumentView
   pub chosen : IsChosen c before document e.world
   pub resolve : e.resolve ≡ document.parts
-  pub parts : IsPartsWith c before (export_keys e.resolve e.world) e
+  pub parts : IsPartsWith c before (command_keys c e.resolve e.world) e
 
 pub record IsEncoderOf (c : CommandValue) (before : Option Held) (e : EncoderView) : Type 0 where
   pub parts : IsPartsOf c before e
@@ -184,12 +185,30 @@ IsReadFault path Memory = Unit {0}
 IsReadFault path (CannotRead p) = p.now ≡ path
 IsReadFault path f = ⊥
 
+-- why a text has no worlds: it is not JSON, and the byte that is named is in it; or an object has a member twice; or a value
+-- is wrong. It is open which byte, and which member
+abbrev pub IsNotJson : List ℕ → ProgramFault → Type 0
+IsNotJson text Memory = Unit {0}
+IsNotJson text (NotJson at) = at ≤ length text
+IsNotJson text f = ⊥
+
+abbrev pub IsRepeatedMember : ProgramFault → Type 0
+IsRepeatedMember Memory = Unit {0}
+IsRepeatedMember (RepeatedMember path) = Unit {0}
+IsRepeatedMember f = ⊥
+
+abbrev pub IsTextCause : List ℕ → ProgramFault → Type 0
+IsTextCause text Memory = Unit {0}
+IsTextCause text (NotJson at) = IsJsonCause (document text) json_invalid × (at ≤ length text)
+IsTextCause text (RepeatedMember path) = IsJsonCause (document text) json_repeated
+IsTextCause text (Json (json_wrong path problem)) = IsJsonCause (document text) (json_wrong path problem)
+IsTextCause text f = ⊥
+
 abbrev pub IsDocumentCause : Option Held → List ℕ → ProgramFault → Type 0
 IsDocumentCause before path Memory = Unit {0}
 IsDocumentCause before path (CannotRead p) = p.now ≡ path
 IsDocumentCause before path NotText = (text : List ℕ) × Holds before path text × ¬ IsUtf8 text
-IsDocumentCause before path (Json f) = (text : List ℕ) × Holds before path text × (f ≢ json_memory) × IsJsonCause (document text) f
-IsDocumentCause before path f = ⊥
+IsDocumentCause before path f = (text : List ℕ) × Holds before path text × IsTextCause text f
 
 abbrev pub IsMainCause : Option Held → List ℕ → ProgramFault → Type 0
 IsMainCause before path Memory = Unit {0}
@@ -212,32 +231,54 @@ IsModulesCause c before f = IsMainCause before c.main f
 abbrev pub IsAnyChosen : CommandValue → Option Held → Type 0
 IsAnyChosen c before = (d : DocumentView) × (world : ℕ) × IsChosen c before d world
 
--- the fault of a program for a fault of names: that of a key that isn't there has what exports there are
-abbrev pub IsListed : SelectionFault → List (List ℕ) → ProgramFault → Type 0
-IsListed f texts Memory = Unit {0}
-IsListed (UnknownKey key) texts (NoExport k listing) = (k ≡ key) × (string_bytes listing ≡ listing_text texts)
-IsListed (UnknownKey key) texts g = ⊥
-IsListed f texts (Selection g) = g ≡ f
-IsListed f texts g = ⊥
+-- no key has a text: what exports there are is said; or the text is that of one key without its version, which is given
+-- with it too, or that of several
+abbrev pub IsNoExport : List (List ℕ) → Bor (List ℕ) → ProgramFault → Type 0
+IsNoExport texts key Memory = Unit {0}
+IsNoExport texts key (NoExport k listing) = (k ≡ key) × (string_bytes listing ≡ listing_text texts)
+IsNoExport texts key f = ⊥
+
+abbrev pub IsUnknownKey : List NamedKey → Bor (List ℕ) → ProgramFault → Type 0
+IsUnknownKey keys key (Selection (RepeatedKey k)) = (k ≡ key) × (count_unversioned keys key.now ≡ 1)
+IsUnknownKey keys key (Selection (SeveralKeys k)) = (k ≡ key) × (1 < count_unversioned keys key.now)
+IsUnknownKey keys key (NoExport k listing) = IsNoExport (texts_of keys) key (NoExport k listing) × (count_unversioned keys key.now ≡ 0)
+IsUnknownKey keys key Memory = Unit {0}
+IsUnknownKey keys key f = ⊥
+
+-- the fault of a program for a fault of names
+abbrev pub IsListed : SelectionFault → List NamedKey → ProgramFault → Type 0
+IsListed (UnknownKey key) keys g = IsUnknownKey keys key g
+IsListed f keys Memory = Unit {0}
+IsListed f keys (Selection g) = g ≡ f
+IsListed f keys g = ⊥
+
+abbrev pub IsListedSelection : CommandValue → List NamedKey → SelectionFault → Type 0
+IsListedSelection c keys (UnknownKey key) = ⊥
+IsListedSelection c keys (SeveralKeys key) = IsNamesCause c keys (UnknownKey key) × (1 < count_unversioned keys key.now)
+IsListedSelection c keys (RepeatedKey key) =
+    IsNamesCause c keys (RepeatedKey key) ⊎ (IsNamesCause c keys (UnknownKey key) × (count_unversioned keys key.now ≡ 1))
+IsListedSelection c keys f = IsNamesCause c keys f
 
 abbrev pub IsListedCause : CommandValue → List NamedKey → ProgramFault → Type 0
 IsListedCause c keys Memory = Unit {0}
-IsListedCause c keys (NoExport key listing) = IsNamesCause c keys (UnknownKey key) × (string_bytes listing ≡ listing_text (texts_of keys))
-IsListedCause c keys (Selection (UnknownKey key)) = ⊥
-IsListedCause c keys (Selection f) = IsNamesCause c keys f
+IsListedCause c keys (NoExport key listing) =
+    IsNamesCause c keys (UnknownKey key) × (count_unversioned keys key.now ≡ 0) × (string_bytes listing ≡ listing_text (texts_of keys))
+IsListedCause c keys (Selection f) = IsListedSelection c keys f
 IsListedCause c keys f = ⊥
 
 -- names are not there, of a world that is selected of worlds that are well-formed
 abbrev pub IsUnnamed : CommandValue → Option Held → ProgramFault → Type 0
 IsUnnamed c before f =
     (d : DocumentView) × (world : ℕ) × IsDocumentIn before c.worlds d × IsSelected d c.world world × IsResolve d.parts
-    × IsListedCause c (export_keys d.parts world) f
+    × IsListedCause c (command_keys c d.parts world) f
 
 -- why there is no plan
 abbrev pub IsPlanCause : CommandValue → Option Held → ProgramFault → Type 0
 IsPlanCause c before Memory = Unit {0}
 IsPlanCause c before (CannotRead path) = (path.now ≡ c.worlds) ⊎ (IsAnyChosen c before × IsModulesCause c before (CannotRead path))
 IsPlanCause c before NotText = IsDocumentCause before c.worlds NotText
+IsPlanCause c before (NotJson at) = IsDocumentCause before c.worlds (NotJson at)
+IsPlanCause c before (RepeatedMember path) = IsDocumentCause before c.worlds (RepeatedMember path)
 IsPlanCause c before (Json f) = IsDocumentCause before c.worlds (Json f)
 IsPlanCause c before (Selection f) = ((d : DocumentView) × IsDocumentIn before c.worlds d × IsSelectionCause d c.world f) ⊎ IsUnnamed c before (Selection f)
 IsPlanCause c before (NoExport key listing) = IsUnnamed c before (NoExport key listing)

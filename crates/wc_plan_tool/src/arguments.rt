@@ -330,8 +330,8 @@ fn add_option<'a>(
 /// Sets the flag of an option of this name, which is given once.
 fn set<'a>(flag: &mut bool, name: &'a str) -> Result<(), NoCommand<'a>>
     ensures set { OnOk result ((flag.old ≡ false) × (flag.new ≡ true)) }
-    ensures repeated { IfErr result (λ e. (e ≡ NoCommand.Wrong (WrongArgument.RepeatedOption name.entry))
-        × (flag.old ≡ true)) }
+    ensures repeated { IfErr result (λ e.
+        (e ≡ NoCommand.Wrong (WrongArgument.RepeatedOption name.entry)) × (flag.old ≡ true)) }
 {
     if *flag {
         return Err(NoCommand::Wrong(WrongArgument::RepeatedOption(name)));

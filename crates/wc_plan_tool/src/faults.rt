@@ -2,7 +2,7 @@
 
 ghost use Rattle.std.specs.Prelude.{◌≡◌, ◌++◌, IfOk, Some, string_bytes};
 ghost use Rattle.wc_json.specs.Escape.{escaped};
-ghost use Rattle.wc_plan_tool.specs.Faults.{IsCarried, IsTextOf, no_export_text, selection_fault_text};
+ghost use Rattle.wc_plan_tool.specs.Faults.{IsCarried, IsTextOf, IsWorldText, no_export_text, page_size_text, repeated_text, selection_fault_text};
 
 use std::alloc::{AllocError, AllocFailed, Global};
 use std::error::Error as StdError;
@@ -39,6 +39,8 @@ pub enum SelectionFault<'a> {
     MainFile(&'a str),
     /// The world has no export with this key.
     UnknownKey(&'a str),
+    /// Several exports of the world have this key, but for their versions.
+    SeveralKeys(&'a str),
     /// This key of an export is given twice.
     RepeatedKey(&'a str),
 }
@@ -62,6 +64,7 @@ impl fmt::Display for SelectionFault<'_> {
                 write!(f, "adapter `{name}` in the main module's file")
             }
             SelectionFault::UnknownKey(key) => write!(f, "no export `{key}`"),
+            SelectionFault::SeveralKeys(key) => write!(f, "several exports `{key}`"),
             SelectionFault::RepeatedKey(key) => write!(f, "export `{key}` twice"),
         }
     }
@@ -99,7 +102,11 @@ pub enum ProgramFault<'a> {
     CannotRead(&'a str),
     /// The file of the worlds is not text.
     NotText,
-    /// The worlds could not be read. It carries why, never `Memory`.
+    /// The file of the worlds is not JSON, or nests deeper than 128; it carries the byte at which reading stopped.
+    NotJson(usize),
+    /// An object in the file of the worlds has two members of one name; it carries the path of the second.
+    RepeatedMember(String),
+    /// The worlds could not be read. It carries why, a value that is wrong.
     Json(JsonFault),
     /// The arguments name a world or an adapter that isn't there, or a key or an adapter twice, or files can't be named.
     /// It carries why, never `Memory` or `UnknownKey`.
@@ -139,13 +146,15 @@ impl ProgramFault<'_> {
             ProgramFault::Memory => String::from_str(alloc, "out of memory"),
             ProgramFault::CannotRead(path) => path_text(alloc, "cannot read ", path),
             ProgramFault::NotText => String::from_str(alloc, "Json: not UTF-8"),
+            ProgramFault::NotJson(at) => format!(in alloc; "Json: not JSON at byte {at}"),
+            ProgramFault::RepeatedMember(path) => repeated_text(alloc, path),
             ProgramFault::Json(fault) => format!(in alloc; "Json: {fault}"),
             ProgramFault::Selection(fault) => selection_text(alloc, fault),
             ProgramFault::NoExport(key, listing) => no_export_text(alloc, key, listing),
             ProgramFault::Resolve(fault) => carried_text(alloc, "Resolve", fault),
             ProgramFault::Dedupe(fault) => carried_text(alloc, "Dedupe", fault),
             ProgramFault::Encoder(fault) => carried_text(alloc, "Encoder", fault),
-            ProgramFault::World(fault) => carried_text(alloc, "World", fault),
+            ProgramFault::World(fault) => world_text(alloc, fault),
             ProgramFault::Plan(fault) => carried_text(alloc, "Plan", fault),
             ProgramFault::CannotMake(path) => path_text(alloc, "cannot make directory ", path),
             ProgramFault::CannotWrite(path) => path_text(alloc, "cannot write ", path),
@@ -160,6 +169,40 @@ fn path_text(alloc: Global, problem: &str, path: &str) -> Result<String, AllocEr
 {
     let path = escaped(alloc, path)?;
     format!(in alloc; "{problem}{path}")
+}
+
+/// That a member is there twice, with its path, escaped.
+fn repeated_text(alloc: Global, place: &str) -> Result<String, AllocError>
+    ensures { IfOk result (λ text. string_bytes text ≡ repeated_text place.now) }
+{
+    let place = escaped(alloc, place)?;
+    format!(in alloc; "Json: {place}: repeated member")
+}
+
+/// Why a component has no world: the carried fault; or which adapter has pages of another size, and both sizes.
+fn world_text(alloc: Global, fault: &WorldFault) -> Result<String, AllocError>
+    ensures { IfOk result (λ text. IsWorldText fault.now (string_bytes text)) }
+{
+    match fault {
+        WorldFault::PageSize(name, own, main) => page_size_text(alloc, name, *own, *main),
+        _ => carried_text(alloc, "World", fault),
+    }
+}
+
+/// That the memory of an adapter has pages of another size than the main module's, both in bytes; escaped.
+fn page_size_text(alloc: Global, name: &str, own: u64, main: u64) -> Result<String, AllocError>
+    ensures { IfOk result (λ text. string_bytes text
+        ≡ escaped (page_size_text name.now own main)) }
+{
+    let text = sizes_text(alloc, name, own, main)?;
+    escaped(alloc, &text)
+}
+
+/// The same as it is.
+fn sizes_text(alloc: Global, name: &str, own: u64, main: u64) -> Result<String, AllocError>
+    ensures { IfOk result (λ text. string_bytes text ≡ page_size_text name.now own main) }
+{
+    format!(in alloc; "World: PageSize `{name}`: page size {own}, main module's {main}")
 }
 
 /// The text of a fault, escaped.

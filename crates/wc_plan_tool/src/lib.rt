@@ -5,8 +5,11 @@
 #![tactic(auto)]
 
 mod arguments;
+mod documents;
 mod faults;
 mod file_names;
+mod json_place;
+mod key_names;
 mod lines;
 mod listing;
 mod program;

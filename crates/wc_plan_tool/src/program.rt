@@ -1,30 +1,30 @@
 //! The program: its arguments, its files, what it prints, and its exit status.
 
-ghost use Rattle.std.specs.Prelude.{◌≡◌, ◌++◌, IfErr, IfOk, IsErr, IfSome, None, OnErr, OnOk, Some, map, string_bytes};
+ghost use Rattle.std.specs.Prelude.{◌≡◌, ◌++◌, IfErr, IfOk, IsErr, IfSome, None, OnOk, Some, map, string_bytes};
 ghost use Rattle.std.specs.Option.{option_map};
 ghost use Rattle.std.specs.Cow.{cow_slice_items};
 ghost use Rattle.std.specs.IoError.{error_kind};
-ghost use Rattle.wc_dedupe.specs.Dedupe.{IsDeduped, renames_in};
+ghost use Rattle.wc_dedupe.specs.Dedupe.{renames_in};
 ghost use Rattle.wc_encoder.specs.Adapters.{adapter_entry};
 ghost use Rattle.wc_encoder.specs.EncoderParts.{parts_view};
-ghost use Rattle.wc_json.specs.Document.{document_view};
 ghost use Rattle.wc_plan.specs.Faults.{AreNameable};
 ghost use Rattle.wc_plan.specs.PlanViews.{plan_view};
 ghost use Rattle.wc_plan.specs.Plans.{plan_of};
-ghost use Rattle.wc_tool.specs.Files.{Holds};
 ghost use Rattle.wc_world.specs.WorldViews.{world_view};
 ghost use Rattle.wc_plan_tool.specs.Arguments.{command_value, text_of};
 ghost use Rattle.wc_plan_tool.specs.RequiredExports.{AreDistinct, AreKeysApart, AreNamesThere, adapter_names, named_key, texts_of};
 ghost use Rattle.wc_plan_tool.specs.Screen.{Becomes};
-ghost use Rattle.wc_plan_tool.specs.Program.{AreAdaptersIn, CommandEnds, EndsWell, EndsWithoutArguments, IsAdaptersCause, IsDocumentCause, IsDocumentIn, IsEncoderOf, IsFileFault, IsListed, IsListedCause, IsMainCause, IsMainIn, IsModulesCause, IsPartsWith, IsPlanCause, IsPlanned, IsReadFault, IsReported, IsRunCause, Prints, ProgramEnds, WritesAll, failure, file_view, files_of, path_in, printed_text, record_line, wrong_arguments};
+ghost use Rattle.wc_plan_tool.specs.Program.{AreAdaptersIn, CommandEnds, EndsWell, EndsWithoutArguments, IsAdaptersCause, IsEncoderOf, IsFileFault, IsListed, IsListedCause, IsMainCause, IsMainIn, IsModulesCause, IsNoExport, IsPartsWith, IsPlanCause, IsPlanned, IsReported, IsRunCause, IsUnknownKey, Prints, ProgramEnds, WritesAll, failure, file_view, files_of, path_in, printed_text, record_line, wrong_arguments};
 ghost use Rattle.wc_plan_tool.specs.Private.Runs.{AnswersStop, IsMadeFor, IsMakingFault, IsWritingFault};
 ghost use Rattle.wc_plan_tool.specs.Usage.{fault_and_usage, fault_line};
 
 use crate::arguments::{Command, NoCommand, parse};
+use crate::documents::{read_document, read_file};
 use crate::faults::{ProgramFault, SelectionFault};
+use crate::key_names::{command_keys, count_unversioned};
 use crate::lines::plan_lines;
 use crate::listing::listing;
-use crate::required_exports::{Exporter, check_names, export_keys, required_keys};
+use crate::required_exports::{Exporter, check_names, required_keys};
 use crate::screen::Screen;
 use crate::selection::select_world;
 use crate::store::DirectoryStore;
@@ -35,7 +35,6 @@ use std::borrow::CowSlice;
 use std::io::{self, ErrorKind};
 use wc_dedupe::ModuleImportMap;
 use wc_encoder::{Adapter, ComponentEncoder, EncoderParts, Metadata};
-use wc_json::{Document, document_from_json};
 use wc_plan::laws::worlds_nameable;
 use wc_plan::{Plan, plan};
 use wc_record::world_to_json;
@@ -165,7 +164,7 @@ fn run_and_report<F: DirectoryStore, O: Screen, E: Screen>(
 ///
 /// Of several causes the first in this order is named; `Memory` may come in place of any before `CannotMake`.
 ///
-/// - `CannotRead`, `NotText`, `Json`: the worlds could not be read.
+/// - `CannotRead`, `NotText`, `NotJson`, `RepeatedMember`, `Json`: the worlds could not be read.
 /// - `Selection`: no world is selected.
 /// - `Resolve`: the worlds are not well-formed.
 /// - `Selection`, `NoExport`: names of adapters, or keys, are not there, or are given twice; or files can't be named.
@@ -349,14 +348,14 @@ fn read_encoder<'a, F: FileStore>(
     let document = read_document(alloc, command.worlds, files)?;
     let world = select_world(alloc, &document, command.world)?;
     let resolve = Resolve::build(alloc, document.parts)?;
-    let keys = export_keys(alloc, &resolve, world)?;
+    let keys = command_keys(alloc, command, &resolve, world)?;
     check_listed(alloc, command, &keys)?;
     let parts = read_parts(alloc, command, Metadata { resolve, world }, &keys, files)?;
     Ok(ComponentEncoder::build(alloc, parts)?)
 }
 
-/// Checks the names of adapters and the keys of a command, as `check_names` does. The fault of a key that isn't there has
-/// what exports there are.
+/// Checks the names of adapters and the keys of a command, as `check_names` does, with the fault of `unknown_key` for that
+/// of a key that isn't there.
 fn check_listed<'a>(
     alloc: Global,
     command: &Command<'a>,
@@ -373,49 +372,39 @@ fn check_listed<'a>(
     }
 }
 
-/// A fault of names; that of a key that isn't there with what exports there are.
+/// A fault of names; for that of a key that isn't there the one of `unknown_key`.
 fn listed_fault<'a>(
     alloc: Global,
     fault: SelectionFault<'a>,
     keys: &[(WorldKey, String)],
 ) -> ProgramFault<'a>
-    ensures { IsListed fault.entry (texts_of (map named_key keys.now)) result }
+    ensures { IsListed fault.entry (map named_key keys.now) result }
 {
     match fault {
-        SelectionFault::UnknownKey(key) => match listing(alloc, keys) {
-            Ok(listing) => ProgramFault::NoExport(key, listing),
-            Err(AllocError) => ProgramFault::Memory,
-        },
+        SelectionFault::UnknownKey(key) => unknown_key(alloc, key, keys),
         _ => ProgramFault::from(fault),
     }
 }
 
-/// The worlds in the file of this path.
-fn read_document<'a, F: FileStore>(
-    alloc: Global,
-    path: &'a str,
-    files: &F,
-) -> Result<Document, ProgramFault<'a>>
-    ensures document { IfOk result (λ d. IsDocumentIn (F.held files.now) path.now
-        (document_view d)) }
-    ensures fault { IfErr result (IsDocumentCause (F.held files.now) path.now) }
+/// Why a text is that of none of these keys: it is that of several without their versions, or of one that is given with it
+/// too; or else there is none, and the fault has what exports there are.
+fn unknown_key<'a>(alloc: Global, key: &'a str, keys: &[(WorldKey, String)]) -> ProgramFault<'a>
+    ensures { IsUnknownKey (map named_key keys.now) key.entry result }
 {
-    let bytes = read_file(path, files)?;
-    match str::from_utf8(&bytes) {
-        Ok(text) => Ok(document_from_json(alloc, text)?),
-        Err(_) => Err(ProgramFault::NotText),
+    match count_unversioned(keys, key) {
+        0 => no_export(alloc, key, keys),
+        1 => ProgramFault::Selection(SelectionFault::RepeatedKey(key)),
+        _ => ProgramFault::Selection(SelectionFault::SeveralKeys(key)),
     }
 }
 
-/// The bytes of the file of this path.
-fn read_file<'a, F: FileStore>(path: &'a str, files: &F) -> Result<Vec<u8>, ProgramFault<'a>>
-    ensures read { IfOk result (λ v. Holds (F.held files.now) path.now v.items) }
-    ensures fault { IfErr result (IsReadFault path.now) }
+/// The fault of a key that isn't there, with what exports there are.
+fn no_export<'a>(alloc: Global, key: &'a str, keys: &[(WorldKey, String)]) -> ProgramFault<'a>
+    ensures { IsNoExport (texts_of (map named_key keys.now)) key.entry result }
 {
-    match files.read(path) {
-        Ok(bytes) => Ok(bytes),
-        Err(e) if e.kind() == ErrorKind::OutOfMemory => Err(ProgramFault::Memory),
-        Err(_) => Err(ProgramFault::CannotRead(path)),
+    match listing(alloc, keys) {
+        Ok(listing) => ProgramFault::NoExport(key, listing),
+        Err(AllocError) => ProgramFault::Memory,
     }
 }
 

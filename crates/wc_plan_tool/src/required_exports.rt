@@ -156,7 +156,7 @@ fn first_unknown<'a>(texts: &[&'a str], keys: &[(WorldKey, String)]) -> Option<&
 }
 
 /// Whether a text is that of one of these keys.
-fn is_export(keys: &[(WorldKey, String)], text: &str) -> bool
+pub(crate) fn is_export(keys: &[(WorldKey, String)], text: &str) -> bool
     ensures { result ≡ list_any (λ k. bytes_eq (string_bytes k.1) text.now) keys.now }
 {
     keys.iter().any(|key| key.1.as_str() == text)
@@ -174,7 +174,7 @@ fn first_parts<'a>(alloc: Global, pairs: &[(&'a str, &'a str)]) -> Result<Vec<&'
 }
 
 /// The keys that modules have to export: those of the main module, and then those of adapters.
-fn given_keys<'a>(
+pub(crate) fn given_keys<'a>(
     alloc: Global,
     exports: &[&'a str],
     adapter_exports: &[(&'a str, &'a str)],

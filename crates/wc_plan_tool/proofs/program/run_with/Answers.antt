@@ -1,7 +1,6 @@
 use Rattle.std.proofs.Common.{◌∙◌, map, refl, string_bytes, sym}
 use Rattle.wc_plan_tool.specs.Arguments.{command_value}
 use Rattle.wc_plan_tool.specs.Reading.{read_arguments}
-use Rattle.wc_plan_tool.specs.Screen.{Becomes}
 use Rattle.wc_plan_tool.proofs.RunLemmas.{ends_by_command, ends_by_reading, ends_by_stop}
 use Rattle.wc_plan_tool.proofs.TextsLemmas.{no_texts, some_texts}
 use Rattle.wc_plan_tool.proofs.program.run_with.Goals as goal

@@ -1,0 +1,82 @@
+//! Files that are read: their bytes, and the worlds in one.
+
+ghost use Rattle.std.specs.Prelude.{IfErr, IfOk};
+ghost use Rattle.json.specs.Json.{document};
+ghost use Rattle.wc_json.specs.Document.{IsDocument, document_view};
+ghost use Rattle.wc_tool.specs.Files.{Holds};
+ghost use Rattle.wc_plan_tool.specs.Program.{IsDocumentCause, IsDocumentIn, IsNotJson, IsReadFault, IsRepeatedMember, IsTextCause};
+
+use crate::faults::ProgramFault;
+use crate::json_place::{json_end, repeated_member};
+use std::alloc::{AllocError, Global};
+use std::io::ErrorKind;
+use wc_json::{Document, JsonFault, document_from_json};
+use wc_tool::FileStore;
+
+/// The worlds in the file of this path.
+pub(crate) fn read_document<'a, F: FileStore>(
+    alloc: Global,
+    path: &'a str,
+    files: &F,
+) -> Result<Document, ProgramFault<'a>>
+    ensures document { IfOk result (λ d. IsDocumentIn (F.held files.now) path.now
+        (document_view d)) }
+    ensures fault { IfErr result (IsDocumentCause (F.held files.now) path.now) }
+{
+    let bytes = read_file(path, files)?;
+    match str::from_utf8(&bytes) {
+        Ok(text) => document_in(alloc, text),
+        Err(_) => Err(ProgramFault::NotText),
+    }
+}
+
+/// The worlds in a text.
+fn document_in<'a>(alloc: Global, text: &str) -> Result<Document, ProgramFault<'a>>
+    ensures document { IfOk result (λ d. IsDocument (document text.now) d) }
+    ensures fault { IfErr result (IsTextCause text.now) }
+{
+    match document_from_json(alloc, text) {
+        Ok(document) => Ok(document),
+        Err(JsonFault::Memory) => Err(ProgramFault::Memory),
+        Err(JsonFault::NotJson) => Err(not_json(alloc, text)),
+        Err(JsonFault::RepeatedMember) => Err(repeated(alloc, text)),
+        Err(JsonFault::Wrong { path, problem }) => {
+            Err(ProgramFault::Json(JsonFault::Wrong { path, problem }))
+        }
+    }
+}
+
+/// The fault of a text that is not JSON.
+fn not_json<'a>(alloc: Global, text: &str) -> ProgramFault<'a>
+    ensures { IsNotJson text.now result }
+{
+    match json_end(alloc, text) {
+        Ok(at) => ProgramFault::NotJson(at),
+        Err(AllocError) => ProgramFault::Memory,
+    }
+}
+
+/// The fault of a text in which an object has a member twice.
+fn repeated<'a>(alloc: Global, text: &str) -> ProgramFault<'a>
+    ensures { IsRepeatedMember result }
+{
+    match repeated_member(alloc, text) {
+        Ok(path) => ProgramFault::RepeatedMember(path),
+        Err(AllocError) => ProgramFault::Memory,
+    }
+}
+
+/// The bytes of the file of this path.
+pub(crate) fn read_file<'a, F: FileStore>(
+    path: &'a str,
+    files: &F,
+) -> Result<Vec<u8>, ProgramFault<'a>>
+    ensures read { IfOk result (λ v. Holds (F.held files.now) path.now v.items) }
+    ensures fault { IfErr result (IsReadFault path.now) }
+{
+    match files.read(path) {
+        Ok(bytes) => Ok(bytes),
+        Err(e) if e.kind() == ErrorKind::OutOfMemory => Err(ProgramFault::Memory),
+        Err(_) => Err(ProgramFault::CannotRead(path)),
+    }
+}
