@@ -5,6 +5,9 @@
 //! No function requires anything of its arguments, but what their types say: a pointer with a length is to so many bytes,
 //! those of `out` are the caller's alone for the call, and nothing is null. Calls may run on several threads at once.
 //!
+//! `seed0` and `seed1` are the seed of the maps that a call makes (`wc_maps::Seed`). No answer depends on them; random ones
+//! keep who chooses names from choosing such that make a call slow. All calls of a process may have the same.
+//!
 //! Memory comes from three functions that the program has to define: `rattle_alloc`, `rattle_realloc` and
 //! `rattle_dealloc`. After each call all of it was given back.
 #![tactic(auto)]
@@ -13,7 +16,7 @@ ghost use Rattle.std.specs.Prelude.{◌≡◌, ◌≢◌, ◌≤◌, []};
 ghost use Rattle.std.specs.Option.{option_map};
 ghost use Rattle.wc_read.specs.Sections.{IsComponent};
 ghost use Rattle.wc_dedupe.specs.Dedupe.{IsDeduped};
-ghost use Rattle.wc_calls.specs.Answers.{IsPut, IsTooLong, done, failed, too_small, same, bad_argument};
+ghost use Rattle.wc_calls.specs.Answers.{AreOthersOfTextZero, AreOthersZero, IsPut, IsTooLong, done, failed, too_small, same, bad_argument};
 ghost use Rattle.wc_calls.specs.ComponentWorlds.{IsFaultOf, IsWorldAnswer};
 ghost use Rattle.wc_calls.specs.Renaming.{IsRenamed, IsRenamingFault};
 ghost use Rattle.wc_calls.specs.Required.{texts, trim_input_of};
@@ -22,6 +25,7 @@ ghost use Rattle.nuigatre.specs.Arguments.{optional_name, settings_of};
 
 use std::alloc::Global;
 use wc_calls::{Answer, dedupe, trim, world};
+use wc_maps::Seed;
 
 /// Renames the imports of a module so that no two share a module and a name: `wc_calls::dedupe`.
 #[unsafe(no_mangle)]
@@ -35,6 +39,8 @@ pub extern "C" fn nuigatre_dedupe(alloc: Global, wasm: &[u8], out: &mut [u8]) ->
     ensures component { IsComponent wasm.now → result.status ≡ same }
     ensures unchanged { result.status ≢ done → out.new ≡ out.old }
     ensures statuses { (result.status ≤ 5) × (result.status ≢ bad_argument) }
+    ensures position { result.position ≡ 0 }
+    ensures others { AreOthersZero result }
 {
     dedupe(alloc, wasm, out)
 }
@@ -44,6 +50,8 @@ pub extern "C" fn nuigatre_dedupe(alloc: Global, wasm: &[u8], out: &mut [u8]) ->
 #[unsafe(no_mangle)]
 pub extern "C" fn nuigatre_trim(
     alloc: Global,
+    seed0: u64,
+    seed1: u64,
     wasm: &[u8],
     required: &[&[u8]],
     has_realloc: bool,
@@ -69,15 +77,19 @@ pub extern "C" fn nuigatre_trim(
         (texts required.now) }
     ensures unchanged { result.status ≢ done → out.new ≡ out.old }
     ensures statuses { (result.status ≤ 5) × (result.status ≢ same) }
+    ensures others { AreOthersZero result }
 {
+    let seed = Seed::new(seed0, seed1);
     let realloc = optional_name(has_realloc, realloc);
-    trim(alloc, wasm, required, realloc, page_size_log2, out)
+    trim(alloc, seed, wasm, required, realloc, page_size_log2, out)
 }
 
 /// Makes the world of a component, which the message describes in JSON: `wc_calls::world`.
 #[unsafe(no_mangle)]
 pub extern "C" fn nuigatre_world(
     alloc: Global,
+    seed0: u64,
+    seed1: u64,
     message: &[u8],
     modules: &[u8],
     out: &mut [u8],
@@ -91,8 +103,10 @@ pub extern "C" fn nuigatre_world(
     ensures unchanged { result.status ≢ done → result.status ≢ failed → out.new ≡ out.old }
     ensures statuses { (result.status ≤ 5) × (result.status ≢ same)
         × (result.status ≢ bad_argument) }
+    ensures others { AreOthersOfTextZero result }
 {
-    world(alloc, message, modules, out)
+    let seed = Seed::new(seed0, seed1);
+    world(alloc, seed, message, modules, out)
 }
 
 /// The name, where there is one.

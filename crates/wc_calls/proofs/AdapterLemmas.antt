@@ -1,11 +1,11 @@
 -- Adapters out of messages, each with its bytes from the front of what is left; and worlds by their names.
 use Rattle.std.proofs.Common.{◌≡◌, ℕ, suc, ◌+◌, ◌<◌, List, [], ◌∷◌, ◌++◌, map, length, get_or, take, drop, sum, Bool, true, false, not, cond, is_some, nat_lt, Option, Some, None, refl, sym, ap, subst, ◌∙◌, append_assoc, String, Global, string_bytes, string_eq, append-nil, inl, inr, arith}
-use Rattle.std.specs.List.{AllZip, flat_map, position, position_or_len, prefix_len, sum_by}
+use Rattle.std.specs.List.{AllZip, Contains, flat_map, position, position_or_len, prefix_len, sum_by}
 use Rattle.std.specs.Map.{lookup}
 use Rattle.std.specs.Option.{option_and_then, option_map}
 use Rattle.std.specs.Str.{bytes_eq}
 use Rattle.std.proofs.lemmas.Bool.{cases_Bool, false≢true}
-use Rattle.std.proofs.lemmas.List.{map-append, length-append, length-map, get_or_append_left, get_or_at, take-append-drop, drop_more}
+use Rattle.std.proofs.lemmas.List.{map-append, length-append, length-map, take-append-drop, drop_more}
 use Rattle.std.proofs.lemmas.List.Concat.{flat_map-append, flat_map-cons}
 use Rattle.std.proofs.lemmas.List.Sums.{sum-map, sum_by-append, sum_by-cons}
 use Rattle.std.proofs.lemmas.Slice.Eq.{bytes_eq-Decides}
@@ -14,8 +14,9 @@ use Rattle.wc_encoder.specs.Adapters.{AdapterView, adapter_entry, adapter_view}
 use Rattle.wc_encoder.specs.declared.adapters.Adapter.{Adapter}
 use Rattle.wc_resolve.specs.Views.{WorldView, key_view, world_view}
 use Rattle.wc_resolve.specs.declared.worlds.World.{World}
-use Rattle.wc_calls.specs.Encoders.{AreAdaptersOf, AreNamesDistinct, IsAdapterOf, key_set, small_index, world_of}
+use Rattle.wc_calls.specs.Encoders.{AreAdaptersOf, IsAdapterOf, key_set, small_index, world_of}
 use Rattle.wc_calls.specs.Libraries.{library_message_view}
+use Rattle.wc_calls.specs.MessageFaults.{IsNamedTwice}
 use Rattle.wc_calls.specs.Messages.{AdapterMessageView, adapter_message_view, of_name}
 use Rattle.wc_calls.specs.declared.messages.AdapterMessage.{AdapterMessage}
 
@@ -147,28 +148,29 @@ shorter all ms left m bytes rest adapters cut before fewer same =
     ap sizes_of cut ∙ sizes_of-append ms (m ∷ left) ∙ ap (λ n. sizes_of ms + n) (sizes_of-cons m left) in
     absurd (omega (arith, before.size, fewer, same, sums))
 
--- where the adapter of a name is
-name_at : (ms : List AdapterMessageView) (entries : List (String Global × Adapter)) (text : List ℕ) → AllZip IsAdapterOf ms (map adapter_entry entries)
-    → is_some (named text entries) ≡ true → (i : ℕ) × (i < length ms) × ((d : AdapterMessageView) → (get_or ms i d).name ≡ text)
-name_at [] [] text h there = absurd (false≢true there)
-name_at [] (e ∷ es) text h there = absurd h
-name_at (m ∷ ms) [] text h there = absurd h
-name_at (m ∷ ms) (e ∷ es) text h there = elim (cases_Bool (bytes_eq text (string_bytes e.0))) [
-  | inl same ↦ (0, omega arith, (λ d. sym h.0.name ∙ sym ((bytes_eq-Decides text (string_bytes e.0)).0 same)))
-  | inr other ↦ let at = name_at ms es text h.1 (sym (ap (λ b. is_some (cond b (Some e.1) (named text es))) other) ∙ there) in
-      (suc at.0, omega (arith, at.1), (λ d. at.2 d))
+-- a name that an adapter has is among those of the messages
+name_among : (ms : List AdapterMessageView) (entries : List (String Global × Adapter)) (text : List ℕ) → AllZip IsAdapterOf ms (map adapter_entry entries)
+    → is_some (named text entries) ≡ true → Contains (map (λ (m : AdapterMessageView). m.name) ms) text
+name_among [] [] text h there = absurd (false≢true there)
+name_among [] (e ∷ es) text h there = absurd h
+name_among (m ∷ ms) [] text h there = absurd h
+name_among (m ∷ ms) (e ∷ es) text h there = elim (cases_Bool (bytes_eq text (string_bytes e.0))) [
+  | inl same ↦ (0, omega arith, sym h.0.name ∙ sym ((bytes_eq-Decides text (string_bytes e.0)).0 same))
+  | inr other ↦ let at = name_among ms es text h.1 (sym (ap (λ b. is_some (cond b (Some e.1) (named text es))) other) ∙ there) in
+      (suc at.0, omega (arith, at.1), at.2)
 ]
 
 -- two adapters have one name
 pub named_twice : (all ms left : List AdapterMessageView) (m : AdapterMessageView) (bytes rest : List ℕ) (entries : List (String Global × Adapter))
-    → all ≡ ms ++ m ∷ left → AreAdaptersBefore ms bytes rest (map adapter_entry entries) → is_some (named m.name entries) ≡ true → AreNamesDistinct all → ⊥
-named_twice all ms left m bytes rest entries cut before there distinct =
-    let at = name_at ms entries m.name before.each there in
-    let there_too : length ms < length (ms ++ m ∷ left) =
-    let n : length (ms ++ m ∷ left) ≡ length ms + length (m ∷ left) = length-append ms (m ∷ left) in omega (arith, n) in
-    let apart = subst AreNamesDistinct cut distinct at.0 (length ms) m at.1 there_too in
-    apart (ap (λ (x : AdapterMessageView). x.name) (get_or_append_left ms (m ∷ left) m at.0 at.1) ∙ at.2 m
-    ∙ sym (ap (λ (x : AdapterMessageView). x.name) (get_or_at ms m left m (length ms) refl)))
+    → all ≡ ms ++ m ∷ left → AreAdaptersBefore ms bytes rest (map adapter_entry entries) → is_some (named m.name entries) ≡ true → IsNamedTwice all m.name
+named_twice all ms left m bytes rest entries cut before there = record {
+  front = ms;
+  again = m;
+  back = left;
+  cut = cut;
+  named = refl;
+  before = name_among ms entries m.name before.each there;
+}
 
 -- texts one after another, and one of them more
 pub bytes_more : {A B : Type 0} (text : B → List ℕ) (view : A → B) (all front new : List ℕ) (x : A) (xs ys : List A) → xs ≡ x ∷ ys

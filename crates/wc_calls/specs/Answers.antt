@@ -1,5 +1,6 @@
 -- Answers in a buffer: their statuses, and what the buffer has then.
-use Rattle.std.specs.Prelude.{◌≡◌, ◌<◌, ◌≤◌, ◌⊎◌, ℕ, List, ◌++◌, drop, length}
+use Rattle.std.specs.Prelude.{◌≡◌, ◌≢◌, ◌<◌, ◌≤◌, ◌⊎◌, ℕ, List, ◌++◌, drop, length}
+use Rattle.wc_calls.specs.declared.answers.Answer.{Answer}
 
 -- the statuses: the answer is in the buffer; a fault; the buffer is too small; the answer is the input; the arguments
 -- have no answer; an allocation failed
@@ -37,3 +38,21 @@ IsTooLong P n old = (text : List ℕ) × P text × (n ≡ length text) × (lengt
 -- the status of a call that has bytes to answer
 abbrev pub IsBytesStatus : ℕ → Type 0
 IsBytesStatus status = (status ≡ done) ⊎ (status ≡ too_small) ⊎ (status ≡ out_of_memory)
+
+-- no fault, and no bytes, in the numbers of an answer
+abbrev pub HasNoFault : Answer → Type 0
+HasNoFault a = (a.fault ≡ 0) × (a.position ≡ 0)
+
+abbrev pub HasNoBytes : Answer → Type 0
+HasNoBytes a = (a.length ≡ 0) × (a.module_length ≡ 0)
+
+-- what an answer has no use for is 0; a fault of the call has no bytes
+abbrev pub AreOthersZero : Answer → Type 0
+AreOthersZero a = (a.status ≢ failed → HasNoFault a) × (a.status ≢ done → a.status ≢ too_small → HasNoBytes a)
+
+-- the same, of a call whose faults have a text
+abbrev pub AreOthersOfTextZero : Answer → Type 0
+AreOthersOfTextZero a =
+    (a.status ≢ failed → HasNoFault a)
+    × (a.status ≢ done → a.status ≢ too_small → a.module_length ≡ 0)
+    × (a.status ≢ done → a.status ≢ too_small → a.status ≢ failed → a.length ≡ 0)

@@ -32,6 +32,8 @@ pub record IsFaultAnswer (f : MessageFault) (text : List ℕ) (answer : Answer) 
   pub status : answer.status ≡ failed
   pub number : answer.fault ≡ message_fault_number f
   pub size : answer.length ≡ length text
+  pub no_module : answer.module_length ≡ 0
+  pub no_position : answer.position ≡ 0
   pub put : length text ≤ length old → IsFront text old new
   pub longer : length old < length text → new ≡ old
 

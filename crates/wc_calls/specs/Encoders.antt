@@ -1,5 +1,5 @@
 -- Which encoder a message is, with the bytes of its modules.
-use Rattle.std.specs.Prelude.{◌≡◌, ◌≢◌, ◌^◌, ◌++◌, ℕ, List, [], map, length, nat_lt, false, unwrap_or, option_and_then, Option, Some, None, IsSomeAnd, Ok, if◌then◌else◌, flat_map, AllPairs}
+use Rattle.std.specs.Prelude.{◌≡◌, ◌^◌, ◌++◌, ℕ, List, [], map, length, nat_lt, false, unwrap_or, option_and_then, Option, Some, None, IsSomeAnd, Ok, if◌then◌else◌, flat_map}
 use Rattle.std.specs.List.{AllZip, position}
 use Rattle.std.specs.Str.{bytes_eq}
 use Rattle.indexmap.specs.IndexSet.{insert_all}
@@ -29,10 +29,6 @@ world_of worlds (of_name name) = option_and_then small_index (position (λ (w : 
 -- keys in the order of their first occurrences
 abbrev pub key_set : List KeyView → List KeyView
 key_set keys = insert_all key_view_eq [] keys
-
--- no two adapters have one name
-abbrev pub AreNamesDistinct : List AdapterMessageView → Type 0
-AreNamesDistinct adapters = AllPairs (λ (a : AdapterMessageView) (b : AdapterMessageView). a.name ≢ b.name) adapters
 
 -- an adapter of a message, with its bytes
 pub record IsAdapterOf (m : AdapterMessageView) (a : List ℕ × AdapterView) : Type 0 where

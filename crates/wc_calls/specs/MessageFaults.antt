@@ -1,5 +1,5 @@
 -- Why a message has no component's world.
-use Rattle.std.specs.Prelude.{◌≡◌, ◌≢◌, ◌++◌, ℕ, List, ◌∷◌, map, length, sum, None, ⊤}
+use Rattle.std.specs.Prelude.{◌≡◌, ◌≢◌, ◌++◌, ℕ, List, ◌∷◌, map, length, sum, None, ⊤, Contains, string_bytes}
 use Rattle.std.specs.Str.{IsUtf8}
 use Rattle.json.specs.Json.{document}
 use Rattle.wc_dedupe.specs.Dedupe.{IsCause as IsDedupeCause}
@@ -18,7 +18,7 @@ use Rattle.wc_resolve.specs.declared.fault.ResolveFault.TheVariants.{Memory as r
 use Rattle.wc_plan.specs.EncoderFaults.{IsWorldCause}
 use Rattle.wc_world.specs.declared.fault.WorldFault.{WorldFault}
 use Rattle.wc_world.specs.declared.fault.WorldFault.TheVariants.{Memory as world_memory}
-use Rattle.wc_calls.specs.Encoders.{AreNamesDistinct, IsEncoderOf, IsMessage, IsPartsOf, world_of}
+use Rattle.wc_calls.specs.Encoders.{IsEncoderOf, IsMessage, IsPartsOf, world_of}
 use Rattle.wc_calls.specs.Messages.{AdapterMessageView, MessageView, message}
 use Rattle.wc_calls.specs.declared.message_fault.MessageFault.{MessageFault}
 use Rattle.wc_calls.specs.declared.message_fault.MessageFault.TheVariants.{Memory, NotText, Json, UnknownWorld, Lengths, Resolve, AdapterTwice, Dedupe, Encoder, World}
@@ -49,6 +49,15 @@ of_world f = World f
 abbrev pub sizes : MessageView → ℕ
 sizes m = sum (m.size ∷ map (λ (a : AdapterMessageView). a.size) m.adapters)
 
+-- an adapter has the name, and one before it has
+pub record IsNamedTwice (ms : List AdapterMessageView) (name : List ℕ) : Type 0 where
+  pub front : List AdapterMessageView
+  pub again : AdapterMessageView
+  pub back : List AdapterMessageView
+  pub cut : ms ≡ front ++ again ∷ back
+  pub named : again.name ≡ name
+  pub before : Contains (map (λ (a : AdapterMessageView). a.name) front) name
+
 -- the cause of each fault, for the bytes of a message and of modules
 abbrev pub IsMessageCause : List ℕ → List ℕ → MessageFault → Type 0
 IsMessageCause text modules Memory = ⊤
@@ -57,7 +66,7 @@ IsMessageCause text modules (Json f) = IsCauseOf message (document text) f
 IsMessageCause text modules UnknownWorld = (m : MessageView) × IsMessage text m × (world_of m.document.parts.worlds m.world ≡ None)
 IsMessageCause text modules Lengths = (m : MessageView) × IsMessage text m × (sizes m ≢ length modules)
 IsMessageCause text modules (Resolve f) = (m : MessageView) × IsMessage text m × IsResolveCause m.document.parts f
-IsMessageCause text modules (AdapterTwice name) = (m : MessageView) × IsMessage text m × (¬ AreNamesDistinct m.adapters)
+IsMessageCause text modules (AdapterTwice name) = (m : MessageView) × IsMessage text m × IsNamedTwice m.adapters (string_bytes name)
 IsMessageCause text modules (Dedupe f) =
     (m : MessageView) × IsMessage text m × (main : List ℕ) × (rest : List ℕ) × (modules ≡ main ++ rest) × (length main ≡ m.size) × IsDedupeCause main f
 IsMessageCause text modules (Encoder f) = (m : MessageView) × IsMessage text m × (e : EncoderView) × IsPartsOf m modules e × IsEncoderCause e f
@@ -69,7 +78,7 @@ IsPartsCause m modules Memory = ⊤
 IsPartsCause m modules UnknownWorld = world_of m.document.parts.worlds m.world ≡ None
 IsPartsCause m modules Lengths = sizes m ≢ length modules
 IsPartsCause m modules (Resolve f) = IsResolveCause m.document.parts f
-IsPartsCause m modules (AdapterTwice name) = ¬ AreNamesDistinct m.adapters
+IsPartsCause m modules (AdapterTwice name) = IsNamedTwice m.adapters (string_bytes name)
 IsPartsCause m modules (Dedupe f) = (main : List ℕ) × (rest : List ℕ) × (modules ≡ main ++ rest) × (length main ≡ m.size) × IsDedupeCause main f
 IsPartsCause m modules (Encoder f) = (e : EncoderView) × IsPartsOf m modules e × IsEncoderCause e f
 IsPartsCause m modules f = ⊥
@@ -78,7 +87,7 @@ IsPartsCause m modules f = ⊥
 abbrev pub IsAdaptersCause : List AdapterMessageView → List ℕ → MessageFault → Type 0
 IsAdaptersCause ms bytes Memory = ⊤
 IsAdaptersCause ms bytes Lengths = sum (map (λ (a : AdapterMessageView). a.size) ms) ≢ length bytes
-IsAdaptersCause ms bytes (AdapterTwice name) = ¬ AreNamesDistinct ms
+IsAdaptersCause ms bytes (AdapterTwice name) = IsNamedTwice ms (string_bytes name)
 IsAdaptersCause ms bytes f = ⊥
 
 abbrev pub IsRenamingCause : List ℕ → MessageFault → Type 0

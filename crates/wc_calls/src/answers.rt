@@ -1,7 +1,7 @@
 //! Answers in a buffer of the caller's.
 
 ghost use Rattle.std.specs.Prelude.{◌≡◌, ◌≢◌, ◌++◌, ◌<◌, ◌⊎◌, length};
-ghost use Rattle.wc_calls.specs.Answers.{IsFront, done, too_small, failed};
+ghost use Rattle.wc_calls.specs.Answers.{HasNoBytes, HasNoFault, IsFront, done, too_small, failed};
 
 /// The answer is in the front of the buffer, and the rest of the buffer is as it was.
 pub const DONE: u32 = 0;
@@ -42,7 +42,8 @@ pub struct Answer {
 /// An answer that is its status alone.
 pub(crate) fn answer_without_bytes(status: u32) -> Answer
     ensures status { result.status ≡ status }
-    ensures no_bytes { (result.length ≡ 0) × (result.module_length ≡ 0) }
+    ensures no_fault { HasNoFault result }
+    ensures no_bytes { HasNoBytes result }
 {
     Answer {
         status,
@@ -58,7 +59,7 @@ pub(crate) fn fault_answer(fault: u32, position: usize) -> Answer
     ensures status { result.status ≡ failed }
     ensures fault { result.fault ≡ fault }
     ensures position { result.position ≡ position }
-    ensures no_bytes { (result.length ≡ 0) × (result.module_length ≡ 0) }
+    ensures no_bytes { HasNoBytes result }
 {
     Answer {
         status: FAULT,
@@ -78,6 +79,8 @@ pub(crate) fn put(wasm: &[u8], others: &[u8], out: &mut [u8]) -> Answer
     ensures too_small { result.status ≡ too_small → length out.old < result.length }
     ensures unchanged { result.status ≢ done → out.new ≡ out.old }
     ensures statuses { (result.status ≡ done) ⊎ (result.status ≡ too_small) }
+    ensures no_fault { HasNoFault result }
+    ensures no_bytes { result.status ≢ done → result.status ≢ too_small → HasNoBytes result }
 {
     let length = wasm.len() + others.len();
     if out.len() < length {

@@ -2,7 +2,7 @@
 
 ghost use Rattle.std.specs.Prelude.{◌≡◌, ◌≢◌, ◌++◌, ◌≤◌, ◌⊎◌, IfErr, IfOk, List, length, ℕ};
 ghost use Rattle.wc_world.specs.WorldViews.{world_view};
-ghost use Rattle.wc_calls.specs.Answers.{IsPut, IsTooLong, bad_argument, done, failed, out_of_memory, same, too_small};
+ghost use Rattle.wc_calls.specs.Answers.{AreOthersOfTextZero, IsPut, IsTooLong, bad_argument, done, failed, out_of_memory, same, too_small};
 ghost use Rattle.wc_record.specs.Texts.{world_text};
 ghost use Rattle.wc_calls.specs.ComponentWorlds.{IsFaultAnswer, IsFaultOf, IsWorldAnswer, modules_text};
 ghost use Rattle.wc_calls.specs.Private.EncoderAnswers.{IsAnswerFor, IsFaultFor};
@@ -14,6 +14,7 @@ use crate::fault_numbers::message_fault_number;
 use crate::message_fault::MessageFault;
 use std::alloc::{AllocError, Global};
 use wc_encoder::ComponentEncoder;
+use wc_maps::Seed;
 use wc_record::world_to_json;
 use wc_world::{ComponentWorld, PlainOptions};
 
@@ -36,12 +37,17 @@ fn modules_of(alloc: Global, world: &ComponentWorld<'_>) -> Result<Vec<u8>, Allo
 }
 
 /// What a message is answered.
-fn answer_to(alloc: Global, message: &[u8], modules: &[u8]) -> Result<WorldAnswer, MessageFault>
+fn answer_to(
+    alloc: Global,
+    seed: Seed,
+    message: &[u8],
+    modules: &[u8],
+) -> Result<WorldAnswer, MessageFault>
     ensures answer { IfOk result (λ a. IsWorldAnswer message.now modules.now
         (length a.modules.items) (a.modules.items ++ a.json.items)) }
     ensures fault { IfErr result (IsMessageCause message.now modules.now) }
 {
-    let encoder = encoder_from(alloc, message, modules)?;
+    let encoder = encoder_from(alloc, seed, message, modules)?;
     answer_of_encoder(alloc, &encoder)
 }
 
@@ -95,6 +101,7 @@ fn answer_fault(alloc: Global, fault: &MessageFault, out: &mut [u8]) -> Answer
     ensures memory { fault.now ≡ MessageFault.Memory → result.status ≢ failed }
     ensures unchanged { result.status ≢ failed → out.new ≡ out.old }
     ensures statuses { (result.status ≡ failed) ⊎ (result.status ≡ out_of_memory) }
+    ensures others { AreOthersOfTextZero result }
 {
     if let MessageFault::Memory = fault {
         return answer_without_bytes(MEMORY);
@@ -119,7 +126,7 @@ fn answer_fault(alloc: Global, fault: &MessageFault, out: &mut [u8]) -> Answer
 ///   no library, else as `wc_record` writes it.
 ///
 /// `modules` has the bytes of the main module and of the adapters, one after another. Repeated imports of the main module
-/// are renamed first, as by `dedupe`.
+/// are renamed first, as by `dedupe`. `seed`: the seed of the maps that are made.
 ///
 /// - `DONE`: the front of `out` has `module_length` bytes of modules, one after another: the main module with its renamed
 ///   imports, and the adapters and libraries of the component's world in their order. After them it has that world as
@@ -131,8 +138,8 @@ fn answer_fault(alloc: Global, fault: &MessageFault, out: &mut [u8]) -> Answer
 /// - `MEMORY`: an allocation failed.
 ///
 /// It is never `SAME` or `BAD_ARGUMENT`. `out` is as it was but for what is said here, and then after the first `length`
-/// bytes.
-pub fn world(alloc: Global, message: &[u8], modules: &[u8], out: &mut [u8]) -> Answer
+/// bytes. Numbers of the answer that nothing is said of are 0.
+pub fn world(alloc: Global, seed: Seed, message: &[u8], modules: &[u8], out: &mut [u8]) -> Answer
     ensures done { result.status ≡ done → IsPut (IsWorldAnswer message.now modules.now
         result.module_length) result.length out.old out.new }
     ensures too_small { result.status ≡ too_small → IsTooLong
@@ -142,8 +149,9 @@ pub fn world(alloc: Global, message: &[u8], modules: &[u8], out: &mut [u8]) -> A
     ensures unchanged { result.status ≢ done → result.status ≢ failed → out.new ≡ out.old }
     ensures statuses { (result.status ≤ 5) × (result.status ≢ same)
         × (result.status ≢ bad_argument) }
+    ensures others { AreOthersOfTextZero result }
 {
-    match answer_to(alloc, message, modules) {
+    match answer_to(alloc, seed, message, modules) {
         Ok(answer) => put(&answer.modules, &answer.json, out),
         Err(fault) => answer_fault(alloc, &fault, out),
     }

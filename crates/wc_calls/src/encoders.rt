@@ -18,13 +18,13 @@ ghost use Rattle.wc_calls.specs.Messages.{adapter_message_view, message_view, of
 use crate::libraries::LibraryMessage;
 use crate::message_fault::MessageFault;
 use crate::messages::{AdapterMessage, Message, WorldName};
-use indexmap::{IndexMap, IndexSet};
 use std::alloc::{AllocError, Global};
 use std::borrow::CowSlice;
 use std::str;
 use wc_dedupe::ModuleImportMap;
 use wc_encoder::{Adapter, ComponentEncoder, EncoderParts, LibraryInfo, Metadata};
 use wc_json::value_from_json;
+use wc_maps::{Map, Seed, Set};
 use wc_resolve::{Resolve, World, WorldId, WorldKey};
 
 /// The position of the first world of this name.
@@ -66,11 +66,11 @@ fn world_of(worlds: &[World], name: &WorldName) -> Option<WorldId>
     }
 }
 
-/// Keys as a set.
-fn key_set(alloc: Global, keys: Vec<WorldKey>) -> Result<IndexSet<WorldKey>, AllocError>
+/// Keys as a set. `seed`: the seed of the set.
+fn key_set(alloc: Global, seed: Seed, keys: Vec<WorldKey>) -> Result<Set<WorldKey>, AllocError>
     ensures { IfOk result (λ set. map key_view set.keys ≡ key_set (map key_view keys.items)) }
 {
-    let mut set = IndexSet::new(alloc);
+    let mut set = Set::with_hasher(alloc, seed);
     for key in keys {
         set.insert(key)?;
     }
@@ -100,9 +100,10 @@ fn library_of(library: Option<LibraryMessage>) -> Option<LibraryInfo>
     }
 }
 
-/// The adapter with these bytes, keys and library information.
+/// The adapter with these bytes, keys and library information. `seed`: the seed of its set of keys.
 fn adapter_with(
     alloc: Global,
+    seed: Seed,
     wasm: &[u8],
     exports: Vec<WorldKey>,
     library: Option<LibraryMessage>,
@@ -114,7 +115,7 @@ fn adapter_with(
         ≡ option_map library_message_view library) }
 {
     let wasm = Vec::from_slice(alloc, wasm)?;
-    let required_exports = key_set(alloc, exports)?;
+    let required_exports = key_set(alloc, seed, exports)?;
     Ok(Adapter {
         wasm,
         required_exports,
@@ -122,18 +123,19 @@ fn adapter_with(
     })
 }
 
-/// The adapters of messages, with these bytes one after another.
+/// The adapters of messages, with these bytes one after another. `seed`: the seed of the maps that are made.
 fn adapters_of(
     alloc: Global,
+    seed: Seed,
     messages: Vec<AdapterMessage>,
     bytes: &[u8],
-) -> Result<IndexMap<String, Adapter>, MessageFault>
+) -> Result<Map<String, Adapter>, MessageFault>
     ensures adapters { IfOk result (λ m. AreAdaptersOf
         (map adapter_message_view messages.items) bytes.now (map adapter_entry m.entries)) }
     ensures fault { IfErr result (IsAdaptersCause
         (map adapter_message_view messages.items) bytes.now) }
 {
-    let mut adapters = IndexMap::new(alloc);
+    let mut adapters = Map::with_hasher(alloc, seed);
     let mut rest = bytes;
     for message in messages {
         let Some((wasm, others)) = split(rest, message.length) else {
@@ -143,7 +145,7 @@ fn adapters_of(
         if adapters.contains_key(message.name.as_str()) {
             return Err(MessageFault::AdapterTwice(message.name));
         }
-        let adapter = adapter_with(alloc, wasm, message.exports, message.library_info)?;
+        let adapter = adapter_with(alloc, seed, wasm, message.exports, message.library_info)?;
         adapters.insert(message.name, adapter)?;
     }
     if !rest.is_empty() {
@@ -185,6 +187,7 @@ fn text_or_empty(alloc: Global, text: Option<String>) -> String
 /// The encoder of a message, for the world at an index, with the bytes of the main module and those of the others.
 fn encoder_for(
     alloc: Global,
+    seed: Seed,
     message: Message,
     world: WorldId,
     main: &[u8],
@@ -209,9 +212,9 @@ fn encoder_for(
         adapters,
     } = message;
     let resolve = Resolve::build(alloc, document.parts)?;
-    let adapters = adapters_of(alloc, adapters, others)?;
+    let adapters = adapters_of(alloc, seed, adapters, others)?;
     let (wasm, renames) = renamed(alloc, main)?;
-    let main_module_exports = key_set(alloc, exports)?;
+    let main_module_exports = key_set(alloc, seed, exports)?;
     let rejects = reject_legacy_names.unwrap_or(false);
     let grows = realloc_via_memory_grow.unwrap_or(false);
     let hook = text_or_empty(alloc, task_hook);
@@ -231,6 +234,7 @@ fn encoder_for(
 /// The encoder of a message, with the bytes of its modules one after another, the main module first.
 fn encoder_with(
     alloc: Global,
+    seed: Seed,
     message: Message,
     modules: &[u8],
 ) -> Result<ComponentEncoder, MessageFault>
@@ -244,12 +248,13 @@ fn encoder_with(
     let Some((main, others)) = split(modules, message.length) else {
         return Err(MessageFault::Lengths);
     };
-    encoder_for(alloc, message, world, main, others)
+    encoder_for(alloc, seed, message, world, main, others)
 }
 
-/// The encoder of the text of a message, with the bytes of its modules.
+/// The encoder of the text of a message, with the bytes of its modules. `seed`: the seed of the maps that are made.
 pub(crate) fn encoder_from(
     alloc: Global,
+    seed: Seed,
     message: &[u8],
     modules: &[u8],
 ) -> Result<ComponentEncoder, MessageFault>
@@ -259,6 +264,6 @@ pub(crate) fn encoder_from(
     let Ok(text) = str::from_utf8(message) else {
         return Err(MessageFault::NotText);
     };
-    let message: Message = value_from_json(alloc, text)?;
-    encoder_with(alloc, message, modules)
+    let message: Message = value_from_json(alloc, seed, text)?;
+    encoder_with(alloc, seed, message, modules)
 }

@@ -1,20 +1,22 @@
 //! The calls on modules as calls on slices, for a caller that shares no other types: `dedupe` renames the repeated
 //! imports of a module, `trim` cuts an adapter to what its exports reach, and `world` makes the world of a component, which
 //! is described in JSON. Each writes its answer to the front of a buffer of the caller's, and returns an `Answer`, which
-//! is numbers alone. No call requires anything of its arguments.
+//! is numbers alone. No call requires anything of its arguments. The maps of `trim` and `world` hash under a seed that is
+//! passed: whoever chooses names shouldn't know it.
 //!
 //! ```rust
 //! use std::alloc::Global;
 //! use wc_calls::{Answer, trim};
+//! use wc_maps::Seed;
 //!
 //! /// Trims an adapter to what its export `write` reaches, for a main module that exports a realloc as
 //! /// `realloc`.
-//! pub fn trim_to_write(alloc: Global, adapter: &[u8], out: &mut [u8]) -> Answer
+//! pub fn trim_to_write(alloc: Global, seed: Seed, adapter: &[u8], out: &mut [u8]) -> Answer
 //!     ensures done { result.status ≡ done → IsPut (IsRun (with_realloc (codes "realloc"))
 //!         (trim_input_of adapter.now (codes "write" ∷ []))) result.length out.old out.new }
 //!     ensures unchanged { result.status ≢ done → out.new ≡ out.old }
 //! {
-//!     trim(alloc, adapter, &[b"write"], Some(b"realloc"), 16, out)
+//!     trim(alloc, seed, adapter, &[b"write"], Some(b"realloc"), 16, out)
 //! }
 //! ```
 //!

@@ -11,6 +11,7 @@ use json::Value;
 use std::alloc::{AllocError, Global};
 use wc_encoder::{Instance, Item, LibraryInfo, MainOrAdapter};
 use wc_json::{FromJson, JsonFault, Problem, at_member, fault_here, required_member};
+use wc_maps::Seed;
 use wc_read::ExportKind;
 
 /// A kind of exports.
@@ -31,12 +32,17 @@ fn export_kind_of(alloc: Global, name: &str) -> Result<ExportKind, JsonFault>
 struct WhichMessage(MainOrAdapter);
 
 /// What has this kind: the main module, or the adapter of the name that the value has.
-fn which_of_kind(alloc: Global, kind: &str, value: &Value<'_>) -> Result<MainOrAdapter, JsonFault>
+fn which_of_kind(
+    alloc: Global,
+    seed: Seed,
+    kind: &str,
+    value: &Value<'_>,
+) -> Result<MainOrAdapter, JsonFault>
     ensures { Reads which_view result (which_of_kind kind.now (value_view value.now)) }
 {
     match kind {
         "main" => Ok(MainOrAdapter::Main),
-        "adapter" => Ok(MainOrAdapter::Adapter(required_member(alloc, value, "name")?)),
+        "adapter" => Ok(MainOrAdapter::Adapter(required_member(alloc, seed, value, "name")?)),
         _ => at_member(alloc, "kind", Err(fault_here(alloc, Problem::Unknown))),
     }
 }
@@ -51,9 +57,9 @@ impl FromJson for WhichMessage {
 
     ghost reading = { which };
 
-    fn from_json(alloc: Global, value: &Value<'_>) -> Result<WhichMessage, JsonFault> {
-        let kind: String = required_member(alloc, value, "kind")?;
-        Ok(WhichMessage(which_of_kind(alloc, &kind, value)?))
+    fn from_json(alloc: Global, seed: Seed, value: &Value<'_>) -> Result<WhichMessage, JsonFault> {
+        let kind: String = required_member(alloc, seed, value, "kind")?;
+        Ok(WhichMessage(which_of_kind(alloc, seed, &kind, value)?))
     }
 }
 
@@ -71,12 +77,12 @@ impl FromJson for ItemMessage {
 
     ghost reading = { library_item };
 
-    fn from_json(alloc: Global, value: &Value<'_>) -> Result<ItemMessage, JsonFault> {
-        let alias = required_member(alloc, value, "alias")?;
-        let kind: String = required_member(alloc, value, "kind")?;
+    fn from_json(alloc: Global, seed: Seed, value: &Value<'_>) -> Result<ItemMessage, JsonFault> {
+        let alias = required_member(alloc, seed, value, "alias")?;
+        let kind: String = required_member(alloc, seed, value, "kind")?;
         let kind = at_member(alloc, "kind", export_kind_of(alloc, &kind))?;
-        let which: WhichMessage = required_member(alloc, value, "which")?;
-        let name = required_member(alloc, value, "name")?;
+        let which: WhichMessage = required_member(alloc, seed, value, "which")?;
+        let name = required_member(alloc, seed, value, "name")?;
         Ok(ItemMessage(Item {
             alias,
             kind,
@@ -99,16 +105,21 @@ fn items_of(alloc: Global, messages: Vec<ItemMessage>) -> Result<Vec<Item>, Allo
 }
 
 /// What has this kind: all exports of a module, or items.
-fn instance_of_kind(alloc: Global, kind: &str, value: &Value<'_>) -> Result<Instance, JsonFault>
+fn instance_of_kind(
+    alloc: Global,
+    seed: Seed,
+    kind: &str,
+    value: &Value<'_>,
+) -> Result<Instance, JsonFault>
     ensures { Reads instance_view result (instance_of_kind kind.now (value_view value.now)) }
 {
     match kind {
         "module" => {
-            let which: WhichMessage = required_member(alloc, value, "which")?;
+            let which: WhichMessage = required_member(alloc, seed, value, "which")?;
             Ok(Instance::MainOrAdapter(which.0))
         }
         "items" => {
-            let items = required_member(alloc, value, "items")?;
+            let items = required_member(alloc, seed, value, "items")?;
             Ok(Instance::Items(items_of(alloc, items)?))
         }
         _ => at_member(alloc, "kind", Err(fault_here(alloc, Problem::Unknown))),
@@ -129,9 +140,13 @@ impl FromJson for InstanceMessage {
 
     ghost reading = { instance };
 
-    fn from_json(alloc: Global, value: &Value<'_>) -> Result<InstanceMessage, JsonFault> {
-        let kind: String = required_member(alloc, value, "kind")?;
-        Ok(InstanceMessage(instance_of_kind(alloc, &kind, value)?))
+    fn from_json(
+        alloc: Global,
+        seed: Seed,
+        value: &Value<'_>,
+    ) -> Result<InstanceMessage, JsonFault> {
+        let kind: String = required_member(alloc, seed, value, "kind")?;
+        Ok(InstanceMessage(instance_of_kind(alloc, seed, &kind, value)?))
     }
 }
 
@@ -150,9 +165,13 @@ impl FromJson for ArgumentMessage {
 
     ghost reading = { argument };
 
-    fn from_json(alloc: Global, value: &Value<'_>) -> Result<ArgumentMessage, JsonFault> {
-        let name = required_member(alloc, value, "name")?;
-        let instance: InstanceMessage = required_member(alloc, value, "instance")?;
+    fn from_json(
+        alloc: Global,
+        seed: Seed,
+        value: &Value<'_>,
+    ) -> Result<ArgumentMessage, JsonFault> {
+        let name = required_member(alloc, seed, value, "name")?;
+        let instance: InstanceMessage = required_member(alloc, seed, value, "instance")?;
         Ok(ArgumentMessage(name, instance.0))
     }
 }
@@ -186,9 +205,18 @@ impl FromJson for LibraryMessage {
 
     ghost reading = { library };
 
-    fn from_json(alloc: Global, value: &Value<'_>) -> Result<LibraryMessage, JsonFault> {
-        let arguments = required_member(alloc, value, "arguments")?;
-        let instantiate_after_shims = required_member(alloc, value, "instantiate_after_shims")?;
+    fn from_json(
+        alloc: Global,
+        seed: Seed,
+        value: &Value<'_>,
+    ) -> Result<LibraryMessage, JsonFault> {
+        let arguments = required_member(alloc, seed, value, "arguments")?;
+        let instantiate_after_shims = required_member(
+            alloc,
+            seed,
+            value,
+            "instantiate_after_shims",
+        )?;
         Ok(LibraryMessage(LibraryInfo {
             arguments: arguments_of(alloc, arguments)?,
             instantiate_after_shims,

@@ -5,6 +5,7 @@ use crate::libraries::LibraryMessage;
 use json::Value;
 use std::alloc::Global;
 use wc_json::{Document, FromJson, JsonFault, optional_member, required_member};
+use wc_maps::Seed;
 use wc_resolve::{WorldId, WorldKey};
 
 /// Which world a component is encoded for: that at an index, or the first of a name.
@@ -23,10 +24,10 @@ impl FromJson for WorldName {
 
     ghost reading = { world_name };
 
-    fn from_json(alloc: Global, value: &Value<'_>) -> Result<WorldName, JsonFault> {
+    fn from_json(alloc: Global, seed: Seed, value: &Value<'_>) -> Result<WorldName, JsonFault> {
         match value.as_str() {
             Some(name) => Ok(WorldName::Name(String::from_str(alloc, name)?)),
-            None => Ok(WorldName::Index(WorldId::from_json(alloc, value)?)),
+            None => Ok(WorldName::Index(WorldId::from_json(alloc, seed, value)?)),
         }
     }
 }
@@ -52,11 +53,15 @@ impl FromJson for AdapterMessage {
 
     ghost reading = { adapter_message };
 
-    fn from_json(alloc: Global, value: &Value<'_>) -> Result<AdapterMessage, JsonFault> {
-        let name = required_member(alloc, value, "name")?;
-        let length = required_member(alloc, value, "length")?;
-        let exports = required_member(alloc, value, "exports")?;
-        let library_info = optional_member(alloc, value, "library_info")?;
+    fn from_json(
+        alloc: Global,
+        seed: Seed,
+        value: &Value<'_>,
+    ) -> Result<AdapterMessage, JsonFault> {
+        let name = required_member(alloc, seed, value, "name")?;
+        let length = required_member(alloc, seed, value, "length")?;
+        let exports = required_member(alloc, seed, value, "exports")?;
+        let library_info = optional_member(alloc, seed, value, "library_info")?;
         Ok(AdapterMessage {
             name,
             length,
@@ -90,15 +95,20 @@ impl FromJson for Message {
 
     ghost reading = { message };
 
-    fn from_json(alloc: Global, value: &Value<'_>) -> Result<Message, JsonFault> {
-        let document = required_member(alloc, value, "resolve")?;
-        let world = required_member(alloc, value, "world")?;
-        let reject_legacy_names = optional_member(alloc, value, "reject_legacy_names")?;
-        let realloc_via_memory_grow = optional_member(alloc, value, "realloc_via_memory_grow")?;
-        let task_hook = optional_member(alloc, value, "task_hook")?;
-        let length = required_member(alloc, value, "length")?;
-        let exports = required_member(alloc, value, "exports")?;
-        let adapters = required_member(alloc, value, "adapters")?;
+    fn from_json(alloc: Global, seed: Seed, value: &Value<'_>) -> Result<Message, JsonFault> {
+        let document = required_member(alloc, seed, value, "resolve")?;
+        let world = required_member(alloc, seed, value, "world")?;
+        let reject_legacy_names = optional_member(alloc, seed, value, "reject_legacy_names")?;
+        let realloc_via_memory_grow = optional_member(
+            alloc,
+            seed,
+            value,
+            "realloc_via_memory_grow",
+        )?;
+        let task_hook = optional_member(alloc, seed, value, "task_hook")?;
+        let length = required_member(alloc, seed, value, "length")?;
+        let exports = required_member(alloc, seed, value, "exports")?;
+        let adapters = required_member(alloc, seed, value, "adapters")?;
         Ok(Message {
             document,
             world,

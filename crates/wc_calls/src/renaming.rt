@@ -5,7 +5,7 @@ ghost use Rattle.wc_read.specs.Sections.{IsComponent};
 ghost use Rattle.wc_dedupe.specs.Dedupe.{IsDeduped};
 ghost use Rattle.wc_dedupe.specs.Renames.{rename_values};
 ghost use Rattle.wc_calls.specs.Renames.{renames_text};
-ghost use Rattle.wc_calls.specs.Answers.{IsFront, IsBytesStatus, IsPut, IsTooLong, done, failed, too_small, same, bad_argument};
+ghost use Rattle.wc_calls.specs.Answers.{AreOthersZero, HasNoBytes, HasNoFault, IsFront, IsBytesStatus, IsPut, IsTooLong, done, failed, too_small, same, bad_argument};
 ghost use Rattle.wc_calls.specs.Renaming.{IsRenamed, IsRenamingFault};
 
 use crate::answers::{Answer, MEMORY, SAME, answer_without_bytes, fault_answer, put};
@@ -27,7 +27,8 @@ use wc_dedupe::{DedupeFault, ModuleImportMap, Rename};
 /// - `FAULT`: the fault of `ModuleImportMap::new`, by its number (`dedupe_fault_number`), never `Memory`.
 /// - `MEMORY`: an allocation failed.
 ///
-/// It is never `BAD_ARGUMENT`. `out` is as it was but for `DONE`, and then after the first `length` bytes.
+/// It is never `BAD_ARGUMENT`. `out` is as it was but for `DONE`, and then after the first `length` bytes. Numbers of the
+/// answer that nothing is said of are 0.
 pub fn dedupe(alloc: Global, wasm: &[u8], out: &mut [u8]) -> Answer
     ensures done { result.status ≡ done
         → IsPut (IsRenamed wasm.now result.module_length) result.length out.old out.new }
@@ -38,6 +39,8 @@ pub fn dedupe(alloc: Global, wasm: &[u8], out: &mut [u8]) -> Answer
     ensures component { IsComponent wasm.now → result.status ≡ same }
     ensures unchanged { result.status ≢ done → out.new ≡ out.old }
     ensures statuses { (result.status ≤ 5) × (result.status ≢ bad_argument) }
+    ensures position { result.position ≡ 0 }
+    ensures others { AreOthersZero result }
 {
     match ModuleImportMap::new(alloc, CowSlice::Borrowed(wasm)) {
         Ok((module, map)) => match map {
@@ -62,6 +65,8 @@ fn put_renamed(alloc: Global, bytes: &[u8], renames: &[Rename], out: &mut [u8]) 
     ensures too_small { result.status ≡ too_small → length out.old < result.length }
     ensures unchanged { result.status ≢ done → out.new ≡ out.old }
     ensures statuses { IsBytesStatus result.status }
+    ensures no_fault { HasNoFault result }
+    ensures no_bytes { result.status ≢ done → result.status ≢ too_small → HasNoBytes result }
 {
     match renames_text(alloc, renames) {
         Ok(text) => put(bytes, text.as_slice(), out),

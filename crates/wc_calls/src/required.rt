@@ -7,9 +7,9 @@ ghost use Rattle.std.specs.Str.{IsUtf8};
 ghost use Rattle.wc_gc.specs.Liveness.{names_of};
 ghost use Rattle.wc_calls.specs.Required.{texts, distinct_names, position_of};
 
-use indexmap::IndexSet;
 use std::alloc::{AllocError, Global};
 use std::str::{self, Utf8Error};
+use wc_maps::{Seed, Set};
 
 /// Whether these bytes are text, in UTF-8.
 fn is_text(bytes: &[u8]) -> bool
@@ -43,12 +43,16 @@ pub(crate) fn optional_text(name: Option<&[u8]>) -> Result<Option<&str>, Utf8Err
     }
 }
 
-/// The names as a set, in the order of their first occurrences.
-pub(crate) fn name_set(alloc: Global, names: &[&[u8]]) -> Result<IndexSet<String>, AllocError>
+/// The names as a set, in the order of their first occurrences. `seed`: the seed of the set.
+pub(crate) fn name_set(
+    alloc: Global,
+    seed: Seed,
+    names: &[&[u8]],
+) -> Result<Set<String>, AllocError>
     requires { All IsUtf8 (texts names.now) }
     ensures { IfOk result (λ set. names_of set.keys ≡ distinct_names (texts names.now)) }
 {
-    let mut set = IndexSet::new(alloc);
+    let mut set = Set::with_hasher(alloc, seed);
     for bytes in names {
         let name = str::from_utf8(bytes).unwrap();
         set.insert(String::from_str(alloc, name)?)?;

@@ -4,7 +4,7 @@ ghost use Rattle.std.specs.Prelude.{◌≡◌, ◌≢◌, ◌<◌, ◌≤◌, []
 ghost use Rattle.std.specs.List.{All};
 ghost use Rattle.std.specs.Str.{IsUtf8};
 ghost use Rattle.wc_gc.specs.Parts.{settings};
-ghost use Rattle.wc_calls.specs.Answers.{IsBytesStatus, IsFront, IsPut, IsTooLong, done, failed, too_small, same, bad_argument, out_of_memory};
+ghost use Rattle.wc_calls.specs.Answers.{AreOthersZero, IsBytesStatus, IsFront, IsPut, IsTooLong, done, failed, too_small, same, bad_argument, out_of_memory};
 ghost use Rattle.wc_calls.specs.FaultNumbers.{gc_fault_number};
 ghost use Rattle.wc_calls.specs.Required.{texts, trim_input_of};
 ghost use Rattle.wc_calls.specs.Trimming.{AreArguments, IsRun, IsTrimmingFault, position_in};
@@ -14,13 +14,14 @@ use crate::fault_numbers::gc_fault_number;
 use crate::required::{are_texts, name_set, optional_text, position_of};
 use std::alloc::Global;
 use wc_gc::{GcFault, run};
+use wc_maps::Seed;
 
 /// The largest exponent of a page size: a page has 2^16 bytes at most.
 const MAX_PAGE_SIZE_LOG2: u32 = 16;
 
 /// Trims an adapter to what its exports of the names `required` reach, as `wc_gc::run` does. A repeated name counts
 /// once. The main module exports a realloc as `realloc`, where that is a name, and a page of its memory has
-/// 2^`page_size_log2` bytes.
+/// 2^`page_size_log2` bytes. `seed`: the seed of the maps that are made.
 ///
 /// - `DONE`: the front of `out` has the bytes of the trimmed adapter, `length` of them, which are all a module.
 /// - `TOO_SMALL`: the trimmed adapter has `length` bytes, and `out` has fewer.
@@ -29,9 +30,11 @@ const MAX_PAGE_SIZE_LOG2: u32 = 16;
 ///   where its name is first in `required`.
 /// - `MEMORY`: an allocation failed.
 ///
-/// It is never `SAME`. `out` is as it was but for `DONE`, and then after the first `length` bytes.
+/// It is never `SAME`. `out` is as it was but for `DONE`, and then after the first `length` bytes. `module_length` is
+/// `length`. Numbers of the answer that nothing is said of are 0.
 pub fn trim(
     alloc: Global,
+    seed: Seed,
     wasm: &[u8],
     required: &[&[u8]],
     realloc: Option<&[u8]>,
@@ -53,12 +56,13 @@ pub fn trim(
         → AreArguments (settings realloc.entry page_size_log2) (texts required.now) }
     ensures unchanged { result.status ≢ done → out.new ≡ out.old }
     ensures statuses { (result.status ≤ 5) × (result.status ≢ same) }
+    ensures others { AreOthersZero result }
 {
     if page_size_log2 > MAX_PAGE_SIZE_LOG2 || required.is_empty() || !are_texts(required) {
         return answer_without_bytes(BAD_ARGUMENT);
     }
     match optional_text(realloc) {
-        Ok(realloc) => trim_for_names(alloc, wasm, required, realloc, page_size_log2, out),
+        Ok(realloc) => trim_for_names(alloc, seed, wasm, required, realloc, page_size_log2, out),
         Err(_) => answer_without_bytes(BAD_ARGUMENT),
     }
 }
@@ -66,6 +70,7 @@ pub fn trim(
 /// The same for arguments that `run` takes.
 fn trim_for_names(
     alloc: Global,
+    seed: Seed,
     wasm: &[u8],
     required: &[&[u8]],
     realloc: Option<&str>,
@@ -87,8 +92,9 @@ fn trim_for_names(
     ensures unchanged { result.status ≢ done → out.new ≡ out.old }
     ensures statuses { (result.status ≤ 5) × (result.status ≢ same)
         × (result.status ≢ bad_argument) }
+    ensures others { AreOthersZero result }
 {
-    let Ok(names) = name_set(alloc, required) else {
+    let Ok(names) = name_set(alloc, seed, required) else {
         return answer_without_bytes(MEMORY);
     };
     let trimmed = run(alloc, wasm, &names, realloc, page_size_log2);
@@ -112,6 +118,7 @@ fn put_trimmed(trimmed: &Result<Vec<u8>, GcFault>, required: &[&[u8]], out: &mut
         × (result.fault ≡ gc_fault_number f)
         × (result.position ≡ position_in (texts required.now) f)) }
     ensures unchanged { result.status ≢ done → out.new ≡ out.old }
+    ensures others { AreOthersZero result }
 {
     match trimmed {
         Ok(bytes) => put(bytes.as_slice(), &[], out),

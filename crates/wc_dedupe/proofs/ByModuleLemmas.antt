@@ -3,21 +3,26 @@ use Rattle.std.proofs.Common.{◌≡◌, ℕ, ◌+◌, ◌<◌, ◌≤◌, Bool,
 use Rattle.std.specs.Option.{option_map, IsSome, is_some}
 use Rattle.std.specs.Map.{lookup, update}
 use Rattle.std.specs.Str.{bytes_eq}
+use Rattle.std.specs.BTreeMap.{is_at}
+use Rattle.std.specs.Ordering.{nat_cmp}
+use Rattle.std.specs.Cmp.Lexicographic.{slice_cmp}
+use Rattle.std.proofs.lemmas.Map.Text.{is_eq-slice_cmp}
 use Rattle.std.proofs.lemmas.Bool.{true≢false, cases_eq}
 use Rattle.std.proofs.lemmas.Slice.Eq.{bytes_eq-Decides}
 use Rattle.wc_dedupe.specs.NamesInModules.{name_records, name_record_of, Records, Gives}
 use Rattle.wc_dedupe.specs.Renaming.{name_with_number}
 use Rattle.wc_dedupe.specs.declared.names_in_modules.NameRecord.{NameRecord}
 
-pub name_record_of_records : {Y : Type 0} (es : List (String Y × NameRecord)) (q : List ℕ) → name_record_of (name_records es) q ≡ option_map (λ (g : NameRecord). g.rename) (lookup (λ k. bytes_eq q (string_bytes k)) es)
-name_record_of_records [] q = refl
-name_record_of_records (e ∷ es) q =
-    elim (bytes_eq q (string_bytes e.0)) as (λ b. cond b (Some e.1.rename) (name_record_of (name_records es) q) ≡ option_map (λ (g : NameRecord). g.rename) (cond b (Some e.1) (lookup (λ k. bytes_eq q (string_bytes k)) es)))
-    [ true ↦ refl | false ↦ name_record_of_records es q ]
-
 -- the entry of a name
 abbrev pub entry_of : {Y : Type 0} → List (String Y × NameRecord) → List ℕ → Option NameRecord
-entry_of es q = lookup (λ k. bytes_eq q (string_bytes k)) es
+entry_of es q = lookup (is_at (λ k. slice_cmp nat_cmp q (string_bytes k))) es
+
+pub name_record_of_records : {Y : Type 0} (es : List (String Y × NameRecord)) (q : List ℕ) → name_record_of (name_records es) q ≡ option_map (λ (g : NameRecord). g.rename) (entry_of es q)
+name_record_of_records [] q = refl
+name_record_of_records (e ∷ es) q =
+    subst (λ (t : Bool). cond (bytes_eq q (string_bytes e.0)) (Some e.1.rename) (name_record_of (name_records es) q) ≡ option_map (λ (g : NameRecord). g.rename) (cond t (Some e.1) (entry_of es q))) (sym (is_eq-slice_cmp q (string_bytes e.0)))
+    (elim (bytes_eq q (string_bytes e.0)) as (λ b. cond b (Some e.1.rename) (name_record_of (name_records es) q) ≡ option_map (λ (g : NameRecord). g.rename) (cond b (Some e.1) (entry_of es q)))
+    [ true ↦ refl | false ↦ name_record_of_records es q ])
 
 pub name_records_free : {Y : Type 0} (es : List (String Y × NameRecord)) (q : List ℕ) → is_some (entry_of es q) ≡ false → name_record_of (name_records es) q ≡ None
 name_records_free es q e = rw (name_record_of_records es q) (free (entry_of es q) e)

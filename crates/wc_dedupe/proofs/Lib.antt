@@ -1,4 +1,5 @@
 pub mod DistinctLemmas
+pub mod DistinctImportsLemmas
 pub mod ModulesLemmas
 pub mod RenamedLemmas
 pub mod NumberedLemmas

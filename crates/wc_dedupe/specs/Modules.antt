@@ -1,7 +1,7 @@
 -- The records of names in all modules.
 use Rattle.std.specs.Prelude.{ℕ, List, Option}
 use Rattle.std.specs.Option.{option_and_then}
-use Rattle.std.specs.HashMap.{get_by_text}
+use Rattle.std.specs.BTreeMap.{get_by_text}
 use Rattle.wc_dedupe.specs.NamesInModules.{name_record_of}
 use Rattle.wc_dedupe.specs.declared.names_in_modules.NamesInModules.{NamesInModules}
 

@@ -4,7 +4,7 @@ use Rattle.std.specs.Prelude.{◌≡◌, ℕ, ◌<◌, ◌≤◌, cond, List, ma
 use Rattle.std.specs.Option.{IsSome}
 use Rattle.std.specs.Map.{lookup}
 use Rattle.std.specs.Str.{bytes_eq}
-use Rattle.std.specs.HashMap.{HashMap, get_by_text}
+use Rattle.std.specs.BTreeMap.{BTreeMap, get_by_text}
 use Rattle.wc_dedupe.specs.Renaming.{name_with_number, IsLeastNumberedName}
 use Rattle.wc_dedupe.specs.declared.names_in_modules.NameRecord.{NameRecord}
 
@@ -21,7 +21,7 @@ abbrev pub AreTaken : List (List ℕ × Option ℕ) → List ℕ → ℕ → Typ
 AreTaken table original end = (k : ℕ) → 2 ≤ k → k < end → IsSome (name_record_of table (name_with_number original k))
 
 -- with each number from 2 below its `next` a name is a name that an import has
-abbrev pub IsTried : {Y S : Type 0} → HashMap (String Y) NameRecord S → Type 0
+abbrev pub IsTried : {Y : Type 0} → BTreeMap (String Y) NameRecord → Type 0
 IsTried m = (n : List ℕ) (g : NameRecord) → get_by_text m n ≡ Some g
     → (2 ≤ g.next) × ((k : ℕ) → 2 ≤ k → k < g.next → IsSome (get_by_text m (name_with_number n k)))
 

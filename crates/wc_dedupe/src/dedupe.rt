@@ -5,6 +5,7 @@ ghost use Rattle.std.specs.Cow.{cow_slice_items};
 ghost use Rattle.wc_read.specs.Sections.{IsComponent};
 ghost use Rattle.wc_dedupe.specs.Dedupe.{IsDeduped, IsCause, renames_in};
 
+use crate::distinct::have_distinct_names;
 use crate::fault::DedupeFault;
 use crate::parsed_sections::{all_imports, parse_module, write_sections};
 use crate::renaming::{ModuleImportMap, rename_all};
@@ -71,6 +72,9 @@ fn dedupe(alloc: Global, bytes: &[u8]) -> Result<Option<(Vec<u8>, ModuleImportMa
         },
     };
     let imports = all_imports(alloc, &parts)?;
+    if have_distinct_names(alloc, &imports)? {
+        return Ok(None);
+    }
     let renaming = rename_all(alloc, &imports)?;
     let renames = renaming.map.renames();
     if renames.is_empty() {

@@ -35,6 +35,7 @@
 #![tactic(auto)]
 
 mod dedupe;
+mod distinct;
 mod fault;
 pub mod laws;
 mod names_in_modules;

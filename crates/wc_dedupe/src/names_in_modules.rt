@@ -6,7 +6,7 @@ ghost use Rattle.std.specs.Str.{bytes_eq};
 ghost use Rattle.wc_dedupe.specs.Renaming.{name_with_number};
 
 use std::alloc::{AllocError, Global};
-use std::collections::HashMap;
+use std::collections::BTreeMap;
 use std::marker::Model;
 
 /// The record of a name that an import has.
@@ -21,7 +21,7 @@ pub(crate) struct NameRecord {
 /// The names that the imports of one module have.
 #[derive(Drop)]
 pub(crate) struct NameTable {
-    names: HashMap<String, NameRecord>,
+    names: BTreeMap<String, NameRecord>,
 }
 
 impl Model for NameTable {
@@ -44,7 +44,7 @@ impl NameTable {
         ensures { result ≡ [] }
     {
         NameTable {
-            names: HashMap::new(alloc),
+            names: BTreeMap::new(alloc),
         }
     }
 
@@ -120,11 +120,11 @@ impl NameTable {
 /// The names of the imports so far, by module and name.
 #[derive(Drop)]
 pub(crate) struct NamesInModules {
-    modules: HashMap<String, NameTable>,
+    modules: BTreeMap<String, NameTable>,
 }
 
 impl NamesInModules {
-    ghost use Rattle.std.specs.HashMap.{get_by_text};
+    ghost use Rattle.std.specs.BTreeMap.{get_by_text};
     ghost use Rattle.wc_dedupe.specs.NamesInModules.{Gives};
     ghost use Rattle.wc_dedupe.specs.Modules.{name_record_in};
 
@@ -133,7 +133,7 @@ impl NamesInModules {
         ensures { (m n : List ℕ) → name_record_in result m n ≡ None }
     {
         NamesInModules {
-            modules: HashMap::new(alloc),
+            modules: BTreeMap::new(alloc),
         }
     }
 

@@ -2,8 +2,8 @@
 
 ghost use Rattle.std.specs.Prelude.{◌≡◌, IfOk};
 
-use indexmap::IndexSet;
 use std::alloc::{AllocError, Global};
+use wc_maps::Set;
 use wc_read::ExportKind;
 use wc_resolve::WorldKey;
 
@@ -84,6 +84,6 @@ pub struct LibraryInfo {
 #[derive(Drop)]
 pub struct Adapter {
     pub wasm: Vec<u8>,
-    pub required_exports: IndexSet<WorldKey>,
+    pub required_exports: Set<WorldKey>,
     pub library_info: Option<LibraryInfo>,
 }

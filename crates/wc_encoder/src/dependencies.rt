@@ -7,12 +7,12 @@ ghost use Rattle.wc_encoder.specs.Dependencies.{AreDependenciesBefore, AreItemsI
 ghost use Rattle.wc_encoder.specs.Entries.{entries_after, entries_of};
 ghost use Rattle.wc_encoder.specs.Exported.{IsExported};
 
-use indexmap::IndexMap;
 use std::alloc::{AllocError, Global};
+use wc_maps::Map;
 use wc_resolve::{InterfaceId, Resolve, WorldItem, WorldKey};
 
 /// Whether an interface is exported under its own id after an index.
-fn is_exported_after(exports: &IndexMap<WorldKey, WorldItem>, index: usize, id: InterfaceId) -> bool
+fn is_exported_after(exports: &Map<WorldKey, WorldItem>, index: usize, id: InterfaceId) -> bool
     ensures { IsTrue result ↔ IsExported (entries_after exports.now index) (interface_key id.0) }
 {
     match exports.get_index_of(&WorldKey::Interface(id)) {
@@ -25,7 +25,7 @@ fn is_exported_after(exports: &IndexMap<WorldKey, WorldItem>, index: usize, id: 
 fn has_none_after(
     alloc: Global,
     resolve: &Resolve,
-    exports: &IndexMap<WorldKey, WorldItem>,
+    exports: &Map<WorldKey, WorldItem>,
     index: usize,
     id: InterfaceId,
 ) -> Result<bool, AllocError>
@@ -45,7 +45,7 @@ fn has_none_after(
 fn is_independent(
     alloc: Global,
     resolve: &Resolve,
-    exports: &IndexMap<WorldKey, WorldItem>,
+    exports: &Map<WorldKey, WorldItem>,
     index: usize,
     item: &WorldItem,
 ) -> Result<bool, AllocError>
@@ -68,7 +68,7 @@ fn is_independent(
 pub(crate) fn are_dependencies_before(
     alloc: Global,
     resolve: &Resolve,
-    exports: &IndexMap<WorldKey, WorldItem>,
+    exports: &Map<WorldKey, WorldItem>,
 ) -> Result<bool, AllocError>
     requires { AreItemsIn resolve.now (entries_of exports.now) }
     ensures { IfOk result (λ b. IsTrue b ↔

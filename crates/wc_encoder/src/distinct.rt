@@ -4,8 +4,8 @@ ghost use Rattle.std.specs.Prelude.{◌↔◌, IfOk, IsTrue};
 ghost use Rattle.wc_encoder.specs.Distinct.{AreInterfacesOnce, AreKeysIn, AreNamesDistinct, HaveNames};
 ghost use Rattle.wc_encoder.specs.Entries.{entries_of};
 
-use indexmap::{IndexMap, IndexSet};
 use std::alloc::{AllocError, Global};
+use wc_maps::{Map, Set};
 use wc_resolve::{InterfaceId, Resolve, WorldItem, WorldKey};
 
 /// Whether no interface is exported twice.
@@ -15,11 +15,11 @@ use wc_resolve::{InterfaceId, Resolve, WorldItem, WorldKey};
 /// `AllocError`: an allocation failed.
 pub(crate) fn are_interfaces_once(
     alloc: Global,
-    exports: &IndexMap<WorldKey, WorldItem>,
+    exports: &Map<WorldKey, WorldItem>,
 ) -> Result<bool, AllocError>
     ensures { IfOk result (λ b. IsTrue b ↔ AreInterfacesOnce (entries_of exports.now)) }
 {
-    let mut seen: IndexSet<InterfaceId> = IndexSet::new(alloc);
+    let mut seen: Set<InterfaceId> = Set::with_hasher(alloc, *exports.hasher());
     for (_key, item) in exports.iter() {
         if let WorldItem::Interface { id, .. } = item {
             let (_index, is_new) = seen.insert_full(*id)?;
@@ -39,14 +39,14 @@ pub(crate) fn are_interfaces_once(
 pub(crate) fn are_names_distinct(
     alloc: Global,
     resolve: &Resolve,
-    imports: &IndexMap<WorldKey, WorldItem>,
+    imports: &Map<WorldKey, WorldItem>,
 ) -> Result<bool, AllocError>
     requires there { AreKeysIn resolve.now (entries_of imports.now) }
     requires named { HaveNames resolve.now (entries_of imports.now) }
     ensures { IfOk result
         (λ b. IsTrue b ↔ AreNamesDistinct resolve.now (entries_of imports.now)) }
 {
-    let mut seen: IndexSet<String> = IndexSet::new(alloc);
+    let mut seen: Set<String> = Set::with_hasher(alloc, *imports.hasher());
     for (key, _item) in imports.iter() {
         let name = resolve.name_world_key(alloc, key)?;
         let (_index, is_new) = seen.insert_full(name)?;

@@ -11,10 +11,10 @@ use crate::adapters::Adapter;
 use crate::encoder_parts::{EncoderParts, Metadata};
 use crate::fault::EncoderFault;
 use crate::well_formed::check;
-use indexmap::{IndexMap, IndexSet};
 use std::alloc::Global;
 use std::marker::Model;
 use wc_dedupe::ModuleImportMap;
+use wc_maps::{Map, Set};
 use wc_resolve::WorldKey;
 
 /// What a component is encoded from: a main module, the world that it is encoded for, and adapters
@@ -93,14 +93,14 @@ impl ComponentEncoder {
     }
 
     /// Which exports of the world the main module has to export.
-    pub fn main_module_exports(&self) -> &IndexSet<WorldKey>
+    pub fn main_module_exports(&self) -> &Set<WorldKey>
         ensures { map key_view result.now.keys ≡ self.now.main_module_exports }
     {
         &self.parts.main_module_exports
     }
 
     /// Adapters and libraries by their names.
-    pub fn adapters(&self) -> &IndexMap<String, Adapter>
+    pub fn adapters(&self) -> &Map<String, Adapter>
         ensures { map adapter_entry result.now.entries ≡ self.now.adapters }
     {
         &self.parts.adapters

@@ -1,8 +1,8 @@
 //! What an encoder is made of.
 
 use crate::adapters::Adapter;
-use indexmap::{IndexMap, IndexSet};
 use wc_dedupe::ModuleImportMap;
+use wc_maps::{Map, Set};
 use wc_resolve::{Resolve, WorldId, WorldKey};
 
 /// A `Resolve`, and the index of the world in it for which modules are encoded.
@@ -21,9 +21,9 @@ pub struct EncoderParts {
     pub module_import_map: Option<ModuleImportMap>,
     pub metadata: Metadata,
     /// Which exports of the world the main module has to export.
-    pub main_module_exports: IndexSet<WorldKey>,
+    pub main_module_exports: Set<WorldKey>,
     /// Adapters and libraries by their names.
-    pub adapters: IndexMap<String, Adapter>,
+    pub adapters: Map<String, Adapter>,
     /// Whether names of the older scheme are refused.
     pub reject_legacy_names: bool,
     /// Whether adapters grow memory for themselves, in place of calling the main module's realloc.

@@ -9,18 +9,18 @@ ghost use Rattle.wc_encoder.specs.Exported.{AreAllRequiredExported, AreKeysExpor
 
 use crate::adapters::Adapter;
 use crate::encoder_parts::EncoderParts;
-use indexmap::{IndexMap, IndexSet};
+use wc_maps::{Map, Set};
 use wc_resolve::{WorldItem, WorldKey};
 
 /// Whether a key is one of these exports.
-fn is_exported(exports: &IndexMap<WorldKey, WorldItem>, key: &WorldKey) -> bool
+fn is_exported(exports: &Map<WorldKey, WorldItem>, key: &WorldKey) -> bool
     ensures { IsTrue result ↔ IsExported (entries_of exports.now) (key_view key.now) }
 {
     exports.contains_key(key)
 }
 
 /// Whether all of these keys are among the exports.
-fn are_exported(exports: &IndexMap<WorldKey, WorldItem>, keys: &IndexSet<WorldKey>) -> bool
+fn are_exported(exports: &Map<WorldKey, WorldItem>, keys: &Set<WorldKey>) -> bool
     ensures { IsTrue result ↔
         All (IsExported (entries_of exports.now)) (map key_view keys.now.keys) }
 {
@@ -29,7 +29,7 @@ fn are_exported(exports: &IndexMap<WorldKey, WorldItem>, keys: &IndexSet<WorldKe
 
 /// Whether all required exports of an adapter are among the exports.
 #[tactic(auto, unfolding(crate::specs::Exported::AreRequiredExported))]
-fn are_required_exported(exports: &IndexMap<WorldKey, WorldItem>, adapter: &Adapter) -> bool
+fn are_required_exported(exports: &Map<WorldKey, WorldItem>, adapter: &Adapter) -> bool
     ensures { IsTrue result ↔
         AreRequiredExported (entries_of exports.now) (adapter_view adapter.now) }
 {
@@ -38,8 +38,8 @@ fn are_required_exported(exports: &IndexMap<WorldKey, WorldItem>, adapter: &Adap
 
 /// Whether all required exports of all adapters are among the exports.
 fn are_all_required_exported(
-    exports: &IndexMap<WorldKey, WorldItem>,
-    adapters: &IndexMap<String, Adapter>,
+    exports: &Map<WorldKey, WorldItem>,
+    adapters: &Map<String, Adapter>,
 ) -> bool
     ensures { IsTrue result ↔
         AreAllRequiredExported (entries_of exports.now) (map adapter_entry adapters.now.entries) }
@@ -52,10 +52,7 @@ fn are_all_required_exported(
 /// Whether each key of the main module's exports, and of each adapter's required ones, is one of
 /// these exports.
 #[tactic(auto, unfolding(crate::specs::Exported::AreKeysExported))]
-pub(crate) fn are_keys_exported(
-    parts: &EncoderParts,
-    exports: &IndexMap<WorldKey, WorldItem>,
-) -> bool
+pub(crate) fn are_keys_exported(parts: &EncoderParts, exports: &Map<WorldKey, WorldItem>) -> bool
     ensures { IsTrue result ↔ AreKeysExported (parts_view parts.now) (entries_of exports.now) }
 {
     are_exported(exports, &parts.main_module_exports)
@@ -74,7 +71,7 @@ fn is_no_type(item: &WorldItem) -> bool
 }
 
 /// Whether all exports are interfaces and functions.
-pub(crate) fn are_no_types(exports: &IndexMap<WorldKey, WorldItem>) -> bool
+pub(crate) fn are_no_types(exports: &Map<WorldKey, WorldItem>) -> bool
     ensures { IsTrue result ↔ AreNoTypes (entries_of exports.now) }
 {
     exports.iter().all(|(_key, item)| is_no_type(item))

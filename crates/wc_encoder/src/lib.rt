@@ -3,14 +3,16 @@
 //! world. It does not read the modules.
 //!
 //! ```rust
-//! use indexmap::{IndexMap, IndexSet};
 //! use std::alloc::Global;
 //! use wc_encoder::{ComponentEncoder, EncoderFault, EncoderParts, Metadata};
+//! use wc_maps::{Map, Seed, Set};
 //! use wc_resolve::{Resolve, WorldId};
 //!
 //! /// An encoder of a main module without adapters, for a world of `resolve`.
+//! /// `seed`: the seed of the maps that are made.
 //! pub fn encoder_for(
 //!     alloc: Global,
+//!     seed: Seed,
 //!     main_module: Vec<u8>,
 //!     resolve: Resolve,
 //!     world: WorldId,
@@ -25,8 +27,8 @@
 //!         module: main_module,
 //!         module_import_map: None,
 //!         metadata: Metadata { resolve, world },
-//!         main_module_exports: IndexSet::new(alloc),
-//!         adapters: IndexMap::new(alloc),
+//!         main_module_exports: Set::with_hasher(alloc, seed),
+//!         adapters: Map::with_hasher(alloc, seed),
 //!         reject_legacy_names: false,
 //!         realloc_via_memory_grow: false,
 //!         task_hook: String::new(alloc),

@@ -1,9 +1,9 @@
 //! The fields of an encoder, as fixtures write them: lines.
 
 use crate::shown_names::{put_id, put_key, put_name};
-use indexmap::IndexSet;
 use wc_dedupe::ModuleImportMap;
 use wc_encoder::{Adapter, ComponentEncoder, Instance, Item, LibraryInfo, MainOrAdapter};
+use wc_maps::Set;
 use wc_read::ExportKind;
 use wc_resolve::WorldKey;
 use wc_rows::lines::Lines;
@@ -20,7 +20,7 @@ fn put_bytes(out: &mut Lines, bytes: &[u8]) {
 }
 
 /// A line of a word and keys, where there are keys.
-fn put_keys(out: &mut Lines, word: &str, keys: &IndexSet<WorldKey>) {
+fn put_keys(out: &mut Lines, word: &str, keys: &Set<WorldKey>) {
     if keys.is_empty() {
         return;
     }

@@ -7,16 +7,17 @@ use crate::members::world_key;
 use crate::stop::Stop;
 use crate::words::Words;
 use hex::FromHexError;
-use indexmap::{IndexMap, IndexSet};
 use std::alloc::Global;
 use std::borrow::CowSlice;
 use wc_dedupe::ModuleImportMap;
 use wc_encoder::{
     Adapter, ComponentEncoder, EncoderParts, Instance, Item, LibraryInfo, MainOrAdapter, Metadata,
 };
+use wc_maps::{Map, Set};
 use wc_read::ExportKind;
 use wc_resolve::{Resolve, WorldId, WorldKey};
 use wc_rows::rows::Row;
+use wc_rows::seeds::row_seed;
 
 /// The parts of an encoder but for its worlds.
 #[derive(Drop)]
@@ -24,7 +25,7 @@ pub struct EncoderDraft {
     module: Vec<u8>,
     module_import_map: Option<ModuleImportMap>,
     world: WorldId,
-    main_module_exports: IndexSet<WorldKey>,
+    main_module_exports: Set<WorldKey>,
     adapters: Vec<(String, Adapter)>,
     reject_legacy_names: bool,
     realloc_via_memory_grow: bool,
@@ -37,7 +38,7 @@ impl EncoderDraft {
             module: Vec::new(alloc),
             module_import_map: None,
             world: WorldId(0),
-            main_module_exports: IndexSet::new(alloc),
+            main_module_exports: Set::with_hasher(alloc, row_seed()),
             adapters: Vec::new(alloc),
             reject_legacy_names: false,
             realloc_via_memory_grow: false,
@@ -96,7 +97,7 @@ fn module_line(words: &mut Words, draft: &mut EncoderDraft) -> Result<(), Bad> {
 }
 
 /// Keys, up to the line's end.
-pub fn put_keys(words: &mut Words, keys: &mut IndexSet<WorldKey>) -> Result<(), Bad> {
+pub fn put_keys(words: &mut Words, keys: &mut Set<WorldKey>) -> Result<(), Bad> {
     for _ in 0..words.len() {
         if words.is_done() {
             break;
@@ -114,7 +115,7 @@ fn adapter_line(words: &mut Words, draft: &mut EncoderDraft) -> Result<(), Bad> 
     put_all_bytes(words, &mut wasm)?;
     let adapter = Adapter {
         wasm,
-        required_exports: IndexSet::new(words.alloc),
+        required_exports: Set::with_hasher(words.alloc, row_seed()),
         library_info: None,
     };
     draft.adapters.push((name, adapter))?;
@@ -251,11 +252,8 @@ pub fn draft_member(words: &mut Words, draft: &mut EncoderDraft) -> Result<(), B
     }
 }
 
-fn by_names(
-    alloc: Global,
-    adapters: Vec<(String, Adapter)>,
-) -> Result<IndexMap<String, Adapter>, Bad> {
-    let mut named = IndexMap::new(alloc);
+fn by_names(alloc: Global, adapters: Vec<(String, Adapter)>) -> Result<Map<String, Adapter>, Bad> {
+    let mut named = Map::with_hasher(alloc, row_seed());
     for (name, adapter) in adapters {
         once(named.insert(name, adapter)?.is_none())?;
     }

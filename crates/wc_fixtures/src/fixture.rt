@@ -9,9 +9,10 @@ use crate::members::{interface_id, package_name, world_entry};
 use crate::stop::Stop;
 use crate::types::type_id;
 use crate::words::Words;
-use indexmap::IndexMap;
 use std::alloc::Global;
+use wc_maps::Map;
 use wc_resolve::{Interface, Package, PackageId, Parts, TypeDef, TypeOwner, World, WorldId};
+use wc_rows::seeds::row_seed;
 
 /// What the lines that begin with a space belong to.
 #[derive(Clone, Copy)]
@@ -100,8 +101,8 @@ fn interface_line(words: &mut Words, parts: &mut Parts) -> Result<(), Bad> {
     };
     parts.interfaces.push(Interface {
         name,
-        types: IndexMap::new(words.alloc),
-        functions: IndexMap::new(words.alloc),
+        types: Map::with_hasher(words.alloc, row_seed()),
+        functions: Map::with_hasher(words.alloc, row_seed()),
         package,
         clone_of,
     })?;
@@ -112,7 +113,7 @@ fn interface_line(words: &mut Words, parts: &mut Parts) -> Result<(), Bad> {
 fn package_line(words: &mut Words, parts: &mut Parts) -> Result<(), Bad> {
     pass_index(words, 'p', parts.packages.len())?;
     let name = package_name(words)?;
-    let interfaces = IndexMap::new(words.alloc);
+    let interfaces = Map::with_hasher(words.alloc, row_seed());
     parts.packages.push(Package { name, interfaces })?;
     Ok(())
 }
@@ -123,8 +124,8 @@ fn world_line(words: &mut Words, parts: &mut Parts) -> Result<(), Bad> {
     let name = words.name()?;
     parts.worlds.push(World {
         name,
-        imports: IndexMap::new(words.alloc),
-        exports: IndexMap::new(words.alloc),
+        imports: Map::with_hasher(words.alloc, row_seed()),
+        exports: Map::with_hasher(words.alloc, row_seed()),
     })?;
     Ok(())
 }

@@ -2,7 +2,7 @@
 
 use crate::shown_kinds::{put_function, put_kind};
 use crate::shown_names::{put_id, put_key, put_name, put_owner, put_package_name};
-use indexmap::IndexMap;
+use wc_maps::Map;
 use wc_resolve::{
     Function, Interface, InterfaceId, Package, PackageId, TypeDef, TypeId, World, WorldItem,
     WorldKey,
@@ -22,7 +22,7 @@ pub fn put_type_def(out: &mut Lines, index: u32, def: &TypeDef) {
     out.push('\n');
 }
 
-fn put_named_types(out: &mut Lines, types: &IndexMap<String, TypeId>) {
+fn put_named_types(out: &mut Lines, types: &Map<String, TypeId>) {
     for (name, id) in types.iter() {
         out.push_str("  type ");
         put_name(out, name);
@@ -32,7 +32,7 @@ fn put_named_types(out: &mut Lines, types: &IndexMap<String, TypeId>) {
     }
 }
 
-fn put_functions(out: &mut Lines, functions: &IndexMap<String, Function>) {
+fn put_functions(out: &mut Lines, functions: &Map<String, Function>) {
     for (name, function) in functions.iter() {
         out.push_str("  func ");
         put_name(out, name);
@@ -67,7 +67,7 @@ pub fn put_interface(out: &mut Lines, index: u32, interface: &Interface) {
     put_functions(out, &interface.functions);
 }
 
-fn put_members(out: &mut Lines, interfaces: &IndexMap<String, InterfaceId>) {
+fn put_members(out: &mut Lines, interfaces: &Map<String, InterfaceId>) {
     for (name, id) in interfaces.iter() {
         out.push_str("  interface ");
         put_name(out, name);
@@ -113,7 +113,7 @@ pub fn put_entry(out: &mut Lines, key: &WorldKey, item: &WorldItem) {
     }
 }
 
-fn put_entries(out: &mut Lines, word: &str, entries: &IndexMap<WorldKey, WorldItem>) {
+fn put_entries(out: &mut Lines, word: &str, entries: &Map<WorldKey, WorldItem>) {
     for (key, item) in entries.iter() {
         out.push_str("  ");
         out.push_str(word);

@@ -8,19 +8,20 @@ ghost use Rattle.wc_read.specs.Exports.{export_value};
 ghost use Rattle.wc_gc.specs.KeptExports.{AreNamed, IsMissingFault, by_name, export_entries, export_names, kept_exports, missing_name};
 
 use crate::fault::GcFault;
-use indexmap::{IndexMap, IndexSet};
 use std::alloc::{AllocError, Global};
+use wc_maps::{Map, Seed, Set};
 use wc_read::Export;
 
-/// Exports by their names.
+/// Exports by their names. `seed`: the seed of the map.
 pub fn exports_by_name<'a>(
     alloc: Global,
+    seed: Seed,
     exports: &[Export<'a>],
-) -> Result<IndexMap<&'a str, Export<'a>>, AllocError>
+) -> Result<Map<&'a str, Export<'a>>, AllocError>
     requires { AllPairs (λ x y. x ≢ y) (export_names (map export_value exports.now)) }
     ensures { IfOk result (λ m. m.entries ≡ map by_name exports.now) }
 {
-    let mut named = IndexMap::new(alloc);
+    let mut named = Map::with_hasher(alloc, seed);
     for export in exports {
         named.insert(export.name, *export)?;
     }
@@ -28,10 +29,7 @@ pub fn exports_by_name<'a>(
 }
 
 /// The first of the names that is not exported.
-fn missing_name<'a>(
-    exports: &IndexMap<&str, Export<'_>>,
-    required: &'a IndexSet<String>,
-) -> Option<&'a str>
+fn missing_name<'a>(exports: &Map<&str, Export<'_>>, required: &'a Set<String>) -> Option<&'a str>
     requires { AreNamed exports.now.entries }
     ensures { option_map (λ name. name.now) result
         ≡ missing_name (export_entries exports.now.entries) (map string_bytes required.now.keys) }
@@ -47,8 +45,8 @@ fn missing_name<'a>(
 /// Says which of the names is not exported, the first of them.
 pub fn check_required(
     alloc: Global,
-    exports: &IndexMap<&str, Export<'_>>,
-    required: &IndexSet<String>,
+    exports: &Map<&str, Export<'_>>,
+    required: &Set<String>,
 ) -> Result<(), GcFault>
     requires { AreNamed exports.now.entries }
     ensures none { IsOk result → missing_name (export_entries exports.now.entries)
@@ -64,9 +62,9 @@ pub fn check_required(
 
 /// Takes out each export that is not required, in their order; the last export takes its index.
 pub fn drop_exports<'a>(
-    kept: &mut IndexMap<&'a str, Export<'a>>,
+    kept: &mut Map<&'a str, Export<'a>>,
     exports: &[Export<'a>],
-    required: &IndexSet<String>,
+    required: &Set<String>,
 )
     requires { kept.old.entries ≡ map by_name exports.now }
     ensures { export_entries kept.new.entries
@@ -81,7 +79,7 @@ pub fn drop_exports<'a>(
 }
 
 /// Takes out the export of a name; the last one takes its index.
-fn take_out<'a>(kept: &mut IndexMap<&'a str, Export<'a>>, name: &'a str)
+fn take_out<'a>(kept: &mut Map<&'a str, Export<'a>>, name: &'a str)
     ensures { kept.new.entries
         ≡ swap_remove_entry (λ k. bytes_eq name.now k.now) kept.old.entries }
 {

@@ -8,16 +8,16 @@
 //! begins at the item of a required export, each of them named by the one before.
 //!
 //! ```rust
-//! use indexmap::IndexSet;
 //! use std::alloc::Global;
 //! use wc_gc::{GcFault, LiveSet, liveness_counted};
+//! use wc_maps::Set;
 //! use wc_read::Space;
 //!
 //! /// Whether the required exports of an adapter reach its first memory.
 //! pub fn reaches_memory(
 //!     alloc: Global,
 //!     adapter: &[u8],
-//!     required: &IndexSet<String>,
+//!     required: &Set<String>,
 //! ) -> Result<bool, GcFault>
 //!     ensures { IfOk result (λ answer. (m : ModuleValue) × SpellsModule adapter.now m
 //!         × (IsTrue answer ↔ IsLive (names_of required.now.keys) m (Space.Memories, 0))) }

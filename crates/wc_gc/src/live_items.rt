@@ -16,8 +16,8 @@ use crate::gathered::Gathered;
 use crate::live::{LiveSet, LiveSets};
 use crate::range_set::RangeSet;
 use crate::search::Search;
-use indexmap::{IndexMap, IndexSet};
 use std::alloc::{AllocError, Global};
+use wc_maps::{Map, Set};
 use wc_read::{Export, ExportKind, Module, Space, read_module};
 
 /// The reached items of an adapter.
@@ -45,7 +45,7 @@ pub struct Liveness<L> {
 pub fn liveness_counted(
     alloc: Global,
     wasm: &[u8],
-    required: &IndexSet<String>,
+    required: &Set<String>,
 ) -> Result<Liveness<RangeSet>, GcFault>
     // What is live is what is reached.
     ensures live { IfOk result (λ l. IsLiveness (trim_input wasm.now required.now.keys)
@@ -63,7 +63,7 @@ pub fn liveness_counted(
 fn find_live<L: LiveSet>(
     alloc: Global,
     wasm: &[u8],
-    required: &IndexSet<String>,
+    required: &Set<String>,
 ) -> Result<Liveness<L>, GcFault>
     ensures live { IfOk result (λ l.
         IsLiveness (trim_input wasm.now required.now.keys) (has_item L.has l.live) l.turns) }
@@ -79,7 +79,7 @@ fn find_live<L: LiveSet>(
 pub fn find_live_in<L: LiveSet>(
     alloc: Global,
     adapter: &Module<'_>,
-    required: &IndexSet<String>,
+    required: &Set<String>,
 ) -> Result<Liveness<L>, GcFault>
     requires { IsModule (module_value adapter.now) }
     ensures live { IfOk result (λ l. IsLivenessOf
@@ -113,7 +113,7 @@ fn settled<L: LiveSet>(gathered: LiveSets<Gathered<L>>) -> Result<LiveSets<L>, A
 fn roots_of(
     alloc: Global,
     adapter: &Module<'_>,
-    required: &IndexSet<String>,
+    required: &Set<String>,
 ) -> Result<Vec<(Space, u32)>, GcFault>
     requires { IsModule (module_value adapter.now) }
     ensures found { IfOk result (λ v. v.items ≡ map exported_item
@@ -123,7 +123,7 @@ fn roots_of(
     ensures fault { IfErr result
         (IsFaultOf (names_of required.now.keys) (module_value adapter.now)) }
 {
-    let mut exports = exports_by_name(alloc, &adapter.exports)?;
+    let mut exports = exports_by_name(alloc, *required.hasher(), &adapter.exports)?;
     check_required(alloc, &exports, required)?;
     if has_unsupported(adapter) {
         return Err(GcFault::UnsupportedSection);
@@ -142,7 +142,7 @@ fn has_unsupported(adapter: &Module<'_>) -> bool
 /// The items that exports name.
 fn exported_items(
     alloc: Global,
-    exports: &IndexMap<&str, Export<'_>>,
+    exports: &Map<&str, Export<'_>>,
 ) -> Result<Vec<(Space, u32)>, AllocError>
     ensures { IfOk result
         (λ v. v.items ≡ map (λ e. exported_item (export_value e)) (values exports.now)) }

@@ -27,8 +27,8 @@ use crate::live::{LiveSet, LiveSets};
 use crate::live_items::find_live_in;
 use crate::range_set::RangeSet;
 use crate::settings::Settings;
-use indexmap::{IndexMap, IndexSet};
 use std::alloc::{AllocError, Global};
+use wc_maps::{Map, Set};
 use wc_read::{Export, Module, read_module};
 use wc_write::laws::slices_are_bytes;
 
@@ -76,7 +76,7 @@ use wc_write::laws::slices_are_bytes;
 pub fn run(
     alloc: Global,
     wasm: &[u8],
-    required: &IndexSet<String>,
+    required: &Set<String>,
     main_module_realloc: Option<&str>,
     page_size_log2: u32,
 ) -> Result<Vec<u8>, GcFault>
@@ -110,7 +110,7 @@ pub fn run(
 fn trim<L: LiveSet>(
     alloc: Global,
     wasm: &[u8],
-    required: &IndexSet<String>,
+    required: &Set<String>,
     settings: Settings<'_>,
 ) -> Result<Vec<u8>, GcFault>
     ensures trimmed { IfOk result (λ v. IsTrimmed (settings_value settings.entry)
@@ -133,7 +133,7 @@ fn trim<L: LiveSet>(
 fn trim_module<L: LiveSet>(
     alloc: Global,
     adapter: &Module<'_>,
-    required: &IndexSet<String>,
+    required: &Set<String>,
     settings: Settings<'_>,
 ) -> Result<Vec<u8>, GcFault>
     requires valid { IsModule (module_value adapter.now) }
@@ -151,7 +151,7 @@ fn trim_module<L: LiveSet>(
 fn image_text<L: LiveSet>(
     alloc: Global,
     adapter: &Module<'_>,
-    required: &IndexSet<String>,
+    required: &Set<String>,
     live: &LiveSets<L>,
     settings: Settings<'_>,
 ) -> Result<Vec<u8>, GcFault>
@@ -183,20 +183,20 @@ fn image_text<L: LiveSet>(
 fn exports_kept<'a>(
     alloc: Global,
     adapter: &Module<'a>,
-    required: &IndexSet<String>,
+    required: &Set<String>,
 ) -> Result<Vec<Export<'a>>, AllocError>
     requires { IsModule (module_value adapter.now) }
     ensures { IfOk result (λ v. map export_value v.items
         ≡ wanted_exports required.now.keys adapter.now) }
 {
-    let mut exports = exports_by_name(alloc, &adapter.exports)?;
+    let mut exports = exports_by_name(alloc, *required.hasher(), &adapter.exports)?;
     drop_exports(&mut exports, &adapter.exports, required);
     exports_of(alloc, &exports)
 }
 
 fn exports_of<'a>(
     alloc: Global,
-    exports: &IndexMap<&str, Export<'a>>,
+    exports: &Map<&str, Export<'a>>,
 ) -> Result<Vec<Export<'a>>, AllocError>
     ensures { IfOk result (λ v. v.items ≡ values exports.now) }
 {

@@ -9,9 +9,9 @@ ghost use Rattle.wc_json.specs.Faults.{Reads};
 use crate::JsonFault;
 use crate::from_json::FromJson;
 use crate::members::required_member;
-use indexmap::IndexMap;
 use json::{Scratch, Value};
 use std::alloc::{AllocError, Global};
+use wc_maps::{Map, Seed};
 use wc_resolve::{Package, PackageId, Parts, World, WorldId};
 
 /// What a text has: the parts of a `Resolve`, and which package each world is of, which has no place
@@ -27,7 +27,7 @@ pub struct Document {
     pub world_packages: Vec<Option<PackageId>>,
     /// The worlds that each package lists by their names, in the order of `parts.packages`. Nothing
     /// says that an id is in range.
-    pub package_worlds: Vec<IndexMap<String, WorldId>>,
+    pub package_worlds: Vec<Map<String, WorldId>>,
 }
 
 /// The first of each pair, and the second of each.
@@ -49,14 +49,14 @@ fn unzip<A: Drop, B: Drop>(
 }
 
 /// The document that a JSON value is.
-fn document_of(alloc: Global, value: &Value<'_>) -> Result<Document, JsonFault>
+fn document_of(alloc: Global, seed: Seed, value: &Value<'_>) -> Result<Document, JsonFault>
     ensures { Reads document_view result (document_of (value_view value.now)) }
 {
-    let worlds: Vec<(World, Option<PackageId>)> = required_member(alloc, value, "worlds")?;
-    let interfaces = required_member(alloc, value, "interfaces")?;
-    let types = required_member(alloc, value, "types")?;
-    let packages: Vec<(Package, IndexMap<String, WorldId>)> = required_member(
-        alloc, value, "packages",
+    let worlds: Vec<(World, Option<PackageId>)> = required_member(alloc, seed, value, "worlds")?;
+    let interfaces = required_member(alloc, seed, value, "interfaces")?;
+    let types = required_member(alloc, seed, value, "types")?;
+    let packages: Vec<(Package, Map<String, WorldId>)> = required_member(
+        alloc, seed, value, "packages",
     )?;
     let (worlds, world_packages) = unzip(alloc, worlds)?;
     let (packages, package_worlds) = unzip(alloc, packages)?;
@@ -81,15 +81,15 @@ impl FromJson for Document {
 
     ghost reading = { document_of };
 
-    fn from_json(alloc: Global, value: &Value<'_>) -> Result<Document, JsonFault> {
-        document_of(alloc, value)
+    fn from_json(alloc: Global, seed: Seed, value: &Value<'_>) -> Result<Document, JsonFault> {
+        document_of(alloc, seed, value)
     }
 }
 
 /// Reads a resolved world from JSON: the serde form of wit-parser's `Resolve`, as
 /// `wasm-tools component wit --json` prints it. It is an object with the lists `worlds`,
 /// `interfaces`, `types` and `packages`; the crate's page says more. Reading ends on any text, and
-/// needs no more of the stack than 128 nested values do.
+/// needs no more of the stack than 128 nested values do. `seed`: the seed of the maps that are made.
 ///
 /// # Errors
 ///
@@ -99,11 +99,11 @@ impl FromJson for Document {
 ///   that one is named which comes first, where lists and maps go by their order, and the members of
 ///   an object by the order in which the definitions (`specs/`) name them.
 /// - `Memory`: an allocation failed. It may come in place of any other.
-pub fn document_from_json(alloc: Global, text: &str) -> Result<Document, JsonFault>
+pub fn document_from_json(alloc: Global, seed: Seed, text: &str) -> Result<Document, JsonFault>
     ensures ok { IfOk result (IsDocument (document text.now)) }
     ensures fault { IfErr result (IsCause (document text.now)) }
 {
     let mut scratch = Scratch::new(alloc);
     let value = Value::parse_strict(alloc, text, &mut scratch)?;
-    document_of(alloc, &value)
+    document_of(alloc, seed, &value)
 }

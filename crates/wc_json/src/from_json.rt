@@ -11,6 +11,7 @@ use crate::paths::{at_index, fault_here};
 use crate::{JsonFault, Problem};
 use json::{Scratch, Value};
 use std::alloc::Global;
+use wc_maps::Seed;
 
 /// A type whose values are read from JSON values.
 pub trait FromJson: Drop {
@@ -22,13 +23,13 @@ pub trait FromJson: Drop {
     // What a JSON value is read as, or the first fault in it.
     ghost reading: { Json → Reading View };
 
-    /// Reads a value.
+    /// Reads a value. `seed`: the seed of the maps that are made.
     ///
     /// # Errors
     ///
     /// - `Wrong`: the first fault, by its path from this value.
     /// - `Memory`: an allocation failed.
-    fn from_json(alloc: Global, value: &Value<'_>) -> Result<Self, JsonFault>
+    fn from_json(alloc: Global, seed: Seed, value: &Value<'_>) -> Result<Self, JsonFault>
         ensures { Reads view result (reading (value_view value.now)) };
 }
 
@@ -42,7 +43,7 @@ impl FromJson for bool {
 
     ghost reading = { truth };
 
-    fn from_json(alloc: Global, value: &Value<'_>) -> Result<bool, JsonFault> {
+    fn from_json(alloc: Global, _seed: Seed, value: &Value<'_>) -> Result<bool, JsonFault> {
         match value.as_bool() {
             Some(truth) => Ok(truth),
             None => Err(fault_here(alloc, Problem::NotABool)),
@@ -60,7 +61,7 @@ impl FromJson for String {
 
     ghost reading = { text };
 
-    fn from_json(alloc: Global, value: &Value<'_>) -> Result<String, JsonFault> {
+    fn from_json(alloc: Global, _seed: Seed, value: &Value<'_>) -> Result<String, JsonFault> {
         match value.as_str() {
             Some(text) => Ok(String::from_str(alloc, text)?),
             None => Err(fault_here(alloc, Problem::NotAText)),
@@ -80,11 +81,11 @@ impl<T: FromJson> FromJson for Option<T> {
 
     ghost reading = { nullable T.reading };
 
-    fn from_json(alloc: Global, value: &Value<'_>) -> Result<Option<T>, JsonFault> {
+    fn from_json(alloc: Global, seed: Seed, value: &Value<'_>) -> Result<Option<T>, JsonFault> {
         if value.is_null() {
             return Ok(None);
         }
-        Ok(Some(T::from_json(alloc, value)?))
+        Ok(Some(T::from_json(alloc, seed, value)?))
     }
 }
 
@@ -99,21 +100,21 @@ impl<T: FromJson> FromJson for Vec<T> {
 
     ghost reading = { list T.reading };
 
-    fn from_json(alloc: Global, value: &Value<'_>) -> Result<Vec<T>, JsonFault> {
+    fn from_json(alloc: Global, seed: Seed, value: &Value<'_>) -> Result<Vec<T>, JsonFault> {
         let Value::Array(items) = value else {
             return Err(fault_here(alloc, Problem::NotAList));
         };
         let mut list = Vec::with_capacity(alloc, items.len())?;
         for item in items {
             let index = list.len();
-            list.push(at_index(alloc, index, T::from_json(alloc, item))?)?;
+            list.push(at_index(alloc, index, T::from_json(alloc, seed, item))?)?;
         }
         Ok(list)
     }
 }
 
 /// Reads a value from a text. Reading ends on any text, and needs no more of the stack than 128 nested
-/// values do.
+/// values do. `seed`: the seed of the maps that are made.
 ///
 /// # Errors
 ///
@@ -121,11 +122,11 @@ impl<T: FromJson> FromJson for Vec<T> {
 /// - `RepeatedMember`: an object has two members of one name, also one that would be passed over.
 /// - `Wrong`: the first value that isn't what it has to be; the path leads to it.
 /// - `Memory`: an allocation failed. It may come in place of any other.
-pub fn value_from_json<T: FromJson>(alloc: Global, text: &str) -> Result<T, JsonFault>
+pub fn value_from_json<T: FromJson>(alloc: Global, seed: Seed, text: &str) -> Result<T, JsonFault>
     ensures ok { IfOk result (λ value. IsReadFrom T.view T.reading (document text.now) value) }
     ensures fault { IfErr result (IsCauseOf T.reading (document text.now)) }
 {
     let mut scratch = Scratch::new(alloc);
     let value = Value::parse_strict(alloc, text, &mut scratch)?;
-    T::from_json(alloc, &value)
+    T::from_json(alloc, seed, &value)
 }

@@ -10,6 +10,7 @@ use crate::paths::{at_variant, fault_here};
 use crate::{JsonFault, Problem};
 use json::Value;
 use std::alloc::Global;
+use wc_maps::Seed;
 use wc_resolve::{Function, FunctionKind, TypeId};
 
 /// The kind of this name of a function that belongs to no resource.
@@ -47,12 +48,12 @@ impl FromJson for FunctionKind {
 
     ghost reading = { function_kind };
 
-    fn from_json(alloc: Global, value: &Value<'_>) -> Result<FunctionKind, JsonFault> {
+    fn from_json(alloc: Global, seed: Seed, value: &Value<'_>) -> Result<FunctionKind, JsonFault> {
         if let Some(name) = value.as_str() {
             return kind_without_resource(alloc, name);
         }
         let member = only_member(alloc, value)?;
-        let resource = at_variant(alloc, member.0, TypeId::from_json(alloc, &member.1))?;
+        let resource = at_variant(alloc, member.0, TypeId::from_json(alloc, seed, &member.1))?;
         at_variant(alloc, member.0, kind_of_resource(alloc, member.0, resource))
     }
 }
@@ -67,12 +68,12 @@ impl FromJson for Function {
 
     ghost reading = { function };
 
-    fn from_json(alloc: Global, value: &Value<'_>) -> Result<Function, JsonFault> {
-        let name = required_member(alloc, value, "name")?;
-        let kind = required_member(alloc, value, "kind")?;
-        let params = required_member(alloc, value, "params")?;
+    fn from_json(alloc: Global, seed: Seed, value: &Value<'_>) -> Result<Function, JsonFault> {
+        let name = required_member(alloc, seed, value, "name")?;
+        let kind = required_member(alloc, seed, value, "kind")?;
+        let params = required_member(alloc, seed, value, "params")?;
         refuse_member(alloc, value, "results")?;
-        let result = optional_member(alloc, value, "result")?;
+        let result = optional_member(alloc, seed, value, "result")?;
         Ok(Function {
             name,
             kind,

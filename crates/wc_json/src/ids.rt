@@ -10,6 +10,7 @@ use crate::paths::fault_here;
 use crate::{JsonFault, Problem};
 use json::Value;
 use std::alloc::Global;
+use wc_maps::Seed;
 use wc_resolve::{InterfaceId, PackageId, TypeId, WorldId};
 
 /// A number of decimal digits alone, below 2^32.
@@ -35,7 +36,7 @@ impl FromJson for u32 {
 
     ghost reading = { index };
 
-    fn from_json(alloc: Global, value: &Value<'_>) -> Result<u32, JsonFault> {
+    fn from_json(alloc: Global, _seed: Seed, value: &Value<'_>) -> Result<u32, JsonFault> {
         index(alloc, value)
     }
 }
@@ -50,7 +51,7 @@ impl FromJson for TypeId {
 
     ghost reading = { index };
 
-    fn from_json(alloc: Global, value: &Value<'_>) -> Result<TypeId, JsonFault> {
+    fn from_json(alloc: Global, _seed: Seed, value: &Value<'_>) -> Result<TypeId, JsonFault> {
         Ok(TypeId(index(alloc, value)?))
     }
 }
@@ -65,7 +66,7 @@ impl FromJson for InterfaceId {
 
     ghost reading = { index };
 
-    fn from_json(alloc: Global, value: &Value<'_>) -> Result<InterfaceId, JsonFault> {
+    fn from_json(alloc: Global, _seed: Seed, value: &Value<'_>) -> Result<InterfaceId, JsonFault> {
         Ok(InterfaceId(index(alloc, value)?))
     }
 }
@@ -80,7 +81,7 @@ impl FromJson for WorldId {
 
     ghost reading = { index };
 
-    fn from_json(alloc: Global, value: &Value<'_>) -> Result<WorldId, JsonFault> {
+    fn from_json(alloc: Global, _seed: Seed, value: &Value<'_>) -> Result<WorldId, JsonFault> {
         Ok(WorldId(index(alloc, value)?))
     }
 }
@@ -95,7 +96,7 @@ impl FromJson for PackageId {
 
     ghost reading = { index };
 
-    fn from_json(alloc: Global, value: &Value<'_>) -> Result<PackageId, JsonFault> {
+    fn from_json(alloc: Global, _seed: Seed, value: &Value<'_>) -> Result<PackageId, JsonFault> {
         Ok(PackageId(index(alloc, value)?))
     }
 }

@@ -10,6 +10,7 @@ use crate::paths::fault_here;
 use crate::{JsonFault, Problem};
 use json::Value;
 use std::alloc::{AllocError, Global};
+use wc_maps::Seed;
 use wc_resolve::{InterfaceId, WorldItem, WorldKey};
 
 /// What comes after a prefix.
@@ -81,7 +82,7 @@ impl FromJson for WorldKey {
 
     ghost reading = { key };
 
-    fn from_json(alloc: Global, value: &Value<'_>) -> Result<WorldKey, JsonFault> {
+    fn from_json(alloc: Global, _seed: Seed, value: &Value<'_>) -> Result<WorldKey, JsonFault> {
         match value.as_str() {
             Some(text) => Ok(world_key(alloc, text)?),
             None => Err(fault_here(alloc, Problem::NotAText)),

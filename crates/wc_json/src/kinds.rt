@@ -14,6 +14,7 @@ use crate::paths::{at_variant, fault_here};
 use crate::{JsonFault, Problem};
 use json::Value;
 use std::alloc::Global;
+use wc_maps::Seed;
 use wc_resolve::{Handle, TypeDefKind, TypeId, WitType};
 
 /// A flag, or a case of an enum: an object with its name.
@@ -30,18 +31,23 @@ impl FromJson for Label {
 
     ghost reading = { label };
 
-    fn from_json(alloc: Global, value: &Value<'_>) -> Result<Label, JsonFault> {
-        let name = required_member(alloc, value, "name")?;
+    fn from_json(alloc: Global, seed: Seed, value: &Value<'_>) -> Result<Label, JsonFault> {
+        let name = required_member(alloc, seed, value, "name")?;
         Ok(Label(name))
     }
 }
 
 /// The names of the labels that the member of this name of an object lists.
-fn label_names(alloc: Global, object: &Value<'_>, name: &str) -> Result<Vec<String>, JsonFault>
+fn label_names(
+    alloc: Global,
+    seed: Seed,
+    object: &Value<'_>,
+    name: &str,
+) -> Result<Vec<String>, JsonFault>
     ensures { Reads (λ v. map string_bytes v.items) result
         (required_member name.now (list label) (value_view object.now)) }
 {
-    let labels: Vec<Label> = required_member(alloc, object, name)?;
+    let labels: Vec<Label> = required_member(alloc, seed, object, name)?;
     let mut names = Vec::with_capacity(alloc, labels.len())?;
     for label in labels {
         let Label(name) = label;
@@ -60,19 +66,24 @@ impl FromJson for Handle {
 
     ghost reading = { handle };
 
-    fn from_json(alloc: Global, value: &Value<'_>) -> Result<Handle, JsonFault> {
+    fn from_json(alloc: Global, seed: Seed, value: &Value<'_>) -> Result<Handle, JsonFault> {
         let member = only_member(alloc, value)?;
-        at_variant(alloc, member.0, handle_of(alloc, member.0, &member.1))
+        at_variant(alloc, member.0, handle_of(alloc, seed, member.0, &member.1))
     }
 }
 
 /// The handle of this kind, of the resource that the value names.
-fn handle_of(alloc: Global, kind: &str, resource: &Value<'_>) -> Result<Handle, JsonFault>
+fn handle_of(
+    alloc: Global,
+    seed: Seed,
+    kind: &str,
+    resource: &Value<'_>,
+) -> Result<Handle, JsonFault>
     ensures { Reads (λ h. h) result (handle_of kind.now (value_view resource.now)) }
 {
     match kind {
-        "own" => Ok(Handle::Own(TypeId::from_json(alloc, resource)?)),
-        "borrow" => Ok(Handle::Borrow(TypeId::from_json(alloc, resource)?)),
+        "own" => Ok(Handle::Own(TypeId::from_json(alloc, seed, resource)?)),
+        "borrow" => Ok(Handle::Borrow(TypeId::from_json(alloc, seed, resource)?)),
         _ => Err(fault_here(alloc, Problem::Unknown)),
     }
 }
@@ -89,25 +100,30 @@ fn plain_kind(alloc: Global, name: &str) -> Result<TypeDefKind, JsonFault>
 }
 
 /// The kind of this name, which is made of what the value has.
-fn kind_of(alloc: Global, name: &str, value: &Value<'_>) -> Result<TypeDefKind, JsonFault>
+fn kind_of(
+    alloc: Global,
+    seed: Seed,
+    name: &str,
+    value: &Value<'_>,
+) -> Result<TypeDefKind, JsonFault>
     ensures { Reads kind_view result (kind_of name.now (value_view value.now)) }
 {
     match name {
-        "record" => Ok(TypeDefKind::Record(required_member(alloc, value, "fields")?)),
-        "handle" => Ok(TypeDefKind::Handle(Handle::from_json(alloc, value)?)),
-        "flags" => Ok(TypeDefKind::Flags(label_names(alloc, value, "flags")?)),
-        "tuple" => Ok(TypeDefKind::Tuple(required_member(alloc, value, "types")?)),
-        "variant" => Ok(TypeDefKind::Variant(required_member(alloc, value, "cases")?)),
-        "enum" => Ok(TypeDefKind::Enum(label_names(alloc, value, "cases")?)),
-        "option" => Ok(TypeDefKind::Option(WitType::from_json(alloc, value)?)),
+        "record" => Ok(TypeDefKind::Record(required_member(alloc, seed, value, "fields")?)),
+        "handle" => Ok(TypeDefKind::Handle(Handle::from_json(alloc, seed, value)?)),
+        "flags" => Ok(TypeDefKind::Flags(label_names(alloc, seed, value, "flags")?)),
+        "tuple" => Ok(TypeDefKind::Tuple(required_member(alloc, seed, value, "types")?)),
+        "variant" => Ok(TypeDefKind::Variant(required_member(alloc, seed, value, "cases")?)),
+        "enum" => Ok(TypeDefKind::Enum(label_names(alloc, seed, value, "cases")?)),
+        "option" => Ok(TypeDefKind::Option(WitType::from_json(alloc, seed, value)?)),
         "result" => Ok(TypeDefKind::Result {
-            ok: optional_member(alloc, value, "ok")?,
-            err: optional_member(alloc, value, "err")?,
+            ok: optional_member(alloc, seed, value, "ok")?,
+            err: optional_member(alloc, seed, value, "err")?,
         }),
-        "list" => Ok(TypeDefKind::List(WitType::from_json(alloc, value)?)),
-        "future" => Ok(TypeDefKind::Future(Option::from_json(alloc, value)?)),
-        "stream" => Ok(TypeDefKind::Stream(Option::from_json(alloc, value)?)),
-        "type" => Ok(TypeDefKind::Alias(WitType::from_json(alloc, value)?)),
+        "list" => Ok(TypeDefKind::List(WitType::from_json(alloc, seed, value)?)),
+        "future" => Ok(TypeDefKind::Future(Option::from_json(alloc, seed, value)?)),
+        "stream" => Ok(TypeDefKind::Stream(Option::from_json(alloc, seed, value)?)),
+        "type" => Ok(TypeDefKind::Alias(WitType::from_json(alloc, seed, value)?)),
         "fixed-length-list" | "fixed-size-list" | "map" => Err(fault_here(alloc, Problem::LeftOut)),
         _ => Err(fault_here(alloc, Problem::Unknown)),
     }
@@ -123,11 +139,11 @@ impl FromJson for TypeDefKind {
 
     ghost reading = { kind };
 
-    fn from_json(alloc: Global, value: &Value<'_>) -> Result<TypeDefKind, JsonFault> {
+    fn from_json(alloc: Global, seed: Seed, value: &Value<'_>) -> Result<TypeDefKind, JsonFault> {
         if let Some(name) = value.as_str() {
             return plain_kind(alloc, name);
         }
         let member = only_member(alloc, value)?;
-        at_variant(alloc, member.0, kind_of(alloc, member.0, &member.1))
+        at_variant(alloc, member.0, kind_of(alloc, seed, member.0, &member.1))
     }
 }

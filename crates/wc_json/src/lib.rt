@@ -8,6 +8,9 @@
 //! `stability` and `span`; they have to be well-formed JSON all the same. A member that is missing or
 //! wrong is a fault with its path, as `types[3].kind.record.fields[0].type: missing`.
 //!
+//! The maps hash under the seed that is handed in (`wc_maps::Seed`): whoever chooses the names of a
+//! text and doesn't know the seed can't make them slow.
+//!
 //! Whether the parts are well-formed is left to `wc_resolve::Resolve::build`; no id is known to be in
 //! range before.
 //!

@@ -5,12 +5,12 @@ ghost use Rattle.std.specs.Prelude.{◌≡◌};
 use crate::from_json::FromJson;
 use crate::paths::{at_key, fault_here};
 use crate::{JsonFault, Problem};
-use indexmap::IndexMap;
 use json::Value;
 use std::alloc::Global;
+use wc_maps::{Map, Seed};
 
 /// A map from names, in the order of the object's members.
-impl<T: FromJson> FromJson for IndexMap<String, T> {
+impl<T: FromJson> FromJson for Map<String, T> {
     ghost use Rattle.std.specs.Prelude.{List, ℕ, map, string_bytes};
     ghost use Rattle.wc_json.specs.Maps.{name_map};
 
@@ -20,13 +20,17 @@ impl<T: FromJson> FromJson for IndexMap<String, T> {
 
     ghost reading = { name_map T.reading };
 
-    fn from_json(alloc: Global, value: &Value<'_>) -> Result<IndexMap<String, T>, JsonFault> {
+    fn from_json(
+        alloc: Global,
+        seed: Seed,
+        value: &Value<'_>,
+    ) -> Result<Map<String, T>, JsonFault> {
         let Value::Object(members) = value else {
             return Err(fault_here(alloc, Problem::NotAnObject));
         };
-        let mut map = IndexMap::new(alloc);
+        let mut map = Map::with_capacity_and_hasher(alloc, members.len(), seed)?;
         for member in members {
-            let entry = at_key(alloc, member.0, T::from_json(alloc, &member.1))?;
+            let entry = at_key(alloc, member.0, T::from_json(alloc, seed, &member.1))?;
             map.insert(String::from_str(alloc, member.0)?, entry)?;
         }
         Ok(map)

@@ -12,6 +12,7 @@ use crate::paths::{at_member, fault_at_member, fault_here};
 use crate::{JsonFault, Problem};
 use json::Value;
 use std::alloc::Global;
+use wc_maps::Seed;
 
 /// The member of this name of an object, if it has one.
 fn find_member<'v, 'a>(
@@ -28,23 +29,26 @@ fn find_member<'v, 'a>(
     Ok(object.get(name))
 }
 
-/// Reads the member of this name of an object, which has to be there.
+/// Reads the member of this name of an object, which has to be there. `seed`: the seed of the maps that are made.
 pub fn required_member<T: FromJson>(
     alloc: Global,
+    seed: Seed,
     object: &Value<'_>,
     name: &str,
 ) -> Result<T, JsonFault>
     ensures { Reads T.view result (required_member name.now T.reading (value_view object.now)) }
 {
     match find_member(alloc, object, name)? {
-        Some(value) => at_member(alloc, name, T::from_json(alloc, value)),
+        Some(value) => at_member(alloc, name, T::from_json(alloc, seed, value)),
         None => Err(fault_at_member(alloc, name, fault_here(alloc, Problem::Missing))),
     }
 }
 
-/// Reads the member of this name of an object; `None` where it is missing or null.
+/// Reads the member of this name of an object; `None` where it is missing or null. `seed`: the seed of the maps that
+/// are made.
 pub fn optional_member<T: FromJson>(
     alloc: Global,
+    seed: Seed,
     object: &Value<'_>,
     name: &str,
 ) -> Result<Option<T>, JsonFault>
@@ -52,7 +56,7 @@ pub fn optional_member<T: FromJson>(
         (optional_member name.now T.reading (value_view object.now)) }
 {
     match find_member(alloc, object, name)? {
-        Some(value) => at_member(alloc, name, Option::<T>::from_json(alloc, value)),
+        Some(value) => at_member(alloc, name, Option::<T>::from_json(alloc, seed, value)),
         None => Ok(None),
     }
 }

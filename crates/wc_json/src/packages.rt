@@ -11,10 +11,10 @@ use crate::from_json::FromJson;
 use crate::members::required_member;
 use crate::paths::fault_here;
 use crate::{JsonFault, Problem};
-use indexmap::IndexMap;
 use json::Value;
 use semver::{Error, Version};
 use std::alloc::{AllocError, Global};
+use wc_maps::{Map, Seed};
 use wc_resolve::{Package, PackageName, WorldId};
 
 /// The texts before and after the first such character of ASCII.
@@ -70,7 +70,7 @@ impl FromJson for PackageName {
 
     ghost reading = { package_name_in };
 
-    fn from_json(alloc: Global, value: &Value<'_>) -> Result<PackageName, JsonFault> {
+    fn from_json(alloc: Global, _seed: Seed, value: &Value<'_>) -> Result<PackageName, JsonFault> {
         match value.as_str() {
             Some(text) => package_name(alloc, text),
             None => Err(fault_here(alloc, Problem::NotAText)),
@@ -79,7 +79,7 @@ impl FromJson for PackageName {
 }
 
 /// A package, and its worlds by their names.
-impl FromJson for (Package, IndexMap<String, WorldId>) {
+impl FromJson for (Package, Map<String, WorldId>) {
     ghost use Rattle.std.specs.Prelude.{ℕ, List};
     ghost use Rattle.wc_resolve.specs.Views.{PackageView, package_view};
     ghost use Rattle.wc_json.specs.Packages.{package_and_worlds, world_entries};
@@ -92,11 +92,12 @@ impl FromJson for (Package, IndexMap<String, WorldId>) {
 
     fn from_json(
         alloc: Global,
+        seed: Seed,
         value: &Value<'_>,
-    ) -> Result<(Package, IndexMap<String, WorldId>), JsonFault> {
-        let name = required_member(alloc, value, "name")?;
-        let interfaces = required_member(alloc, value, "interfaces")?;
-        let worlds = required_member(alloc, value, "worlds")?;
+    ) -> Result<(Package, Map<String, WorldId>), JsonFault> {
+        let name = required_member(alloc, seed, value, "name")?;
+        let interfaces = required_member(alloc, seed, value, "interfaces")?;
+        let worlds = required_member(alloc, seed, value, "worlds")?;
         Ok((Package { name, interfaces }, worlds))
     }
 }

@@ -11,6 +11,7 @@ use crate::paths::{at_variant, fault_here};
 use crate::{JsonFault, Problem};
 use json::Value;
 use std::alloc::Global;
+use wc_maps::Seed;
 use wc_resolve::{InterfaceId, TypeDef, TypeOwner, WorldId};
 
 impl FromJson for TypeOwner {
@@ -23,19 +24,19 @@ impl FromJson for TypeOwner {
 
     ghost reading = { owner };
 
-    fn from_json(alloc: Global, value: &Value<'_>) -> Result<TypeOwner, JsonFault> {
+    fn from_json(alloc: Global, seed: Seed, value: &Value<'_>) -> Result<TypeOwner, JsonFault> {
         let member = only_member(alloc, value)?;
-        at_variant(alloc, member.0, owner_of(alloc, member.0, &member.1))
+        at_variant(alloc, member.0, owner_of(alloc, seed, member.0, &member.1))
     }
 }
 
 /// The owner of this kind, whose id the value is.
-fn owner_of(alloc: Global, kind: &str, id: &Value<'_>) -> Result<TypeOwner, JsonFault>
+fn owner_of(alloc: Global, seed: Seed, kind: &str, id: &Value<'_>) -> Result<TypeOwner, JsonFault>
     ensures { Reads (λ o. o) result (owner_of kind.now (value_view id.now)) }
 {
     match kind {
-        "world" => Ok(TypeOwner::World(WorldId::from_json(alloc, id)?)),
-        "interface" => Ok(TypeOwner::Interface(InterfaceId::from_json(alloc, id)?)),
+        "world" => Ok(TypeOwner::World(WorldId::from_json(alloc, seed, id)?)),
+        "interface" => Ok(TypeOwner::Interface(InterfaceId::from_json(alloc, seed, id)?)),
         _ => Err(fault_here(alloc, Problem::Unknown)),
     }
 }
@@ -50,10 +51,10 @@ impl FromJson for TypeDef {
 
     ghost reading = { defined_type };
 
-    fn from_json(alloc: Global, value: &Value<'_>) -> Result<TypeDef, JsonFault> {
-        let name = optional_member(alloc, value, "name")?;
-        let kind = required_member(alloc, value, "kind")?;
-        let owner = optional_member(alloc, value, "owner")?.unwrap_or(TypeOwner::None);
+    fn from_json(alloc: Global, seed: Seed, value: &Value<'_>) -> Result<TypeDef, JsonFault> {
+        let name = optional_member(alloc, seed, value, "name")?;
+        let kind = required_member(alloc, seed, value, "kind")?;
+        let owner = optional_member(alloc, seed, value, "owner")?.unwrap_or(TypeOwner::None);
         Ok(TypeDef { name, kind, owner })
     }
 }

@@ -11,6 +11,7 @@ use crate::paths::fault_here;
 use crate::{JsonFault, Problem};
 use json::Value;
 use std::alloc::Global;
+use wc_maps::Seed;
 use wc_resolve::{TypeId, WitType};
 
 /// The primitive type of this name.
@@ -46,10 +47,10 @@ impl FromJson for WitType {
 
     ghost reading = { wit_type };
 
-    fn from_json(alloc: Global, value: &Value<'_>) -> Result<WitType, JsonFault> {
+    fn from_json(alloc: Global, seed: Seed, value: &Value<'_>) -> Result<WitType, JsonFault> {
         match value.as_str() {
             Some(name) => primitive(alloc, name),
-            None => Ok(WitType::Id(TypeId::from_json(alloc, value)?)),
+            None => Ok(WitType::Id(TypeId::from_json(alloc, seed, value)?)),
         }
     }
 }
@@ -67,9 +68,13 @@ impl FromJson for (String, WitType) {
 
     ghost reading = { named_type };
 
-    fn from_json(alloc: Global, value: &Value<'_>) -> Result<(String, WitType), JsonFault> {
-        let name = required_member(alloc, value, "name")?;
-        let ty = required_member(alloc, value, "type")?;
+    fn from_json(
+        alloc: Global,
+        seed: Seed,
+        value: &Value<'_>,
+    ) -> Result<(String, WitType), JsonFault> {
+        let name = required_member(alloc, seed, value, "name")?;
+        let ty = required_member(alloc, seed, value, "type")?;
         Ok((name, ty))
     }
 }
@@ -87,9 +92,13 @@ impl FromJson for (String, Option<WitType>) {
 
     ghost reading = { variant_case };
 
-    fn from_json(alloc: Global, value: &Value<'_>) -> Result<(String, Option<WitType>), JsonFault> {
-        let name = required_member(alloc, value, "name")?;
-        let payload = optional_member(alloc, value, "type")?;
+    fn from_json(
+        alloc: Global,
+        seed: Seed,
+        value: &Value<'_>,
+    ) -> Result<(String, Option<WitType>), JsonFault> {
+        let name = required_member(alloc, seed, value, "name")?;
+        let payload = optional_member(alloc, seed, value, "type")?;
         Ok((name, payload))
     }
 }

@@ -11,48 +11,48 @@ use crate::keys::item_key;
 use crate::members::{only_member, optional_member, required_member};
 use crate::paths::{at_key, at_variant, fault_here};
 use crate::{JsonFault, Problem};
-use indexmap::IndexMap;
 use json::Value;
 use std::alloc::Global;
+use wc_maps::{Map, Seed};
 use wc_resolve::{Function, InterfaceId, PackageId, TypeId, World, WorldItem, WorldKey};
 
 /// An interface as an item: its id, alone or as a member of an object.
-fn interface_item_of(alloc: Global, value: &Value<'_>) -> Result<WorldItem, JsonFault>
+fn interface_item_of(alloc: Global, seed: Seed, value: &Value<'_>) -> Result<WorldItem, JsonFault>
     ensures { Reads item_view result (interface_item_of (value_view value.now)) }
 {
     let Value::Object(_) = value else {
         return Ok(WorldItem::Interface {
-            id: InterfaceId::from_json(alloc, value)?,
+            id: InterfaceId::from_json(alloc, seed, value)?,
             external_id: None,
         });
     };
-    let id = required_member(alloc, value, "id")?;
-    let external_id = optional_member(alloc, value, "external_id")?;
+    let id = required_member(alloc, seed, value, "id")?;
+    let external_id = optional_member(alloc, seed, value, "external_id")?;
     Ok(WorldItem::Interface { id, external_id })
 }
 
 /// A type as an item: its id, alone or as a member of an object.
-fn type_item_of(alloc: Global, value: &Value<'_>) -> Result<WorldItem, JsonFault>
+fn type_item_of(alloc: Global, seed: Seed, value: &Value<'_>) -> Result<WorldItem, JsonFault>
     ensures { Reads item_view result (type_item_of (value_view value.now)) }
 {
     let Value::Object(_) = value else {
         return Ok(WorldItem::TypeItem {
-            id: TypeId::from_json(alloc, value)?,
+            id: TypeId::from_json(alloc, seed, value)?,
         });
     };
     Ok(WorldItem::TypeItem {
-        id: required_member(alloc, value, "id")?,
+        id: required_member(alloc, seed, value, "id")?,
     })
 }
 
 /// The item of this kind, which is made of what the value has.
-fn item_of(alloc: Global, kind: &str, value: &Value<'_>) -> Result<WorldItem, JsonFault>
+fn item_of(alloc: Global, seed: Seed, kind: &str, value: &Value<'_>) -> Result<WorldItem, JsonFault>
     ensures { Reads item_view result (item_of kind.now (value_view value.now)) }
 {
     match kind {
-        "interface" => interface_item_of(alloc, value),
-        "function" => Ok(WorldItem::Function(Function::from_json(alloc, value)?)),
-        "type" => type_item_of(alloc, value),
+        "interface" => interface_item_of(alloc, seed, value),
+        "function" => Ok(WorldItem::Function(Function::from_json(alloc, seed, value)?)),
+        "type" => type_item_of(alloc, seed, value),
         _ => Err(fault_here(alloc, Problem::Unknown)),
     }
 }
@@ -67,15 +67,15 @@ impl FromJson for WorldItem {
 
     ghost reading = { item };
 
-    fn from_json(alloc: Global, value: &Value<'_>) -> Result<WorldItem, JsonFault> {
+    fn from_json(alloc: Global, seed: Seed, value: &Value<'_>) -> Result<WorldItem, JsonFault> {
         let member = only_member(alloc, value)?;
-        at_variant(alloc, member.0, item_of(alloc, member.0, &member.1))
+        at_variant(alloc, member.0, item_of(alloc, seed, member.0, &member.1))
     }
 }
 
 /// What a world imports or exports, by its keys, in the order of the object's members.
 #[derive(Drop)]
-struct Items(IndexMap<WorldKey, WorldItem>);
+struct Items(Map<WorldKey, WorldItem>);
 
 impl FromJson for Items {
     ghost use Rattle.std.specs.Prelude.{List, map};
@@ -88,13 +88,17 @@ impl FromJson for Items {
 
     ghost reading = { items };
 
-    fn from_json(alloc: Global, value: &Value<'_>) -> Result<Items, JsonFault> {
+    fn from_json(alloc: Global, seed: Seed, value: &Value<'_>) -> Result<Items, JsonFault> {
         let Value::Object(members) = value else {
             return Err(fault_here(alloc, Problem::NotAnObject));
         };
-        let mut items = IndexMap::new(alloc);
+        let mut items = Map::with_capacity_and_hasher(alloc, members.len(), seed)?;
         for member in members {
-            let item = at_key(alloc, member.0, WorldItem::from_json(alloc, &member.1))?;
+            let item = at_key(
+                alloc,
+                member.0,
+                WorldItem::from_json(alloc, seed, &member.1),
+            )?;
             items.insert(item_key(alloc, member.0, &item)?, item)?;
         }
         Ok(Items(items))
@@ -115,12 +119,13 @@ impl FromJson for (World, Option<PackageId>) {
 
     fn from_json(
         alloc: Global,
+        seed: Seed,
         value: &Value<'_>,
     ) -> Result<(World, Option<PackageId>), JsonFault> {
-        let name = required_member(alloc, value, "name")?;
-        let imports: Items = required_member(alloc, value, "imports")?;
-        let exports: Items = required_member(alloc, value, "exports")?;
-        let package = optional_member(alloc, value, "package")?;
+        let name = required_member(alloc, seed, value, "name")?;
+        let imports: Items = required_member(alloc, seed, value, "imports")?;
+        let exports: Items = required_member(alloc, seed, value, "exports")?;
+        let package = optional_member(alloc, seed, value, "package")?;
         let world = World {
             name,
             imports: imports.0,

@@ -14,9 +14,9 @@ ghost use Rattle.wc_names.specs.Keys.{as_function, item_under};
 
 use crate::export_names::{ExportSyntax, destructed_resource, export_parts};
 use crate::keys::{function_under, if_resource, item, type_under};
-use indexmap::{IndexMap, IndexSet};
 use std::alloc::{AllocError, Global};
 use std::marker::Model;
+use wc_maps::{Map, Set};
 use wc_resolve::{Function, InterfaceId, Resolve, TypeId, WorldId, WorldItem, WorldKey};
 
 /// An interface of an export set, and its key.
@@ -47,10 +47,7 @@ fn text_of(
 }
 
 /// The interface that is exported under a key.
-fn interface_under_key(
-    exports: &IndexMap<WorldKey, WorldItem>,
-    key: &WorldKey,
-) -> Option<InterfaceId>
+fn interface_under_key(exports: &Map<WorldKey, WorldItem>, key: &WorldKey) -> Option<InterfaceId>
     ensures { option_map (λ id. id.0) result
         ≡ exported_interface (map world_entry exports.now.entries) (key_view key.now) }
 {
@@ -63,7 +60,7 @@ fn interface_under_key(
 /// Lists an interface under a text, after the others of that text.
 fn list_interface<'a>(
     alloc: Global,
-    interfaces: &mut IndexMap<String, Vec<ExportedInterface<'a>>>,
+    interfaces: &mut Map<String, Vec<ExportedInterface<'a>>>,
     text: String,
     interface: ExportedInterface<'a>,
 ) -> Result<(), AllocError>
@@ -85,7 +82,7 @@ fn text_under_key(
     alloc: Global,
     syntax: ExportSyntax,
     resolve: &Resolve,
-    exports: &IndexMap<WorldKey, WorldItem>,
+    exports: &Map<WorldKey, WorldItem>,
     key: &WorldKey,
 ) -> Result<Option<(String, InterfaceId)>, AllocError>
     requires { All (λ x. IsKeyIn resolve.now x.0) (map world_entry exports.now.entries) }
@@ -107,15 +104,15 @@ pub(crate) fn interfaces_by_text<'a>(
     alloc: Global,
     syntax: ExportSyntax,
     resolve: &Resolve,
-    exports: &IndexMap<WorldKey, WorldItem>,
-    keys: &'a IndexSet<WorldKey>,
-) -> Result<IndexMap<String, Vec<ExportedInterface<'a>>>, AllocError>
+    exports: &Map<WorldKey, WorldItem>,
+    keys: &'a Set<WorldKey>,
+) -> Result<Map<String, Vec<ExportedInterface<'a>>>, AllocError>
     requires { All (λ x. IsKeyIn resolve.now x.0) (map world_entry exports.now.entries) }
     ensures { IfOk result (λ interfaces. (text : List ℕ) → listed interfaces.entries text
         ≡ interfaces_of_text syntax resolve.now (map world_entry exports.now.entries)
         (map key_view keys.now.keys) text) }
 {
-    let mut interfaces = IndexMap::new(alloc);
+    let mut interfaces = Map::with_hasher(alloc, *keys.hasher());
     for key in keys.iter() {
         if let Some((text, id)) = text_under_key(alloc, syntax, resolve, exports, key)? {
             list_interface(alloc, &mut interfaces, text, ExportedInterface { key, id })?;
@@ -181,7 +178,7 @@ pub(crate) fn resource_in(
 /// The plain key of this name, if an export set has it.
 fn plain_key_in<'a>(
     alloc: Global,
-    keys: &'a IndexSet<WorldKey>,
+    keys: &'a Set<WorldKey>,
     name: &str,
 ) -> Result<Option<&'a WorldKey>, AllocError>
     ensures { IfOk result (λ found. FindsPlainKey (map key_view keys.now.keys) name.now found) }
@@ -192,7 +189,7 @@ fn plain_key_in<'a>(
 
 /// The function that is exported under a key.
 fn function_under_key<'a>(
-    exports: &'a IndexMap<WorldKey, WorldItem>,
+    exports: &'a Map<WorldKey, WorldItem>,
     key: &WorldKey,
 ) -> Option<&'a Function>
     ensures { option_map (λ f. function_view f.now) result ≡ option_and_then as_function
@@ -207,8 +204,8 @@ fn function_under_key<'a>(
 /// The function of this name that the world itself has in an export set.
 fn world_function<'a>(
     alloc: Global,
-    exports: &'a IndexMap<WorldKey, WorldItem>,
-    keys: &'a IndexSet<WorldKey>,
+    exports: &'a Map<WorldKey, WorldItem>,
+    keys: &'a Set<WorldKey>,
     name: &str,
 ) -> Result<Option<(&'a WorldKey, Option<InterfaceId>, &'a Function)>, AllocError>
     ensures { IfOk result (λ found. Finds (option_map export_target found)
@@ -230,10 +227,10 @@ fn world_function<'a>(
 pub struct ExportNames<'a> {
     syntax: ExportSyntax,
     resolve: &'a Resolve,
-    exports: &'a IndexMap<WorldKey, WorldItem>,
-    keys: &'a IndexSet<WorldKey>,
+    exports: &'a Map<WorldKey, WorldItem>,
+    keys: &'a Set<WorldKey>,
     /// The interfaces of the set by their texts.
-    interfaces: IndexMap<String, Vec<ExportedInterface<'a>>>,
+    interfaces: Map<String, Vec<ExportedInterface<'a>>>,
 }
 
 impl<'a> Model for ExportNames<'a> {
@@ -264,7 +261,7 @@ impl<'a> ExportNames<'a> {
         syntax: ExportSyntax,
         resolve: &'a Resolve,
         world: WorldId,
-        keys: &'a IndexSet<WorldKey>,
+        keys: &'a Set<WorldKey>,
     ) -> Result<ExportNames<'a>, AllocError>
         requires { world.0 < length resolve.now.worlds }
         ensures { IfOk result (λ names. names ≡ names_view syntax resolve.now
@@ -350,7 +347,7 @@ pub(crate) fn matched_export<'a>(
     name: &str,
     resolve: &'a Resolve,
     world: WorldId,
-    keys: &'a IndexSet<WorldKey>,
+    keys: &'a Set<WorldKey>,
 ) -> Result<Option<(&'a WorldKey, Option<InterfaceId>, &'a Function)>, AllocError>
     requires { world.0 < length resolve.now.worlds }
     ensures { IfOk result (λ found. Finds (option_map export_target found)
@@ -368,7 +365,7 @@ pub(crate) fn matched_destructor(
     name: &str,
     resolve: &Resolve,
     world: WorldId,
-    keys: &IndexSet<WorldKey>,
+    keys: &Set<WorldKey>,
 ) -> Result<Option<TypeId>, AllocError>
     requires { world.0 < length resolve.now.worlds }
     ensures { IfOk result (λ found. Finds (option_map id_index found)

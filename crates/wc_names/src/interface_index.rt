@@ -15,10 +15,10 @@ ghost use Rattle.wc_names.specs.First.{FirstOf};
 
 use crate::interfaces::{IdParts, id_parts, member_of};
 use crate::keys::{is_key, plain_interface};
-use indexmap::IndexMap;
 use std::alloc::{AllocError, Global};
 use std::hash::Hash;
 use std::marker::Model;
+use wc_maps::Map;
 use wc_resolve::{InterfaceId, PackageName, Resolve, WorldItem, WorldKey};
 
 /// What the ids of interfaces share whose versions are of one track.
@@ -32,7 +32,7 @@ pub struct TrackName {
 
 /// Keeps a value under a key, if there is none yet.
 fn keep_first<K: Hash + Eq + Drop, V: Drop>(
-    kept: &mut IndexMap<K, V>,
+    kept: &mut Map<K, V>,
     key: K,
     value: V,
 ) -> Result<(), AllocError>
@@ -73,13 +73,13 @@ fn canonical_text(
 pub(crate) fn first_by_canonical_id<'a>(
     alloc: Global,
     resolve: &Resolve,
-    items: &'a IndexMap<WorldKey, WorldItem>,
-) -> Result<IndexMap<String, (&'a WorldKey, InterfaceId)>, AllocError>
+    items: &'a Map<WorldKey, WorldItem>,
+) -> Result<Map<String, (&'a WorldKey, InterfaceId)>, AllocError>
     requires { All (λ x. IsKeyIn resolve.now x.0) (map world_entry items.now.entries) }
     ensures { IfOk result (λ first. KeepsFirst (IsCanonicalEntry resolve.now) is_text keyed_view
         (map world_entry items.now.entries) first.entries) }
 {
-    let mut first = IndexMap::new(alloc);
+    let mut first = Map::with_hasher(alloc, *items.hasher());
     for (key, item) in items.iter() {
         if let Some((text, id)) = canonical_text(alloc, resolve, key, item)? {
             keep_first(&mut first, text, (key, id))?;
@@ -107,13 +107,13 @@ fn copied_interface(resolve: &Resolve, key: &WorldKey) -> Option<(InterfaceId, I
 pub(crate) fn first_clones(
     alloc: Global,
     resolve: &Resolve,
-    items: &IndexMap<WorldKey, WorldItem>,
-) -> Result<IndexMap<InterfaceId, InterfaceId>, AllocError>
+    items: &Map<WorldKey, WorldItem>,
+) -> Result<Map<InterfaceId, InterfaceId>, AllocError>
     requires { All (λ x. IsKeyIn resolve.now x.0) (map world_entry items.now.entries) }
     ensures { IfOk result (λ first. KeepsClones resolve.now (map world_entry items.now.entries)
         first.entries) }
 {
-    let mut first = IndexMap::new(alloc);
+    let mut first = Map::with_hasher(alloc, *items.hasher());
     for (key, _item) in items.iter() {
         if let Some((source, id)) = copied_interface(resolve, key) {
             keep_first(&mut first, source, id)?;
@@ -169,13 +169,13 @@ fn tracked_interface(
 pub(crate) fn first_on_tracks(
     alloc: Global,
     resolve: &Resolve,
-    items: &IndexMap<WorldKey, WorldItem>,
-) -> Result<IndexMap<TrackName, InterfaceId>, AllocError>
+    items: &Map<WorldKey, WorldItem>,
+) -> Result<Map<TrackName, InterfaceId>, AllocError>
     requires { All (λ x. IsKeyIn resolve.now x.0) (map world_entry items.now.entries) }
     ensures { IfOk result (λ first. KeepsTracks resolve.now (map world_entry items.now.entries)
         first.entries) }
 {
-    let mut first = IndexMap::new(alloc);
+    let mut first = Map::with_hasher(alloc, *items.hasher());
     for (key, _item) in items.iter() {
         if let Some((name, id)) = tracked_interface(alloc, resolve, key)? {
             keep_first(&mut first, name, id)?;
@@ -188,16 +188,16 @@ pub(crate) fn first_on_tracks(
 #[derive(Drop)]
 pub struct IdIndex {
     /// The first clone of each interface, by that interface.
-    pub clones: IndexMap<InterfaceId, InterfaceId>,
+    pub clones: Map<InterfaceId, InterfaceId>,
     /// The first interface on each track.
-    pub tracks: IndexMap<TrackName, InterfaceId>,
+    pub tracks: Map<TrackName, InterfaceId>,
 }
 
 /// Interfaces by what texts lead to.
 #[derive(Drop)]
 pub enum InterfaceIndex<'a> {
     /// The first interface of each plain key or canonical id, and its key.
-    CanonicalIds(IndexMap<String, (&'a WorldKey, InterfaceId)>),
+    CanonicalIds(Map<String, (&'a WorldKey, InterfaceId)>),
     /// For ids with whole versions.
     FullIds(IdIndex),
 }
@@ -205,7 +205,7 @@ pub enum InterfaceIndex<'a> {
 /// The interface of a text, by plain keys and canonical ids.
 fn canonical_interface(
     alloc: Global,
-    first: &IndexMap<String, (&WorldKey, InterfaceId)>,
+    first: &Map<String, (&WorldKey, InterfaceId)>,
     text: &str,
 ) -> Result<Option<(WorldKey, InterfaceId)>, AllocError>
     ensures { IfOk result (λ found. option_map found_interface found
@@ -219,7 +219,7 @@ fn canonical_interface(
 
 /// The first clone of an interface.
 fn clone_of_interface(
-    clones: &IndexMap<InterfaceId, InterfaceId>,
+    clones: &Map<InterfaceId, InterfaceId>,
     source: InterfaceId,
 ) -> Option<InterfaceId>
     ensures { (r : ResolveView) (entries : Entries) → KeepsClones r entries clones.now.entries
@@ -232,7 +232,7 @@ fn clone_of_interface(
 /// The first interface on the track of an id.
 fn interface_on_track(
     alloc: Global,
-    tracks: &IndexMap<TrackName, InterfaceId>,
+    tracks: &Map<TrackName, InterfaceId>,
     id: &IdParts<'_>,
 ) -> Result<Option<InterfaceId>, AllocError>
     ensures { (r : ResolveView) (entries : Entries) → KeepsTracks r entries tracks.now.entries
@@ -249,7 +249,7 @@ fn interface_on_track(
 fn interface_of_id(
     alloc: Global,
     resolve: &Resolve,
-    items: &IndexMap<WorldKey, WorldItem>,
+    items: &Map<WorldKey, WorldItem>,
     index: &IdIndex,
     id: &IdParts<'_>,
 ) -> Result<Option<InterfaceId>, AllocError>
@@ -273,7 +273,7 @@ fn interface_of_id(
 fn interface_of_text(
     alloc: Global,
     resolve: &Resolve,
-    items: &IndexMap<WorldKey, WorldItem>,
+    items: &Map<WorldKey, WorldItem>,
     index: &IdIndex,
     text: &str,
 ) -> Result<Option<(WorldKey, InterfaceId)>, AllocError>
@@ -298,7 +298,7 @@ fn interface_of_text(
 #[derive(Drop)]
 pub struct InterfaceNames<'a> {
     resolve: &'a Resolve,
-    items: &'a IndexMap<WorldKey, WorldItem>,
+    items: &'a Map<WorldKey, WorldItem>,
     index: InterfaceIndex<'a>,
 }
 
@@ -327,7 +327,7 @@ impl<'a> InterfaceNames<'a> {
     pub(crate) fn by_canonical_ids(
         alloc: Global,
         resolve: &'a Resolve,
-        items: &'a IndexMap<WorldKey, WorldItem>,
+        items: &'a Map<WorldKey, WorldItem>,
     ) -> Result<InterfaceNames<'a>, AllocError>
         requires { All (λ x. IsKeyIn resolve.now x.0) (map world_entry items.now.entries) }
         ensures { IfOk result (λ names. names ≡ interface_names_view canonical_ids resolve.now
@@ -351,7 +351,7 @@ impl<'a> InterfaceNames<'a> {
     pub(crate) fn by_full_ids(
         alloc: Global,
         resolve: &'a Resolve,
-        items: &'a IndexMap<WorldKey, WorldItem>,
+        items: &'a Map<WorldKey, WorldItem>,
     ) -> Result<InterfaceNames<'a>, AllocError>
         requires { All (λ x. IsKeyIn resolve.now x.0) (map world_entry items.now.entries) }
         ensures { IfOk result (λ names. names ≡ interface_names_view full_ids resolve.now

@@ -15,9 +15,9 @@ ghost use Rattle.wc_names.specs.First.{FirstOf};
 
 use crate::keys::{interface_under, is_key, plain_interface};
 use crate::texts::split_at_first;
-use indexmap::IndexMap;
 use semver::{Error, Version};
 use std::alloc::{AllocError, Global};
+use wc_maps::Map;
 use wc_resolve::{InterfaceId, PackageName, Resolve, WorldItem, WorldKey};
 
 /// The parts of an id: the name of a package, and of an interface of it.
@@ -87,7 +87,7 @@ fn is_clone_of(resolve: &Resolve, id: InterfaceId, source: InterfaceId) -> bool
 /// The first interface that is a key and a clone of this one.
 fn first_clone(
     resolve: &Resolve,
-    items: &IndexMap<WorldKey, WorldItem>,
+    items: &Map<WorldKey, WorldItem>,
     source: InterfaceId,
 ) -> Option<InterfaceId>
     requires { All (λ x. IsKeyIn resolve.now x.0) (map world_entry items.now.entries) }
@@ -163,7 +163,7 @@ fn is_on_track(resolve: &Resolve, interface: InterfaceId, id: &IdParts<'_>, trac
 /// track, which is that of the id's version.
 fn first_of_track(
     resolve: &Resolve,
-    items: &IndexMap<WorldKey, WorldItem>,
+    items: &Map<WorldKey, WorldItem>,
     id: &IdParts<'_>,
     track: &str,
 ) -> Option<InterfaceId>
@@ -188,7 +188,7 @@ fn first_of_track(
 fn first_on_track(
     alloc: Global,
     resolve: &Resolve,
-    items: &IndexMap<WorldKey, WorldItem>,
+    items: &Map<WorldKey, WorldItem>,
     id: &IdParts<'_>,
 ) -> Result<Option<InterfaceId>, AllocError>
     requires { All (λ x. IsKeyIn resolve.now x.0) (map world_entry items.now.entries) }
@@ -208,7 +208,7 @@ fn first_on_track(
 fn interface_of_id(
     alloc: Global,
     resolve: &Resolve,
-    items: &IndexMap<WorldKey, WorldItem>,
+    items: &Map<WorldKey, WorldItem>,
     id: &IdParts<'_>,
 ) -> Result<Option<InterfaceId>, AllocError>
     requires { All (λ x. IsKeyIn resolve.now x.0) (map world_entry items.now.entries) }
@@ -231,7 +231,7 @@ fn interface_of_id(
 pub(crate) fn legacy_interface(
     alloc: Global,
     resolve: &Resolve,
-    items: &IndexMap<WorldKey, WorldItem>,
+    items: &Map<WorldKey, WorldItem>,
     text: &str,
 ) -> Result<Option<(WorldKey, InterfaceId)>, AllocError>
     requires { All (λ x. IsKeyIn resolve.now x.0) (map world_entry items.now.entries) }
@@ -286,7 +286,7 @@ fn canonical_entry(
 pub(crate) fn standard_interface(
     alloc: Global,
     resolve: &Resolve,
-    items: &IndexMap<WorldKey, WorldItem>,
+    items: &Map<WorldKey, WorldItem>,
     text: &str,
 ) -> Result<Option<(WorldKey, InterfaceId)>, AllocError>
     requires { All (λ x. IsKeyIn resolve.now x.0) (map world_entry items.now.entries) }

@@ -8,12 +8,12 @@ ghost use Rattle.wc_resolve.specs.Roots.{id_index};
 ghost use Rattle.wc_resolve.specs.Views.{function_entry, function_view, interface_entry, interface_key, item_view, key_view, plain_key, type_entry, world_entry};
 ghost use Rattle.wc_names.specs.Keys.{as_function, as_interface, as_type, item_under, resource_at, under_name};
 
-use indexmap::IndexMap;
 use std::alloc::{AllocError, Global};
+use wc_maps::Map;
 use wc_resolve::{Function, InterfaceId, Resolve, TypeDefKind, TypeId, WorldItem, WorldKey};
 
 /// The item under a key.
-pub fn item<'a>(items: &'a IndexMap<WorldKey, WorldItem>, key: &WorldKey) -> Option<&'a WorldItem>
+pub fn item<'a>(items: &'a Map<WorldKey, WorldItem>, key: &WorldKey) -> Option<&'a WorldItem>
     ensures { option_map (λ i. item_view i.now) result ≡
         item_under (map world_entry items.now.entries) (key_view key.now) }
 {
@@ -21,7 +21,7 @@ pub fn item<'a>(items: &'a IndexMap<WorldKey, WorldItem>, key: &WorldKey) -> Opt
 }
 
 /// Whether an interface is a key.
-pub(crate) fn is_key(items: &IndexMap<WorldKey, WorldItem>, id: InterfaceId) -> bool
+pub(crate) fn is_key(items: &Map<WorldKey, WorldItem>, id: InterfaceId) -> bool
     ensures { IsTrue result ↔
         IsSome (item_under (map world_entry items.now.entries) (interface_key id.0)) }
 {
@@ -35,7 +35,7 @@ pub(crate) fn is_key(items: &IndexMap<WorldKey, WorldItem>, id: InterfaceId) -> 
 /// `AllocError`: an allocation failed.
 pub fn plain_item<'a>(
     alloc: Global,
-    items: &'a IndexMap<WorldKey, WorldItem>,
+    items: &'a Map<WorldKey, WorldItem>,
     name: &str,
 ) -> Result<Option<&'a WorldItem>, AllocError>
     ensures { IfOk result (λ found. option_map (λ i. item_view i.now) found ≡
@@ -48,7 +48,7 @@ pub fn plain_item<'a>(
 /// The interface under a plain key; `None` where the item is no interface.
 pub(crate) fn plain_interface(
     alloc: Global,
-    items: &IndexMap<WorldKey, WorldItem>,
+    items: &Map<WorldKey, WorldItem>,
     name: &str,
 ) -> Result<Option<InterfaceId>, AllocError>
     ensures { IfOk result (λ found. option_map id_of_interface found ≡
@@ -71,7 +71,7 @@ pub(crate) fn plain_interface(
 /// `AllocError`: an allocation failed.
 pub fn plain_function<'a>(
     alloc: Global,
-    items: &'a IndexMap<WorldKey, WorldItem>,
+    items: &'a Map<WorldKey, WorldItem>,
     name: &str,
 ) -> Result<Option<&'a Function>, AllocError>
     ensures { IfOk result (λ found. option_map (λ f. function_view f.now) found ≡
@@ -94,7 +94,7 @@ pub fn plain_function<'a>(
 /// `AllocError`: an allocation failed.
 pub fn plain_type(
     alloc: Global,
-    items: &IndexMap<WorldKey, WorldItem>,
+    items: &Map<WorldKey, WorldItem>,
     name: &str,
 ) -> Result<Option<TypeId>, AllocError>
     ensures { IfOk result (λ found. option_map id_index found ≡ option_and_then as_type
@@ -110,7 +110,7 @@ pub fn plain_type(
 }
 
 /// The type of a name.
-pub fn type_under(types: &IndexMap<String, TypeId>, name: &str) -> Option<TypeId>
+pub fn type_under(types: &Map<String, TypeId>, name: &str) -> Option<TypeId>
     ensures { option_map id_index result ≡
         under_name (map type_entry types.now.entries) name.now }
 {
@@ -119,7 +119,7 @@ pub fn type_under(types: &IndexMap<String, TypeId>, name: &str) -> Option<TypeId
 
 /// The interface of a name.
 pub(crate) fn interface_under(
-    interfaces: &IndexMap<String, InterfaceId>,
+    interfaces: &Map<String, InterfaceId>,
     name: &str,
 ) -> Option<InterfaceId>
     ensures { option_map id_of_interface result ≡
@@ -129,10 +129,7 @@ pub(crate) fn interface_under(
 }
 
 /// The function of a name.
-pub fn function_under<'a>(
-    functions: &'a IndexMap<String, Function>,
-    name: &str,
-) -> Option<&'a Function>
+pub fn function_under<'a>(functions: &'a Map<String, Function>, name: &str) -> Option<&'a Function>
     ensures { option_map (λ f. function_view f.now) result ≡
         under_name (map function_entry functions.now.entries) name.now }
 {

@@ -13,9 +13,9 @@ use crate::{
     ExportNames, ExportSyntax, Import, InterfaceNames, MaybeAsyncLowered, NameIndexes,
     NameMangling, PayloadLookupContext,
 };
-use indexmap::{IndexMap, IndexSet};
 use std::alloc::{AllocError, Global};
 use wc_encoder::StringEncoding;
+use wc_maps::{Map, Set};
 use wc_read::{FuncType, ValType};
 use wc_resolve::{
     AbiVariant, Function, InterfaceId, Resolve, TypeId, WorldId, WorldItem, WorldKey,
@@ -245,7 +245,7 @@ impl<'h> NameMangling for Legacy<'h> {
         alloc: Global,
         module: &str,
         resolve: &Resolve,
-        items: &IndexMap<WorldKey, WorldItem>,
+        items: &Map<WorldKey, WorldItem>,
     ) -> Result<Option<(WorldKey, InterfaceId)>, AllocError> {
         legacy_interface(alloc, resolve, items, module)
     }
@@ -264,7 +264,7 @@ impl<'h> NameMangling for Legacy<'h> {
         name: &str,
         resolve: &'a Resolve,
         world: WorldId,
-        exports: &'a IndexSet<WorldKey>,
+        exports: &'a Set<WorldKey>,
     ) -> Result<Option<(&'a WorldKey, Option<InterfaceId>, &'a Function)>, AllocError> {
         matched_export(alloc, ExportSyntax::Legacy, name, resolve, world, exports)
     }
@@ -275,7 +275,7 @@ impl<'h> NameMangling for Legacy<'h> {
         name: &str,
         resolve: &'a Resolve,
         world: WorldId,
-        exports: &'a IndexSet<WorldKey>,
+        exports: &'a Set<WorldKey>,
     ) -> Result<Option<TypeId>, AllocError> {
         matched_destructor(alloc, ExportSyntax::Legacy, name, resolve, world, exports)
     }
@@ -286,7 +286,7 @@ impl<'h> NameIndexes for Legacy<'h> {
         &self,
         alloc: Global,
         resolve: &'a Resolve,
-        items: &'a IndexMap<WorldKey, WorldItem>,
+        items: &'a Map<WorldKey, WorldItem>,
     ) -> Result<InterfaceNames<'a>, AllocError> {
         InterfaceNames::by_full_ids(alloc, resolve, items)
     }
@@ -296,7 +296,7 @@ impl<'h> NameIndexes for Legacy<'h> {
         alloc: Global,
         resolve: &'a Resolve,
         world: WorldId,
-        exports: &'a IndexSet<WorldKey>,
+        exports: &'a Set<WorldKey>,
     ) -> Result<ExportNames<'a>, AllocError> {
         ExportNames::new(alloc, ExportSyntax::Legacy, resolve, world, exports)
     }

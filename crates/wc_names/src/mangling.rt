@@ -22,9 +22,9 @@ ghost use Rattle.wc_names.specs.Contexts.{NamesImportIn};
 ghost use Rattle.wc_names.specs.Views.{Builtin, import_view, backpressure_dec, backpressure_inc, context_get, context_set, error_context_debug_message, error_context_drop, error_context_new, subtask_cancel, subtask_drop, waitable_join, waitable_set_drop, waitable_set_new, waitable_set_poll, waitable_set_wait};
 
 use crate::{ExportNames, Import, InterfaceNames, PayloadLookupContext};
-use indexmap::{IndexMap, IndexSet};
 use std::alloc::{AllocError, Global};
 use wc_encoder::StringEncoding;
+use wc_maps::{Map, Set};
 use wc_read::{FuncType, ValType};
 use wc_resolve::{
     AbiVariant, Function, InterfaceId, Resolve, TypeId, WorldId, WorldItem, WorldKey,
@@ -230,7 +230,7 @@ pub trait NameMangling {
         alloc: Global,
         module: &str,
         resolve: &Resolve,
-        items: &IndexMap<WorldKey, WorldItem>,
+        items: &Map<WorldKey, WorldItem>,
     ) -> Result<Option<(WorldKey, InterfaceId)>, AllocError>
         requires { All (λ x. IsKeyIn resolve.now x.0) (map world_entry items.now.entries) }
         ensures { IfOk result (λ found. Finds (option_map found_interface found)
@@ -264,7 +264,7 @@ pub trait NameMangling {
         name: &str,
         resolve: &'a Resolve,
         world: WorldId,
-        exports: &'a IndexSet<WorldKey>,
+        exports: &'a Set<WorldKey>,
     ) -> Result<Option<(&'a WorldKey, Option<InterfaceId>, &'a Function)>, AllocError>
         requires { world.0 < length resolve.now.worlds }
         ensures { IfOk result (λ found. Finds (option_map export_target found)
@@ -285,7 +285,7 @@ pub trait NameMangling {
         name: &str,
         resolve: &'a Resolve,
         world: WorldId,
-        exports: &'a IndexSet<WorldKey>,
+        exports: &'a Set<WorldKey>,
     ) -> Result<Option<TypeId>, AllocError>
         requires { world.0 < length resolve.now.worlds }
         ensures { IfOk result (λ found. Finds (option_map id_index found)
@@ -312,7 +312,7 @@ pub trait NameIndexes: NameMangling {
         &self,
         alloc: Global,
         resolve: &'a Resolve,
-        items: &'a IndexMap<WorldKey, WorldItem>,
+        items: &'a Map<WorldKey, WorldItem>,
     ) -> Result<InterfaceNames<'a>, AllocError>
         requires { All (λ x. IsKeyIn resolve.now x.0) (map world_entry items.now.entries) }
         ensures { IfOk result (λ names. names ≡ interface_names_view
@@ -333,7 +333,7 @@ pub trait NameIndexes: NameMangling {
         alloc: Global,
         resolve: &'a Resolve,
         world: WorldId,
-        exports: &'a IndexSet<WorldKey>,
+        exports: &'a Set<WorldKey>,
     ) -> Result<ExportNames<'a>, AllocError>
         requires { world.0 < length resolve.now.worlds }
         ensures { IfOk result (λ names. names ≡ names_view (export_syntax (Self.scheme self.now))

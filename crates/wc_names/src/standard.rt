@@ -7,9 +7,9 @@ use crate::{
     ExportNames, ExportSyntax, Import, InterfaceNames, MaybeAsyncLowered, NameIndexes,
     NameMangling, PayloadLookupContext,
 };
-use indexmap::{IndexMap, IndexSet};
 use std::alloc::{AllocError, Global};
 use wc_encoder::StringEncoding;
+use wc_maps::{Map, Set};
 use wc_read::{FuncType, ValType};
 use wc_resolve::{
     AbiVariant, Function, InterfaceId, Resolve, TypeId, WorldId, WorldItem, WorldKey,
@@ -171,7 +171,7 @@ impl NameMangling for Standard {
         alloc: Global,
         module: &str,
         resolve: &Resolve,
-        items: &IndexMap<WorldKey, WorldItem>,
+        items: &Map<WorldKey, WorldItem>,
     ) -> Result<Option<(WorldKey, InterfaceId)>, AllocError> {
         standard_interface(alloc, resolve, items, module)
     }
@@ -190,7 +190,7 @@ impl NameMangling for Standard {
         name: &str,
         resolve: &'a Resolve,
         world: WorldId,
-        exports: &'a IndexSet<WorldKey>,
+        exports: &'a Set<WorldKey>,
     ) -> Result<Option<(&'a WorldKey, Option<InterfaceId>, &'a Function)>, AllocError> {
         matched_export(alloc, ExportSyntax::Standard, name, resolve, world, exports)
     }
@@ -201,7 +201,7 @@ impl NameMangling for Standard {
         name: &str,
         resolve: &'a Resolve,
         world: WorldId,
-        exports: &'a IndexSet<WorldKey>,
+        exports: &'a Set<WorldKey>,
     ) -> Result<Option<TypeId>, AllocError> {
         matched_destructor(alloc, ExportSyntax::Standard, name, resolve, world, exports)
     }
@@ -212,7 +212,7 @@ impl NameIndexes for Standard {
         &self,
         alloc: Global,
         resolve: &'a Resolve,
-        items: &'a IndexMap<WorldKey, WorldItem>,
+        items: &'a Map<WorldKey, WorldItem>,
     ) -> Result<InterfaceNames<'a>, AllocError> {
         InterfaceNames::by_canonical_ids(alloc, resolve, items)
     }
@@ -222,7 +222,7 @@ impl NameIndexes for Standard {
         alloc: Global,
         resolve: &'a Resolve,
         world: WorldId,
-        exports: &'a IndexSet<WorldKey>,
+        exports: &'a Set<WorldKey>,
     ) -> Result<ExportNames<'a>, AllocError> {
         ExportNames::new(alloc, ExportSyntax::Standard, resolve, world, exports)
     }

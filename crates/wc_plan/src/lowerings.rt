@@ -8,12 +8,12 @@ ghost use Rattle.wc_plan.specs.Plans.{is_indirect, needs, options_of};
 
 use crate::calls::Call;
 use bitflags::Flags;
-use indexmap::IndexMap;
+use wc_maps::Map;
 use wc_world::{ImportedInterface, Lowering, RequiredOptions};
 
 /// The lowering of a function, if there is one.
 pub(crate) fn lowering_of<'a>(
-    import_map: &'a IndexMap<Option<String>, ImportedInterface>,
+    import_map: &'a Map<Option<String>, ImportedInterface>,
     call: &Call,
 ) -> Option<&'a Lowering>
     ensures { option_map (λ l. lowering_view l.now) result ≡ lowering_at

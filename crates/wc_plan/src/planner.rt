@@ -17,8 +17,8 @@ use crate::calls::{Call, call_of};
 use crate::fault::PlanFault;
 use crate::lowerings::{is_indirect, lowering_of, needs_memory, needs_realloc};
 use crate::uses::{Owner, Plan, Use};
-use indexmap::IndexSet;
 use std::alloc::{AllocError, AllocFailed, Global};
+use wc_maps::Set;
 use wc_names::Import;
 use wc_validate::{ExportMap, ValidatedModule};
 use wc_world::{ComponentWorld, Lowering};
@@ -42,7 +42,7 @@ struct Importer<'a> {
 #[derive(Drop)]
 struct Planner<'a> {
     /// The functions that were found, with the owners of their modules.
-    seen: IndexSet<(Option<&'a str>, Call)>,
+    seen: Set<(Option<&'a str>, Call)>,
     uses: Vec<Use>,
     /// The position of the next function that stands in for another.
     slots: u64,
@@ -298,7 +298,7 @@ pub fn plan(alloc: Global, world: &ComponentWorld<'_>) -> Result<Plan, PlanFault
     ensures fault { IfErr result (IsPlanFault (world_view world.now)) }
 {
     let mut planner = Planner {
-        seen: IndexSet::new(alloc),
+        seen: Set::with_hasher(alloc, *world.import_map.hasher()),
         uses: Vec::new(alloc),
         slots: 0,
     };

@@ -11,11 +11,13 @@ use crate::json_place::{json_end, repeated_member};
 use std::alloc::{AllocError, Global};
 use std::io::ErrorKind;
 use wc_json::{Document, JsonFault, document_from_json};
+use wc_maps::Seed;
 use wc_tool::FileStore;
 
-/// The worlds in the file of this path.
+/// The worlds in the file of this path. `seed`: the seed of their maps.
 pub(crate) fn read_document<'a, F: FileStore>(
     alloc: Global,
+    seed: Seed,
     path: &'a str,
     files: &F,
 ) -> Result<Document, ProgramFault<'a>>
@@ -25,17 +27,17 @@ pub(crate) fn read_document<'a, F: FileStore>(
 {
     let bytes = read_file(path, files)?;
     match str::from_utf8(&bytes) {
-        Ok(text) => document_in(alloc, text),
+        Ok(text) => document_in(alloc, seed, text),
         Err(_) => Err(ProgramFault::NotText),
     }
 }
 
-/// The worlds in a text.
-fn document_in<'a>(alloc: Global, text: &str) -> Result<Document, ProgramFault<'a>>
+/// The worlds in a text. `seed`: the seed of their maps.
+fn document_in<'a>(alloc: Global, seed: Seed, text: &str) -> Result<Document, ProgramFault<'a>>
     ensures document { IfOk result (λ d. IsDocument (document text.now) d) }
     ensures fault { IfErr result (IsTextCause text.now) }
 {
-    match document_from_json(alloc, text) {
+    match document_from_json(alloc, seed, text) {
         Ok(document) => Ok(document),
         Err(JsonFault::Memory) => Err(ProgramFault::Memory),
         Err(JsonFault::NotJson) => Err(not_json(alloc, text)),

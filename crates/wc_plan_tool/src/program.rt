@@ -29,12 +29,12 @@ use crate::screen::Screen;
 use crate::selection::select_world;
 use crate::store::DirectoryStore;
 use crate::usage::{AND_USAGE, NO_TEXT, OPTIONS, USAGE, VERSION};
-use indexmap::IndexMap;
 use std::alloc::{AllocError, Global};
 use std::borrow::CowSlice;
 use std::io::{self, ErrorKind};
 use wc_dedupe::ModuleImportMap;
 use wc_encoder::{Adapter, ComponentEncoder, EncoderParts, Metadata};
+use wc_maps::{Map, Seed};
 use wc_plan::laws::worlds_nameable;
 use wc_plan::{Plan, plan};
 use wc_record::world_to_json;
@@ -55,8 +55,8 @@ const WRONG_ARGUMENTS: u8 = 2;
 /// The text of the fault where there is no memory for another text.
 const OUT_OF_MEMORY: &[u8] = b"out of memory";
 
-/// Runs the program with these arguments, the first of them the one after the program's name. The answer is its exit
-/// status:
+/// Runs the program with these arguments, the first of them the one after the program's name. `seed`: the seed of the maps
+/// that are made; what is done is the same for every seed. The answer is its exit status:
 ///
 /// | Status | Where | Printed |
 /// |---|---|---|
@@ -74,6 +74,7 @@ const OUT_OF_MEMORY: &[u8] = b"out of memory";
 /// they are unchanged.
 pub fn run<F: DirectoryStore, O: Screen, E: Screen>(
     alloc: Global,
+    seed: Seed,
     arguments: &io::Result<Vec<String>>,
     files: &mut F,
     out: &mut O,
@@ -88,7 +89,7 @@ pub fn run<F: DirectoryStore, O: Screen, E: Screen>(
     ensures kept { IsErr arguments.now → F.held files.new ≡ F.held files.old }
 {
     match arguments {
-        Ok(arguments) => run_with(alloc, arguments.as_slice(), files, out, err),
+        Ok(arguments) => run_with(alloc, seed, arguments.as_slice(), files, out, err),
         Err(e) if e.kind() == ErrorKind::OutOfMemory => print_fault(err, OUT_OF_MEMORY),
         Err(_) => print_usage_fault(err, NO_TEXT),
     }
@@ -97,6 +98,7 @@ pub fn run<F: DirectoryStore, O: Screen, E: Screen>(
 /// Runs the program with arguments that are known.
 fn run_with<F: DirectoryStore, O: Screen, E: Screen>(
     alloc: Global,
+    seed: Seed,
     arguments: &[String],
     files: &mut F,
     out: &mut O,
@@ -110,7 +112,7 @@ fn run_with<F: DirectoryStore, O: Screen, E: Screen>(
         return print(out, b"", USAGE, b"", SUCCESS);
     }
     match parse(alloc, arguments) {
-        Ok(command) => run_and_report(alloc, &command, files, out, err),
+        Ok(command) => run_and_report(alloc, seed, &command, files, out, err),
         Err(stop) => answer_stop(alloc, &stop, out, err),
     }
 }
@@ -139,6 +141,7 @@ fn answer_stop<O: Screen, E: Screen>(
 /// Runs a command on its files, and prints why it could not be run. The answer is the exit status.
 fn run_and_report<F: DirectoryStore, O: Screen, E: Screen>(
     alloc: Global,
+    seed: Seed,
     command: &Command<'_>,
     files: &mut F,
     out: &mut O,
@@ -148,7 +151,7 @@ fn run_and_report<F: DirectoryStore, O: Screen, E: Screen>(
         (F.held files.old) (F.held files.new) (F.makes files.old)
         (Becomes O.ends out.old out.new) (Becomes E.ends err.old err.new) result }
 {
-    match run_command(alloc, command, files, out) {
+    match run_command(alloc, seed, command, files, out) {
         Ok(()) => SUCCESS,
         Err(fault) => report(alloc, err, &fault),
     }
@@ -158,7 +161,8 @@ fn run_and_report<F: DirectoryStore, O: Screen, E: Screen>(
 /// world with `PlainOptions`. If the command has a directory, it makes this, and writes `main.wasm` there, the main module
 /// as it was renamed, and then `NAME.wasm` for each adapter of the component's world, as it was trimmed. Every other file
 /// stays the same. Then it prints the lines of the plan, as `wc_plan::write_plan` writes them, but each escaped
-/// (`wc_json::escaped`); or with `--json` the record in a line (`wc_record::world_to_json`).
+/// (`wc_json::escaped`); or with `--json` the record in a line (`wc_record::world_to_json`). `seed`: the seed of the maps
+/// that are made.
 ///
 /// # Errors
 ///
@@ -180,6 +184,7 @@ fn run_and_report<F: DirectoryStore, O: Screen, E: Screen>(
 /// After each fault but `Output` nothing was printed; after each but `CannotWrite` and `Output` no file was written.
 pub fn run_command<'a, F: DirectoryStore, O: Screen>(
     alloc: Global,
+    seed: Seed,
     command: &Command<'a>,
     files: &mut F,
     out: &mut O,
@@ -191,7 +196,7 @@ pub fn run_command<'a, F: DirectoryStore, O: Screen>(
         (command_value command.now) (F.held files.old) (F.held files.new) (F.makes files.old)
         (Becomes O.ends out.old out.new)) }
 {
-    let encoder = read_encoder(alloc, command, files)?;
+    let encoder = read_encoder(alloc, seed, command, files)?;
     run_encoder(alloc, command, &encoder, files, out)
 }
 
@@ -339,18 +344,26 @@ fn make_directory<'a, F: DirectoryStore>(
 /// The encoder of a command, from its files.
 fn read_encoder<'a, F: FileStore>(
     alloc: Global,
+    seed: Seed,
     command: &Command<'a>,
     files: &F,
 ) -> Result<ComponentEncoder, ProgramFault<'a>>
     ensures encoder { IfOk result (IsEncoderOf (command_value command.now) (F.held files.now)) }
     ensures fault { IfErr result (IsPlanCause (command_value command.now) (F.held files.now)) }
 {
-    let document = read_document(alloc, command.worlds, files)?;
+    let document = read_document(alloc, seed, command.worlds, files)?;
     let world = select_world(alloc, &document, command.world)?;
     let resolve = Resolve::build(alloc, document.parts)?;
     let keys = command_keys(alloc, command, &resolve, world)?;
-    check_listed(alloc, command, &keys)?;
-    let parts = read_parts(alloc, command, Metadata { resolve, world }, &keys, files)?;
+    check_listed(alloc, seed, command, &keys)?;
+    let parts = read_parts(
+        alloc,
+        seed,
+        command,
+        Metadata { resolve, world },
+        &keys,
+        files,
+    )?;
     Ok(ComponentEncoder::build(alloc, parts)?)
 }
 
@@ -358,6 +371,7 @@ fn read_encoder<'a, F: FileStore>(
 /// of a key that isn't there.
 fn check_listed<'a>(
     alloc: Global,
+    seed: Seed,
     command: &Command<'a>,
     keys: &[(WorldKey, String)],
 ) -> Result<(), ProgramFault<'a>>
@@ -366,7 +380,7 @@ fn check_listed<'a>(
     ensures fault { IfErr result (IsListedCause (command_value command.now)
         (map named_key keys.now)) }
 {
-    match check_names(alloc, command, keys) {
+    match check_names(alloc, seed, command, keys) {
         Ok(()) => Ok(()),
         Err(fault) => Err(listed_fault(alloc, fault, keys)),
     }
@@ -411,6 +425,7 @@ fn no_export<'a>(alloc: Global, key: &'a str, keys: &[(WorldKey, String)]) -> Pr
 /// The parts of the encoder of a command, with its modules from their files.
 fn read_parts<'a, F: FileStore>(
     alloc: Global,
+    seed: Seed,
     command: &Command<'a>,
     metadata: Metadata,
     keys: &[(WorldKey, String)],
@@ -424,8 +439,8 @@ fn read_parts<'a, F: FileStore>(
     ensures fault { IfErr result (IsModulesCause (command_value command.now) (F.held files.now)) }
 {
     let (module, module_import_map) = read_main(alloc, command.main, files)?;
-    let adapters = read_adapters(alloc, command, keys, files)?;
-    let main_module_exports = required_keys(alloc, command, Exporter::Main, keys)?;
+    let adapters = read_adapters(alloc, seed, command, keys, files)?;
+    let main_module_exports = required_keys(alloc, seed, command, Exporter::Main, keys)?;
     Ok(EncoderParts {
         module,
         module_import_map,
@@ -463,24 +478,25 @@ fn owned(alloc: Global, bytes: CowSlice<'_, u8>) -> Result<Vec<u8>, AllocError>
     }
 }
 
-/// The adapters of a command, from their files.
+/// The adapters of a command, from their files. `seed`: the seed of the maps that are made.
 fn read_adapters<'a, F: FileStore>(
     alloc: Global,
+    seed: Seed,
     command: &Command<'a>,
     keys: &[(WorldKey, String)],
     files: &F,
-) -> Result<IndexMap<String, Adapter>, ProgramFault<'a>>
+) -> Result<Map<String, Adapter>, ProgramFault<'a>>
     requires keys { AreKeysApart (map named_key keys.now) }
     requires names { AreDistinct (adapter_names (command_value command.now)) }
     ensures adapters { IfOk result (λ m. AreAdaptersIn (F.held files.now)
         (command_value command.now) (map named_key keys.now) (map adapter_entry m.entries)) }
     ensures fault { IfErr result (IsAdaptersCause (command_value command.now)) }
 {
-    let mut adapters = IndexMap::new(alloc);
+    let mut adapters = Map::with_hasher(alloc, seed);
     for (name, path) in &command.adapters {
         let adapter = Adapter {
             wasm: read_file(path, files)?,
-            required_exports: required_keys(alloc, command, Exporter::Adapter(name), keys)?,
+            required_exports: required_keys(alloc, seed, command, Exporter::Adapter(name), keys)?,
             library_info: None,
         };
         adapters.insert(String::from_str(alloc, name)?, adapter)?;

@@ -14,8 +14,8 @@ ghost use Rattle.wc_plan_tool.specs.RequiredExports.{AreDistinct, AreKeysApart, 
 use crate::arguments::Command;
 use crate::faults::SelectionFault;
 use crate::file_names::{file_fault, has_text};
-use indexmap::{IndexMap, IndexSet};
 use std::alloc::{AllocError, Global};
+use wc_maps::{Map, Seed, Set};
 use wc_resolve::{Resolve, WorldId, WorldItem, WorldKey};
 
 /// A module that has to export something.
@@ -50,7 +50,7 @@ pub(crate) fn export_keys(
 fn named_keys(
     alloc: Global,
     resolve: &Resolve,
-    exports: &IndexMap<WorldKey, WorldItem>,
+    exports: &Map<WorldKey, WorldItem>,
 ) -> Result<Vec<(WorldKey, String)>, AllocError>
     requires there { All (λ x. IsKeyIn resolve.now x.0) (map world_entry exports.now.entries) }
     requires named { All (λ x. IsSome (key_text parts_text resolve.now x.0))
@@ -67,7 +67,8 @@ fn named_keys(
     Ok(keys)
 }
 
-/// Checks the names of adapters and the keys of a command against a world's exports.
+/// Checks the names of adapters and the keys of a command against a world's exports. `seed`: the seed of the sets that are
+/// made.
 ///
 /// # Errors
 ///
@@ -82,6 +83,7 @@ fn named_keys(
 /// - `Memory`: an allocation failed.
 pub(crate) fn check_names<'a>(
     alloc: Global,
+    seed: Seed,
     command: &Command<'a>,
     keys: &[(WorldKey, String)],
 ) -> Result<(), SelectionFault<'a>>
@@ -91,7 +93,7 @@ pub(crate) fn check_names<'a>(
         (map named_key keys.now)) }
 {
     let adapters = first_parts(alloc, &command.adapters)?;
-    if let Some(name) = first_repeated(alloc, &adapters)? {
+    if let Some(name) = first_repeated(alloc, seed, &adapters)? {
         return Err(SelectionFault::RepeatedAdapter(name));
     }
     let exporters = first_parts(alloc, &command.adapter_exports)?;
@@ -101,12 +103,13 @@ pub(crate) fn check_names<'a>(
     if let Some(fault) = file_fault(command.out, &adapters) {
         return Err(fault);
     }
-    check_keys(alloc, command, keys)
+    check_keys(alloc, seed, command, keys)
 }
 
 /// Checks the keys of a command against a world's exports.
 fn check_keys<'a>(
     alloc: Global,
+    seed: Seed,
     command: &Command<'a>,
     keys: &[(WorldKey, String)],
 ) -> Result<(), SelectionFault<'a>>
@@ -119,7 +122,7 @@ fn check_keys<'a>(
     if let Some(key) = first_unknown(&given, keys) {
         return Err(SelectionFault::UnknownKey(key));
     }
-    match first_repeated(alloc, &given)? {
+    match first_repeated(alloc, seed, &given)? {
         Some(key) => Err(SelectionFault::RepeatedKey(key)),
         None => Ok(()),
     }
@@ -190,13 +193,17 @@ pub(crate) fn given_keys<'a>(
     Ok(keys)
 }
 
-/// The first text that occurred before.
-fn first_repeated<'a>(alloc: Global, texts: &[&'a str]) -> Result<Option<&'a str>, AllocError>
+/// The first text that occurred before. `seed`: the seed of the set of those before.
+fn first_repeated<'a>(
+    alloc: Global,
+    seed: Seed,
+    texts: &[&'a str],
+) -> Result<Option<&'a str>, AllocError>
     ensures repeated { IfOk result (λ r. IfSome r (λ text.
         IsFirstRepeated (map text_of texts.now) text.now)) }
     ensures none { IfOk result (λ r. IfNone r (AreDistinct (map text_of texts.now))) }
 {
-    let mut seen: IndexSet<&str> = IndexSet::new(alloc);
+    let mut seen: Set<&str> = Set::with_hasher(alloc, seed);
     for text in texts {
         if !seen.insert(*text)? {
             return Ok(Some(*text));
@@ -206,23 +213,25 @@ fn first_repeated<'a>(alloc: Global, texts: &[&'a str]) -> Result<Option<&'a str
 }
 
 /// The keys that a module has to export, in the order of the world's exports: an adapter those that the command says,
-/// and so the main module; or, if the command says none of it, all that no adapter has to export.
+/// and so the main module; or, if the command says none of it, all that no adapter has to export. `seed`: the seed of the
+/// set.
 ///
 /// # Errors
 ///
 /// `AllocError`: an allocation failed.
 pub(crate) fn required_keys(
     alloc: Global,
+    seed: Seed,
     command: &Command<'_>,
     exporter: Exporter<'_>,
     keys: &[(WorldKey, String)],
-) -> Result<IndexSet<WorldKey>, AllocError>
+) -> Result<Set<WorldKey>, AllocError>
     requires { AreKeysApart (map named_key keys.now) }
     ensures { IfOk result (λ set. map key_view set.keys
         ≡ required_keys (command_value command.now) (exporter_name exporter.entry)
         (map named_key keys.now)) }
 {
-    let mut required = IndexSet::new(alloc);
+    let mut required = Set::with_hasher(alloc, seed);
     for (key, text) in keys {
         if is_required(command, exporter, text) {
             required.insert(key.clone(alloc)?)?;

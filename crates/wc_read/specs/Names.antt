@@ -2,7 +2,8 @@
 -- (extended name section proposal). A fault in it refuses nothing: it ends the names of that section.
 use Rattle.std.specs.Prelude.{◌≡◌, ◌≢◌, ℕ, ◌<◌, List, [], ◌∷◌, ◌++◌, length, map, nat_eq}
 use denote.Ref.{Bor}
-use Rattle.indexmap.specs.IndexMap.{IndexMap, insert_all}
+use Rattle.indexmap.specs.IndexMap.{insert_all}
+use Rattle.indexmap.specs.Layout.{Rows}
 use Rattle.wc_read.specs.Formats.{Format, SpellsNumber, SpellsName, SpellsItems, SpellsVector, HasNoPrefix}
 use Rattle.wc_read.specs.Sections.{SectionValue, SpellsSection}
 use Rattle.wc_read.specs.Custom.{IsCustomSection}
@@ -66,5 +67,5 @@ NamesOf (s ∷ sections) pairs = (these others : List GlobalNameValue) × (pairs
 abbrev pub global_names_of : List GlobalNameValue → List GlobalNameValue
 global_names_of pairs = insert_all nat_eq [] pairs
 
-abbrev pub name_entries : {S : Type 0} → IndexMap ℕ (Bor (List ℕ)) S → List GlobalNameValue
+abbrev pub name_entries : Rows ℕ (Bor (List ℕ)) → List GlobalNameValue
 name_entries m = map (λ e. (e.0, e.1.now)) m.entries

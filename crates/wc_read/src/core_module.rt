@@ -3,7 +3,7 @@
 use crate::exports::Export;
 use crate::items::{self, Func, Memory, Table};
 use crate::types::{FuncType, Import};
-use indexmap::IndexMap;
+use wc_maps::OrderedMap;
 
 /// A module (WebAssembly core specification, 2.5). Names, bodies and initialisers are slices of the bytes that
 /// it was read from; bodies are read by `read_body`, initialisers by `read_init`.
@@ -27,7 +27,7 @@ pub struct Module<'a> {
     pub start: Option<u32>,
     /// Names of globals by their indices, out of name sections (7.4.1, and the proposal of extended name sections). An
     /// index need not be that of a global.
-    pub global_names: IndexMap<u32, &'a str>,
+    pub global_names: OrderedMap<u32, &'a str>,
     /// The content after its name of the last producers section that reads (tool conventions); `None` where there is
     /// none.
     pub producers: Option<&'a [u8]>,

@@ -1,14 +1,15 @@
 //! Names of exports.
 
-ghost use Rattle.std.specs.Prelude.{◌≡◌, ◌≢◌, ◌↔◌, map, IfOk, IfErr, IsTrue, AllPairs, nat_eq};
-ghost use Rattle.std.specs.HashSet as bag;
+ghost use Rattle.std.specs.Prelude.{◌≡◌, ◌≢◌, ◌↔◌, map, IfOk, IfErr, IsTrue, AllPairs};
+ghost use Rattle.std.specs.BTreeSet as bag;
+ghost use Rattle.std.specs.Ordering.{nat_cmp};
 ghost use Rattle.wc_read.specs.Reading.Exports.{export_names};
-ghost use Rattle.std.specs.Cmp.Lexicographic.{pointwise};
+ghost use Rattle.std.specs.Cmp.Lexicographic.{slice_cmp};
 
 use crate::exports::Export;
 use crate::fault::ReadFault;
 use std::alloc::{AllocError, Global};
-use std::collections::HashSet;
+use std::collections::BTreeSet;
 
 /// Whether no two exports have one name (WebAssembly core specification, 3.4.10).
 pub fn have_distinct_names(alloc: Global, exports: &[Export]) -> Result<bool, ReadFault>
@@ -20,9 +21,9 @@ pub fn have_distinct_names(alloc: Global, exports: &[Export]) -> Result<bool, Re
     Ok(names.len() == exports.len())
 }
 
-fn names_of<'a>(alloc: Global, exports: &[Export<'a>]) -> Result<HashSet<&'a str>, AllocError>
+fn names_of<'a>(alloc: Global, exports: &[Export<'a>]) -> Result<BTreeSet<&'a str>, AllocError>
     ensures { IfOk result (bag.IsFromIterResult
-        (λ x y. pointwise nat_eq x.now y.now) (map (λ e. e.name) exports.now)) }
+        (λ x y. slice_cmp nat_cmp x.now y.now) (map (λ e. e.name) exports.now)) }
 {
     exports.iter().map(|export| export.name).collect(alloc)
 }

@@ -9,8 +9,8 @@ use crate::custom::content_after_name;
 use crate::fault::ReadFault;
 use crate::reader::{Reader, Spelled};
 use crate::sections::Section;
-use indexmap::IndexMap;
 use std::alloc::Global;
+use wc_maps::OrderedMap;
 
 /// The subsection of global names.
 const GLOBAL_NAMES: u8 = 7;
@@ -52,13 +52,13 @@ impl<'a> Spelled<'a> for GlobalName<'a> {
 pub fn global_names<'a>(
     alloc: Global,
     sections: &[Section<'a>],
-) -> Result<IndexMap<u32, &'a str>, ReadFault>
+) -> Result<OrderedMap<u32, &'a str>, ReadFault>
     ensures found { IfOk result (λ m. AreGlobalNames (section_values sections.now)
         (name_entries m)) }
     ensures memory { IfErr result (λ e. e ≡ ReadFault.Memory) }
 {
     let pairs = all_pairs(alloc, sections)?;
-    let mut names = IndexMap::new(alloc);
+    let mut names = OrderedMap::new(alloc);
     for pair in &pairs {
         names.insert(pair.index, pair.name)?;
     }

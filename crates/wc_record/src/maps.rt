@@ -8,7 +8,7 @@ use crate::to_json::{ToJson, begin_array, end_array};
 use indexmap::IndexMap;
 use json::Writer;
 use std::alloc::AllocError;
-use std::hash::Hash;
+use std::hash::{BuildHasher, Hash};
 
 /// A type of values of maps that are written with their keys, of type `K`.
 pub(crate) trait EntryToJson<K> {
@@ -31,7 +31,7 @@ pub(crate) trait EntryToJson<K> {
 }
 
 /// The entries in order.
-impl<K: Eq + Hash, V: EntryToJson<K>> ToJson for IndexMap<K, V> {
+impl<K: Eq + Hash, V: EntryToJson<K>, S: BuildHasher> ToJson for IndexMap<K, V, S> {
     ghost use Rattle.std.specs.Prelude.{List, map};
     ghost use Rattle.wc_record.specs.Shapes.{array_of};
 

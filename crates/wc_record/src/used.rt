@@ -13,11 +13,11 @@ ghost use Rattle.wc_record.specs.Worlds.{used_interface, used_interfaces};
 
 use crate::objects::{begin_object, end_object, put_member};
 use crate::to_json::ToJson;
-use indexmap::IndexMap;
 use json::Writer;
 use std::alloc::{AllocError, Global};
 use std::collections::{HashMap, HashSet};
 use wc_encoder::ComponentEncoder;
+use wc_maps::Map;
 use wc_resolve::{InterfaceId, WorldItem, WorldKey};
 
 /// An exported interface, and the exported interfaces that it uses.
@@ -61,7 +61,7 @@ fn add_interface(interfaces: &mut Vec<InterfaceId>, item: &WorldItem) -> Result<
 /// The interfaces among what a world exports, in order.
 fn interfaces_among(
     alloc: Global,
-    exports: &IndexMap<WorldKey, WorldItem>,
+    exports: &Map<WorldKey, WorldItem>,
 ) -> Result<Vec<InterfaceId>, AllocError>
     ensures { IfOk result (λ ids. interface_ids ids.items
         ≡ exported_interfaces (entries_of exports.now)) }

@@ -7,15 +7,17 @@
 //! thing by its id requires that the id is in range.
 //!
 //! ```rust
-//! use indexmap::IndexMap;
 //! use std::alloc::Global;
+//! use wc_maps::{Map, Seed};
 //! use wc_resolve::{
 //!     Interface, InterfaceId, Package, PackageId, PackageName, Parts, Resolve, ResolveFault,
 //! };
 //!
-//! /// The id of an interface of a package without a version: `namespace:name/interface`.
+//! /// The id of an interface of a package without a version: `namespace:name/interface`. `seed`: the seed of the maps
+//! /// that are made.
 //! pub fn interface_id(
 //!     alloc: Global,
+//!     seed: Seed,
 //!     namespace: &str,
 //!     name: &str,
 //!     interface: &str,
@@ -30,12 +32,12 @@
 //!     };
 //!     let package = Package {
 //!         name: package_name,
-//!         interfaces: IndexMap::new(alloc),
+//!         interfaces: Map::with_hasher(alloc, seed),
 //!     };
 //!     let definition = Interface {
 //!         name: Some(String::from_str(alloc, interface)?),
-//!         types: IndexMap::new(alloc),
-//!         functions: IndexMap::new(alloc),
+//!         types: Map::with_hasher(alloc, seed),
+//!         functions: Map::with_hasher(alloc, seed),
 //!         package: Some(PackageId(0)),
 //!         clone_of: None,
 //!     };

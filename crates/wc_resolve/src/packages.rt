@@ -4,9 +4,9 @@ ghost use Rattle.std.specs.Prelude.{◌≡◌, ◌≢◌, ◌<◌, ◌^◌, ℕ,
 ghost use Rattle.wc_resolve.specs.Views.{package_name_view};
 
 use crate::InterfaceId;
-use indexmap::{IndexMap, IndexSet};
 use semver::Version;
 use std::alloc::{AllocError, Global};
+use wc_maps::{Map, Set};
 
 /// The name of a package: `namespace:name`, or `namespace:name@version`. Names are equal where all three are, the build
 /// of the version included.
@@ -22,7 +22,7 @@ pub struct PackageName {
 #[derive(Drop)]
 pub struct Package {
     pub name: PackageName,
-    pub interfaces: IndexMap<String, InterfaceId>,
+    pub interfaces: Map<String, InterfaceId>,
 }
 
 impl PackageName {
@@ -47,7 +47,7 @@ impl PackageName {
 }
 
 /// The index of a name, if it is below 2^32.
-pub(crate) fn name_index(names: &IndexSet<PackageName>, name: &PackageName) -> Option<u32>
+pub(crate) fn name_index(names: &Set<PackageName>, name: &PackageName) -> Option<u32>
     ensures found { IfSome result (λ index.
         slice_get (map package_name_view names.now.keys) index
         ≡ Some (package_name_view name.now)) }

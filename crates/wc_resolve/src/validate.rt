@@ -25,7 +25,6 @@ use crate::flattening::flatten_all;
 use crate::futures::{FuturesEntry, futures_entries};
 use crate::{PackageName, Parts, ResolveFault, WasmType};
 use cases::has_no_empty_type;
-use indexmap::IndexSet;
 use keys::keys_match;
 use naming::are_named;
 use order::children_first;
@@ -34,6 +33,7 @@ use ranges::are_ids_in_range;
 use resources::{find_resources, has_no_resource_by_value};
 use spelling::are_names_spelled;
 use std::alloc::{AllocError, Global};
+use wc_maps::Set;
 
 /// What a `Resolve` keeps beside its parts.
 #[derive(Drop)]
@@ -51,7 +51,7 @@ pub(crate) struct Tables {
     /// For each type whether it holds a string or a list.
     pub(crate) texts: Vec<bool>,
     /// The names of the packages, in order.
-    pub(crate) package_names: IndexSet<PackageName>,
+    pub(crate) package_names: Set<PackageName>,
 }
 
 /// The indices of all types, each after those that it refers to.

@@ -3,8 +3,8 @@
 ghost use Rattle.std.specs.Prelude.{◌≡◌, IfOk};
 
 use crate::{Function, InterfaceId, PackageId, TypeId};
-use indexmap::IndexMap;
 use std::alloc::{AllocError, Global};
+use wc_maps::Map;
 
 /// The key of an item of a world: a plain name, or an interface by its id. Keys are equal where these are.
 #[derive(Debug, PartialEq, Eq, Hash, Drop)]
@@ -49,8 +49,8 @@ pub enum WorldItem {
 #[derive(Drop)]
 pub struct World {
     pub name: String,
-    pub imports: IndexMap<WorldKey, WorldItem>,
-    pub exports: IndexMap<WorldKey, WorldItem>,
+    pub imports: Map<WorldKey, WorldItem>,
+    pub exports: Map<WorldKey, WorldItem>,
 }
 
 /// An interface: its name, if it has one, and its types and functions by their names, in order. `package` is where it
@@ -58,8 +58,8 @@ pub struct World {
 #[derive(Drop)]
 pub struct Interface {
     pub name: Option<String>,
-    pub types: IndexMap<String, TypeId>,
-    pub functions: IndexMap<String, Function>,
+    pub types: Map<String, TypeId>,
+    pub functions: Map<String, Function>,
     pub package: Option<PackageId>,
     pub clone_of: Option<InterfaceId>,
 }

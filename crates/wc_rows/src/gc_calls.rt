@@ -5,12 +5,13 @@ ghost use Rattle.std.specs.Prelude.{IfSome, ◌≤◌};
 use crate::input::{bad_row, bytes_of};
 use crate::lines::Lines;
 use crate::rows::Row;
+use crate::seeds::row_seed;
 use crate::set_calls::answer_set;
 use crate::table::named;
 use crate::values::{put_bytes_lines, put_fault};
-use indexmap::IndexSet;
 use std::alloc::{AllocError, Global};
 use wc_gc::{GcFault, LiveSet, Liveness, RangeSet, liveness_counted, run};
+use wc_maps::Set;
 
 /// The calls on bytes and names.
 #[derive(Clone, Copy)]
@@ -63,19 +64,15 @@ fn first_name(call: Call) -> usize {
 }
 
 /// The arguments of a row from one on, as names.
-pub fn names_from(
-    alloc: Global,
-    row: &Row<'_>,
-    first: usize,
-) -> Result<IndexSet<String>, AllocError> {
-    let mut names = IndexSet::new(alloc);
+pub fn names_from(alloc: Global, row: &Row<'_>, first: usize) -> Result<Set<String>, AllocError> {
+    let mut names = Set::with_hasher(alloc, row_seed());
     for name in row.arguments.iter().skip(first) {
         add_name(alloc, &mut names, name)?;
     }
     Ok(names)
 }
 
-fn add_name(alloc: Global, names: &mut IndexSet<String>, name: &str) -> Result<(), AllocError> {
+fn add_name(alloc: Global, names: &mut Set<String>, name: &str) -> Result<(), AllocError> {
     let name = String::from_str(alloc, name)?;
     names.insert(name)?;
     Ok(())
@@ -86,7 +83,7 @@ fn answer_on_names(
     call: Call,
     row: &Row<'_>,
     bytes: &[u8],
-    names: &IndexSet<String>,
+    names: &Set<String>,
     out: &mut Lines,
 ) {
     match call {
@@ -108,7 +105,7 @@ fn put_answer(found: Result<Liveness<RangeSet>, GcFault>, out: &mut Lines) {
 fn answer_trim(
     alloc: Global,
     bytes: &[u8],
-    names: &IndexSet<String>,
+    names: &Set<String>,
     realloc: Option<&str>,
     page: Option<u32>,
     out: &mut Lines,

@@ -4,12 +4,13 @@ use crate::gc_calls::names_from;
 use crate::input::{bad_row, bytes_of};
 use crate::lines::Lines;
 use crate::rows::Row;
+use crate::seeds::row_seed;
 use crate::set_calls::put_flag;
 use crate::table::named;
 use crate::values::put_fault;
-use indexmap::IndexSet;
 use std::alloc::{AllocError, Global};
 use wc_gc::{BitVec, GcFault, LiveSet, Liveness, RangeSet, liveness_counted, run};
+use wc_maps::Set;
 use wc_read::read_module;
 
 #[derive(Clone, Copy)]
@@ -45,13 +46,13 @@ fn answer_fronts(alloc: Global, row: &Row<'_>, out: &mut Lines) {
     }
 }
 
-fn answer_fronts_for(alloc: Global, row: &Row<'_>, names: &IndexSet<String>, out: &mut Lines) {
+fn answer_fronts_for(alloc: Global, row: &Row<'_>, names: &Set<String>, out: &mut Lines) {
     if let Ok(bytes) = bytes_of(alloc, &row.input, out) {
         put_fronts(alloc, &bytes, names, out);
     }
 }
 
-fn put_fronts(alloc: Global, bytes: &[u8], names: &IndexSet<String>, out: &mut Lines) {
+fn put_fronts(alloc: Global, bytes: &[u8], names: &Set<String>, out: &mut Lines) {
     for length in 0..bytes.len() {
         out.number("", length as u64);
         put_read(alloc, &bytes[..length], out);
@@ -66,7 +67,7 @@ fn put_read(alloc: Global, front: &[u8], out: &mut Lines) {
     }
 }
 
-fn put_front(alloc: Global, front: &[u8], names: &IndexSet<String>, out: &mut Lines) {
+fn put_front(alloc: Global, front: &[u8], names: &Set<String>, out: &mut Lines) {
     if names.is_empty() {
         let _ = bad_row(out, "no names", "");
     } else {
@@ -108,8 +109,8 @@ fn put_found(alloc: Global, bytes: &[u8], count: u32, out: &mut Lines) {
     }
 }
 
-fn first_name(alloc: Global) -> Result<IndexSet<String>, AllocError> {
-    let mut names = IndexSet::new(alloc);
+fn first_name(alloc: Global) -> Result<Set<String>, AllocError> {
+    let mut names = Set::with_hasher(alloc, row_seed());
     let name = String::from_str(alloc, "a")?;
     names.insert(name)?;
     Ok(names)

@@ -17,6 +17,7 @@ pub mod modules;
 pub mod operators;
 pub mod read_calls;
 pub mod rows;
+pub mod seeds;
 pub mod set_calls;
 pub mod sink_calls;
 pub mod table;

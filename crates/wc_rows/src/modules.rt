@@ -5,7 +5,7 @@ use crate::values::{
     put_bytes_def, put_bytes_line, put_def, put_exports, put_func_type, put_global_type,
     put_imports, put_memory_type, put_table_type,
 };
-use indexmap::IndexMap;
+use wc_maps::OrderedMap;
 use wc_read::{Frames, Func, FuncType, Global, Memory, Module, Table};
 
 pub fn put_frames(out: &mut Lines, frames: &Frames<'_>) {
@@ -72,8 +72,8 @@ fn put_number_line(out: &mut Lines, word: &str, number: u32) {
     out.end();
 }
 
-fn put_global_names(out: &mut Lines, names: &IndexMap<u32, &str>) {
-    for (index, name) in names.iter() {
+fn put_global_names(out: &mut Lines, names: &OrderedMap<u32, &str>) {
+    for (index, name) in names.entries() {
         out.number("name of global ", *index as u64);
         out.quoted(" ", name);
         out.end();

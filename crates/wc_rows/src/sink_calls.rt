@@ -5,6 +5,7 @@ ghost use Rattle.wc_tool.specs.Command.{IsExecutable, command_value};
 use crate::input::{bad_row, bytes_of};
 use crate::lines::Lines;
 use crate::rows::Row;
+use crate::seeds::row_seed;
 use crate::table::named;
 use crate::tool_calls::{named_command, put_answer};
 use std::alloc::{AllocError, Global};
@@ -173,7 +174,7 @@ fn put_failing(alloc: Global, command: &Command<'_>, input: &[u8], puts: u32, ou
         puts,
         failed: false,
     };
-    put_answer(out, &execute(alloc, command, input, &mut sink));
+    put_answer(out, &execute(alloc, row_seed(), command, input, &mut sink));
     out.flag("failed ", sink.failed);
     out.end();
 }
@@ -196,7 +197,7 @@ fn put_fails(alloc: Global, command: &Command<'_>, input: &[u8], puts: u32, out:
         puts,
         failed: false,
     };
-    let answer = execute(alloc, command, input, &mut sink);
+    let answer = execute(alloc, row_seed(), command, input, &mut sink);
     out.number("", puts as u64);
     out.flag(": failed ", sink.failed);
     out.push_str(", ");

@@ -6,6 +6,7 @@ ghost use Rattle.wc_tool.specs.Command.{IsExecutable, command_value};
 use crate::input::{bad_row, bytes_of};
 use crate::lines::Lines;
 use crate::rows::Row;
+use crate::seeds::row_seed;
 use crate::table::named;
 use crate::values::{put_bytes_lines, put_fault};
 use std::alloc::{AllocError, Global};
@@ -203,7 +204,7 @@ fn put_printed(alloc: Global, command: &Command<'_>, input: &[u8], room: Vec<u8>
     requires { IsExecutable (command_value command.now) }
 {
     let mut sink = WriterSink::new(room);
-    let answer = execute(alloc, command, input, &mut sink);
+    let answer = execute(alloc, row_seed(), command, input, &mut sink);
     put_lines(out, &sink.into_inner());
     put_answer(out, &answer);
 }
@@ -332,7 +333,7 @@ fn answer_run(
     };
     match arguments_of(alloc, &row.arguments) {
         Ok(arguments) => {
-            let status = run(alloc, &Ok(arguments), files, &mut printed);
+            let status = run(alloc, row_seed(), &Ok(arguments), files, &mut printed);
             put_program(out, &printed.bytes, status);
             put_output(out, files);
         }

@@ -13,9 +13,9 @@ use crate::values::{
     put_def, put_fault, put_import_names, put_memory_type, put_mutable, put_table_limits,
     put_val_type,
 };
-use indexmap::IndexSet;
 use std::alloc::{AllocError, Global};
 use wc_gc::{realloc_via_memory_grow, run};
+use wc_maps::Set;
 use wc_read::{
     BlockType, Body, Def, ExportKind, Immediates, Index, IndexKind, Instr, MemArg, Module, Space,
     ValType, read_body, read_init, read_module, refs,
@@ -75,13 +75,7 @@ fn answer_trimmed(alloc: Global, row: &Row<'_>, bytes: &[u8], out: &mut Lines) {
     }
 }
 
-fn put_trimmed(
-    alloc: Global,
-    row: &Row<'_>,
-    bytes: &[u8],
-    names: &IndexSet<String>,
-    out: &mut Lines,
-) {
+fn put_trimmed(alloc: Global, row: &Row<'_>, bytes: &[u8], names: &Set<String>, out: &mut Lines) {
     if names.is_empty() {
         let _ = bad_row(out, "no export", row.call);
         return;

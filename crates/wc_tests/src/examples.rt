@@ -15,11 +15,11 @@ mod world;
 mod write;
 
 use crate::examples::world::Summary;
-use indexmap::IndexMap;
 use std::alloc::{AllocError, Global};
 use std::str;
 use wc_encoder::{ComponentEncoder, EncoderFault};
 use wc_gc::GcFault;
+use wc_maps::Map;
 use wc_plan::PlanFault;
 use wc_resolve::{Parts, Resolve, ResolveFault, World, WorldId};
 use wc_rows::gc_calls::names_from;
@@ -27,6 +27,7 @@ use wc_rows::imports::imports_of;
 use wc_rows::input::{Stop, answered, bad_row, bytes_of};
 use wc_rows::lines::Lines;
 use wc_rows::rows::Row;
+use wc_rows::seeds::row_seed;
 use wc_rows::table::named;
 use wc_rows::values::{put_bytes_lines, put_fault};
 use wc_tool::ToolFault;
@@ -166,7 +167,7 @@ fn answer_original_name(alloc: Global, row: &Row<'_>, out: &mut Lines) -> Result
 /// `example interface_id NAMESPACE NAME INTERFACE`.
 fn answer_interface_id(alloc: Global, row: &Row<'_>, out: &mut Lines) -> Result<(), Stop> {
     let (namespace, name) = (argument(row, 1), argument(row, 2));
-    match resolve::interface_id(alloc, namespace, name, argument(row, 3)) {
+    match resolve::interface_id(alloc, row_seed(), namespace, name, argument(row, 3)) {
         Ok(id) => put_name(out, &id),
         Err(fault) => put_fault(out, fault),
     }
@@ -177,8 +178,8 @@ fn answer_interface_id(alloc: Global, row: &Row<'_>, out: &mut Lines) -> Result<
 fn empty_world(alloc: Global) -> Result<Resolve, ResolveFault> {
     let world = World {
         name: String::from_str(alloc, "empty")?,
-        imports: IndexMap::new(alloc),
-        exports: IndexMap::new(alloc),
+        imports: Map::with_hasher(alloc, row_seed()),
+        exports: Map::with_hasher(alloc, row_seed()),
     };
     let parts = Parts {
         worlds: vec![in alloc; world]?,
@@ -209,7 +210,7 @@ fn answer_encoder_for(alloc: Global, row: &Row<'_>, out: &mut Lines) -> Result<(
             return Ok(());
         }
     };
-    match encoder::encoder_for(alloc, module, resolve, world) {
+    match encoder::encoder_for(alloc, row_seed(), module, resolve, world) {
         Ok(encoder) => {
             put_bytes_lines(out, "module", encoder.module());
             let id = encoder.metadata().world.0;
@@ -227,7 +228,7 @@ fn answer_printed_lines(alloc: Global, row: &Row<'_>, out: &mut Lines) -> Result
         arguments.push(String::from_str(alloc, argument)?)?;
     }
     let input = bytes_of(alloc, &row.input, out)?;
-    match tool::printed_lines(alloc, &arguments, &input) {
+    match tool::printed_lines(alloc, row_seed(), &arguments, &input) {
         Ok(Some(lines)) => put_lines(out, &lines),
         Ok(None) => out.push_str("usage\n"),
         // The lines are put into memory, which ran out.
@@ -295,7 +296,7 @@ fn answer_can_use_slot_1(alloc: Global, row: &Row<'_>, out: &mut Lines) -> Resul
 /// An encoder of a main module without adapters, for a world that imports and exports nothing.
 fn empty_encoder(alloc: Global, module: Vec<u8>) -> Result<ComponentEncoder, EncoderFault> {
     match empty_world(alloc) {
-        Ok(resolve) => encoder::encoder_for(alloc, module, resolve, WorldId(0)),
+        Ok(resolve) => encoder::encoder_for(alloc, row_seed(), module, resolve, WorldId(0)),
         Err(_) => Err(EncoderFault::Memory),
     }
 }
@@ -318,7 +319,7 @@ fn put_can_use_slot_1(alloc: Global, encoder: &ComponentEncoder, out: &mut Lines
 fn answer_summary(alloc: Global, row: &Row<'_>, out: &mut Lines) -> Result<(), Stop> {
     let main = bytes_beside(alloc, row, "adapter", false, out)?;
     let adapter = bytes_beside(alloc, row, "adapter", true, out)?;
-    match demo::demo_encoder(alloc, &main, &adapter) {
+    match demo::demo_encoder(alloc, row_seed(), &main, &adapter) {
         Ok(encoder) => put_summary(alloc, &encoder, out),
         Err(fault) => put_fault(out, fault),
     }
@@ -329,7 +330,7 @@ fn answer_summary(alloc: Global, row: &Row<'_>, out: &mut Lines) -> Result<(), S
 fn answer_printed_plan(alloc: Global, row: &Row<'_>, out: &mut Lines) -> Result<(), Stop> {
     let main = bytes_beside(alloc, row, "adapter", false, out)?;
     let adapter = bytes_beside(alloc, row, "adapter", true, out)?;
-    match demo::demo_encoder(alloc, &main, &adapter) {
+    match demo::demo_encoder(alloc, row_seed(), &main, &adapter) {
         Ok(encoder) => put_printed_plan(alloc, &encoder, out),
         Err(fault) => {
             put_fault(out, fault);

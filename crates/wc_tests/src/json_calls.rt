@@ -1,14 +1,15 @@
 //! Calls of `wc_json`: texts read as resolved worlds.
 
-use indexmap::IndexMap;
 use std::alloc::{AllocError, Global};
 use wc_fixtures::shown_names::{put_id, put_name};
 use wc_fixtures::shown_worlds::{put_interface, put_package, put_type_def, put_world};
 use wc_json::{Document, JsonFault, document_from_json};
+use wc_maps::Map;
 use wc_resolve::{PackageId, Parts, WorldId};
 use wc_rows::input::{Stop, answered};
 use wc_rows::lines::Lines;
 use wc_rows::rows::Row;
+use wc_rows::seeds::row_seed;
 use wc_rows::values::put_fault;
 
 /// Appends the answer of a call of `wc_json`, and says whether the row's is one.
@@ -33,7 +34,7 @@ fn answer_document(alloc: Global, input: &[&str], out: &mut Lines) -> Result<(),
         text.push_str(line)?;
         text.push('\n')?;
     }
-    put_document(document_from_json(alloc, &text), out)
+    put_document(document_from_json(alloc, row_seed(), &text), out)
 }
 
 /// The lines of a document, or of a fault.
@@ -103,7 +104,7 @@ fn put_world_packages(out: &mut Lines, packages: &[Option<PackageId>]) {
 }
 
 /// `lists`, a package, a world's name and its id, for each world of each package.
-fn put_package_worlds(out: &mut Lines, packages: &[IndexMap<String, WorldId>]) {
+fn put_package_worlds(out: &mut Lines, packages: &[Map<String, WorldId>]) {
     let mut index = 0u32;
     for worlds in packages {
         put_listed(out, index, worlds);
@@ -111,7 +112,7 @@ fn put_package_worlds(out: &mut Lines, packages: &[IndexMap<String, WorldId>]) {
     }
 }
 
-fn put_listed(out: &mut Lines, package: u32, worlds: &IndexMap<String, WorldId>) {
+fn put_listed(out: &mut Lines, package: u32, worlds: &Map<String, WorldId>) {
     for (name, id) in worlds.iter() {
         out.push_str("lists ");
         put_id(out, 'p', package);

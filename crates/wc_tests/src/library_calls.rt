@@ -6,6 +6,7 @@ use wc_calls::{Answer, MEMORY, dedupe, trim, world};
 use wc_rows::input::{Stop, answered, bad_row, bytes_of};
 use wc_rows::lines::Lines;
 use wc_rows::rows::Row;
+use wc_rows::seeds::row_seed;
 use wc_rows::values::put_bytes_lines;
 
 /// Each byte of a buffer before a call.
@@ -70,7 +71,8 @@ fn put_trimmed(
         None
     };
     let mut buffer = buffer;
-    let answer = trim(alloc, wasm, &required, realloc, page, &mut buffer);
+    let seed = row_seed();
+    let answer = trim(alloc, seed, wasm, &required, realloc, page, &mut buffer);
     put_answer(&answer, &buffer, out);
     Ok(())
 }
@@ -80,7 +82,7 @@ fn put_trimmed(
 fn answer_trim_to_write(alloc: Global, row: &Row<'_>, out: &mut Lines) -> Result<(), Stop> {
     let wasm = bytes_of(alloc, &row.input, out)?;
     let mut buffer = buffer_of(alloc, row, out)?;
-    let answer = trim_to_write(alloc, &wasm, &mut buffer);
+    let answer = trim_to_write(alloc, row_seed(), &wasm, &mut buffer);
     put_answer(&answer, &buffer, out);
     Ok(())
 }
@@ -94,7 +96,7 @@ fn answer_world(alloc: Global, row: &Row<'_>, out: &mut Lines) -> Result<(), Sto
     let message = text_of(alloc, message)?;
     let modules = bytes_of(alloc, bytes, out)?;
     let mut buffer = buffer_of(alloc, row, out)?;
-    let answer = world(alloc, message.as_bytes(), &modules, &mut buffer);
+    let answer = world(alloc, row_seed(), message.as_bytes(), &modules, &mut buffer);
     put_answer(&answer, &buffer, out);
     Ok(())
 }

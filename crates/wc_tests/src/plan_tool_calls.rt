@@ -6,6 +6,7 @@ use wc_plan_tool::{Command, DirectoryStore, NoCommand, parse, run};
 use wc_rows::input::{Stop, answered, bad_row, bytes_of};
 use wc_rows::lines::Lines;
 use wc_rows::rows::Row;
+use wc_rows::seeds::row_seed;
 use wc_rows::values::put_bytes_lines;
 use wc_tool::{FileStore, Output};
 use wc_write::{PutFailed, Sink};
@@ -292,7 +293,14 @@ fn answer_program(
     }
     let mut printed = screen(alloc, calls.0)?;
     let mut faults = screen(alloc, calls.1)?;
-    let status = run(alloc, &arguments, &mut files, &mut printed, &mut faults);
+    let status = run(
+        alloc,
+        row_seed(),
+        &arguments,
+        &mut files,
+        &mut printed,
+        &mut faults,
+    );
     put_printed(out, "printed", &printed.bytes);
     put_faults(out, &faults.bytes, &files)?;
     writeln!(out, "status {status}");

@@ -20,16 +20,17 @@ use crate::command::Command;
 use crate::fault::ToolFault;
 use crate::lines::put_renames;
 use crate::scan::put_scan;
-use indexmap::IndexSet;
 use std::alloc::{AllocError, Global};
 use std::borrow::CowSlice;
 use wc_dedupe::ModuleImportMap;
 use wc_gc::run;
+use wc_maps::{Seed, Set};
 use wc_read::read_module;
 use wc_write::Sink;
 
 /// Executes a command on the bytes of its input file: puts the lines that it prints to `out`, and hands out the
-/// bytes of its output file, `None` for a scan.
+/// bytes of its output file, `None` for a scan. `seed`: the seed of the maps that are made; the answer is the same for
+/// every seed.
 ///
 /// - A dedupe puts `MODULE: OLD -> NEW` for each renamed import; its bytes are those of `ModuleImportMap::new`.
 /// - A trim puts nothing; its bytes are those of `wc_gc::run`. A repeated export counts once.
@@ -47,6 +48,7 @@ use wc_write::Sink;
 /// After each error but `Output` the sink is unchanged.
 pub fn execute<S: Sink>(
     alloc: Global,
+    seed: Seed,
     command: &Command<'_>,
     input: &[u8],
     out: &mut S,
@@ -72,7 +74,7 @@ pub fn execute<S: Sink>(
             page,
             exports,
             ..
-        } => Ok(Some(trim(alloc, input, realloc, page, exports)?)),
+        } => Ok(Some(trim(alloc, seed, input, realloc, page, exports)?)),
     }
 }
 
@@ -121,6 +123,7 @@ fn scan<S: Sink>(alloc: Global, input: &[u8], out: &mut S) -> Result<(), ToolFau
 /// The adapter, trimmed to what the exports of these names reach.
 fn trim(
     alloc: Global,
+    seed: Seed,
     input: &[u8],
     realloc: Option<&str>,
     page: u32,
@@ -133,17 +136,21 @@ fn trim(
     ensures fault { IfErr result (IsTrimsCause (settings realloc.entry page)
         (trim_input_of input.now (map string_bytes exports.now))) }
 {
-    let required = required_exports(alloc, exports)?;
+    let required = required_exports(alloc, seed, exports)?;
     let bytes = run(alloc, input, &required, realloc, page)?;
     Ok(bytes)
 }
 
 /// The names as a set, in order of their first occurrences.
-fn required_exports(alloc: Global, exports: &[String]) -> Result<IndexSet<String>, AllocError>
+fn required_exports(
+    alloc: Global,
+    seed: Seed,
+    exports: &[String],
+) -> Result<Set<String>, AllocError>
     ensures { IfOk result (λ names. names_of names.keys
         ≡ first_occurrences (map string_bytes exports.now)) }
 {
-    let mut names = IndexSet::new(alloc);
+    let mut names = Set::with_hasher(alloc, seed);
     for export in exports {
         names.insert(export.clone()?)?;
     }

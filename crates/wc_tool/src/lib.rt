@@ -5,13 +5,15 @@
 //!
 //! ```rust
 //! use std::alloc::Global;
+//! use wc_maps::Seed;
 //! use wc_tool::{ToolFault, execute, parse};
 //! use wc_write::WriterSink;
 //!
 //! /// The lines that a command prints for the bytes of a module. `None` where the arguments are
-//! /// those of no command.
+//! /// those of no command. A program draws the seed by `Seed::drawn`.
 //! pub fn printed_lines(
 //!     alloc: Global,
+//!     seed: Seed,
 //!     arguments: &[String],
 //!     input: &[u8],
 //! ) -> Result<Option<Vec<u8>>, ToolFault>
@@ -26,7 +28,7 @@
 //!         return Ok(None);
 //!     };
 //!     let mut sink = WriterSink::new(Vec::new(alloc));
-//!     execute(alloc, &command, input, &mut sink)?;
+//!     execute(alloc, seed, &command, input, &mut sink)?;
 //!     Ok(Some(sink.into_inner()))
 //! }
 //! ```

@@ -17,6 +17,7 @@ use crate::lines::LINE_FEED;
 use crate::output::Output;
 use std::alloc::Global;
 use std::io::{self, ErrorKind};
+use wc_maps::Seed;
 use wc_write::{PutFailed, Sink};
 
 const USAGE: &[u8] = b"usage: wctrim dedupe IN OUT
@@ -70,9 +71,10 @@ impl FaultText for RunFault<'_> {
 ///
 /// TEXT is the text of `run_command`'s fault (`FaultText`): `cannot read IN` or `cannot write OUT` with the path, or the
 /// text of the fault of `execute`. All that is printed is flushed. Files are as `run_command` leaves them; without a
-/// command they are unchanged.
+/// command they are unchanged. `seed`: the seed of the maps that are made; what is done is the same for every seed.
 pub fn run<F: FileStore, O: Output>(
     alloc: Global,
+    seed: Seed,
     arguments: &io::Result<Vec<String>>,
     files: &mut F,
     out: &mut O,
@@ -88,7 +90,7 @@ pub fn run<F: FileStore, O: Output>(
     ensures kept { IsErr arguments.now → F.held files.new ≡ F.held files.old }
 {
     match arguments {
-        Ok(arguments) => run_with(alloc, arguments.as_slice(), files, out),
+        Ok(arguments) => run_with(alloc, seed, arguments.as_slice(), files, out),
         Err(e) if e.kind() == ErrorKind::OutOfMemory => {
             report(out, &RunFault::Tool(ToolFault::Memory))
         }
@@ -99,6 +101,7 @@ pub fn run<F: FileStore, O: Output>(
 /// Runs the program with arguments that are known.
 fn run_with<F: FileStore, O: Output>(
     alloc: Global,
+    seed: Seed,
     arguments: &[String],
     files: &mut F,
     out: &mut O,
@@ -111,7 +114,7 @@ fn run_with<F: FileStore, O: Output>(
         return print_usage(out, SUCCESS);
     }
     match parse(arguments) {
-        Ok(command) => run_and_report(alloc, &command, files, out),
+        Ok(command) => run_and_report(alloc, seed, &command, files, out),
         Err(Usage) => print_usage(out, WRONG_ARGUMENTS),
     }
 }
@@ -119,6 +122,7 @@ fn run_with<F: FileStore, O: Output>(
 /// Runs a command on its files, and prints why it could not be run. The answer is the exit status.
 fn run_and_report<F: FileStore, O: Output>(
     alloc: Global,
+    seed: Seed,
     command: &Command<'_>,
     files: &mut F,
     out: &mut O,
@@ -128,7 +132,7 @@ fn run_and_report<F: FileStore, O: Output>(
         (HandsOn (O.written out.old) (O.written out.new) (O.sent out.new)) (O.is_failed out.new)
         result }
 {
-    match run_command(alloc, command, files, out) {
+    match run_command(alloc, seed, command, files, out) {
         Ok(()) => SUCCESS,
         Err(fault) => report(out, &fault),
     }
@@ -148,6 +152,7 @@ fn run_and_report<F: FileStore, O: Output>(
 /// With `CannotRead` and `Tool` no file is created or changed.
 pub fn run_command<'a, F: FileStore, O: Output>(
     alloc: Global,
+    seed: Seed,
     command: &Command<'a>,
     files: &mut F,
     out: &mut O,
@@ -164,7 +169,7 @@ pub fn run_command<'a, F: FileStore, O: Output>(
     let Ok(input) = files.read(source) else {
         return Err(RunFault::CannotRead(source));
     };
-    let answer = match execute_and_flush(alloc, command, input.as_slice(), out) {
+    let answer = match execute_and_flush(alloc, seed, command, input.as_slice(), out) {
         Ok(answer) => answer,
         Err(fault) => return Err(RunFault::Tool(fault)),
     };
@@ -180,6 +185,7 @@ pub fn run_command<'a, F: FileStore, O: Output>(
 /// Executes the command, and flushes its lines.
 fn execute_and_flush<O: Output>(
     alloc: Global,
+    seed: Seed,
     command: &Command<'_>,
     input: &[u8],
     out: &mut O,
@@ -193,7 +199,7 @@ fn execute_and_flush<O: Output>(
     ensures output { IsErrOf result ToolFault.Output → O.is_failed out.new ≡ true }
     ensures quiet { IfErr result (λ e. e ≢ ToolFault.Output → out.new ≡ out.old) }
 {
-    let answer = execute(alloc, command, input, out)?;
+    let answer = execute(alloc, seed, command, input, out)?;
     out.flush()?;
     Ok(answer)
 }

@@ -6,20 +6,20 @@ ghost use Rattle.wc_validate.specs.FirstByKey.{position_called, IsKeyKept, IsNam
 ghost use Rattle.wc_validate.specs.Private.Imports.Required.{ArePositionsAdded};
 
 use crate::imports::instances::one_entry;
-use indexmap::IndexMap;
 use std::alloc::{AllocError, Global};
+use wc_maps::{Map, Seed};
 use wc_resolve::WorldKey;
 
 /// Positions by a key and a name.
 #[derive(Drop)]
 pub(crate) struct FirstByKey {
-    keys: IndexMap<WorldKey, IndexMap<String, usize>>,
+    keys: Map<WorldKey, Map<String, usize>>,
 }
 
 /// Keeps a position under a name, if there is none yet.
 pub(crate) fn keep_name(
     alloc: Global,
-    names: &mut IndexMap<String, usize>,
+    names: &mut Map<String, usize>,
     name: &str,
     position: usize,
 ) -> Result<(), AllocError>
@@ -37,7 +37,7 @@ pub(crate) fn keep_name(
 /// Keeps a position under a key, if there is none yet.
 pub(crate) fn keep_key(
     alloc: Global,
-    keys: &mut IndexMap<WorldKey, usize>,
+    keys: &mut Map<WorldKey, usize>,
     key: &WorldKey,
     position: usize,
 ) -> Result<(), AllocError>
@@ -52,11 +52,11 @@ pub(crate) fn keep_key(
 
 impl FirstByKey {
     /// No positions.
-    pub(crate) fn new(alloc: Global) -> FirstByKey
+    pub(crate) fn new(alloc: Global, seed: Seed) -> FirstByKey
         ensures { (key : KeyView) (name : List ℕ) → position_called result key name ≡ None }
     {
         FirstByKey {
-            keys: IndexMap::new(alloc),
+            keys: Map::with_hasher(alloc, seed),
         }
     }
 
@@ -80,7 +80,8 @@ impl FirstByKey {
         if let Some(names) = self.keys.get_mut(key) {
             return keep_name(alloc, names, name, position);
         }
-        let names = one_entry(alloc, String::from_str(alloc, name)?, position)?;
+        let seed = *self.keys.hasher();
+        let names = one_entry(alloc, seed, String::from_str(alloc, name)?, position)?;
         self.keys.insert(key.clone(alloc)?, names)?;
         Ok(())
     }

@@ -5,9 +5,9 @@ ghost use Rattle.wc_names.specs.Imports.{NameScope};
 ghost use Rattle.wc_names.specs.Interfaces.{InterfaceTexts, interface_texts};
 ghost use Rattle.wc_validate.specs.NameScopes.{AreInterfacesBy, AreInterfacesOf, HasItsWorld, name_scope_of};
 
-use indexmap::IndexMap;
 use std::alloc::{AllocError, Global};
 use wc_encoder::Adapter;
+use wc_maps::Map;
 use wc_names::{InterfaceNames, Legacy, NameIndexes, Standard};
 use wc_resolve::{Resolve, World};
 
@@ -19,7 +19,7 @@ const FEW_LOOKUPS: usize = 64;
 pub(crate) struct Names<'a> {
     pub(crate) resolve: &'a Resolve,
     pub(crate) world: &'a World,
-    pub(crate) adapters: &'a IndexMap<String, Adapter>,
+    pub(crate) adapters: &'a Map<String, Adapter>,
     pub(crate) reject_legacy_names: bool,
     pub(crate) task_hook: &'a str,
 }

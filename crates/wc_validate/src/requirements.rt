@@ -18,8 +18,8 @@ use crate::name_scope::Names;
 use crate::requirements::exported_functions::{
     FunctionNames, check_functions, is_interface_recorded, is_recorded, names_of_functions,
 };
-use indexmap::{IndexMap, IndexSet};
 use std::alloc::{AllocError, Global};
+use wc_maps::{Map, Set};
 use wc_names::Export;
 use wc_read::{FuncType, Module};
 use wc_resolve::{AbiVariant, Resolve, WorldItem, WorldKey};
@@ -28,8 +28,8 @@ use wc_resolve::{AbiVariant, Resolve, WorldItem, WorldKey};
 /// it, with their types.
 #[derive(Clone, Copy)]
 pub(crate) struct RequiredExports<'a> {
-    pub(crate) keys: &'a IndexSet<WorldKey>,
-    pub(crate) functions: &'a IndexMap<String, FuncType>,
+    pub(crate) keys: &'a Set<WorldKey>,
+    pub(crate) functions: &'a Map<String, FuncType>,
 }
 
 /// Whether an export is a memory.
@@ -40,7 +40,7 @@ fn is_memory(export: &Export) -> bool
 }
 
 /// Whether two memories are recorded.
-fn has_several_memories(names: &IndexMap<String, Export>) -> bool
+fn has_several_memories(names: &Map<String, Export>) -> bool
     ensures { IsTrue result ↔ (1 < memory_count (map export_entry names.now.entries)) }
 {
     let mut found = false;
@@ -83,7 +83,7 @@ fn is_callback_for(export: &Export, callback: &Export) -> bool
 /// Whether an export has its callback among those recorded, if it needs one.
 fn is_called_back(
     alloc: Global,
-    names: &IndexMap<String, Export>,
+    names: &Map<String, Export>,
     name: &str,
     export: &Export,
 ) -> Result<bool, AllocError>
@@ -102,7 +102,7 @@ fn is_called_back(
 }
 
 /// Whether all recorded exports have the callbacks that they need.
-fn are_called_back(alloc: Global, names: &IndexMap<String, Export>) -> Result<bool, AllocError>
+fn are_called_back(alloc: Global, names: &Map<String, Export>) -> Result<bool, AllocError>
     ensures { IfOk result (λ b. IsTrue b ↔ AreCalledBack names.now.entries) }
 {
     for (name, export) in names.iter() {
@@ -120,7 +120,7 @@ fn are_called_back(alloc: Global, names: &IndexMap<String, Export>) -> Result<bo
 /// - `SeveralMemoryExports`: two memories are recorded.
 /// - `MissingCallback`: an export needs a callback that is not recorded.
 /// - `Memory`: an allocation failed.
-fn check_record(alloc: Global, names: &IndexMap<String, Export>) -> Result<(), ValidateFault>
+fn check_record(alloc: Global, names: &Map<String, Export>) -> Result<(), ValidateFault>
     ensures met { MeetsAlone names.now.entries result }
     ensures fault { FailsAlone names.now.entries result }
 {
@@ -144,7 +144,7 @@ fn check_key(
     alloc: Global,
     functions: &FunctionNames,
     resolve: &Resolve,
-    exports: &IndexMap<WorldKey, WorldItem>,
+    exports: &Map<WorldKey, WorldItem>,
     key: &WorldKey,
 ) -> Result<(), ValidateFault>
     requires { All (λ x. IsItemIn resolve.now x.1) (map world_entry exports.now.entries) }
@@ -182,8 +182,8 @@ fn check_keys(
     alloc: Global,
     functions: &FunctionNames,
     resolve: &Resolve,
-    exports: &IndexMap<WorldKey, WorldItem>,
-    keys: &IndexSet<WorldKey>,
+    exports: &Map<WorldKey, WorldItem>,
+    keys: &Set<WorldKey>,
 ) -> Result<(), ValidateFault>
     requires { All (λ x. IsItemIn resolve.now x.1) (map world_entry exports.now.entries) }
     ensures met { MeetsByNames resolve.now functions.now.keys
@@ -212,7 +212,7 @@ fn check_keys(
 /// - `Memory`: an allocation failed.
 pub(crate) fn check_exports<'m>(
     alloc: Global,
-    recorded: &IndexMap<String, Export>,
+    recorded: &Map<String, Export>,
     names: &Names<'_>,
     module: &'m Module<'m>,
     required: RequiredExports<'_>,

@@ -19,10 +19,10 @@ use crate::imports::record::{ImportContext, record_imports};
 use crate::laws::records_exclude_faults;
 use crate::name_scope::{Interfaces, Names};
 use crate::requirements::{RequiredExports, check_exports};
-use indexmap::{IndexMap, IndexSet};
 use std::alloc::{AllocError, Global};
 use wc_dedupe::ModuleImportMap;
 use wc_encoder::{ComponentEncoder, LibraryInfo};
+use wc_maps::{Map, Seed, Set};
 use wc_names::{Legacy, NameIndexes, Standard};
 use wc_read::{FuncType, Module, read_module};
 use wc_resolve::WorldKey;
@@ -37,14 +37,14 @@ pub struct ValidatedModule {
 }
 
 impl ValidatedModule {
-    /// A module that imports and exports nothing.
-    pub fn new(alloc: Global) -> ValidatedModule
+    /// A module that imports and exports nothing. `seed`: the seed of the maps that are made.
+    pub fn new(alloc: Global, seed: Seed) -> ValidatedModule
         ensures imports { result.imports ≡ [] }
         ensures exports { result.exports ≡ [] }
     {
         ValidatedModule {
-            imports: ImportMap::new(alloc),
-            exports: ExportMap::new(alloc),
+            imports: ImportMap::new(alloc, seed),
+            exports: ExportMap::new(alloc, seed),
         }
     }
 }
@@ -91,7 +91,8 @@ fn import_context<'a>(
 {
     let names = names_of(validation_input.encoder);
     let interfaces = Interfaces::new(alloc, &names, module.imports.len())?;
-    let arguments = Arguments::new(alloc, validation_input.library)?;
+    let seed = *names.adapters.hasher();
+    let arguments = Arguments::new(alloc, seed, validation_input.library)?;
     Ok(ImportContext {
         names,
         interfaces,
@@ -123,7 +124,7 @@ fn module_imports(
 fn export_context<'a>(
     alloc: Global,
     encoder: &'a ComponentEncoder,
-    keys: &'a IndexSet<WorldKey>,
+    keys: &'a Set<WorldKey>,
 ) -> Result<ExportContext<'a>, AllocError>
     ensures context { IfOk result IsExportContext }
     ensures name_scope { IfOk result (λ c. IsNameScopeOf encoder.now (name_scope_of c.names)) }
@@ -233,7 +234,7 @@ fn validate_main<'a>(
     encoder: &'a ComponentEncoder,
     bytes: &[u8],
     import_map: Option<&'a ModuleImportMap>,
-    functions: &'a IndexMap<String, FuncType>,
+    functions: &'a Map<String, FuncType>,
 ) -> Result<ValidatedModule, ValidateFault>
     ensures recorded { IfOk result (λ v. IsRecordOf (main_input_requiring encoder.now
         (option_copied import_map.entry) functions.now.entries) bytes.now (module_record v)) }
@@ -266,6 +267,8 @@ fn validate_main<'a>(
 /// - `Read`: the bytes are no module.
 /// - `NotAModule`: they are a component.
 /// - `NotAFunction`: an import is neither a function nor one of the main module's other items.
+/// - `TypedReference`: the type of an adapter's function, or of a function of `env`, names a type of the module by an
+///   index.
 /// - `SignatureMismatch`: a function's type is not the one that its name fixes; of an export too.
 /// - `NoRootImport`: the world imports nothing of the name.
 /// - `RootNotFunction`: what the world imports by the name is no function.
@@ -297,7 +300,7 @@ pub fn validate_module(
     ensures no_cause { OnOk result (HasNoCause (main_input encoder.now
         (option_copied import_map.entry)) bytes.now) }
 {
-    let functions = IndexMap::new(alloc);
+    let functions = Map::with_hasher(alloc, *encoder.adapters().hasher());
     validate_main(alloc, encoder, bytes, import_map, &functions)
 }
 
@@ -316,14 +319,15 @@ pub fn validate_module(
 /// And last, of the functions that other modules import from this one (`required_by_import`), for the first of them
 /// that is not exported so:
 ///
+/// - `TypedReference`: the type with which it is imported names a type of that module by an index.
 /// - `AdapterModuleDidNotExport`: no function of the name is exported.
 /// - `AdapterExportType`: it is exported with another type.
 pub fn validate_adapter_module<'a>(
     alloc: Global,
     encoder: &'a ComponentEncoder,
     bytes: &[u8],
-    required_by_import: &'a IndexMap<String, FuncType>,
-    exports: &'a IndexSet<WorldKey>,
+    required_by_import: &'a Map<String, FuncType>,
+    exports: &'a Set<WorldKey>,
     library_info: Option<&'a LibraryInfo>,
 ) -> Result<ValidatedModule, ValidateFault>
     ensures recorded { IfOk result (λ v. IsRecordOf (adapter_input_of encoder.now library_info.entry

@@ -18,11 +18,11 @@ use crate::restricted::{settings_are_valid, trimmed_is_restricted};
 use crate::trimming::{
     is_needed, main_page_size, main_realloc, page_size, required_names, trim_exponent,
 };
-use indexmap::{IndexMap, IndexSet};
 use std::alloc::Global;
 use std::borrow::CowSlice;
 use wc_encoder::{Adapter, ComponentEncoder};
 use wc_gc::{GcFault, run};
+use wc_maps::{Map, Set};
 use wc_read::FuncType;
 use wc_validate::{ValidateFault, ValidatedModule, validate_adapter_module};
 use wc_write::laws::slices_are_bytes;
@@ -33,7 +33,7 @@ struct AdapterInput<'a, 'b> {
     encoder: &'a ComponentEncoder,
     main: &'b ValidatedModule,
     /// What the main module imports from it.
-    required: &'b IndexMap<String, FuncType>,
+    required: &'b Map<String, FuncType>,
     name: &'a str,
     adapter: &'a Adapter,
 }
@@ -94,7 +94,7 @@ fn trim_to(
     alloc: Global,
     input: &AdapterInput<'_, '_>,
     first: &ValidatedModule,
-    names: &IndexSet<String>,
+    names: &Set<String>,
 ) -> Result<Vec<u8>, WorldFault>
     requires needed { IsNeeded input.now }
     requires trims { input.now.adapter.now.library_info ≡ None }
@@ -249,7 +249,7 @@ fn add_adapter<'a>(
     main: &ValidatedModule,
     name: &'a str,
     adapter: &'a Adapter,
-    found: &mut IndexMap<&'a str, WorldAdapter<'a>>,
+    found: &mut Map<&'a str, WorldAdapter<'a>>,
 ) -> Result<(), WorldFault>
     ensures is_adapter { AddsAdapterOnOk result encoder.now (module_record main.now)
         (name.now, input_view adapter.now) (adapters_view found.old) (adapters_view found.new) }
@@ -282,14 +282,15 @@ pub(crate) fn adapters_of<'a>(
     alloc: Global,
     encoder: &'a ComponentEncoder,
     main: &ValidatedModule,
-) -> Result<IndexMap<&'a str, WorldAdapter<'a>>, WorldFault>
+) -> Result<Map<&'a str, WorldAdapter<'a>>, WorldFault>
     ensures is_adapter { IfOk result (λ found. AreAdapters encoder.now (module_record main.now)
         (adapters_view found)) }
     ensures fault { IfErr result (λ f. (f ≡ Memory)
         ⊎ IsFirstStop encoder.now (module_record main.now) f) }
 {
-    let mut found = IndexMap::new(alloc);
-    for (name, adapter) in encoder.adapters().iter() {
+    let adapters = encoder.adapters();
+    let mut found = Map::with_hasher(alloc, *adapters.hasher());
+    for (name, adapter) in adapters.iter() {
         add_adapter(alloc, encoder, main, name, adapter, &mut found)?;
     }
     Ok(found)

@@ -18,24 +18,25 @@ use crate::imported::{ImportedInterface, Lowering};
 use crate::lowering::{KeyedLowering, Lowerings, distinct_keys, push_interface, world_lowerings};
 use crate::options::ImportOptions;
 use crate::required::required_by;
-use indexmap::IndexMap;
 use std::alloc::{AllocError, Global};
 use wc_encoder::ComponentEncoder;
+use wc_maps::{Map, Seed};
 use wc_resolve::{AbiVariant, InterfaceId, WorldItem, WorldKey};
 use wc_validate::ValidatedModule;
 
 /// What is imported, by its name; `None` for the world itself.
-type ImportEntries = IndexMap<Option<String>, ImportedInterface>;
+type ImportEntries = Map<Option<String>, ImportedInterface>;
 
-/// Lowerings by their keys, in order.
+/// Lowerings by their keys, in order. `seed` is that of the map.
 pub(crate) fn by_keys(
     alloc: Global,
+    seed: Seed,
     lowerings: Vec<KeyedLowering>,
-) -> Result<IndexMap<(String, AbiVariant), Lowering>, AllocError>
+) -> Result<Map<(String, AbiVariant), Lowering>, AllocError>
     ensures { AreKeysDistinct (map lowering_entry lowerings.items) → IfOk result (λ found.
         map lowering_entry found.entries ≡ map lowering_entry lowerings.items) }
 {
-    let mut found = IndexMap::new(alloc);
+    let mut found = Map::with_hasher(alloc, seed);
     for (key, lowering) in lowerings {
         found.insert(key, lowering)?;
     }
@@ -64,7 +65,7 @@ pub(crate) fn imported_interface<O: ImportOptions>(
     let mut found = Vec::new(alloc);
     push_interface(alloc, context, &mut found, id)?;
     let external_id = context.resolve.external_id_value(alloc, key, item)?;
-    let lowerings = by_keys(alloc, found)?;
+    let lowerings = by_keys(alloc, context.seed, found)?;
     Ok(ImportedInterface {
         lowerings,
         interface: Some(id),
@@ -77,7 +78,7 @@ pub(crate) fn imported_interface<O: ImportOptions>(
 pub(crate) fn imported_world<O: ImportOptions>(
     alloc: Global,
     context: &Lowerings<'_, O>,
-    items: &IndexMap<WorldKey, WorldItem>,
+    items: &Map<WorldKey, WorldItem>,
 ) -> Result<ImportedInterface, AllocError>
     requires { All (λ e. IsLowerable context.now.resolve.now (item_view e.1)) items.now.entries }
     ensures lowerings { ForLowerer O.options_of context.now (λ l.
@@ -88,7 +89,7 @@ pub(crate) fn imported_world<O: ImportOptions>(
     ensures external { IfOk result (λ i. (imported_view i).external_id ≡ None) }
 {
     let found = world_lowerings(alloc, context, items)?;
-    let lowerings = by_keys(alloc, found)?;
+    let lowerings = by_keys(alloc, context.seed, found)?;
     Ok(ImportedInterface {
         lowerings,
         interface: None,
@@ -144,7 +145,7 @@ fn add_own<O: ImportOptions>(
     alloc: Global,
     context: &Lowerings<'_, O>,
     entries: &mut ImportEntries,
-    items: &IndexMap<WorldKey, WorldItem>,
+    items: &Map<WorldKey, WorldItem>,
 ) -> Result<(), AllocError>
     requires { All (λ e. IsLowerable context.now.resolve.now (item_view e.1)) items.now.entries }
     ensures { ForLowerer O.options_of context.now (λ l.
@@ -160,14 +161,14 @@ fn add_own<O: ImportOptions>(
 fn import_entries<O: ImportOptions>(
     alloc: Global,
     context: &Lowerings<'_, O>,
-    items: &IndexMap<WorldKey, WorldItem>,
+    items: &Map<WorldKey, WorldItem>,
 ) -> Result<ImportEntries, AllocError>
     requires { All (λ e. IsImportable context.now.resolve.now (world_entry e)) items.now.entries }
     ensures { ForLowerer O.options_of context.now (λ l.
         IfDistinct l (entries_of items.now)
         (IfOk result (λ m. import_map_view m ≡ all_entries l (entries_of items.now)))) }
 {
-    let mut entries = IndexMap::new(alloc);
+    let mut entries = Map::with_hasher(alloc, context.seed);
     let mut has_own = false;
     for (key, item) in items.iter() {
         if let Some(id) = interface_of(item) {
@@ -186,7 +187,7 @@ pub(crate) fn import_map_of<'a, O: ImportOptions>(
     encoder: &ComponentEncoder,
     options: &O,
     main: &ValidatedModule,
-    adapters: &IndexMap<&'a str, WorldAdapter<'a>>,
+    adapters: &Map<&'a str, WorldAdapter<'a>>,
 ) -> Result<ImportEntries, AllocError>
     ensures { IfOk result (λ m. import_map_view m ≡ lowered encoder.now
         (O.options_of options.now) (module_record main.now) (adapters_view adapters.now)) }
@@ -201,6 +202,7 @@ pub(crate) fn import_map_of<'a, O: ImportOptions>(
         options,
         required: &required,
         has_memory: main.imports.imported_memory().is_some(),
+        seed: *adapters.hasher(),
     };
     import_entries(alloc, &context, &resolve.world(metadata.world).imports)
 }

@@ -1,7 +1,7 @@
 //! How imports are met.
 
 use crate::options::RequiredOptions;
-use indexmap::IndexMap;
+use wc_maps::Map;
 use wc_resolve::{AbiVariant, InterfaceId, TypeId, WasmSignature};
 
 /// How an import of a core module is met (component model, Canonical ABI, "canon lower" and "canon resource.drop").
@@ -24,7 +24,7 @@ pub enum Lowering {
 #[derive(Debug, Drop)]
 pub struct ImportedInterface {
     /// What is imported, by its name and by how it is called: drops of resources, named `NAME_drop`, and functions.
-    pub lowerings: IndexMap<(String, AbiVariant), Lowering>,
+    pub lowerings: Map<(String, AbiVariant), Lowering>,
     /// The interface; `None` for the world itself.
     pub interface: Option<InterfaceId>,
     /// The interface that the import implements (`Resolve::implements_interface`).

@@ -25,6 +25,7 @@ use indexmap::{IndexMap, IndexSet};
 use std::alloc::{AllocError, Global};
 use std::collections::{HashMap, HashSet};
 use wc_encoder::ComponentEncoder;
+use wc_maps::Map;
 use wc_names::{Import, PayloadInfo, PayloadType};
 use wc_resolve::{
     Function, InterfaceId, LiveTypes, Resolve, TypeId, TypeOwner, World, WorldItem, WorldKey,
@@ -144,7 +145,7 @@ pub(crate) fn add_builtin(
 /// Adds the types of what the world imports under a key.
 pub(crate) fn add_item(
     resolve: &Resolve,
-    imports: &IndexMap<WorldKey, WorldItem>,
+    imports: &Map<WorldKey, WorldItem>,
     key: &WorldKey,
     live: &mut LiveTypes,
 ) -> Result<(), AllocError>
@@ -233,7 +234,7 @@ fn add_type_item(
 /// Adds the types that a world imports.
 fn add_world_types(
     resolve: &Resolve,
-    imports: &IndexMap<WorldKey, WorldItem>,
+    imports: &Map<WorldKey, WorldItem>,
     live: &mut LiveTypes,
 ) -> Result<(), AllocError>
     requires { AreItemsIn resolve.now (entries_of imports.now) }
@@ -269,7 +270,7 @@ fn add_module(
 fn add_adapters<'a>(
     resolve: &Resolve,
     world: &World,
-    adapters: &IndexMap<&'a str, WorldAdapter<'a>>,
+    adapters: &Map<&'a str, WorldAdapter<'a>>,
     live: &mut LiveTypes,
 ) -> Result<(), AllocError>
     requires items { AreItemsIn resolve.now (world_view world.now).imports }
@@ -364,7 +365,7 @@ fn add_exports(
     alloc: Global,
     resolve: &Resolve,
     used: &HashMap<InterfaceId, HashSet<InterfaceId>>,
-    exports: &IndexMap<WorldKey, WorldItem>,
+    exports: &Map<WorldKey, WorldItem>,
     live: &mut LiveTypes,
 ) -> Result<(), AllocError>
     requires { AreItemsIn resolve.now (entries_of exports.now) }
@@ -384,7 +385,7 @@ fn live_types<'a>(
     world: &World,
     used: &HashMap<InterfaceId, HashSet<InterfaceId>>,
     main: &ValidatedModule,
-    adapters: &IndexMap<&'a str, WorldAdapter<'a>>,
+    adapters: &Map<&'a str, WorldAdapter<'a>>,
 ) -> Result<LiveTypes, AllocError>
     requires { AreRootsIn resolve.now (world_view world.now) (module_record main.now)
         (adapters_view adapters.now) }
@@ -459,7 +460,7 @@ pub(crate) fn live_type_imports<'a>(
     encoder: &ComponentEncoder,
     used: &HashMap<InterfaceId, HashSet<InterfaceId>>,
     main: &ValidatedModule,
-    adapters: &IndexMap<&'a str, WorldAdapter<'a>>,
+    adapters: &Map<&'a str, WorldAdapter<'a>>,
 ) -> Result<IndexMap<InterfaceId, IndexSet<TypeId>>, AllocError>
     requires main { AreImportsOf encoder.now (module_record main.now) }
     requires adapters { All (λ a. AreImportsOf encoder.now a.1.info) (adapters_view adapters.now) }

@@ -13,8 +13,8 @@ use crate::imported::Lowering;
 use crate::options::{ImportOptions, RequiredOptions};
 use crate::required::Required;
 use bitflags::Flags;
-use indexmap::IndexMap;
 use std::alloc::{AllocError, Global};
+use wc_maps::{Map, Seed};
 use wc_resolve::{
     AbiVariant, Function, InterfaceId, Resolve, TypeDefKind, TypeId, WorldItem, WorldKey,
 };
@@ -28,6 +28,8 @@ pub(crate) struct Lowerings<'a, O: ImportOptions> {
     pub(crate) required: &'a Required,
     /// Whether the main module imports its memory, which is then there before the main module is.
     pub(crate) has_memory: bool,
+    /// The seed of the maps that are made.
+    pub(crate) seed: Seed,
 }
 
 /// A lowering, by its name and by how the function is called.
@@ -157,7 +159,7 @@ fn push_types<O: ImportOptions>(
     alloc: Global,
     context: &Lowerings<'_, O>,
     lowerings: &mut Vec<KeyedLowering>,
-    types: &IndexMap<String, TypeId>,
+    types: &Map<String, TypeId>,
 ) -> Result<(), AllocError>
     requires { All (λ e. e.1.0 < length context.now.resolve.now.types) types.now.entries }
     ensures { ForLowerer O.options_of context.now (λ l.
@@ -176,7 +178,7 @@ fn push_functions<O: ImportOptions>(
     context: &Lowerings<'_, O>,
     lowerings: &mut Vec<KeyedLowering>,
     interface: InterfaceId,
-    functions: &IndexMap<String, Function>,
+    functions: &Map<String, Function>,
 ) -> Result<(), AllocError>
     requires { All (λ e. IsUsable context.now.resolve.now (function_view e.1))
         functions.now.entries }
@@ -244,7 +246,7 @@ fn push_item<O: ImportOptions>(
 pub(crate) fn world_lowerings<O: ImportOptions>(
     alloc: Global,
     context: &Lowerings<'_, O>,
-    items: &IndexMap<WorldKey, WorldItem>,
+    items: &Map<WorldKey, WorldItem>,
 ) -> Result<Vec<KeyedLowering>, AllocError>
     requires { All (λ e. IsLowerable context.now.resolve.now (item_view e.1)) items.now.entries }
     ensures { ForLowerer O.options_of context.now (λ l. IfOk result (λ found.

@@ -13,21 +13,21 @@ ghost use Rattle.wc_world.specs.WorldViews.{adapters_view};
 ghost use Rattle.wc_world.specs.Private.Required.{AddsImportsOnOk, AreCalled, AreRequired, ForCalled, ForRequired, IsCall, call_view, called_function, dropped_resource, import_abi, interface_index};
 
 use crate::adapter::WorldAdapter;
-use indexmap::{IndexMap, IndexSet};
 use std::alloc::{AllocError, Global};
+use wc_maps::{Map, Seed, Set};
 use wc_names::Import;
 use wc_resolve::{AbiVariant, InterfaceId, TypeId};
 use wc_validate::{ImportMap, ValidatedModule};
 
 /// Names of functions, each with the interface that it is of; without one it is of the world.
-type FunctionNames = IndexSet<(Option<InterfaceId>, String)>;
+type FunctionNames = Set<(Option<InterfaceId>, String)>;
 
 /// The functions that are called synchronously and asynchronously, and the resources that are dropped.
 #[derive(Drop)]
 pub(crate) struct Required {
     functions: FunctionNames,
     async_functions: FunctionNames,
-    drops: IndexSet<TypeId>,
+    drops: Set<TypeId>,
 }
 
 /// Adds a function.
@@ -81,14 +81,14 @@ fn dropped_resource(import: &Import) -> Option<TypeId>
 }
 
 impl Required {
-    /// No functions, and no drops.
-    fn new(alloc: Global) -> Required
+    /// No functions, and no drops. `seed` is that of the sets.
+    fn new(alloc: Global, seed: Seed) -> Required
         ensures { AreRequired [] result }
     {
         Required {
-            functions: IndexSet::new(alloc),
-            async_functions: IndexSet::new(alloc),
-            drops: IndexSet::new(alloc),
+            functions: Set::with_hasher(alloc, seed),
+            async_functions: Set::with_hasher(alloc, seed),
+            drops: Set::with_hasher(alloc, seed),
         }
     }
 
@@ -178,12 +178,12 @@ fn add_module(alloc: Global, required: &mut Required, imports: &ImportMap) -> Re
 pub(crate) fn required_by<'a>(
     alloc: Global,
     main: &ValidatedModule,
-    adapters: &IndexMap<&'a str, WorldAdapter<'a>>,
+    adapters: &Map<&'a str, WorldAdapter<'a>>,
 ) -> Result<Required, AllocError>
     ensures { IfOk result (AreRequired (imports_of (all_imports (module_record main.now)
         (adapters_view adapters.now)))) }
 {
-    let mut required = Required::new(alloc);
+    let mut required = Required::new(alloc, *adapters.hasher());
     add_module(alloc, &mut required, &main.imports)?;
     for (_name, adapter) in adapters.iter() {
         add_module(alloc, &mut required, &adapter.info.imports)?;

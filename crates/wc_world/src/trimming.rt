@@ -11,9 +11,9 @@ ghost use Rattle.wc_world.specs.Adapters.{HasNames, exports_function, has_functi
 ghost use Rattle.wc_gc.specs.Liveness.{names_of};
 ghost use Rattle.wc_world.specs.WorldViews.{required_view};
 
-use indexmap::{IndexMap, IndexSet};
 use std::alloc::{AllocError, Global};
 use wc_encoder::{Adapter, ComponentEncoder};
+use wc_maps::{Map, Set};
 use wc_read::{FuncType, MemoryType};
 use wc_resolve::{Resolve, WorldItem, WorldKey};
 use wc_validate::{ExportMap, ValidatedModule};
@@ -82,7 +82,7 @@ pub(crate) fn main_page_size(exports: &ExportMap) -> u64
 }
 
 /// Adds a name, unless it is there.
-fn add_name(alloc: Global, names: &mut IndexSet<String>, name: &str) -> Result<(), AllocError>
+fn add_name(alloc: Global, names: &mut Set<String>, name: &str) -> Result<(), AllocError>
     ensures { (passed : List (List ℕ)) → HasNames names.old.keys passed
         → OnOk result (HasNames names.new.keys (passed ++ name.now ∷ [])) }
 {
@@ -94,13 +94,13 @@ fn add_name(alloc: Global, names: &mut IndexSet<String>, name: &str) -> Result<(
 /// exports that are recorded.
 pub(crate) fn required_names(
     alloc: Global,
-    required: &IndexMap<String, FuncType>,
+    required: &Map<String, FuncType>,
     exports: &ExportMap,
-) -> Result<IndexSet<String>, AllocError>
+) -> Result<Set<String>, AllocError>
     ensures { IfOk result (λ names. names_of names.keys
         ≡ required_names (required_view required.now) exports.now) }
 {
-    let mut names = IndexSet::new(alloc);
+    let mut names = Set::with_hasher(alloc, *required.hasher());
     for (name, _ty) in required.iter() {
         add_name(alloc, &mut names, name.as_str())?;
     }
@@ -111,11 +111,7 @@ pub(crate) fn required_names(
 }
 
 /// Whether what a world exports under a key is a function, or an interface that has one.
-fn exports_function(
-    resolve: &Resolve,
-    exports: &IndexMap<WorldKey, WorldItem>,
-    key: &WorldKey,
-) -> bool
+fn exports_function(resolve: &Resolve, exports: &Map<WorldKey, WorldItem>, key: &WorldKey) -> bool
     requires { AreItemsIn resolve.now (entries_of exports.now) }
     ensures { result ≡ exports_function resolve.now (entries_of exports.now) (key_view key.now) }
 {
@@ -126,11 +122,7 @@ fn exports_function(
 }
 
 /// Whether a function is among what a world exports under these keys.
-fn exports_any(
-    resolve: &Resolve,
-    exports: &IndexMap<WorldKey, WorldItem>,
-    keys: &IndexSet<WorldKey>,
-) -> bool
+fn exports_any(resolve: &Resolve, exports: &Map<WorldKey, WorldItem>, keys: &Set<WorldKey>) -> bool
     requires { AreItemsIn resolve.now (entries_of exports.now) }
     ensures { result ≡ list_any (exports_function resolve.now (entries_of exports.now))
         (map key_view keys.now.keys) }
@@ -147,9 +139,9 @@ fn exports_any(
 /// among the exports that it has to have.
 pub(crate) fn is_needed(
     resolve: &Resolve,
-    exports: &IndexMap<WorldKey, WorldItem>,
+    exports: &Map<WorldKey, WorldItem>,
     adapter: &Adapter,
-    required: &IndexMap<String, FuncType>,
+    required: &Map<String, FuncType>,
 ) -> bool
     requires { AreItemsIn resolve.now (entries_of exports.now) }
     ensures { result ≡ is_needed resolve.now (entries_of exports.now) (adapter_view adapter.now)

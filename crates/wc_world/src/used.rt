@@ -9,10 +9,10 @@ ghost use Rattle.wc_resolve.specs.Ranges.{IsItemIn};
 ghost use Rattle.wc_resolve.specs.Views.{item_view};
 ghost use Rattle.wc_world.specs.Used.{AddsUsedSetOnOk, AreUsed, ForDependent, HasDependencySets, HasUsedPart, IsReady, IsUsedSet, has_interface, is_exported_itself, used_view};
 
-use indexmap::IndexMap;
 use std::alloc::{AllocError, Global};
 use std::collections::{HashMap, HashSet};
 use wc_encoder::ComponentEncoder;
+use wc_maps::Map;
 use wc_resolve::{InterfaceId, Resolve, WorldItem, WorldKey};
 
 /// Adds all interfaces of a set to another one.
@@ -27,7 +27,7 @@ fn add_all(set: &mut HashSet<InterfaceId>, more: &HashSet<InterfaceId>) -> Resul
 }
 
 /// Whether an interface is exported under its own id.
-fn is_exported_itself(exports: &IndexMap<WorldKey, WorldItem>, id: InterfaceId) -> bool
+fn is_exported_itself(exports: &Map<WorldKey, WorldItem>, id: InterfaceId) -> bool
     ensures { result ≡ is_exported_itself (entries_of exports.now) id.0 }
 {
     exports.contains_key(&WorldKey::Interface(id))
@@ -57,7 +57,7 @@ fn add_with_used(
 fn used_by(
     alloc: Global,
     resolve: &Resolve,
-    exports: &IndexMap<WorldKey, WorldItem>,
+    exports: &Map<WorldKey, WorldItem>,
     used: &HashMap<InterfaceId, HashSet<InterfaceId>>,
     id: InterfaceId,
 ) -> Result<HashSet<InterfaceId>, AllocError>
@@ -81,7 +81,7 @@ fn used_by(
 fn add_export(
     alloc: Global,
     resolve: &Resolve,
-    exports: &IndexMap<WorldKey, WorldItem>,
+    exports: &Map<WorldKey, WorldItem>,
     used: &mut HashMap<InterfaceId, HashSet<InterfaceId>>,
     item: &WorldItem,
 ) -> Result<(), AllocError>
@@ -106,7 +106,7 @@ fn add_export(
 fn sets_of_exports(
     alloc: Global,
     resolve: &Resolve,
-    exports: &IndexMap<WorldKey, WorldItem>,
+    exports: &Map<WorldKey, WorldItem>,
 ) -> Result<HashMap<InterfaceId, HashSet<InterfaceId>>, AllocError>
     requires there { AreItemsIn resolve.now (entries_of exports.now) }
     requires before { AreDependenciesBefore resolve.now (entries_of exports.now) }

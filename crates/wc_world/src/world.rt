@@ -2,12 +2,16 @@
 
 ghost use Rattle.std.specs.Prelude.{◌≡◌, ◌↔◌, ◌⊎◌, IfErr, IfOk, IsTrue, OnOk};
 ghost use Rattle.std.specs.List.{list_any};
+ghost use Rattle.wc_encoder.specs.EncoderParts.{world_exports};
 ghost use Rattle.wc_names.specs.Views.{import_view};
 ghost use Rattle.wc_validate.specs.Validated.{module_record};
 ghost use Rattle.wc_world.specs.Causes.{HasNoCause, IsCause, IsMemory};
+ghost use Rattle.wc_world.specs.Live.{AreLive};
+ghost use Rattle.wc_world.specs.Lowered.{lowered};
 ghost use Rattle.wc_world.specs.Slots.{IsSlot1Used, module_uses_slot_1, uses_slot_1};
+ghost use Rattle.wc_world.specs.Used.{AreUsed, used_view};
 ghost use Rattle.wc_world.specs.World.{AreAdapters, IsMainRecord, IsWorldOf};
-ghost use Rattle.wc_world.specs.WorldViews.{adapters_view, world_view};
+ghost use Rattle.wc_world.specs.WorldViews.{adapters_view, import_map_view, live_view, world_view};
 
 use crate::adapter::WorldAdapter;
 use crate::adapters::adapters_of;
@@ -22,6 +26,7 @@ use indexmap::{IndexMap, IndexSet};
 use std::alloc::{AllocError, Global};
 use std::collections::{HashMap, HashSet};
 use wc_encoder::ComponentEncoder;
+use wc_maps::Map;
 use wc_names::Import;
 use wc_resolve::{InterfaceId, TypeId};
 use wc_validate::laws::records_in_range;
@@ -36,10 +41,10 @@ pub struct ComponentWorld<'a> {
     /// What the main module imports and exports.
     pub info: ValidatedModule,
     /// The adapters that are needed, and the libraries, by their names.
-    pub adapters: IndexMap<&'a str, WorldAdapter<'a>>,
+    pub adapters: Map<&'a str, WorldAdapter<'a>>,
     /// How imports are met: those of each interface that the world imports under its name, and under `None` those of
     /// the functions and types that the world itself imports.
-    pub import_map: IndexMap<Option<String>, ImportedInterface>,
+    pub import_map: Map<Option<String>, ImportedInterface>,
     /// The live types of imports, by the interfaces that own them.
     pub live_type_imports: IndexMap<InterfaceId, IndexSet<TypeId>>,
     /// For each interface that the world exports, the exported interfaces that it uses.
@@ -71,7 +76,7 @@ fn one_uses_slot_1(imports: &ImportMap) -> bool
 }
 
 /// Whether an import of one of these adapters does.
-fn adapter_uses_slot_1<'a>(adapters: &IndexMap<&'a str, WorldAdapter<'a>>) -> bool
+fn adapter_uses_slot_1<'a>(adapters: &Map<&'a str, WorldAdapter<'a>>) -> bool
     ensures { result ≡ list_any (λ a. module_uses_slot_1 a.1.info.imports)
         (adapters_view adapters.now) }
 {
@@ -99,24 +104,63 @@ fn main_record(alloc: Global, encoder: &ComponentEncoder) -> Result<ValidatedMod
     }
 }
 
+/// What is made of the modules of a component: how imports are met, the live types of imports, and which exported
+/// interfaces use which.
+#[derive(Drop)]
+struct WorldMaps {
+    import_map: Map<Option<String>, ImportedInterface>,
+    live_type_imports: IndexMap<InterfaceId, IndexSet<TypeId>>,
+    exports_used: HashMap<InterfaceId, HashSet<InterfaceId>>,
+}
+
+/// What is made of this main module and these adapters.
+fn world_maps<'a, O: ImportOptions>(
+    alloc: Global,
+    encoder: &ComponentEncoder,
+    options: &O,
+    info: &ValidatedModule,
+    adapters: &Map<&'a str, WorldAdapter<'a>>,
+) -> Result<WorldMaps, AllocError>
+    requires recorded { IsMainRecord encoder.now (module_record info.now) }
+    requires is_adapter { AreAdapters encoder.now (module_record info.now)
+        (adapters_view adapters.now) }
+    ensures lowerings { IfOk result (λ m. import_map_view m.import_map ≡ lowered encoder.now
+        (O.options_of options.now) (module_record info.now) (adapters_view adapters.now)) }
+    ensures used { IfOk result (λ m. AreUsed encoder.now.resolve (world_exports encoder.now)
+        (used_view m.exports_used)) }
+    ensures live { IfOk result (λ m. AreLive encoder.now (used_view m.exports_used)
+        (module_record info.now) (adapters_view adapters.now) (live_view m.live_type_imports)) }
+{
+    let import_map = import_map_of(alloc, encoder, options, info, adapters)?;
+    let exports_used = exports_used(alloc, encoder)?;
+    // So what the imports name is there.
+    records_in_range(encoder);
+    let live_type_imports = live_type_imports(alloc, encoder, &exports_used, info, adapters)?;
+    Ok(WorldMaps {
+        import_map,
+        live_type_imports,
+        exports_used,
+    })
+}
+
 /// The world of a component that has this main module and these adapters.
 fn world_with<'a, O: ImportOptions>(
     alloc: Global,
     encoder: &'a ComponentEncoder,
     options: &O,
     info: ValidatedModule,
-    adapters: IndexMap<&'a str, WorldAdapter<'a>>,
+    adapters: Map<&'a str, WorldAdapter<'a>>,
 ) -> Result<ComponentWorld<'a>, AllocError>
     requires recorded { IsMainRecord encoder.now (module_record info) }
     requires is_adapter { AreAdapters encoder.now (module_record info)
         (adapters_view adapters) }
     ensures { IfOk result (λ w. IsWorldOf (O.options_of options.now) encoder.now (world_view w)) }
 {
-    let import_map = import_map_of(alloc, encoder, options, &info, &adapters)?;
-    let exports_used = exports_used(alloc, encoder)?;
-    // So what the imports name is there.
-    records_in_range(encoder);
-    let live_type_imports = live_type_imports(alloc, encoder, &exports_used, &info, &adapters)?;
+    let WorldMaps {
+        import_map,
+        live_type_imports,
+        exports_used,
+    } = world_maps(alloc, encoder, options, &info, &adapters)?;
     Ok(ComponentWorld {
         encoder,
         info,

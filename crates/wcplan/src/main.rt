@@ -1,8 +1,8 @@
 //! `wcplan`: says what a component of a core module and adapters needs for a world that is read from
 //! JSON, and trims the adapters.
 //!
-//! What it does is proved in `wc_plan_tool`. Here it gets its arguments, its files, its standard output and its standard
-//! error.
+//! What it does is proved in `wc_plan_tool`. Here it gets its arguments, its files, its standard output, its standard error
+//! and the seed of its maps, which are random bytes of the system's.
 #![tactic(auto)]
 
 ghost use Rattle.std.specs.Prelude.{◌≡◌, None, ⊤};
@@ -10,8 +10,10 @@ ghost use Rattle.std.specs.Process.{exit_status};
 
 use std::io::{self, BufWriter, Write};
 use std::process::ExitCode;
+use std::random::RandomSource;
 use std::rt::{Env, Files};
 use std::{env, fs};
+use wc_maps::Seed;
 use wc_plan_tool::DirectoryStore;
 use wc_tool::{FileStore, Printer};
 
@@ -47,16 +49,23 @@ fn arguments<R: Env + AllocGlobal>(rt: &R) -> io::Result<Vec<String>> {
     Ok(arguments)
 }
 
-/// Runs the program, with standard output through a buffer. What goes to `err` is written at once.
-fn run<R: Env + Files + Print + AllocGlobal, E: Write + Drop>(rt: &R, err: E) -> ExitCode {
+/// Runs the program, with standard output through a buffer. What goes to `err` is written at once. Where the system gives
+/// no random bytes for a seed, nothing is run.
+fn run<R: Env + Files + Print + RandomSource + AllocGlobal, E: Write + Drop>(
+    rt: &R,
+    err: E,
+) -> ExitCode {
+    let Ok(seed) = Seed::drawn(rt) else {
+        return ExitCode::FAILURE;
+    };
     let Ok(err) = BufWriter::with_capacity(rt.alloc(), 0, err) else {
         return ExitCode::FAILURE;
     };
     match BufWriter::new(rt.alloc(), io::writer(rt)) {
-        Ok(writer) => run_on(rt, writer, err),
+        Ok(writer) => run_on(rt, seed, writer, err),
         // Without memory for a buffer each put is written at once.
         Err(_) => match BufWriter::with_capacity(rt.alloc(), 0, io::writer(rt)) {
-            Ok(writer) => run_on(rt, writer, err),
+            Ok(writer) => run_on(rt, seed, writer, err),
             Err(_) => ExitCode::FAILURE,
         },
     }
@@ -65,6 +74,7 @@ fn run<R: Env + Files + Print + AllocGlobal, E: Write + Drop>(rt: &R, err: E) ->
 /// Runs the program, with its lines to `writer` and faults to `err`.
 fn run_on<R: Env + Files + AllocGlobal, W: Write + Drop, E: Write + Drop>(
     rt: &R,
+    seed: Seed,
     writer: BufWriter<W>,
     err: BufWriter<E>,
 ) -> ExitCode {
@@ -72,7 +82,7 @@ fn run_on<R: Env + Files + AllocGlobal, W: Write + Drop, E: Write + Drop>(
     let mut files = SystemFiles { rt };
     let mut out = Printer::new(writer);
     let mut err = Printer::new(err);
-    exit_code(wc_plan_tool::run(rt.alloc(), &arguments, &mut files, &mut out, &mut err))
+    exit_code(wc_plan_tool::run(rt.alloc(), seed, &arguments, &mut files, &mut out, &mut err))
 }
 
 /// The exit code with this status.

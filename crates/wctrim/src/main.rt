@@ -9,8 +9,10 @@ ghost use Rattle.std.specs.Process.{exit_status};
 
 use std::io::{self, BufWriter, Write};
 use std::process::ExitCode;
+use std::random::RandomSource;
 use std::rt::{Env, Files};
 use std::{env, fs};
+use wc_maps::Seed;
 use wc_tool::{FileStore, Printer};
 
 /// The files of the system. Proofs know nothing of their bytes.
@@ -37,24 +39,32 @@ fn arguments<R: Env + AllocGlobal>(rt: &R) -> io::Result<Vec<String>> {
     Ok(arguments)
 }
 
-/// Runs the program, with standard output through a buffer.
-fn run<R: Env + Files + Print + AllocGlobal>(rt: &R) -> ExitCode {
+/// Runs the program, with standard output through a buffer. Where the system gives no random bytes for a seed, nothing is
+/// run.
+fn run<R: Env + Files + Print + RandomSource + AllocGlobal>(rt: &R) -> ExitCode {
+    let Ok(seed) = Seed::drawn(rt) else {
+        return ExitCode::FAILURE;
+    };
     match BufWriter::new(rt.alloc(), io::writer(rt)) {
-        Ok(writer) => run_on(rt, writer),
+        Ok(writer) => run_on(rt, seed, writer),
         // Without memory for a buffer each put is written at once.
         Err(_) => match BufWriter::with_capacity(rt.alloc(), 0, io::writer(rt)) {
-            Ok(writer) => run_on(rt, writer),
+            Ok(writer) => run_on(rt, seed, writer),
             Err(_) => ExitCode::FAILURE,
         },
     }
 }
 
 /// Runs the program, with its lines to `writer`.
-fn run_on<R: Env + Files + AllocGlobal, W: Write + Drop>(rt: &R, writer: BufWriter<W>) -> ExitCode {
+fn run_on<R: Env + Files + AllocGlobal, W: Write + Drop>(
+    rt: &R,
+    seed: Seed,
+    writer: BufWriter<W>,
+) -> ExitCode {
     let arguments = arguments(rt);
     let mut files = SystemFiles { rt };
     let mut out = Printer::new(writer);
-    exit_code(wc_tool::run(rt.alloc(), &arguments, &mut files, &mut out))
+    exit_code(wc_tool::run(rt.alloc(), seed, &arguments, &mut files, &mut out))
 }
 
 /// The exit code with this status.

@@ -3,8 +3,11 @@
 
 use crate::error::Error;
 use crate::memory::OutOfMemory;
+use std::collections::hash_map::RandomState;
+use std::hash::BuildHasher;
 use std::marker::PhantomData;
 use std::mem::MaybeUninit;
+use std::sync::OnceLock;
 
 /// A `&[u8]` as the archive has it.
 #[derive(Clone, Copy)]
@@ -41,6 +44,8 @@ unsafe extern "C" {
     ) -> Answer;
 
     fn nuigatre_trim(
+        seed0: u64,
+        seed1: u64,
         wasm: *const u8,
         wasm_length: usize,
         required: *const Slice<'_>,
@@ -54,6 +59,8 @@ unsafe extern "C" {
     ) -> Answer;
 
     fn nuigatre_world(
+        seed0: u64,
+        seed1: u64,
         message: *const u8,
         message_length: usize,
         modules: *const u8,
@@ -119,10 +126,13 @@ pub(crate) fn trim(arguments: TrimArguments<'_>, room: usize) -> Result<Answered
         page_size_log2,
     } = arguments;
     let name = realloc.unwrap_or_default();
+    let (seed0, seed1) = seed();
     answered(room, false, |out| {
         // SAFETY: as above. The slices of `required` are borrowed for as long as `arguments`.
         unsafe {
             nuigatre_trim(
+                seed0,
+                seed1,
                 wasm.as_ptr(),
                 wasm.len(),
                 required.as_ptr(),
@@ -140,10 +150,13 @@ pub(crate) fn trim(arguments: TrimArguments<'_>, room: usize) -> Result<Answered
 
 /// Makes the world of a component. The answer has the bytes of its modules, and then its record as JSON.
 pub(crate) fn world(message: &[u8], modules: &[u8], room: usize) -> Result<Answered, Error> {
+    let (seed0, seed1) = seed();
     answered(room, true, |out| {
         // SAFETY: as above.
         unsafe {
             nuigatre_world(
+                seed0,
+                seed1,
                 message.as_ptr(),
                 message.len(),
                 modules.as_ptr(),
@@ -152,6 +165,16 @@ pub(crate) fn world(message: &[u8], modules: &[u8], room: usize) -> Result<Answe
                 out.len(),
             )
         }
+    })
+}
+
+/// The seed of the archive's maps, drawn once a process. Whoever makes a module or a world chooses its names, and without
+/// the seed can choose none that make a call slow. No answer depends on it.
+fn seed() -> (u64, u64) {
+    static SEED: OnceLock<(u64, u64)> = OnceLock::new();
+    *SEED.get_or_init(|| {
+        let drawn = RandomState::new();
+        (drawn.hash_one(0), drawn.hash_one(1))
     })
 }
 

@@ -1,14 +1,15 @@
 //! Scripts on the names of exports: the function, or the resource, that an export is for.
 
-use indexmap::IndexSet;
 use wc_fixtures::bad::Bad;
 use wc_fixtures::encoder_fixture::put_keys;
 use wc_fixtures::shown_kinds::put_complete_function;
 use wc_fixtures::shown_names::{put_id, put_key, put_name};
 use wc_fixtures::words::Words;
+use wc_maps::Set;
 use wc_names::NameMangling;
 use wc_resolve::{Function, InterfaceId, Resolve, TypeId, WorldId, WorldKey};
 use wc_rows::lines::Lines;
+use wc_rows::seeds::row_seed;
 
 fn put_interface(out: &mut Lines, id: Option<InterfaceId>) {
     match id {
@@ -52,7 +53,7 @@ pub(crate) fn export_line<N: NameMangling>(
 ) -> Result<(), Bad> {
     let alloc = words.alloc;
     let name = words.name()?;
-    let mut keys = IndexSet::new(alloc);
+    let mut keys = Set::with_hasher(alloc, row_seed());
     put_keys(words, &mut keys)?;
     if !resolve.has_world(WorldId(0)) {
         return Err(Bad::Line("no world"));

@@ -7,11 +7,11 @@ ghost use Rattle.wc_resolve.specs.Views.{world_entry};
 use crate::names::contexts::{context_line, first_world, is_imported};
 use crate::names::exports_in_worlds::export_line;
 use crate::names::values::payload_line;
-use indexmap::IndexMap;
 use std::alloc::{AllocError, Global};
 use wc_fixtures::bad::Bad;
 use wc_fixtures::shown_names::{put_id, put_key, put_name};
 use wc_fixtures::words::Words;
+use wc_maps::Map;
 use wc_names::NameIndexes;
 use wc_resolve::{InterfaceId, Resolve, WorldItem, WorldKey};
 use wc_rows::lines::Lines;
@@ -36,7 +36,7 @@ fn find_interface<N: NameIndexes>(
     scheme: &N,
     call: &str,
     resolve: &Resolve,
-    items: &IndexMap<WorldKey, WorldItem>,
+    items: &Map<WorldKey, WorldItem>,
     text: &str,
 ) -> Result<Option<(WorldKey, InterfaceId)>, AllocError>
     requires { All (λ x. IsKeyIn resolve.now x.0) (map world_entry items.now.entries) }

@@ -2,7 +2,6 @@
 
 use crate::names::core_types::func_type;
 use crate::validation::written_modules::written;
-use indexmap::IndexMap;
 use std::alloc::{AllocError, Global};
 use std::mem;
 use wc_fixtures::bad::Bad;
@@ -10,9 +9,11 @@ use wc_fixtures::fixture::once;
 use wc_fixtures::shown_names::put_name;
 use wc_fixtures::stop::Stop;
 use wc_fixtures::words::Words;
+use wc_maps::Map;
 use wc_read::{FuncType, Import, ImportType};
 use wc_rows::imports::parse_import_type;
 use wc_rows::lines::Lines;
+use wc_rows::seeds::row_seed;
 
 /// An import's names and its type; that of a function by its index.
 #[derive(Drop)]
@@ -35,7 +36,7 @@ pub struct DescribedModule {
     types: Vec<FuncType>,
     imports: Vec<Described>,
     exports: Vec<DescribedExport>,
-    required: IndexMap<String, FuncType>,
+    required: Map<String, FuncType>,
 }
 
 fn borrowed<'a>(alloc: Global, described: &'a [Described]) -> Result<Vec<Import<'a>>, AllocError> {
@@ -56,7 +57,7 @@ impl DescribedModule {
             types: Vec::new(alloc),
             imports: Vec::new(alloc),
             exports: Vec::new(alloc),
-            required: IndexMap::new(alloc),
+            required: Map::with_hasher(alloc, row_seed()),
         }
     }
 
@@ -146,8 +147,8 @@ impl DescribedModule {
     }
 
     /// Takes out what is required of the module.
-    pub(crate) fn take_required(&mut self, alloc: Global) -> IndexMap<String, FuncType> {
-        mem::replace(&mut self.required, IndexMap::new(alloc))
+    pub(crate) fn take_required(&mut self, alloc: Global) -> Map<String, FuncType> {
+        mem::replace(&mut self.required, Map::with_hasher(alloc, row_seed()))
     }
 
     /// The bytes of the module.

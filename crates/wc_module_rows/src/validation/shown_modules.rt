@@ -1,10 +1,10 @@
 //! What is recorded of a module's imports, as lines.
 
 use crate::names::shown_imports::put_copy;
-use indexmap::IndexMap;
 use std::alloc::{AllocError, Global};
 use wc_fixtures::encoder_fields::put_which;
 use wc_fixtures::shown_names::put_name;
+use wc_maps::Map;
 use wc_names::Import;
 use wc_rows::lines::Lines;
 use wc_rows::values::put_func_type;
@@ -26,7 +26,7 @@ pub(crate) fn put_record(
     out.push('\n');
 }
 
-fn put_names(alloc: Global, module_name: &str, names: &IndexMap<String, Import>, out: &mut Lines) {
+fn put_names(alloc: Global, module_name: &str, names: &Map<String, Import>, out: &mut Lines) {
     for (name, import) in names.iter() {
         put_record(alloc, module_name, name, import, out);
     }

@@ -7,7 +7,7 @@ ghost use Rattle.wc_resolve.specs.ResolveParts.{parts_view};
 ghost use Rattle.wc_resolve.specs.WellFormed.{KeysMatch, HasMatchingKeys, HasMatchingMembers, HasMatchingNames, IsMatchingKey, interface_name, type_name};
 
 use crate::{Function, Interface, InterfaceId, Package, Parts, TypeId, World, WorldItem, WorldKey};
-use indexmap::IndexMap;
+use wc_maps::Map;
 
 /// Whether there is a name, and it is the text.
 fn is_text(name: &Option<String>, text: &str) -> bool
@@ -57,7 +57,7 @@ fn is_matching_key(parts: &Parts, key: &WorldKey, item: &WorldItem) -> bool
     }
 }
 
-fn are_matching_keys(parts: &Parts, entries: &IndexMap<WorldKey, WorldItem>) -> bool
+fn are_matching_keys(parts: &Parts, entries: &Map<WorldKey, WorldItem>) -> bool
     ensures { IsTrue result ↔
         All (λ e. IsMatchingKey (parts_view parts.now) e.0 e.1)
         (map world_entry entries.now.entries) }
@@ -84,7 +84,7 @@ fn have_worlds_matching_keys(parts: &Parts) -> bool
         .all(|world| has_matching_keys(parts, world))
 }
 
-fn are_types_called(parts: &Parts, types: &IndexMap<String, TypeId>) -> bool
+fn are_types_called(parts: &Parts, types: &Map<String, TypeId>) -> bool
     ensures { IsTrue result ↔
         All (λ e. type_name (parts_view parts.now) e.1 ≡ Some e.0)
         (map type_entry types.now.entries) }
@@ -94,7 +94,7 @@ fn are_types_called(parts: &Parts, types: &IndexMap<String, TypeId>) -> bool
         .all(|(name, id)| is_type_called(parts, id.0 as usize, name))
 }
 
-fn are_functions_called(functions: &IndexMap<String, Function>) -> bool
+fn are_functions_called(functions: &Map<String, Function>) -> bool
     ensures { IsTrue result
         ↔ All (λ e. e.1.name ≡ e.0) (map function_entry functions.now.entries) }
 {
@@ -121,7 +121,7 @@ fn have_interfaces_matching_names(parts: &Parts) -> bool
         .all(|interface| has_matching_names(parts, interface))
 }
 
-fn are_interfaces_called(parts: &Parts, interfaces: &IndexMap<String, InterfaceId>) -> bool
+fn are_interfaces_called(parts: &Parts, interfaces: &Map<String, InterfaceId>) -> bool
     ensures { IsTrue result ↔
         All (λ e. interface_name (parts_view parts.now) e.1 ≡ Some e.0)
         (map interface_entry interfaces.now.entries) }

@@ -7,7 +7,7 @@ ghost use Rattle.wc_resolve.specs.ResolveParts.{parts_view};
 ghost use Rattle.wc_resolve.specs.WellFormed.{AreKeysIdentified, AreMembersIdentified, AreNamed, HasNeededName, IsIdentified, IsKeyIdentified, interface_name, interface_package};
 
 use crate::{InterfaceId, Package, Parts, TypeDef, TypeDefKind, World, WorldItem, WorldKey};
-use indexmap::IndexMap;
+use wc_maps::Map;
 
 fn is_interface_named(parts: &Parts, index: usize) -> bool
     ensures { IsTrue result ↔ IsSome (interface_name (parts_view parts.now) index) }
@@ -45,7 +45,7 @@ fn is_key_identified(parts: &Parts, key: &WorldKey) -> bool
     }
 }
 
-fn are_entries_identified(parts: &Parts, entries: &IndexMap<WorldKey, WorldItem>) -> bool
+fn are_entries_identified(parts: &Parts, entries: &Map<WorldKey, WorldItem>) -> bool
     ensures { IsTrue result ↔
         All (λ e. IsKeyIdentified (parts_view parts.now) e.0)
         (map world_entry entries.now.entries) }
@@ -72,7 +72,7 @@ fn are_worlds_identified(parts: &Parts) -> bool
         .all(|world| are_keys_identified(parts, world))
 }
 
-fn are_listed_identified(parts: &Parts, interfaces: &IndexMap<String, InterfaceId>) -> bool
+fn are_listed_identified(parts: &Parts, interfaces: &Map<String, InterfaceId>) -> bool
     ensures { IsTrue result ↔
         All (λ e. IsIdentified (parts_view parts.now) e.1)
         (map interface_entry interfaces.now.entries) }

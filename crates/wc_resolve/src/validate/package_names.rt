@@ -7,19 +7,28 @@ ghost use Rattle.wc_resolve.specs.ResolveParts.{parts_view};
 ghost use Rattle.wc_resolve.specs.Tables.{AreNamesOf};
 
 use crate::{Package, PackageName, Parts};
-use indexmap::IndexSet;
 use std::alloc::{AllocError, Global};
+use wc_maps::{Seed, Set};
+
+/// The seed for the names of the packages: that of the first package's interfaces, which whoever made the packages chose.
+/// Where there is no package it is a known one: no name is put in then.
+fn seed_of(packages: &[Package]) -> Seed {
+    match packages.first() {
+        Some(package) => *package.interfaces.hasher(),
+        None => Seed::new(0, 0),
+    }
+}
 
 /// Copies of the names of the packages in order, if no two packages have the same name and version.
 fn distinct_names(
     alloc: Global,
     packages: &[Package],
-) -> Result<Option<IndexSet<PackageName>>, AllocError>
+) -> Result<Option<Set<PackageName>>, AllocError>
     ensures { let views = map package_view packages.now in IfOk result (λ o. MatchOption o
         (¬ HaveDistinctNames views)
         (λ names. HaveDistinctNames views × AreNamesOf views names.keys)) }
 {
-    let mut names = IndexSet::new(alloc);
+    let mut names = Set::with_hasher(alloc, seed_of(packages));
     for package in packages {
         let name = package.name.clone(alloc)?;
         let (_index, is_new) = names.insert_full(name)?;
@@ -34,7 +43,7 @@ fn distinct_names(
 pub(crate) fn distinct_package_names(
     alloc: Global,
     parts: &Parts,
-) -> Result<Option<IndexSet<PackageName>>, AllocError>
+) -> Result<Option<Set<PackageName>>, AllocError>
     ensures { let view = parts_view parts.now in IfOk result (λ o. MatchOption o
         (¬ ArePackagesDistinct view)
         (λ names. ArePackagesDistinct view × AreNamesOf view.packages names.keys)) }

@@ -11,8 +11,8 @@ use crate::{
     Function, FunctionKind, Interface, InterfaceId, Package, Parts, TypeDef, TypeId, TypeOwner,
     WitType, World, WorldItem, WorldKey,
 };
-use indexmap::IndexMap;
 use std::alloc::{AllocError, Global};
+use wc_maps::Map;
 
 /// Whether a type is primitive, or a defined one with an index below `count`.
 pub(crate) fn is_type_in(count: usize, ty: WitType) -> bool
@@ -78,7 +78,7 @@ fn is_entry_in(parts: &Parts, key: &WorldKey, item: &WorldItem) -> bool
         }
 }
 
-fn are_entries_in(parts: &Parts, entries: &IndexMap<WorldKey, WorldItem>) -> bool
+fn are_entries_in(parts: &Parts, entries: &Map<WorldKey, WorldItem>) -> bool
     ensures { IsTrue result ↔
         All (IsEntryIn (parts_view parts.now)) (map world_entry entries.now.entries) }
 {
@@ -101,13 +101,13 @@ fn are_worlds_in(parts: &Parts) -> bool
     parts.worlds.iter().all(|world| is_world_in(parts, world))
 }
 
-fn are_type_names_in(count: usize, types: &IndexMap<String, TypeId>) -> bool
+fn are_type_names_in(count: usize, types: &Map<String, TypeId>) -> bool
     ensures { IsTrue result ↔ All (λ e. e.1 < count) (map type_entry types.now.entries) }
 {
     types.iter().all(|(_name, id)| (id.0 as usize) < count)
 }
 
-fn are_functions_in(count: usize, functions: &IndexMap<String, Function>) -> bool
+fn are_functions_in(count: usize, functions: &Map<String, Function>) -> bool
     ensures { IsTrue result ↔
         All (λ e. IsFunctionIn count e.1) (map function_entry functions.now.entries) }
 {
@@ -157,7 +157,7 @@ fn are_interfaces_in(parts: &Parts) -> bool
         .all(|interface| is_interface_in(parts, interface))
 }
 
-fn are_interface_names_in(count: usize, interfaces: &IndexMap<String, InterfaceId>) -> bool
+fn are_interface_names_in(count: usize, interfaces: &Map<String, InterfaceId>) -> bool
     ensures { IsTrue result
         ↔ All (λ e. e.1 < count) (map interface_entry interfaces.now.entries) }
 {

@@ -9,7 +9,7 @@ ghost use Rattle.wc_resolve.specs.WellFormed.{AreNamesSpelled, IsInterfaceSpelle
 
 use crate::names::{is_function_name, is_name};
 use crate::{Function, Interface, Package, Parts, TypeDef, World, WorldItem, WorldKey};
-use indexmap::IndexMap;
+use wc_maps::Map;
 
 fn is_optional_name(name: &Option<String>) -> bool
     ensures { IsTrue result ↔ IfSome (option_map string_bytes name.now) IsName }
@@ -33,7 +33,7 @@ fn is_key_spelled(key: &WorldKey, item: &WorldItem) -> bool
     }
 }
 
-fn are_keys_spelled(entries: &IndexMap<WorldKey, WorldItem>) -> bool
+fn are_keys_spelled(entries: &Map<WorldKey, WorldItem>) -> bool
     ensures { IsTrue result ↔
         All (λ e. IsKeySpelled e.0 e.1) (map world_entry entries.now.entries) }
 {
@@ -53,7 +53,7 @@ fn are_worlds_spelled(parts: &Parts) -> bool
     parts.worlds.iter().all(|world| is_world_spelled(world))
 }
 
-fn are_functions_spelled(functions: &IndexMap<String, Function>) -> bool
+fn are_functions_spelled(functions: &Map<String, Function>) -> bool
     ensures { IsTrue result ↔
         All (λ e. IsFunctionName e.0) (map function_entry functions.now.entries) }
 {

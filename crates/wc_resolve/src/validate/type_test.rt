@@ -10,8 +10,8 @@ use crate::kinds::contained_types;
 use crate::{
     Function, Interface, Parts, TypeDef, TypeDefKind, WitType, World, WorldItem, WorldKey,
 };
-use indexmap::IndexMap;
 use std::alloc::{AllocError, Global};
+use wc_maps::Map;
 
 /// A test of a type.
 pub(crate) trait TypeTest {
@@ -58,7 +58,7 @@ pub(crate) fn kind_passes<T: TypeTest>(
     Ok(types.iter().all(|ty| test.passes(*ty)))
 }
 
-fn entries_pass<T: TypeTest>(test: &T, entries: &IndexMap<WorldKey, WorldItem>) -> bool
+fn entries_pass<T: TypeTest>(test: &T, entries: &Map<WorldKey, WorldItem>) -> bool
     ensures { IsTrue result ↔ All (λ e. DoesItemPass (T.Passes test.now) e.1)
         (map world_entry entries.now.entries) }
 {
@@ -88,7 +88,7 @@ fn worlds_pass<T: TypeTest>(test: &T, worlds: &[World]) -> bool
     worlds.iter().all(|world| world_passes(test, world))
 }
 
-fn functions_pass<T: TypeTest>(test: &T, functions: &IndexMap<String, Function>) -> bool
+fn functions_pass<T: TypeTest>(test: &T, functions: &Map<String, Function>) -> bool
     ensures { IsTrue result ↔ All (λ e. SignatureHasOnly (T.Passes test.now) e.1)
         (map function_entry functions.now.entries) }
 {

@@ -1,17 +1,18 @@
 //! The calls of `wc_plan`.
 
 use crate::component::calls::described_encoder;
-use indexmap::IndexMap;
 use std::alloc::{AllocError, Global};
 use std::str;
 use wc_encoder::ComponentEncoder;
 use wc_fixtures::resolve_calls::argument_words;
 use wc_fixtures::stop::Stop;
+use wc_maps::Map;
 use wc_plan::laws::worlds_nameable;
 use wc_plan::{Plan, PlanFault, plan, plan_encoder, write_plan};
 use wc_record::plan_to_json;
 use wc_rows::lines::Lines;
 use wc_rows::rows::Row;
+use wc_rows::seeds::row_seed;
 use wc_validate::ValidateFault;
 use wc_world::{ComponentWorld, PlainOptions, WorldFault};
 use wc_write::{PutFailed, Sink};
@@ -107,7 +108,7 @@ fn plan_without_lowerings(alloc: Global, encoder: &ComponentEncoder) -> Result<P
     let mut world = ComponentWorld::new(alloc, encoder, &PlainOptions)?;
     // So what is imported can be named.
     worlds_nameable(encoder);
-    world.import_map = IndexMap::new(alloc);
+    world.import_map = Map::with_hasher(alloc, row_seed());
     plan(alloc, &world)
 }
 

@@ -1,10 +1,10 @@
 //! The parts of a component's world, as lines.
 
-use indexmap::IndexMap;
 use std::alloc::Global;
 use std::borrow::CowSlice;
 use std::collections::HashSet;
 use wc_fixtures::shown_names::{put_id, put_name, put_optional_name};
+use wc_maps::Map;
 use wc_module_rows::validation::export_calls::{put_exports, put_found_reallocs};
 use wc_module_rows::validation::shown_modules::put_modules;
 use wc_resolve::{AbiVariant, InterfaceId, Resolve};
@@ -54,7 +54,7 @@ fn put_adapter_reallocs(world: &ComponentWorld<'_>, out: &mut Lines) {
 }
 
 /// A line for each lowering: `NAME ABI: LOWERING`.
-fn put_lowerings(lowerings: &IndexMap<(String, AbiVariant), Lowering>, out: &mut Lines) {
+fn put_lowerings(lowerings: &Map<(String, AbiVariant), Lowering>, out: &mut Lines) {
     for (key, lowering) in lowerings.iter() {
         out.push_str("  ");
         put_name(out, &key.0);

@@ -7,13 +7,14 @@ ghost use Rattle.wc_calls.specs.Trimming.{IsRun, with_realloc};
 
 use std::alloc::Global;
 use wc_calls::{Answer, trim};
+use wc_maps::Seed;
 
 /// Trims an adapter to what its export `write` reaches, for a main module that exports a realloc as
-/// `realloc`.
-pub(crate) fn trim_to_write(alloc: Global, adapter: &[u8], out: &mut [u8]) -> Answer
+/// `realloc`. `seed`: the seed of the maps that are made, which a program draws by `Seed::drawn(&rt)`.
+pub(crate) fn trim_to_write(alloc: Global, seed: Seed, adapter: &[u8], out: &mut [u8]) -> Answer
     ensures done { result.status ≡ done → IsPut (IsRun (with_realloc (codes "realloc"))
         (trim_input_of adapter.now (codes "write" ∷ []))) result.length out.old out.new }
     ensures unchanged { result.status ≢ done → out.new ≡ out.old }
 {
-    trim(alloc, adapter, &[b"write"], Some(b"realloc"), 16, out)
+    trim(alloc, seed, adapter, &[b"write"], Some(b"realloc"), 16, out)
 }

@@ -29,11 +29,11 @@
 ghost use Rattle.std.specs.Prelude.{◌≡◌, ◌∷◌, [], IfOk, None, codes, map};
 ghost use Rattle.wc_encoder.specs.Adapters.{adapter_entry};
 
-use indexmap::{IndexMap, IndexSet};
 use std::alloc::{AllocError, Global};
 use thiserror::Error;
 use wc_encoder::{Adapter, ComponentEncoder, EncoderFault, EncoderParts, Metadata};
 use wc_json::{JsonFault, document_from_json};
+use wc_maps::{Map, Seed, Set};
 use wc_resolve::{InterfaceId, Resolve, ResolveFault, WorldId, WorldKey};
 
 /// The interface `names`: its index in the list of interfaces.
@@ -130,9 +130,11 @@ pub(crate) enum DemoFault {
     Encoder(#[from] EncoderFault),
 }
 
-/// The encoder of a main module and an adapter, for the world of this file.
+/// The encoder of a main module and an adapter, for the world of this file. `seed`: the seed of the maps that are made,
+/// which a program draws by `Seed::drawn(&rt)`.
 pub(crate) fn demo_encoder(
     alloc: Global,
+    seed: Seed,
     main: &[u8],
     adapter: &[u8],
 ) -> Result<ComponentEncoder, DemoFault>
@@ -146,18 +148,19 @@ pub(crate) fn demo_encoder(
       },
     ) ∷ []) }
 {
-    let resolve = demo_resolve(alloc)?;
-    Ok(encoder_of(alloc, main, adapter, resolve)?)
+    let resolve = demo_resolve(alloc, seed)?;
+    Ok(encoder_of(alloc, seed, main, adapter, resolve)?)
 }
 
 /// Reads the world, and has it checked.
-fn demo_resolve(alloc: Global) -> Result<Resolve, DemoFault> {
-    let document = document_from_json(alloc, WORLDS)?;
+fn demo_resolve(alloc: Global, seed: Seed) -> Result<Resolve, DemoFault> {
+    let document = document_from_json(alloc, seed, WORLDS)?;
     Ok(Resolve::build(alloc, document.parts)?)
 }
 
 fn encoder_of(
     alloc: Global,
+    seed: Seed,
     main: &[u8],
     adapter: &[u8],
     resolve: Resolve,
@@ -173,8 +176,8 @@ fn encoder_of(
     ) ∷ []) }
 {
     let module = Vec::from_slice(alloc, main)?;
-    let main_module_exports = exported_keys(alloc)?;
-    let adapters = demo_adapters(alloc, adapter)?;
+    let main_module_exports = exported_keys(alloc, seed)?;
+    let adapters = demo_adapters(alloc, seed, adapter)?;
     let parts = EncoderParts {
         module,
         module_import_map: None,
@@ -192,14 +195,14 @@ fn encoder_of(
 }
 
 /// What the main module has to export: the interface `names`.
-fn exported_keys(alloc: Global) -> Result<IndexSet<WorldKey>, AllocError> {
-    let mut keys = IndexSet::new(alloc);
+fn exported_keys(alloc: Global, seed: Seed) -> Result<Set<WorldKey>, AllocError> {
+    let mut keys = Set::with_hasher(alloc, seed);
     keys.insert(WorldKey::Interface(NAMES))?;
     Ok(keys)
 }
 
 /// The adapter, under its name.
-fn demo_adapters(alloc: Global, wasm: &[u8]) -> Result<IndexMap<String, Adapter>, AllocError>
+fn demo_adapters(alloc: Global, seed: Seed, wasm: &[u8]) -> Result<Map<String, Adapter>, AllocError>
     ensures { IfOk result (λ m. map adapter_entry m.entries ≡ (
       codes "old-files",
       record {
@@ -211,10 +214,10 @@ fn demo_adapters(alloc: Global, wasm: &[u8]) -> Result<IndexMap<String, Adapter>
 {
     let adapter = Adapter {
         wasm: Vec::from_slice(alloc, wasm)?,
-        required_exports: IndexSet::new(alloc),
+        required_exports: Set::with_hasher(alloc, seed),
         library_info: None,
     };
-    let mut adapters = IndexMap::new(alloc);
+    let mut adapters = Map::with_hasher(alloc, seed);
     adapters.insert(String::from_str(alloc, "old-files")?, adapter)?;
     Ok(adapters)
 }

@@ -3,14 +3,16 @@
 ghost use Rattle.std.specs.Prelude.{◌≡◌, ◌<◌, IfOk, IsErrOf, length};
 ghost use Rattle.wc_encoder.specs.WellFormed.{IsWellFormed};
 
-use indexmap::{IndexMap, IndexSet};
 use std::alloc::Global;
 use wc_encoder::{ComponentEncoder, EncoderFault, EncoderParts, Metadata};
+use wc_maps::{Map, Seed, Set};
 use wc_resolve::{Resolve, WorldId};
 
-/// An encoder of a main module without adapters, for a world of `resolve`.
+/// An encoder of a main module without adapters, for a world of `resolve`. `seed` is that of its maps, which a program
+/// draws by `Seed::drawn(&rt)`.
 pub(crate) fn encoder_for(
     alloc: Global,
+    seed: Seed,
     main_module: Vec<u8>,
     resolve: Resolve,
     world: WorldId,
@@ -25,8 +27,8 @@ pub(crate) fn encoder_for(
         module: main_module,
         module_import_map: None,
         metadata: Metadata { resolve, world },
-        main_module_exports: IndexSet::new(alloc),
-        adapters: IndexMap::new(alloc),
+        main_module_exports: Set::with_hasher(alloc, seed),
+        adapters: Map::with_hasher(alloc, seed),
         reject_legacy_names: false,
         realloc_via_memory_grow: false,
         task_hook: String::new(alloc),

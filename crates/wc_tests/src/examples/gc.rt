@@ -6,10 +6,10 @@ ghost use Rattle.wc_gc.specs.Decoded.{DecodedModule};
 ghost use Rattle.wc_gc.specs.Liveness.{IsLive, names_of, trim_input};
 ghost use Rattle.wc_gc.specs.Traces.{HasCut};
 
-use indexmap::IndexSet;
 use std::alloc::Global;
 use wc_gc::laws::no_trace;
 use wc_gc::{GcFault, LiveSet, liveness_counted, run};
+use wc_maps::Set;
 use wc_read::Space;
 use wc_write::laws::slices_are_bytes;
 
@@ -17,7 +17,7 @@ use wc_write::laws::slices_are_bytes;
 pub(crate) fn reaches_memory(
     alloc: Global,
     adapter: &[u8],
-    required: &IndexSet<String>,
+    required: &Set<String>,
 ) -> Result<bool, GcFault>
     ensures { IfOk result (λ answer. (m : ModuleValue) × SpellsModule adapter.now m
         × (IsTrue answer ↔ IsLive (names_of required.now.keys) m (Space.Memories, 0))) }
@@ -32,7 +32,7 @@ pub(crate) fn trim_both(
     alloc: Global,
     first: &[u8],
     second: &[u8],
-    required: &IndexSet<String>,
+    required: &Set<String>,
 ) -> Result<(Vec<u8>, Vec<u8>), GcFault>
     requires { required.now.keys ≢ [] }
     ensures { IfOk result (λ both. (c : DecodedModule)

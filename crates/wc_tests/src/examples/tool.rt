@@ -6,13 +6,16 @@ ghost use Rattle.wc_tool.specs.Command.{CommandValue, IsCommandLine};
 ghost use Rattle.wc_tool.specs.Execution.{Runs};
 
 use std::alloc::Global;
+use wc_maps::Seed;
 use wc_tool::{ToolFault, execute, parse};
 use wc_write::WriterSink;
 
 /// The lines that a command prints for the bytes of a module. `None` where the arguments are
-/// those of no command.
+/// those of no command. `seed`: the seed of the maps that are made, which a program draws by
+/// `Seed::drawn(&rt)`.
 pub(crate) fn printed_lines(
     alloc: Global,
+    seed: Seed,
     arguments: &[String],
     input: &[u8],
 ) -> Result<Option<Vec<u8>>, ToolFault>
@@ -27,6 +30,6 @@ pub(crate) fn printed_lines(
         return Ok(None);
     };
     let mut sink = WriterSink::new(Vec::new(alloc));
-    execute(alloc, &command, input, &mut sink)?;
+    execute(alloc, seed, &command, input, &mut sink)?;
     Ok(Some(sink.into_inner()))
 }

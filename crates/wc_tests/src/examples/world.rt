@@ -9,9 +9,9 @@ ghost use Rattle.wc_world.specs.World.{IsWorldOf};
 ghost use Rattle.wc_world.specs.WorldViews.{lowering_entry, lowering_view, world_view};
 
 use bitflags::Flags;
-use indexmap::IndexMap;
 use std::alloc::{AllocError, Global};
 use wc_encoder::ComponentEncoder;
+use wc_maps::Map;
 use wc_resolve::{AbiVariant, TypeId};
 use wc_world::{ComponentWorld, Lowering, PlainOptions, WorldFault};
 
@@ -89,7 +89,7 @@ fn lowered_functions(alloc: Global, world: &ComponentWorld<'_>) -> Result<Vec<Lo
 
 fn all_lowered(
     alloc: Global,
-    lowerings: &IndexMap<(String, AbiVariant), Lowering>,
+    lowerings: &Map<(String, AbiVariant), Lowering>,
 ) -> Result<Vec<Lowered>, AllocError>
     ensures { IfOk result (λ all. map lowered_view all.items
         ≡ map lowered_entry (map lowering_entry lowerings.now.entries)) }

@@ -8,8 +8,8 @@ ghost use Rattle.wc_validate.specs.FirstPositions.{earlier};
 use crate::exports::first_singles::FirstSingles;
 use crate::exports::map::Query;
 use crate::first_by_key::{FirstByKey, keep_key};
-use indexmap::IndexMap;
 use std::alloc::{AllocError, Global};
+use wc_maps::{Map, Seed};
 use wc_names::Export;
 use wc_resolve::{TypeId, WorldKey};
 
@@ -20,9 +20,9 @@ pub(crate) struct FirstExports {
     functions: FirstByKey,
     post_returns: FirstByKey,
     callbacks: FirstByKey,
-    world_post_returns: IndexMap<WorldKey, usize>,
-    world_callbacks: IndexMap<WorldKey, usize>,
-    destructors: IndexMap<TypeId, usize>,
+    world_post_returns: Map<WorldKey, usize>,
+    world_callbacks: Map<WorldKey, usize>,
+    destructors: Map<TypeId, usize>,
     singles: FirstSingles,
 }
 
@@ -39,7 +39,7 @@ fn earlier(left: Option<usize>, right: Option<usize>) -> Option<usize>
 
 /// Keeps the position of the destructor of a type, if there is none yet.
 fn keep_destructor(
-    destructors: &mut IndexMap<TypeId, usize>,
+    destructors: &mut Map<TypeId, usize>,
     ty: TypeId,
     position: usize,
 ) -> Result<(), AllocError>
@@ -54,16 +54,16 @@ fn keep_destructor(
 
 impl FirstExports {
     /// No positions.
-    pub(crate) fn new(alloc: Global) -> FirstExports
+    pub(crate) fn new(alloc: Global, seed: Seed) -> FirstExports
         ensures { HasFirstPositions result [] }
     {
         FirstExports {
-            functions: FirstByKey::new(alloc),
-            post_returns: FirstByKey::new(alloc),
-            callbacks: FirstByKey::new(alloc),
-            world_post_returns: IndexMap::new(alloc),
-            world_callbacks: IndexMap::new(alloc),
-            destructors: IndexMap::new(alloc),
+            functions: FirstByKey::new(alloc, seed),
+            post_returns: FirstByKey::new(alloc, seed),
+            callbacks: FirstByKey::new(alloc, seed),
+            world_post_returns: Map::with_hasher(alloc, seed),
+            world_callbacks: Map::with_hasher(alloc, seed),
+            destructors: Map::with_hasher(alloc, seed),
             singles: FirstSingles::new(),
         }
     }
@@ -106,12 +106,12 @@ impl FirstExports {
     /// The positions of the first exports among these.
     pub(crate) fn among(
         alloc: Global,
-        names: &IndexMap<String, Export>,
+        names: &Map<String, Export>,
     ) -> Result<FirstExports, AllocError>
         ensures { IfOk result (λ first. HasFirstPositions first
             (map export_entry names.now.entries)) }
     {
-        let mut first = FirstExports::new(alloc);
+        let mut first = FirstExports::new(alloc, *names.hasher());
         let mut position: usize = 0;
         for (_name, export) in names.iter() {
             first.note(alloc, export, position)?;

@@ -9,9 +9,9 @@ ghost use Rattle.wc_validate.specs.Exports.Iter.{exports_left, reallocs_left};
 
 use crate::exports::first_exports::FirstExports;
 use crate::exports::iter::{Exports, Reallocs};
-use indexmap::IndexMap;
 use std::alloc::{AllocError, Global};
 use std::marker::Model;
+use wc_maps::{Map, Seed};
 use wc_names::Export;
 use wc_read::MemoryType;
 use wc_resolve::{AbiVariant, Function, InterfaceId, TypeId, WorldKey};
@@ -37,7 +37,7 @@ pub(crate) enum Query<'a> {
 /// The exports of a core module, by their names, with the positions of the first ones for all that is looked up.
 #[derive(Drop)]
 pub struct ExportMap {
-    names: IndexMap<String, Export>,
+    names: Map<String, Export>,
     positions: FirstExports,
 }
 
@@ -55,13 +55,13 @@ impl Model for ExportMap {
 }
 
 impl ExportMap {
-    /// No exports.
-    pub fn new(alloc: Global) -> ExportMap
+    /// No exports. `seed`: the seed of the maps that are made.
+    pub fn new(alloc: Global, seed: Seed) -> ExportMap
         ensures { result ≡ [] }
     {
         ExportMap {
-            names: IndexMap::new(alloc),
-            positions: FirstExports::new(alloc),
+            names: Map::with_hasher(alloc, seed),
+            positions: FirstExports::new(alloc, seed),
         }
     }
 
@@ -72,7 +72,7 @@ impl ExportMap {
     /// `AllocError`: an allocation failed.
     pub(crate) fn from_names(
         alloc: Global,
-        names: IndexMap<String, Export>,
+        names: Map<String, Export>,
     ) -> Result<ExportMap, AllocError>
         ensures { IfOk result (λ exports. exports ≡ map export_entry names.entries) }
     {

@@ -13,8 +13,8 @@ ghost use Rattle.wc_validate.specs.Exports.Record.{AreRefusedBy, IsRefusedBy, ex
 use crate::ValidateFault;
 use crate::exports::classify::{ExportContext, classify_export};
 use crate::externs::Extern;
-use indexmap::IndexMap;
 use std::alloc::Global;
+use wc_maps::Map;
 use wc_names::Export;
 use wc_read::{ExportKind, Module};
 
@@ -37,7 +37,7 @@ pub(crate) fn exported_type<'m>(module: &'m Module<'_>, kind: ExportKind, index:
 
 /// Records an export after the others, if it means something.
 fn record_export(
-    names: &mut IndexMap<String, Export>,
+    names: &mut Map<String, Export>,
     alloc: Global,
     context: &ExportContext<'_>,
     name: &str,
@@ -63,7 +63,7 @@ pub(crate) fn record_exports(
     context: &ExportContext<'_>,
     module: &Module<'_>,
     exports: &[wc_read::Export<'_>],
-) -> Result<IndexMap<String, Export>, ValidateFault>
+) -> Result<Map<String, Export>, ValidateFault>
     requires context { IsExportContext context.now }
     requires items { AreExportsIn «module».now exports.now }
     requires distinct { AllPairs (λ x y. x ≢ y)
@@ -74,7 +74,7 @@ pub(crate) fn record_exports(
     ensures fault { IfErr result (AreRefusedBy context.now
         (exports_in «module».now exports.now)) }
 {
-    let mut names = IndexMap::new(alloc);
+    let mut names = Map::with_hasher(alloc, *context.names.adapters.hasher());
     for export in exports {
         let ty = exported_type(module, export.kind, export.index);
         record_export(&mut names, alloc, context, export.name, ty)?;

@@ -5,15 +5,15 @@ ghost use Rattle.wc_read.specs.Types.{func_type_value};
 ghost use Rattle.wc_validate.specs.Imports.AdapterTypes.{Agrees, IsNotedAfter, noted_type, one_type, type_entry};
 
 use crate::signatures::has_type;
-use indexmap::IndexMap;
 use std::alloc::{AllocError, Global};
+use wc_maps::Map;
 use wc_read::FuncType;
 
 /// Whether a function of an adapter is imported with the type with which it was imported first; the first type is
 /// noted.
 pub(crate) fn note_type(
     alloc: Global,
-    types: &mut IndexMap<(String, String), FuncType>,
+    types: &mut Map<(String, String), FuncType>,
     adapter: &str,
     function: &str,
     ty: &FuncType,

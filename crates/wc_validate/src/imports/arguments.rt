@@ -5,15 +5,15 @@ ghost use Rattle.std.specs.Option.{option_map};
 ghost use Rattle.wc_encoder.specs.Adapters.{argument_view, instance_view, library_item_view, library_view};
 ghost use Rattle.wc_validate.specs.Private.Imports.Arguments.{AreMatched, HasArgumentsOf, IsArgumentOf, IsItemIndexOf, passed_entry, module_entry, IsItemAdded, IsModuleAdded, alias_entries, passed_by, item_among};
 
-use indexmap::IndexMap;
 use std::alloc::{AllocError, Global};
 use wc_encoder::{Instance, Item, LibraryInfo, MainOrAdapter};
+use wc_maps::{Map, Seed};
 
 /// What a library is passed under a module's name: all of a module, or items by their aliases.
 #[derive(Drop)]
 pub(crate) enum Argument<'a> {
     Whole(&'a MainOrAdapter),
-    Items(IndexMap<&'a str, &'a Item>),
+    Items(Map<&'a str, &'a Item>),
 }
 
 /// What a library is passed for one import: all of a module, or an item.
@@ -26,12 +26,12 @@ pub(crate) enum PassedArgument<'a> {
 /// What a library is passed, by the names of the modules that it imports from.
 #[derive(Drop)]
 pub(crate) struct Arguments<'a> {
-    modules: IndexMap<&'a str, Argument<'a>>,
+    modules: Map<&'a str, Argument<'a>>,
 }
 
 /// Adds an item under an alias, if there is none of that alias.
 fn add_item<'a>(
-    index: &mut IndexMap<&'a str, &'a Item>,
+    index: &mut Map<&'a str, &'a Item>,
     alias: &'a str,
     item: &'a Item,
 ) -> Result<(), AllocError>
@@ -47,11 +47,12 @@ fn add_item<'a>(
 /// The items by their aliases: of each alias the first.
 fn items_by_alias<'a>(
     alloc: Global,
+    seed: Seed,
     items: &'a [Item],
-) -> Result<IndexMap<&'a str, &'a Item>, AllocError>
+) -> Result<Map<&'a str, &'a Item>, AllocError>
     ensures { IfOk result (λ index. IsItemIndexOf index.entries (alias_entries items.now)) }
 {
-    let mut index = IndexMap::new(alloc);
+    let mut index = Map::with_hasher(alloc, seed);
     for item in items {
         add_item(&mut index, item.alias.as_str(), item)?;
     }
@@ -59,19 +60,23 @@ fn items_by_alias<'a>(
 }
 
 /// What a library is passed by an argument.
-fn argument_of<'a>(alloc: Global, instance: &'a Instance) -> Result<Argument<'a>, AllocError>
+fn argument_of<'a>(
+    alloc: Global,
+    seed: Seed,
+    instance: &'a Instance,
+) -> Result<Argument<'a>, AllocError>
     ensures { IfOk result (λ a. IsArgumentOf a (instance_view instance.now)) }
 {
     match instance {
         Instance::MainOrAdapter(which) => Ok(Argument::Whole(which)),
-        Instance::Items(items) => Ok(Argument::Items(items_by_alias(alloc, items)?)),
+        Instance::Items(items) => Ok(Argument::Items(items_by_alias(alloc, seed, items)?)),
     }
 }
 
 /// Adds an argument under a name, if there is none of that name.
 fn add_argument<'a>(
     alloc: Global,
-    index: &mut IndexMap<&'a str, Argument<'a>>,
+    index: &mut Map<&'a str, Argument<'a>>,
     name: &'a str,
     instance: &'a Instance,
 ) -> Result<(), AllocError>
@@ -80,7 +85,7 @@ fn add_argument<'a>(
     if index.contains_key(name) {
         return Ok(());
     }
-    let argument = argument_of(alloc, instance)?;
+    let argument = argument_of(alloc, *index.hasher(), instance)?;
     index.insert(name, argument)?;
     Ok(())
 }
@@ -88,12 +93,13 @@ fn add_argument<'a>(
 /// What a library is passed by its arguments: of each name the first.
 fn arguments_by_module<'a>(
     alloc: Global,
+    seed: Seed,
     arguments: &'a [(String, Instance)],
-) -> Result<IndexMap<&'a str, Argument<'a>>, AllocError>
+) -> Result<Map<&'a str, Argument<'a>>, AllocError>
     ensures { IfOk result (λ index. AreMatched (map module_entry index.entries)
         (map argument_view arguments.now)) }
 {
-    let mut index = IndexMap::new(alloc);
+    let mut index = Map::with_hasher(alloc, seed);
     for argument in arguments {
         add_argument(alloc, &mut index, argument.0.as_str(), &argument.1)?;
     }
@@ -101,7 +107,7 @@ fn arguments_by_module<'a>(
 }
 
 /// The item of an alias.
-fn item_called<'a>(items: &IndexMap<&'a str, &'a Item>, alias: &str) -> Option<&'a Item>
+fn item_called<'a>(items: &Map<&'a str, &'a Item>, alias: &str) -> Option<&'a Item>
     ensures { option_map (λ i. library_item_view i.now) result
         ≡ item_among items.now.entries alias.now }
 {
@@ -112,6 +118,7 @@ impl<'a> Arguments<'a> {
     /// What a module is passed; nothing if it is no library.
     pub(crate) fn new(
         alloc: Global,
+        seed: Seed,
         library: Option<&'a LibraryInfo>,
     ) -> Result<Arguments<'a>, AllocError>
         ensures { IfOk result (λ a. HasArgumentsOf a
@@ -119,10 +126,10 @@ impl<'a> Arguments<'a> {
     {
         match library {
             Some(library) => Ok(Arguments {
-                modules: arguments_by_module(alloc, &library.arguments)?,
+                modules: arguments_by_module(alloc, seed, &library.arguments)?,
             }),
             None => Ok(Arguments {
-                modules: IndexMap::new(alloc),
+                modules: Map::with_hasher(alloc, seed),
             }),
         }
     }

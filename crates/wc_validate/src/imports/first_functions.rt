@@ -8,21 +8,21 @@ ghost use Rattle.wc_validate.specs.Private.Imports.Required.{position_of, ArePos
 use crate::first_by_key::keep_name;
 use crate::imports::instances::ImportInstance;
 use crate::imports::map::adapter_function;
-use indexmap::IndexMap;
 use std::alloc::{AllocError, Global};
+use wc_maps::{Map, Seed};
 use wc_names::Import;
 
 /// Of each module that has functions of adapters, the position of the first import of each of them, in the order of
 /// these imports.
 #[derive(Drop)]
 pub(crate) struct FirstFunctions {
-    pub(crate) modules: IndexMap<String, IndexMap<String, usize>>,
+    pub(crate) modules: Map<String, Map<String, usize>>,
 }
 
 /// Keeps the position of the function of an adapter that an import is, if it is one and none of its name is there.
 fn keep_function(
     alloc: Global,
-    positions: &mut IndexMap<String, usize>,
+    positions: &mut Map<String, usize>,
     import: &Import,
     position: usize,
 ) -> Result<(), AllocError>
@@ -38,11 +38,11 @@ fn keep_function(
 /// The positions of the first import of each function of an adapter, among imports of one module.
 fn functions_among(
     alloc: Global,
-    names: &IndexMap<String, Import>,
-) -> Result<IndexMap<String, usize>, AllocError>
+    names: &Map<String, Import>,
+) -> Result<Map<String, usize>, AllocError>
     ensures { IfOk result (λ p. map position_entry p.entries ≡ first_positions names.now.entries) }
 {
-    let mut positions = IndexMap::new(alloc);
+    let mut positions = Map::with_hasher(alloc, *names.hasher());
     let mut position: usize = 0;
     for (_name, import) in names.iter() {
         keep_function(alloc, &mut positions, import, position)?;
@@ -53,11 +53,11 @@ fn functions_among(
 
 impl FirstFunctions {
     /// No positions.
-    pub(crate) fn new(alloc: Global) -> FirstFunctions
+    pub(crate) fn new(alloc: Global, seed: Seed) -> FirstFunctions
         ensures { HasFirstFunctions result [] }
     {
         FirstFunctions {
-            modules: IndexMap::new(alloc),
+            modules: Map::with_hasher(alloc, seed),
         }
     }
 
@@ -85,12 +85,12 @@ impl FirstFunctions {
     /// The positions of the first imports among these.
     pub(crate) fn among(
         alloc: Global,
-        instances: &IndexMap<String, ImportInstance>,
+        instances: &Map<String, ImportInstance>,
     ) -> Result<FirstFunctions, AllocError>
         ensures { IfOk result (λ first. HasFirstFunctions first
             (map instance_entry instances.now.entries)) }
     {
-        let mut first = FirstFunctions::new(alloc);
+        let mut first = FirstFunctions::new(alloc, *instances.hasher());
         for (name, instance) in instances.iter() {
             first.add_module(alloc, name, instance)?;
         }

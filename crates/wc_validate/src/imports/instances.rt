@@ -7,41 +7,43 @@ ghost use Rattle.wc_validate.specs.Imports.Entries.{all_of};
 ghost use Rattle.wc_validate.specs.Imports.Instances.{IsFree, IsInstanceFault, IsPutFault, import_entry, instance_entry, instance_view, IsPutAs, IsPutWhole, IsRecordedAs, IsRefusedWhole};
 
 use crate::ValidateFault;
-use indexmap::IndexMap;
 use std::alloc::{AllocError, Global};
 use wc_encoder::MainOrAdapter;
+use wc_maps::{Map, Seed};
 use wc_names::Import;
 
 /// What is imported from a module: a module of the component, all of it, or single imports by their names.
 #[derive(Drop)]
 pub enum ImportInstance {
     Whole(MainOrAdapter),
-    Names(IndexMap<String, Import>),
+    Names(Map<String, Import>),
 }
 
 /// The one import of a module.
 fn one_import(
     alloc: Global,
+    seed: Seed,
     name: &str,
     import: Import,
-) -> Result<IndexMap<String, Import>, ValidateFault>
+) -> Result<Map<String, Import>, ValidateFault>
     ensures ok { IfOk result (λ names. map import_entry names.entries
         ≡ (name.now, import_view import) ∷ []) }
     ensures memory { IfErr result (λ f. f ≡ ValidateFault.Memory) }
 {
     let name = String::from_str(alloc, name)?;
-    Ok(one_entry(alloc, name, import)?)
+    Ok(one_entry(alloc, seed, name, import)?)
 }
 
 /// A map of one entry.
 pub(crate) fn one_entry<V: Drop>(
     alloc: Global,
+    seed: Seed,
     name: String,
     value: V,
-) -> Result<IndexMap<String, V>, AllocError>
+) -> Result<Map<String, V>, AllocError>
     ensures { IfOk result (λ names. names.entries ≡ (name, value) ∷ []) }
 {
-    let mut names = IndexMap::new(alloc);
+    let mut names = Map::with_hasher(alloc, seed);
     names.insert(name, value)?;
     Ok(names)
 }
@@ -55,7 +57,7 @@ pub(crate) fn one_entry<V: Drop>(
 /// - `Memory`: an allocation failed.
 pub(crate) fn put_import(
     alloc: Global,
-    instances: &mut IndexMap<String, ImportInstance>,
+    instances: &mut Map<String, ImportInstance>,
     module_name: &str,
     name: &str,
     import: Import,
@@ -79,7 +81,7 @@ pub(crate) fn put_import(
             }
         };
     }
-    let names = one_import(alloc, name, import)?;
+    let names = one_import(alloc, *instances.hasher(), name, import)?;
     instances.insert(
         String::from_str(alloc, module_name)?,
         ImportInstance::Names(names),
@@ -96,7 +98,7 @@ pub(crate) fn put_import(
 /// - `Memory`: an allocation failed.
 pub(crate) fn record_import(
     alloc: Global,
-    instances: &mut IndexMap<String, ImportInstance>,
+    instances: &mut Map<String, ImportInstance>,
     module_name: &str,
     name: &str,
     import: Import,
@@ -143,7 +145,7 @@ fn check_whole(instance: &ImportInstance, which: &MainOrAdapter) -> Result<(), V
 /// - `Memory`: an allocation failed.
 pub(crate) fn put_whole(
     alloc: Global,
-    instances: &mut IndexMap<String, ImportInstance>,
+    instances: &mut Map<String, ImportInstance>,
     module_name: &str,
     which: &MainOrAdapter,
 ) -> Result<(), ValidateFault>

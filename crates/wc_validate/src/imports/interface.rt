@@ -14,8 +14,8 @@ use crate::imports::intrinsics::{exported_intrinsic, imported_intrinsic, lowered
 use crate::imports::items::ImportedFunction;
 use crate::name_scope::{Lookup, Names};
 use crate::prefixes::after;
-use indexmap::IndexMap;
 use std::alloc::{AllocError, Global};
+use wc_maps::Map;
 use wc_names::{Import, InterfaceNames, NameMangling, PayloadLookupContext};
 use wc_resolve::{InterfaceId, Resolve, WorldItem, WorldKey};
 
@@ -24,7 +24,7 @@ use wc_resolve::{InterfaceId, Resolve, WorldItem, WorldKey};
 #[derive(Clone, Copy)]
 pub(crate) struct InterfaceLookup<'a> {
     resolve: &'a Resolve,
-    items: &'a IndexMap<WorldKey, WorldItem>,
+    items: &'a Map<WorldKey, WorldItem>,
     index: &'a Option<InterfaceNames<'a>>,
 }
 

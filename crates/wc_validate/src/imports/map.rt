@@ -13,9 +13,9 @@ use crate::imports::first_functions::FirstFunctions;
 use crate::imports::instances::ImportInstance;
 use crate::imports::iter::Imports;
 use crate::imports::recorder::Recorder;
-use indexmap::IndexMap;
 use std::alloc::{AllocError, Global};
 use std::marker::Model;
+use wc_maps::{Map, Seed};
 use wc_names::Import;
 use wc_read::{FuncType, MemoryType};
 
@@ -23,7 +23,7 @@ use wc_read::{FuncType, MemoryType};
 /// the positions of the first imports of functions of adapters.
 #[derive(Drop)]
 pub struct ImportMap {
-    instances: IndexMap<String, ImportInstance>,
+    instances: Map<String, ImportInstance>,
     memory: Option<MemoryType>,
     functions: FirstFunctions,
 }
@@ -48,7 +48,7 @@ impl Model for ImportMap {
 /// Adds a function with its type, if none of its name is there.
 fn add_function(
     alloc: Global,
-    functions: &mut IndexMap<String, FuncType>,
+    functions: &mut Map<String, FuncType>,
     name: &str,
     ty: &FuncType,
 ) -> Result<(), AllocError>
@@ -75,7 +75,7 @@ pub(crate) fn adapter_function(import: &Import) -> Option<(&str, &FuncType)>
 /// Adds the function of an adapter that an import is, if it is one and none of its name is there.
 fn add_required(
     alloc: Global,
-    functions: &mut IndexMap<String, FuncType>,
+    functions: &mut Map<String, FuncType>,
     import: &Import,
 ) -> Result<(), AllocError>
     ensures { IsRequiredAdded functions.old.entries functions.new.entries import.now result }
@@ -89,13 +89,13 @@ fn add_required(
 /// The functions of adapters that are imported at these positions, among imports of one module: of each name the first.
 fn required_among(
     alloc: Global,
-    names: &IndexMap<String, Import>,
-    positions: &IndexMap<String, usize>,
-) -> Result<IndexMap<String, FuncType>, AllocError>
+    names: &Map<String, Import>,
+    positions: &Map<String, usize>,
+) -> Result<Map<String, FuncType>, AllocError>
     ensures { IfOk result (λ f. map required_entry f.entries
         ≡ required_at names.now.entries positions.now.entries) }
 {
-    let mut functions = IndexMap::new(alloc);
+    let mut functions = Map::with_hasher(alloc, *names.hasher());
     for (_name, position) in positions.iter() {
         if let Some((_, import)) = names.get_index(*position) {
             add_required(alloc, &mut functions, import)?;
@@ -105,14 +105,14 @@ fn required_among(
 }
 
 impl ImportMap {
-    /// A map of no imports.
-    pub fn new(alloc: Global) -> ImportMap
+    /// A map of no imports. `seed`: the seed of the maps that are made.
+    pub fn new(alloc: Global, seed: Seed) -> ImportMap
         ensures { result ≡ [] }
     {
         ImportMap {
-            instances: IndexMap::new(alloc),
+            instances: Map::with_hasher(alloc, seed),
             memory: None,
-            functions: FirstFunctions::new(alloc),
+            functions: FirstFunctions::new(alloc, seed),
         }
     }
 
@@ -143,17 +143,18 @@ impl ImportMap {
         &self,
         alloc: Global,
         name: &str,
-    ) -> Result<IndexMap<String, FuncType>, AllocError>
+    ) -> Result<Map<String, FuncType>, AllocError>
         ensures { IfOk result (λ functions. map required_entry functions.entries
             ≡ required_in self.now name.now) }
     {
+        let seed = *self.instances.hasher();
         match self.instances.get(name) {
             Some(ImportInstance::Names(names)) => match self.functions.modules.get(name) {
                 Some(positions) => required_among(alloc, names, positions),
-                None => Ok(IndexMap::new(alloc)),
+                None => Ok(Map::with_hasher(alloc, seed)),
             },
-            Some(ImportInstance::Whole(_)) => Ok(IndexMap::new(alloc)),
-            None => Ok(IndexMap::new(alloc)),
+            Some(ImportInstance::Whole(_)) => Ok(Map::with_hasher(alloc, seed)),
+            None => Ok(Map::with_hasher(alloc, seed)),
         }
     }
 
@@ -170,7 +171,7 @@ impl ImportMap {
     }
 
     /// What is recorded of each module, by the modules' names in the order of their first imports.
-    pub fn modules(&self) -> &IndexMap<String, ImportInstance>
+    pub fn modules(&self) -> &Map<String, ImportInstance>
         ensures { map instance_entry result.now.entries ≡ self.now }
     {
         &self.instances

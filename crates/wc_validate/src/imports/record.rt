@@ -117,7 +117,7 @@ pub(crate) fn record_imports(
     ensures recorded { AreAllRecorded context.now imports.now result }
     ensures fault { AreAllRefused context.now imports.now result }
 {
-    let mut recorder = Recorder::new(alloc);
+    let mut recorder = Recorder::new(alloc, *context.names.adapters.hasher());
     for import in imports {
         record_one(&mut recorder, alloc, context, import)?;
     }

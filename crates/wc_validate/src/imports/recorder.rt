@@ -10,9 +10,9 @@ ghost use Rattle.wc_validate.specs.Private.Imports.Recorder.{AgreesIn, IsNoteFau
 use crate::ValidateFault;
 use crate::imports::adapter_types::note_type;
 use crate::imports::instances::{ImportInstance, put_whole, record_import};
-use indexmap::IndexMap;
 use std::alloc::{AllocError, Global};
 use wc_encoder::MainOrAdapter;
+use wc_maps::{Map, Seed};
 use wc_names::Import;
 use wc_read::{FuncType, MemoryType};
 
@@ -20,9 +20,9 @@ use wc_read::{FuncType, MemoryType};
 /// adapter the type with which it was imported first.
 #[derive(Drop)]
 pub(crate) struct Recorder {
-    pub(crate) instances: IndexMap<String, ImportInstance>,
+    pub(crate) instances: Map<String, ImportInstance>,
     pub(crate) memory: Option<MemoryType>,
-    adapter_types: IndexMap<(String, String), FuncType>,
+    adapter_types: Map<(String, String), FuncType>,
 }
 
 /// The type of the memory, if an import is the main module's memory.
@@ -56,7 +56,7 @@ fn note_memory(memory: &mut Option<MemoryType>, import: &Import) -> bool
 /// is noted.
 fn note_adapter_type(
     alloc: Global,
-    types: &mut IndexMap<(String, String), FuncType>,
+    types: &mut Map<(String, String), FuncType>,
     import: &Import,
 ) -> Result<bool, AllocError>
     ensures agrees { IfOk result (λ b. IsTrue b
@@ -73,13 +73,13 @@ fn note_adapter_type(
 
 impl Recorder {
     /// A recorder of no imports.
-    pub(crate) fn new(alloc: Global) -> Recorder
+    pub(crate) fn new(alloc: Global, seed: Seed) -> Recorder
         ensures { IsRecorderOf result [] }
     {
         Recorder {
-            instances: IndexMap::new(alloc),
+            instances: Map::with_hasher(alloc, seed),
             memory: None,
-            adapter_types: IndexMap::new(alloc),
+            adapter_types: Map::with_hasher(alloc, seed),
         }
     }
 

@@ -15,14 +15,14 @@ use crate::exports::record::exported_type;
 use crate::externs::Extern;
 use crate::fault::not_exported;
 use crate::signatures::{has_type, names_types};
-use indexmap::{IndexMap, IndexSet};
 use std::alloc::{AllocError, Global};
+use wc_maps::{Map, Seed, Set};
 use wc_names::Export;
 use wc_read::{FuncType, Module};
 use wc_resolve::{InterfaceId, Resolve};
 
 /// Names of functions, each with the interface that it is of; without one it is of the world.
-pub(crate) type FunctionNames = IndexSet<(Option<InterfaceId>, String)>;
+pub(crate) type FunctionNames = Set<(Option<InterfaceId>, String)>;
 
 /// The function that an export is: the interface, if it is of one, and its name.
 fn function_name(export: &Export) -> Option<(Option<InterfaceId>, &str)>
@@ -50,12 +50,12 @@ fn add_name(alloc: Global, functions: &mut FunctionNames, export: &Export) -> Re
 /// The functions among recorded exports.
 pub(crate) fn names_of_functions(
     alloc: Global,
-    names: &IndexMap<String, Export>,
+    names: &Map<String, Export>,
 ) -> Result<FunctionNames, AllocError>
     ensures { IfOk result (λ functions. AreNamesOf functions.keys
         (map export_entry names.now.entries)) }
 {
-    let mut functions = IndexSet::new(alloc);
+    let mut functions = Set::with_hasher(alloc, *names.hasher());
     for (_name, export) in names.iter() {
         add_name(alloc, &mut functions, export)?;
     }
@@ -95,7 +95,7 @@ pub(crate) fn is_interface_recorded(
 
 /// Adds what is exported by a name with its type, if it is a function and none of the name is there.
 fn add_typed<'m>(
-    index: &mut IndexMap<&'m str, &'m FuncType>,
+    index: &mut Map<&'m str, &'m FuncType>,
     name: &'m str,
     ty: Extern<'m>,
 ) -> Result<(), AllocError>
@@ -114,15 +114,16 @@ fn add_typed<'m>(
 /// The types of the functions that a module exports, by their names.
 fn typed_functions<'m>(
     alloc: Global,
+    seed: Seed,
     module: &'m Module<'m>,
     exports: &'m [wc_read::Export<'m>],
-) -> Result<IndexMap<&'m str, &'m FuncType>, AllocError>
+) -> Result<Map<&'m str, &'m FuncType>, AllocError>
     requires items { AreExportsIn «module».now exports.now }
     requires typed { HaveTypes (module_value «module».now) }
     ensures { IfOk result (λ index. IsExportIndexOf index.entries
         (exports_in «module».now exports.now)) }
 {
-    let mut index = IndexMap::new(alloc);
+    let mut index = Map::with_hasher(alloc, seed);
     for export in exports {
         let ty = exported_type(module, export.kind, export.index);
         add_typed(&mut index, export.name, ty)?;
@@ -140,7 +141,7 @@ fn typed_functions<'m>(
 /// - `Memory`: an allocation failed.
 fn check_function(
     alloc: Global,
-    index: &IndexMap<&str, &FuncType>,
+    index: &Map<&str, &FuncType>,
     name: &str,
     ty: &FuncType,
 ) -> Result<(), ValidateFault>
@@ -170,14 +171,14 @@ pub(crate) fn check_functions<'m>(
     alloc: Global,
     module: &'m Module<'m>,
     exports: &'m [wc_read::Export<'m>],
-    required: &IndexMap<String, FuncType>,
+    required: &Map<String, FuncType>,
 ) -> Result<(), ValidateFault>
     requires items { AreExportsIn «module».now exports.now }
     requires typed { HaveTypes (module_value «module».now) }
     ensures met { MeetsFunctions «module».now exports.now required.now.entries result }
     ensures fault { FailsFunctions «module».now exports.now required.now.entries result }
 {
-    let index = typed_functions(alloc, module, exports)?;
+    let index = typed_functions(alloc, *required.hasher(), module, exports)?;
     for (name, ty) in required.iter() {
         check_function(alloc, &index, name.as_str(), ty)?;
     }

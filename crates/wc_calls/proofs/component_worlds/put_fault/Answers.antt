@@ -13,6 +13,8 @@ returns c =
       status = refl;
       number = c.message_fault_number.ensures;
       size = c.put-answer.ensures.length ∙ ap length c.as_bytes.ensures.value;
+      no_module = refl;
+      no_position = refl;
       put = subst (λ (t : List ℕ). length t ≤ length old → IsFront t old new) c.as_bytes.ensures.value p.0;
       longer = subst (λ (t : List ℕ). length old < length t → new ≡ old) c.as_bytes.ensures.value p.1;
     }

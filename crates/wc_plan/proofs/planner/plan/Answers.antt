@@ -10,18 +10,18 @@ pub returns-in_err-add_modules-clause-fault : goal.returns-in_err-add_modules-cl
 returns-in_err-add_modules-clause-fault c =
     passed_on (IsPlanFault (world_view c.args.world.now)) c.from_residual.result _ c.from_residual.ensures.1
     (c.in_err-add_modules.ensures.fault
-    (planned_start (world_view c.args.world.now) c.new.result.keys c.new-2.result.items c.new.ensures.empty c.new-2.ensures.items))
+    (planned_start (world_view c.args.world.now) c.with_hasher.result.keys c.new.result.items c.with_hasher.ensures.empty c.new.ensures.items))
 
 pub returns-clause-plan : goal.returns-clause-plan
 returns-clause-plan c =
     (progress_end (world_view c.args.world.now) (map seen_view c.add_modules.new.planner.seen.keys)
     (map use_view c.add_modules.new.planner.uses.items) c.add_modules.new.planner.slots
     (c.in_ok-add_modules.ensures.made (planned_start
-    (world_view c.args.world.now) c.new.result.keys c.new-2.result.items c.new.ensures.empty c.new-2.ensures.items))).0
+    (world_view c.args.world.now) c.with_hasher.result.keys c.new.result.items c.with_hasher.ensures.empty c.new.ensures.items))).0
 
 pub returns-clause-servable : goal.returns-clause-servable
 returns-clause-servable c =
     (progress_end (world_view c.args.world.now) (map seen_view c.add_modules.new.planner.seen.keys)
     (map use_view c.add_modules.new.planner.uses.items) c.add_modules.new.planner.slots
     (c.in_ok-add_modules.ensures.made (planned_start
-    (world_view c.args.world.now) c.new.result.keys c.new-2.result.items c.new.ensures.empty c.new-2.ensures.items))).1
+    (world_view c.args.world.now) c.with_hasher.result.keys c.new.result.items c.with_hasher.ensures.empty c.new.ensures.items))).1

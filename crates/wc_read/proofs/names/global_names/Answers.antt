@@ -1,10 +1,10 @@
-use Rattle.std.proofs.Common.{map}
+use Rattle.std.proofs.Common.{map, length, ap}
 use Rattle.wc_read.specs.Reading.Names.{global_name_value}
 use Rattle.wc_read.proofs.NamesReadLemmas.{entries_start, entries_more, entries_end}
 use Rattle.wc_read.proofs.names.global_names.Goals as goal
 
 pub loop-pair-init : goal.loop-pair-init
-loop-pair-init c = entries_start _ _ c.new-names.ensures.len
+loop-pair-init c = entries_start _ _ (ap length c.new-names.ensures)
 
 pub loop-pair-preserved : goal.loop-pair-preserved
 loop-pair-preserved c = entries_more _ _ _ _ _ c.loop-pair.invariant c.loop-pair-test.true c.in_ok-insert.ensures.entries

@@ -6,4 +6,4 @@ use Rattle.wc_validate.proofs.validate.validate_module.Goals as goal
 pub returns-clause-no_cause : goal.returns-clause-no_cause
 returns-clause-no_cause c =
     subst (λ z. OnOk c.validate_main.result (HasNoCause (main_input_requiring c.args.encoder.now (option_copied c.args.import_map) z) c.args.bytes.now))
-    c.new-functions.ensures.empty c.validate_main.ensures.no_cause
+    c.with_hasher-functions.ensures.empty c.validate_main.ensures.no_cause

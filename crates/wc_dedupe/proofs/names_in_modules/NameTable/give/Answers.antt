@@ -1,9 +1,9 @@
 use Rattle.std.proofs.Common.{◌≡◌, ℕ, ◌+◌, ◌<◌, ◌≤◌, ◌∙◌, List, MutBor, Option, false, None, Some, string_bytes, sym, refl, ap, subst, rules}
 use Rattle.std.specs.Option.{IsSome, is_some, option_copied_mut}
-use Rattle.std.specs.HashMap.{get_by_text}
+use Rattle.std.specs.BTreeMap.{get_by_text}
 use Rattle.std.specs.Map.{update}
 use Rattle.std.specs.Str.{bytes_eq}
-use Rattle.std.proofs.lemmas.Map.Text.{hash_map_updates_text}
+use Rattle.std.proofs.lemmas.Map.Text.{btree_map_updates_text}
 use Rattle.wc_dedupe.specs.NamesInModules.{name_record_of, name_records, Gives}
 use Rattle.wc_dedupe.specs.Renaming.{name_with_number}
 use Rattle.wc_dedupe.specs.declared.names_in_modules.NameRecord.{NameRecord}
@@ -15,7 +15,7 @@ use Rattle.wc_dedupe.proofs.names_in_modules.NameTable.give.Goals.{In_ok-insert,
 original_put : (c : In_ok-insert) → (q : List ℕ) → get_by_text c.insert.new.self q ≡ update bytes_eq (get_by_text c.self.inside.names) c.args.original.now (Some (record { next = 2; rename = None })) q
 original_put c q =
     let key : string_bytes c.in_ok-name.name ≡ c.args.original.now = search rules in
-    rw (← key) (hash_map_updates_text (string_bytes c.in_ok-name.name) c.self.inside.names c.insert.new.self _ c.in_ok-insert.ensures.updates q)
+    rw (← key) (btree_map_updates_text (string_bytes c.in_ok-name.name) c.self.inside.names c.insert.new.self _ c.in_ok-insert.ensures.updates q)
 
 pub invariant_of-self-in_default : goal.invariant_of-self-in_default
 invariant_of-self-in_default c = tried_original c.self.inside.names.entries c.insert.new.self.entries c.args.original.now c.self.invariant (original_put c)
@@ -44,7 +44,7 @@ free_name-requires-clause-from_two c = (c.self.invariant _ _ (found c)).0
 name_put : (c : After-get_mut) → (q : List ℕ) → get_by_text c.insert-2.new.self q ≡ update bytes_eq (get_by_text c.self.inside.names) (string_bytes c.in_ok-number.name) (Some (record { next = 2; rename = Some c.args.index })) q
 name_put c q =
     let key : string_bytes c.in_ok-key.key ≡ string_bytes c.in_ok-number.name = search rules in
-    rw (← key) (hash_map_updates_text (string_bytes c.in_ok-key.key) c.self.inside.names c.insert-2.new.self _ c.in_ok-insert-2.ensures.updates q)
+    rw (← key) (btree_map_updates_text (string_bytes c.in_ok-key.key) c.self.inside.names c.insert-2.new.self _ c.in_ok-insert-2.ensures.updates q)
 
 -- the original name has its entry still
 still : (c : After-get_mut) → IsSome (get_by_text c.insert-2.new.self c.args.original.now)
@@ -64,7 +64,7 @@ next_put : (c : After-unwrap) → (q : List ℕ) → get_by_text (c.get_mut.foll
     ≡ update bytes_eq (get_by_text c.insert-2.new.self) c.args.original.now (Some (record { next = c.in_ok-number.number + 1; rename = c.unwrap.result.now.rename })) q
 next_put c q =
     let w : NameRecord = record { next = c.in_ok-number.number + 1; rename = c.unwrap.result.now.rename } in
-    hash_map_updates_text c.args.original.now c.insert-2.new.self (c.get_mut.follows.lender w) _ ((c.get_mut.follows.holds w).3 (ap is_some (there c))) q
+    btree_map_updates_text c.args.original.now c.insert-2.new.self (c.get_mut.follows.lender w) _ ((c.get_mut.follows.holds w).3 (ap is_some (there c))) q
 
 least : (c : After-unwrap) → (k : ℕ) → 2 ≤ k → k < c.in_ok-number.number → IsSome (name_record_of (name_records c.self.inside.names.entries) (name_with_number c.args.original.now k))
 least c k a b = subst (λ (t : List (List ℕ × Option ℕ)). IsSome (name_record_of t (name_with_number c.args.original.now k))) (sym c.self.view_is) (c.in_ok-number.ensures.least k a b)

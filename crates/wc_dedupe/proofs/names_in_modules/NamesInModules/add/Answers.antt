@@ -1,8 +1,8 @@
 use Rattle.std.proofs.Common.{◌≡◌, ℕ, ◌∙◌, List, [], Some, string_bytes, sym, rules}
-use Rattle.std.specs.HashMap.{get_by_text}
+use Rattle.std.specs.BTreeMap.{get_by_text}
 use Rattle.std.specs.Map.{update}
 use Rattle.std.specs.Str.{bytes_eq}
-use Rattle.std.proofs.lemmas.Map.Text.{hash_map_updates_text}
+use Rattle.std.proofs.lemmas.Map.Text.{btree_map_updates_text}
 use Rattle.wc_dedupe.proofs.ModulesLemmas.{name_records_with_empty}
 use Rattle.wc_dedupe.proofs.names_in_modules.NamesInModules.add.Goals as goal
 use Rattle.wc_dedupe.proofs.names_in_modules.NamesInModules.add.Goals.{Joined-branch-3}
@@ -11,7 +11,7 @@ use Rattle.wc_dedupe.proofs.names_in_modules.NamesInModules.add.Goals.{Joined-br
 table_put : (c : Joined-branch-3) → (q : List ℕ) → get_by_text c.insert.new.self q ≡ update bytes_eq (get_by_text c.args.self.now.modules) c.args.module.now (Some []) q
 table_put c q =
     let key : string_bytes c.in_ok-key.key ≡ c.args.module.now = search rules in
-    rw (← key, ← c.new.ensures) (hash_map_updates_text (string_bytes c.in_ok-key.key) c.args.self.now.modules c.insert.new.self _ c.in_ok-insert.ensures.updates q)
+    rw (← key, ← c.new.ensures) (btree_map_updates_text (string_bytes c.in_ok-key.key) c.args.self.now.modules c.insert.new.self _ c.in_ok-insert.ensures.updates q)
 
 pub returns-in_ok-insert-clause-same : goal.returns-in_ok-insert-clause-same
 returns-in_ok-insert-clause-same c =

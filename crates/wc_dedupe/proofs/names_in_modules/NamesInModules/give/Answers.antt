@@ -1,8 +1,8 @@
 use Rattle.std.proofs.Common.{rules}
-use Rattle.std.proofs.lemmas.Map.Text.{hash_map_updates_text}
+use Rattle.std.proofs.lemmas.Map.Text.{btree_map_updates_text}
 use Rattle.wc_dedupe.proofs.names_in_modules.NamesInModules.give.Goals as goal
 
 pub returns-clause-others : goal.returns-clause-others
 returns-clause-others c = λ m d n.
-    let put = hash_map_updates_text c.args.module.now c.add.new.self.modules (c.get_mut.follows.lender c.give.new.self) _ ((c.get_mut.follows.holds c.give.new.self).3 (search rules)) m in
+    let put = btree_map_updates_text c.args.module.now c.add.new.self.modules (c.get_mut.follows.lender c.give.new.self) _ ((c.get_mut.follows.holds c.give.new.self).3 (search rules)) m in
     rw (put, d) (c.in_ok-add.ensures.same m n)

@@ -31,7 +31,7 @@ loop-member-preserved c =
 
 pub returns-in_err-item : goal.returns-in_err-item
 returns-in_err-item c =
-    let p = err_from_is_err_and c.from_residual.result c.from_residual.ensures.1 in
+    let p = err_from_is_err_and c.from_residual-in_err-item.result c.from_residual-in_err-item.ensures.1 in
     let members = c.deref-member-items.result.now in
     let fault = c.in_err-item.field-0.0 in
     let whole = entries-value_view key_view_eq item_key item c.args.value.now c.in-Object.members members c.in-Object.is

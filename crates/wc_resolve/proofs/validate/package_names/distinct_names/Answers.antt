@@ -6,7 +6,7 @@ use Rattle.wc_resolve.proofs.DistinctLemmas.{AreDistinct, copies_law, names_more
 use Rattle.wc_resolve.proofs.validate.package_names.distinct_names.Goals as goal
 
 pub loop-package-init : goal.loop-package-init
-loop-package-init c = rw c.new-names.ensures.empty (seen_none package_name_view)
+loop-package-init c = rw c.with_hasher-names.ensures.empty (seen_none package_name_view)
 
 pub returns-then-not-is_new : goal.returns-then-not-is_new
 returns-then-not-is_new c =

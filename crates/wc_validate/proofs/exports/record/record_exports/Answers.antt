@@ -13,7 +13,7 @@ pub loop-export-init : goal.loop-export-init
 loop-export-init c =
     exports_start (name_scope_of c.args.context.now.names) c.args.context.now.standard.keys (module_value c.args.module.now)
     (map export_value c.args.exports.now)
-    _ (ap (map export_entry) c.new-names.ensures.empty) c.requires.distinct
+    _ (ap (map export_entry) c.with_hasher-names.ensures.empty) c.requires.distinct
 
 pub exported_type-ty-requires-clause-item : goal.exported_type-ty-requires-clause-item
 exported_type-ty-requires-clause-item c =

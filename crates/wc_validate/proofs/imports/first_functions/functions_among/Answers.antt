@@ -5,10 +5,10 @@ use Rattle.wc_validate.proofs.imports.first_functions.functions_among.Goals as g
 
 pub loop-name-init : goal.loop-name-init
 loop-name-init c =
-    placed_start HasPlaced c.args.names.now.entries c.iter-name-items.result c.into_iter-name-iterator.result _ c.new-positions.result.entries
+    placed_start HasPlaced c.args.names.now.entries c.iter-name-items.result c.into_iter-name-iterator.result _ c.with_hasher-positions.result.entries
     c.into_iter-name-iterator.ensures.into_iter_gives
     c.iter-name-items.ensures.rest c.iter-name-items.ensures.len c.iter-name-items.ensures.fits
-    (placed_none c.new-positions.result.entries c.new-positions.ensures.empty)
+    (placed_none c.with_hasher-positions.result.entries c.with_hasher-positions.ensures.empty)
 
 pub overflow_add-position : goal.overflow_add-position
 overflow_add-position c =

@@ -12,8 +12,8 @@ use Rattle.wc_validate.proofs.imports.map.required_among.Goals as goal
 pub loop-name-init : goal.loop-name-init
 loop-name-init c =
     collected_start (λ (e : String Global × ℕ). function_at (map import_entry c.args.names.now.entries) e.1)
-    c.args.positions.now.entries c.into_iter-name-iterator.result (map required_entry c.new-functions.result.entries)
-    (c.into_iter-name-iterator.ensures.into_iter_gives ∙ c.iter-name-items.ensures.rest) (ap (map required_entry) c.new-functions.ensures.empty)
+    c.args.positions.now.entries c.into_iter-name-iterator.result (map required_entry c.with_hasher-functions.result.entries)
+    (c.into_iter-name-iterator.ensures.into_iter_gives ∙ c.iter-name-items.ensures.rest) (ap (map required_entry) c.with_hasher-functions.ensures.empty)
 
 pub loop-name-preserved-in-Continue-1 : goal.loop-name-preserved-in-Continue-1
 loop-name-preserved-in-Continue-1 c =

@@ -4,7 +4,8 @@ use Rattle.wc_validate.proofs.requirements.exported_functions.names_of_functions
 
 pub loop-name-init : goal.loop-name-init
 loop-name-init c =
-    names_start c.args.names.now.entries _ _ (c.into_iter-name-iterator.ensures.into_iter_gives ∙ c.iter-name-items.ensures.rest) c.new-functions.ensures.empty
+    names_start c.args.names.now.entries _ _ (c.into_iter-name-iterator.ensures.into_iter_gives ∙ c.iter-name-items.ensures.rest)
+    c.with_hasher-functions.ensures.empty
 
 pub loop-name-preserved : goal.loop-name-preserved
 loop-name-preserved c =

@@ -7,7 +7,7 @@ use Rattle.wc_validate.proofs.ListLemmas.{any_default}
 use Rattle.wc_validate.proofs.requirements.exported_functions.typed_functions.Goals as goal
 
 pub loop-export-init : goal.loop-export-init
-loop-export-init c = index_none c.new-index.result.entries (module_value c.args.module.now) c.new-index.ensures.empty
+loop-export-init c = index_none c.with_hasher-index.result.entries (module_value c.args.module.now) c.with_hasher-index.ensures.empty
 
 pub exported_type-ty-requires-clause-item : goal.exported_type-ty-requires-clause-item
 exported_type-ty-requires-clause-item c =

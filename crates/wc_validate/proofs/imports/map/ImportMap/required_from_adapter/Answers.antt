@@ -19,7 +19,7 @@ returns-in-Some c =
 
 pub returns-in-None-get : goal.returns-in-None-get
 returns-in-None-get c =
-    ap (map required_entry) c.new.ensures.empty
+    ap (map required_entry) c.with_hasher.ensures.empty
     ∙ (none_required c.self.inside.functions c.self.inside.instances.entries c.args.name.now c.in-Some-Names.field-0.now
     (map import_entry c.in-Some-Names.names.entries) c.self.invariant.1 c.in-Some-Names.ensures.value
     (ap instance_view c.in-Some-Names.field-0-is) (ap (λ o. option_map_or position_entries o []) (sym c.in-None-get.ensures.value))
@@ -28,11 +28,11 @@ returns-in-None-get c =
 
 pub returns-in-Some-Whole : goal.returns-in-Some-Whole
 returns-in-Some-Whole c =
-    ap (map required_entry) c.new-in-Some-Whole.ensures.empty
+    ap (map required_entry) c.with_hasher-in-Some-Whole.ensures.empty
     ∙ (ap (λ z. first_of_names (functions_in (instance_view z))) (sym c.in-Some-Whole.field-0-is)
     ∙ required_is c.self.inside.instances.entries c.args.self.now c.args.name.now c.in-Some-Whole.field-0.now c.in-Some-Whole.ensures.value c.self.view_is)
 
 pub returns-in-None : goal.returns-in-None
 returns-in-None c =
-    ap (map required_entry) c.new-in-None.ensures.empty ∙ required_none c.self.inside.instances.entries c.args.self.now c.args.name.now c.in-None.ensures.value
-    c.self.view_is
+    ap (map required_entry) c.with_hasher-in-None.ensures.empty
+    ∙ required_none c.self.inside.instances.entries c.args.self.now c.args.name.now c.in-None.ensures.value c.self.view_is

@@ -8,7 +8,7 @@ use Rattle.wc_json.specs.Maps.{entries_after}
 use Rattle.wc_json.specs.Paths.{key_step}
 use Rattle.wc_json.proofs.MapLemmas.{IsFaultOf_member, entries-value_view, entries_after-member, entries_view, entries_view-insert_entry}
 use Rattle.wc_json.proofs.PathLemmas.{Reads_at_step}
-use Rattle.wc_json.proofs.maps.IndexMapStringFromJson.from_json.Goals as goal
+use Rattle.wc_json.proofs.maps.MapStringFromJson.from_json.Goals as goal
 
 pub loop-member-preserved : goal.loop-member-preserved
 loop-member-preserved g c =
@@ -29,7 +29,7 @@ loop-member-preserved g c =
 
 pub returns-in_err-entry : goal.returns-in_err-entry
 returns-in_err-entry g c =
-    let p = err_from_is_err_and c.from_residual.result c.from_residual.ensures.1 in
+    let p = err_from_is_err_and c.from_residual-in_err-entry.result c.from_residual-in_err-entry.ensures.1 in
     let reading = g.T.FromJson.reading in
     let view = g.T.FromJson.view in
     let members = c.deref-member-items.result.now in

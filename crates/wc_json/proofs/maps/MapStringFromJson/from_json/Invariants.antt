@@ -2,7 +2,7 @@ use Rattle.std.proofs.Common.{◌≡◌, map, drop, string_bytes, []}
 use Rattle.std.specs.Str.{bytes_eq}
 use Rattle.json.specs.Value.{members_view}
 use Rattle.wc_json.specs.Maps.{entries_after}
-use Rattle.wc_json.proofs.maps.IndexMapStringFromJson.from_json.Given as goal
+use Rattle.wc_json.proofs.maps.MapStringFromJson.from_json.Given as goal
 
 abbrev pub invariant-loop-member : goal.invariant-loop-member
 invariant-loop-member g l =

@@ -1,0 +1,18 @@
+//! Maps that no choice of keys makes slow: maps that hash under a seed, and a map that goes by the order of its keys.
+//!
+//! Where the hash of a map is known, keys can be chosen that collide, and each look-up takes as long as they are many.
+//! Here a map either hashes under a [`Seed`], which whoever chooses the keys doesn't know, or it compares keys.
+#![tactic(auto)]
+
+mod ordered_map;
+mod seed;
+
+use indexmap::{IndexMap, IndexSet};
+pub use ordered_map::OrderedMap;
+pub use seed::Seed;
+
+/// An `IndexMap` that hashes under a seed. `*map.hasher()` is its seed, for other maps of the same keys.
+pub type Map<K, V> = IndexMap<K, V, Seed>;
+
+/// An `IndexSet` that hashes under a seed.
+pub type Set<T> = IndexSet<T, Seed>;
