@@ -34,10 +34,12 @@ REACHED = {
     "wc_json::FromJson::from_json": "document",
     "wc_json::at_member": "document",
     "wc_json::document_from_json": "document",
+    "wc_json::escaped": "wcplan",
     "wc_json::fault_here": "document",
     "wc_json::optional_member": "document",
     "wc_json::required_member": "document",
     "wc_json::value_from_json": "document",
+    "wc_maps::OrderedMap::insert": "read_module",
     "wc_names::ExportNames::function": "match_wit_export",
     "wc_names::Import::clone": "env_import",
     "wc_names::InterfaceNames::interface": "interface_names",
@@ -53,7 +55,7 @@ REACHED = {
     "wc_names::PayloadLookupContext::resource": "payload_lookup",
     "wc_names::PayloadType::clone": "payload_infos",
     "wc_plan_tool::ProgramFault::text": "wcplan",
-    "wc_plan_tool::parse": "parse_wcplan",
+    "wc_plan_tool::WrongArgument::text": "parse_wcplan",
     "wc_plan_tool::run_command": "wcplan",
     "wc_read::FuncType::clone": "func_type",
     "wc_read::Operators::locals": "trim",
@@ -116,7 +118,7 @@ def functions():
     """The public functions that answer AllocError or a fault, with their crates and types, and those of OTHERS."""
     for line in (TOP / "crates.txt").read_text().splitlines():
         crate = re.match(r"wc_\w+", line)
-        if not crate or crate.group().endswith(("rows", "fixtures", "bench")):
+        if not crate or crate.group().endswith(("rows", "fixtures", "tests")):
             continue
         folder = TOP / "crates" / crate.group() / "src"
         library = re.sub(r"^\s*//.*$", "", (folder / "lib.rt").read_text(), flags=re.M)
