@@ -33,7 +33,8 @@ CALLS = {
     "example printed_plan": "PlanFault",
     "execute": "ToolFault", "execute_failing": "ToolFault", "each_put_failing": "ToolFault",
     "writer_sink": "PutFailed", "run_program": "RunFault", "parse": "Usage",
-    "wcplan": "ProgramFault", "wcplan_failing": "ProgramFault", "parse_wcplan": "NoCommand", "world_into": "MessageFault",
+    "wcplan": "ProgramFault", "wcplan_failing": "ProgramFault", "parse_wcplan": "NoCommand", "plan_into": "MessageFault",
+    "world_into": "MessageFault",
 }
 # What no row of any input can reach, and why.
 BARRED = {
@@ -179,7 +180,7 @@ def texts_in_buffer(lines):
 
 def texts(call, lines):
     """The texts of faults among a row's lines of answer."""
-    if call == "world_into":
+    if call in ("world_into", "plan_into"):
         yield from texts_in_buffer(lines)
         return
     for line in lines:

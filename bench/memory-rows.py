@@ -17,6 +17,7 @@ TOP = pathlib.Path(__file__).resolve().parent.parent
 
 REACHED = {
     "wc_calls::dedupe": "dedupe_into",
+    "wc_calls::plan": "plan_into",
     "wc_calls::trim": "trim_into",
     "wc_calls::world": "world_into",
     "wc_dedupe::ModuleImportMap::new": "dedupe",
@@ -111,7 +112,7 @@ REACHED = {
 
 
 # Functions whose status says that memory ran out.
-OTHERS = {("wc_tool", "run"), ("wc_calls", "dedupe"), ("wc_calls", "trim"), ("wc_calls", "world")}
+OTHERS = {("wc_tool", "run"), ("wc_calls", "dedupe"), ("wc_calls", "plan"), ("wc_calls", "trim"), ("wc_calls", "world")}
 
 
 def functions():

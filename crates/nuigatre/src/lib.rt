@@ -17,6 +17,7 @@ ghost use Rattle.std.specs.Option.{option_map};
 ghost use Rattle.wc_read.specs.Sections.{IsComponent};
 ghost use Rattle.wc_dedupe.specs.Dedupe.{IsDeduped};
 ghost use Rattle.wc_calls.specs.Answers.{AreOthersOfTextZero, AreOthersZero, IsPut, IsTooLong, done, failed, too_small, same, bad_argument};
+ghost use Rattle.wc_calls.specs.ComponentPlans.{IsPlanAnswer};
 ghost use Rattle.wc_calls.specs.ComponentWorlds.{IsFaultOf, IsWorldAnswer};
 ghost use Rattle.wc_calls.specs.Renaming.{IsRenamed, IsRenamingFault};
 ghost use Rattle.wc_calls.specs.Required.{texts, trim_input_of};
@@ -24,7 +25,7 @@ ghost use Rattle.wc_calls.specs.Trimming.{AreArguments, IsRun, IsTrimmingFault};
 ghost use Rattle.nuigatre.specs.Arguments.{optional_name, settings_of};
 
 use std::alloc::Global;
-use wc_calls::{Answer, dedupe, trim, world};
+use wc_calls::{Answer, dedupe, plan, trim, world};
 use wc_maps::Seed;
 
 /// Renames the imports of a module so that no two share a module and a name: `wc_calls::dedupe`.
@@ -107,6 +108,32 @@ pub extern "C" fn nuigatre_world(
 {
     let seed = Seed::new(seed0, seed1);
     world(alloc, seed, message, modules, out)
+}
+
+/// Makes the plan of a component, which the message describes in JSON: `wc_calls::plan`.
+#[unsafe(no_mangle)]
+pub extern "C" fn nuigatre_plan(
+    alloc: Global,
+    seed0: u64,
+    seed1: u64,
+    message: &[u8],
+    modules: &[u8],
+    out: &mut [u8],
+) -> Answer
+    ensures done { result.status ≡ done
+        → IsPut (IsPlanAnswer message.now modules.now) result.length out.old out.new }
+    ensures too_small { result.status ≡ too_small
+        → IsTooLong (IsPlanAnswer message.now modules.now) result.length out.old }
+    ensures fault { result.status ≡ failed → IsFaultOf message.now modules.now
+        result out.old out.new }
+    ensures module_length { result.module_length ≡ 0 }
+    ensures unchanged { result.status ≢ done → result.status ≢ failed → out.new ≡ out.old }
+    ensures statuses { (result.status ≤ 5) × (result.status ≢ same)
+        × (result.status ≢ bad_argument) }
+    ensures others { AreOthersOfTextZero result }
+{
+    let seed = Seed::new(seed0, seed1);
+    plan(alloc, seed, message, modules, out)
 }
 
 /// The name, where there is one.

@@ -24,7 +24,7 @@ use Rattle.wc_calls.specs.Encoders.{AreAdaptersOf, AreChosen, IsMessage, IsParts
 use Rattle.wc_calls.specs.MessageFaults.{IsAdaptersCause, IsMessageCause, IsPartsCause, IsRenamingCause, of_dedupe, of_encoder, of_json, of_resolve, sizes}
 use Rattle.wc_calls.specs.Messages.{AdapterMessageView, MessageView, message}
 use Rattle.wc_calls.specs.declared.message_fault.MessageFault.{MessageFault}
-use Rattle.wc_calls.specs.declared.message_fault.MessageFault.TheVariants.{Memory, NotText, Json, Lengths, AdapterTwice, Dedupe, Encoder, World}
+use Rattle.wc_calls.specs.declared.message_fault.MessageFault.TheVariants.{Memory, NotText, Json, Lengths, AdapterTwice, Dedupe, Encoder, World, Plan}
 
 sum_cons : (n : ℕ) (ns : List ℕ) → sum (n ∷ ns) ≡ n + sum ns
 sum_cons n ns = sum_by-cons (λ k. k) n ns
@@ -105,6 +105,7 @@ parts_cause text modules m Memory is h = tt
 parts_cause text modules m NotText is h = absurd h
 parts_cause text modules m (Json f) is h = absurd h
 parts_cause text modules m (World f) is h = absurd h
+parts_cause text modules m (Plan f) is h = absurd h
 parts_cause text modules m (Dedupe f) is h = (m, is, h.0, h.1, h.2, h.3, h.4)
 parts_cause text modules m (Encoder f) is h = (m, is, h.0, h.1, h.2)
 parts_cause text modules m f is h = (m, is, h)

@@ -1,5 +1,6 @@
 mod AdapterLemmas
 mod CauseLemmas
+mod ComponentPlanLemmas
 mod ComponentWorldLemmas
 mod RequiredLemmas
 mod MissingLemmas

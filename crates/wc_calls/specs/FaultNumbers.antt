@@ -13,6 +13,8 @@ use Rattle.wc_json.specs.declared.fault.JsonFault.{JsonFault}
 use Rattle.wc_json.specs.declared.fault.JsonFault.TheVariants as json
 use Rattle.wc_json.specs.declared.fault.Problem.{Problem}
 use Rattle.wc_json.specs.declared.fault.Problem.TheVariants as problem
+use Rattle.wc_plan.specs.declared.fault.PlanFault.{PlanFault}
+use Rattle.wc_plan.specs.declared.fault.PlanFault.TheVariants as plan
 use Rattle.wc_resolve.specs.declared.fault.ResolveFault.{ResolveFault}
 use Rattle.wc_resolve.specs.declared.fault.ResolveFault.TheVariants as resolve
 use Rattle.wc_validate.specs.declared.fault.ValidateFault.{ValidateFault}
@@ -139,6 +141,14 @@ world_fault_number (world.Trim name f) = carrying 3 (gc_fault_number f)
 world_fault_number (world.Minimized name f) = carrying 4 (validate_fault_number f)
 world_fault_number (world.PageSize name own mains) = 5
 
+abbrev pub plan_fault_number : PlanFault → ℕ
+plan_fault_number plan.Memory = 0
+plan_fault_number (plan.NoMemory name) = 1
+plan_fault_number (plan.NoRealloc name) = 2
+plan_fault_number (plan.NoLowering name) = 3
+plan_fault_number (plan.World f) = 4
+plan_fault_number plan.Output = 5
+
 abbrev pub message_fault_number : MessageFault → ℕ
 message_fault_number message.Memory = 0
 message_fault_number message.NotText = 1
@@ -150,3 +160,4 @@ message_fault_number (message.AdapterTwice name) = 6
 message_fault_number (message.Dedupe f) = carrying 7 (dedupe_fault_number f)
 message_fault_number (message.Encoder f) = carrying 8 (encoder_fault_number f)
 message_fault_number (message.World f) = carrying 9 (world_fault_number f)
+message_fault_number (message.Plan f) = carrying 10 (plan_fault_number f)

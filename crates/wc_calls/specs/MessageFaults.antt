@@ -16,12 +16,18 @@ use Rattle.wc_resolve.specs.Faults.{IsCause as IsResolveCause}
 use Rattle.wc_resolve.specs.declared.fault.ResolveFault.{ResolveFault}
 use Rattle.wc_resolve.specs.declared.fault.ResolveFault.TheVariants.{Memory as resolve_memory}
 use Rattle.wc_plan.specs.EncoderFaults.{IsWorldCause}
+use Rattle.wc_plan.specs.Faults.{IsFirstFault}
+use Rattle.wc_plan.specs.declared.fault.PlanFault.{PlanFault}
+use Rattle.wc_plan.specs.declared.fault.PlanFault.TheVariants.{Memory as plan_memory, World as plan_world}
+use Rattle.wc_world.specs.Options.{plain_options}
+use Rattle.wc_world.specs.Views.{ComponentWorldView}
+use Rattle.wc_world.specs.World.{IsWorldOf}
 use Rattle.wc_world.specs.declared.fault.WorldFault.{WorldFault}
 use Rattle.wc_world.specs.declared.fault.WorldFault.TheVariants.{Memory as world_memory}
 use Rattle.wc_calls.specs.Encoders.{IsEncoderOf, IsMessage, IsPartsOf, world_of}
 use Rattle.wc_calls.specs.Messages.{AdapterMessageView, MessageView, message}
 use Rattle.wc_calls.specs.declared.message_fault.MessageFault.{MessageFault}
-use Rattle.wc_calls.specs.declared.message_fault.MessageFault.TheVariants.{Memory, NotText, Json, UnknownWorld, Lengths, Resolve, AdapterTwice, Dedupe, Encoder, World}
+use Rattle.wc_calls.specs.declared.message_fault.MessageFault.TheVariants.{Memory, NotText, Json, UnknownWorld, Lengths, Resolve, AdapterTwice, Dedupe, Encoder, World, Plan}
 
 -- faults that are carried; that of memory as the own one
 
@@ -44,6 +50,11 @@ of_encoder f = Encoder f
 abbrev pub of_world : WorldFault → MessageFault
 of_world world_memory = Memory
 of_world f = World f
+
+abbrev pub of_plan : PlanFault → MessageFault
+of_plan plan_memory = Memory
+of_plan (plan_world f) = World f
+of_plan f = Plan f
 
 -- how many bytes the modules of a message have
 abbrev pub sizes : MessageView → ℕ
@@ -71,6 +82,8 @@ IsMessageCause text modules (Dedupe f) =
     (m : MessageView) × IsMessage text m × (main : List ℕ) × (rest : List ℕ) × (modules ≡ main ++ rest) × (length main ≡ m.size) × IsDedupeCause main f
 IsMessageCause text modules (Encoder f) = (m : MessageView) × IsMessage text m × (e : EncoderView) × IsPartsOf m modules e × IsEncoderCause e f
 IsMessageCause text modules (World f) = (e : EncoderView) × IsEncoderOf text modules e × IsWorldCause e f
+IsMessageCause text modules (Plan f) =
+    (e : EncoderView) × IsEncoderOf text modules e × (w : ComponentWorldView) × IsWorldOf plain_options e w × IsFirstFault w f
 
 -- why a step of the encoder's making fails, for a message that is read
 abbrev pub IsPartsCause : MessageView → List ℕ → MessageFault → Type 0

@@ -95,7 +95,7 @@ fn put_fault(fault: &MessageFault, text: &str, out: &mut [u8]) -> Answer
 }
 
 /// Answers a fault.
-fn answer_fault(alloc: Global, fault: &MessageFault, out: &mut [u8]) -> Answer
+pub(crate) fn answer_fault(alloc: Global, fault: &MessageFault, out: &mut [u8]) -> Answer
     ensures fault { result.status ≡ failed → (text : List ℕ)
         × IsFaultAnswer fault.now text result out.old out.new }
     ensures memory { fault.now ≡ MessageFault.Memory → result.status ≢ failed }

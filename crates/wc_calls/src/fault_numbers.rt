@@ -2,13 +2,14 @@
 //! 256 times the number of the other. Numbers never change: a fault that is added later is the last of its enum.
 
 ghost use Rattle.std.specs.Prelude.{◌≡◌, ◌≤◌};
-ghost use Rattle.wc_calls.specs.FaultNumbers.{read_fault_number, dedupe_fault_number, gc_fault_number, problem_number, json_fault_number, resolve_fault_number, encoder_fault_number, validate_fault_number, world_fault_number, message_fault_number};
+ghost use Rattle.wc_calls.specs.FaultNumbers.{read_fault_number, dedupe_fault_number, gc_fault_number, problem_number, json_fault_number, resolve_fault_number, encoder_fault_number, validate_fault_number, world_fault_number, plan_fault_number, message_fault_number};
 
 use crate::message_fault::MessageFault;
 use wc_dedupe::DedupeFault;
 use wc_encoder::EncoderFault;
 use wc_gc::GcFault;
 use wc_json::{JsonFault, Problem};
+use wc_plan::PlanFault;
 use wc_read::ReadFault;
 use wc_resolve::ResolveFault;
 use wc_validate::ValidateFault;
@@ -193,6 +194,21 @@ pub fn world_fault_number(fault: &WorldFault) -> u32
     }
 }
 
+/// The number of a fault of a plan. The name of a function is no part of it.
+pub fn plan_fault_number(fault: &PlanFault) -> u32
+    ensures number { result ≡ plan_fault_number fault.now }
+    ensures bounded { result ≤ 5 }
+{
+    match fault {
+        PlanFault::Memory => 0,
+        PlanFault::NoMemory(_) => 1,
+        PlanFault::NoRealloc(_) => 2,
+        PlanFault::NoLowering(_) => 3,
+        PlanFault::World(_) => 4,
+        PlanFault::Output => 5,
+    }
+}
+
 /// The number of a fault of a message. Names and paths are no part of it.
 pub fn message_fault_number(fault: &MessageFault) -> u32
     ensures { result ≡ message_fault_number fault.now }
@@ -208,5 +224,6 @@ pub fn message_fault_number(fault: &MessageFault) -> u32
         MessageFault::Dedupe(fault) => 7 + CARRIED * dedupe_fault_number(*fault),
         MessageFault::Encoder(fault) => 8 + CARRIED * encoder_fault_number(*fault),
         MessageFault::World(fault) => 9 + CARRIED * world_fault_number(fault),
+        MessageFault::Plan(fault) => 10 + CARRIED * plan_fault_number(fault),
     }
 }

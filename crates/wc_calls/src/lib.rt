@@ -24,6 +24,7 @@
 #![tactic(auto)]
 
 mod answers;
+mod component_plans;
 mod component_worlds;
 mod encoders;
 mod fault_numbers;
@@ -36,11 +37,12 @@ mod required;
 mod trimming;
 
 pub use answers::{Answer, BAD_ARGUMENT, DONE, FAULT, MEMORY, SAME, TOO_SMALL};
+pub use component_plans::plan;
 pub use component_worlds::world;
 pub use fault_numbers::{
     dedupe_fault_number, encoder_fault_number, gc_fault_number, json_fault_number,
-    message_fault_number, problem_number, read_fault_number, resolve_fault_number,
-    validate_fault_number, world_fault_number,
+    message_fault_number, plan_fault_number, problem_number, read_fault_number,
+    resolve_fault_number, validate_fault_number, world_fault_number,
 };
 pub use message_fault::MessageFault;
 pub use renaming::dedupe;

@@ -1,4 +1,4 @@
-//! Why a message has no component's world.
+//! Why a message has no component's world, or no plan.
 
 ghost use Rattle.std.specs.Prelude.{◌≡◌};
 ghost use Rattle.wc_calls.specs.declared.message_fault.MessageFault.TheVariants.{Memory};
@@ -8,10 +8,11 @@ use thiserror::Error;
 use wc_dedupe::DedupeFault;
 use wc_encoder::EncoderFault;
 use wc_json::JsonFault;
+use wc_plan::PlanFault;
 use wc_resolve::ResolveFault;
 use wc_world::WorldFault;
 
-/// Why a message has no component's world. Of several causes the first in this order is named; `Memory` may come in
+/// Why a message has no component's world, or no plan of it. Of several causes the first in this order is named; `Memory` may come in
 /// place of any. None carries a `Memory` of its own but by the step that it is of.
 #[derive(Debug, Drop, Error)]
 pub enum MessageFault {
@@ -45,6 +46,9 @@ pub enum MessageFault {
     /// The component of the encoder has no world.
     #[error("World: {0}")]
     World(WorldFault),
+    /// The component's world has no plan. It carries neither `World` nor `Memory`.
+    #[error("Plan: {0}")]
+    Plan(PlanFault),
 }
 
 impl From<AllocError> for MessageFault {
@@ -124,6 +128,20 @@ impl From<WorldFault> for MessageFault {
         match e {
             WorldFault::Memory => MessageFault::Memory,
             _ => MessageFault::World(e),
+        }
+    }
+}
+
+impl From<PlanFault> for MessageFault {
+    ghost use Rattle.wc_calls.specs.MessageFaults.{of_plan};
+
+    ghost from_gives = { λ f e. e ≡ of_plan f };
+
+    fn from(e: PlanFault) -> MessageFault {
+        match e {
+            PlanFault::Memory => MessageFault::Memory,
+            PlanFault::World(fault) => MessageFault::World(fault),
+            _ => MessageFault::Plan(e),
         }
     }
 }

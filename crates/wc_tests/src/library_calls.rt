@@ -2,7 +2,7 @@
 
 use crate::examples::calls::trim_to_write;
 use std::alloc::{AllocError, Global};
-use wc_calls::{Answer, MEMORY, dedupe, trim, world};
+use wc_calls::{Answer, MEMORY, dedupe, plan, trim, world};
 use wc_rows::input::{Stop, answered, bad_row, bytes_of};
 use wc_rows::lines::Lines;
 use wc_rows::rows::Row;
@@ -24,8 +24,8 @@ fn answer_call(alloc: Global, row: &Row<'_>, out: &mut Lines) -> Result<bool, St
         answer_trim(alloc, row, out)?;
     } else if row.call == "trim_to_write" {
         answer_trim_to_write(alloc, row, out)?;
-    } else if row.call == "world_into" {
-        answer_world(alloc, row, out)?;
+    } else if row.call == "world_into" || row.call == "plan_into" {
+        answer_message(alloc, row, out)?;
     } else {
         return Ok(false);
     }
@@ -87,16 +87,20 @@ fn answer_trim_to_write(alloc: Global, row: &Row<'_>, out: &mut Lines) -> Result
     Ok(())
 }
 
-/// `world_into ROOM LINES`: the world of a component, in a buffer of so many bytes. So many lines of input are the
-/// message, and the others the bytes of modules.
-fn answer_world(alloc: Global, row: &Row<'_>, out: &mut Lines) -> Result<(), Stop> {
+/// `world_into ROOM LINES`, `plan_into ROOM LINES`: the world of a component, or its plan, in a buffer of so many bytes. So
+/// many lines of input are the message, and the others the bytes of modules.
+fn answer_message(alloc: Global, row: &Row<'_>, out: &mut Lines) -> Result<(), Stop> {
     let Some((message, bytes)) = parts_of(row) else {
         return Err(bad_row(out, "no message", row.call));
     };
     let message = text_of(alloc, message)?;
     let modules = bytes_of(alloc, bytes, out)?;
     let mut buffer = buffer_of(alloc, row, out)?;
-    let answer = world(alloc, row_seed(), message.as_bytes(), &modules, &mut buffer);
+    let answer = if row.call == "plan_into" {
+        plan(alloc, row_seed(), message.as_bytes(), &modules, &mut buffer)
+    } else {
+        world(alloc, row_seed(), message.as_bytes(), &modules, &mut buffer)
+    };
     put_answer(&answer, &buffer, out);
     Ok(())
 }

@@ -68,6 +68,17 @@ unsafe extern "C" {
         out: *mut u8,
         out_length: usize,
     ) -> Answer;
+
+    fn nuigatre_plan(
+        seed0: u64,
+        seed1: u64,
+        message: *const u8,
+        message_length: usize,
+        modules: *const u8,
+        modules_length: usize,
+        out: *mut u8,
+        out_length: usize,
+    ) -> Answer;
 }
 
 /// How a trim is asked for.
@@ -155,6 +166,26 @@ pub(crate) fn world(message: &[u8], modules: &[u8], room: usize) -> Result<Answe
         // SAFETY: as above.
         unsafe {
             nuigatre_world(
+                seed0,
+                seed1,
+                message.as_ptr(),
+                message.len(),
+                modules.as_ptr(),
+                modules.len(),
+                start(out),
+                out.len(),
+            )
+        }
+    })
+}
+
+/// Makes the plan of a component. The answer is its text, which is JSON.
+pub(crate) fn plan(message: &[u8], modules: &[u8], room: usize) -> Result<Answered, Error> {
+    let (seed0, seed1) = seed();
+    answered(room, true, |out| {
+        // SAFETY: as above.
+        unsafe {
+            nuigatre_plan(
                 seed0,
                 seed1,
                 message.as_ptr(),

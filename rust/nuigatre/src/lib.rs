@@ -3,7 +3,7 @@
 //! component ([`ComponentWorld`]). The names are those of the Rust crate `wit-component`, and so is what they do.
 //!
 //! The work is done by `libnuigatre.a`, whose functions are proved: each ends on all bytes, and answers what its
-//! contract says. This crate is the way there, and is tested: a heap, three calls, and the reading of their answers. It
+//! contract says. This crate is the way there, and is tested: a heap, four calls, and the reading of their answers. It
 //! has no dependency but the standard library. Calls may run on several threads at once, and keep nothing but the seed of
 //! their maps, which the first one draws for the process.
 //!
@@ -49,6 +49,7 @@ mod json;
 mod memory;
 mod module_import_map;
 mod ordered_map;
+mod plan;
 mod read;
 mod renames;
 mod world;
@@ -67,9 +68,11 @@ pub use ids::{AbiVariant, InterfaceId, StringEncoding, TypeId, WorldKey};
 pub use imports::{Import, ImportInstance, ImportMap, PayloadInfo, PayloadType};
 pub use module_import_map::{ModuleImportMap, Rename};
 pub use ordered_map::{Iter, Lookup, OrderedMap};
+pub use plan::{Plan, Use};
 pub use world::{
     ComponentWorld, ImportedInterface, Lowering, RequiredOptions, ValidatedModule, WorldAdapter,
 };
 pub use world_error::{
-    EncoderFault, JsonFault, Problem, ResolveFault, ValidateFault, WorldError, WorldFault,
+    EncoderFault, JsonFault, PlanFault, Problem, ResolveFault, ValidateFault, WorldError,
+    WorldFault,
 };

@@ -40,6 +40,8 @@ pub enum WorldFault {
     Minimized(String, ValidateFault),
     /// The memory that an adapter imports has pages of another size than the main module's memory.
     PageSize,
+    /// Of a plan alone: a function needs what is not there.
+    Plan(PlanFault),
 }
 
 /// What is wrong with JSON.
@@ -127,6 +129,16 @@ numbered! {
         DependencyLater = 5,
         /// Two imports of the world have one name.
         ImportNameClash = 6,
+    }
+}
+
+numbered! {
+    /// Why a component's world has no plan.
+    PlanFault {
+        /// The options of a function have a memory, and the main module neither imports nor exports one.
+        NoMemory = 1,
+        /// The options of a function have a realloc, and its module exports none for the results of imports.
+        NoRealloc = 2,
     }
 }
 
@@ -255,6 +267,7 @@ impl WorldError {
             (7, carried) => WorldFault::Dedupe(DedupeFault::from_number(carried)?),
             (8, carried) => WorldFault::Encoder(EncoderFault::from_number(carried)?),
             (9, carried) => of_module(carried, &text, encoder)?,
+            (10, carried) => WorldFault::Plan(PlanFault::from_number(carried)?),
             _ => return Err(Unread::Unknown),
         };
         Ok(WorldError { fault, text })

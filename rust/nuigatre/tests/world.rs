@@ -3,7 +3,8 @@
 use nuigatre::{
     AbiVariant, Adapter, ComponentEncoder, ComponentWorld, DedupeFault, EncoderFault, Error,
     FuncType, Import, ImportInstance, InterfaceId, JsonFault, Lowering, MainOrAdapter,
-    ModuleImportMap, Problem, ReadFault, ResolveFault, ValidateFault, World, WorldFault, WorldKey,
+    ModuleImportMap, Plan, PlanFault, Problem, ReadFault, ResolveFault, ValidateFault, World,
+    WorldFault, WorldKey,
 };
 use std::thread;
 
@@ -301,4 +302,36 @@ fn libraries() {
     assert_eq!(made.library_info, Some(library));
     let imports: Vec<_> = made.info.imports.imports().collect();
     assert_eq!(imports, [("old", "b", &Import::Item(item))]);
+}
+
+#[test]
+fn plan() {
+    let plan = Plan::new(&encoder()).expect("a plan");
+    let [hello] = plan.uses.as_slice() else {
+        panic!("not one function: {plan:?}");
+    };
+    assert_eq!(hello.module, MainOrAdapter::Main);
+    assert_eq!(hello.interface.as_deref(), Some("my:demo/host"));
+    assert_eq!(
+        (hello.name.as_str(), hello.abi),
+        ("hello", AbiVariant::GuestImport)
+    );
+    assert_eq!((hello.slot, &hello.realloc), (None, &None));
+}
+
+/// A function that takes a string needs a memory, which the main module has not.
+#[test]
+fn no_plan() {
+    let worlds = WORLDS.replace("u32", "string");
+    let main =
+        b"\0asm\x01\0\0\0\x01\x06\x01\x60\x02\x7f\x7f\0\x02\x16\x01\x0cmy:demo/host\x05hello\0\0";
+    let encoder = ComponentEncoder::new(&worlds, World::Name("demo"), main);
+    ComponentWorld::new(&encoder).expect("a world");
+    match Plan::new(&encoder) {
+        Err(Error::World(error)) => {
+            assert_eq!(*error.fault(), WorldFault::Plan(PlanFault::NoMemory));
+            assert_eq!(error.to_string(), "Plan: NoMemory");
+        }
+        answer => panic!("no fault: {answer:?}"),
+    }
 }

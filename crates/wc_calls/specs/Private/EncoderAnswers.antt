@@ -3,13 +3,15 @@
 use Rattle.std.specs.Prelude.{◌≡◌, ◌++◌, ℕ, List, length, ⊤}
 use Rattle.wc_encoder.specs.EncoderParts.{EncoderView}
 use Rattle.wc_plan.specs.EncoderFaults.{IsWorldCause}
-use Rattle.wc_record.specs.Texts.{world_text}
+use Rattle.wc_plan.specs.Faults.{HasNoFault, IsFirstFault}
+use Rattle.wc_plan.specs.Plans.{plan_of}
+use Rattle.wc_record.specs.Texts.{plan_text, world_text}
 use Rattle.wc_world.specs.Options.{plain_options}
 use Rattle.wc_world.specs.Views.{ComponentWorldView}
 use Rattle.wc_world.specs.World.{IsWorldOf}
 use Rattle.wc_calls.specs.ComponentWorlds.{modules_text}
 use Rattle.wc_calls.specs.declared.message_fault.MessageFault.{MessageFault}
-use Rattle.wc_calls.specs.declared.message_fault.MessageFault.TheVariants.{Memory, World}
+use Rattle.wc_calls.specs.declared.message_fault.MessageFault.TheVariants.{Memory, World, Plan}
 
 -- the modules of the world that plain options make of an encoder, of this length, and then the world as JSON
 pub record IsAnswerFor (e : EncoderView) (module_length : ℕ) (text : List ℕ) : Type 0 where
@@ -23,3 +25,17 @@ abbrev pub IsFaultFor : EncoderView → MessageFault → Type 0
 IsFaultFor e Memory = ⊤
 IsFaultFor e (World f) = IsWorldCause e f
 IsFaultFor e f = ⊥
+
+-- the plan as JSON of the world that plain options make of an encoder
+pub record IsPlanFor (e : EncoderView) (text : List ℕ) : Type 0 where
+  pub world : ComponentWorldView
+  pub made : IsWorldOf plain_options e world
+  pub servable : HasNoFault world
+  pub is : text ≡ plan_text (plan_of world)
+
+-- why there is none
+abbrev pub IsPlanFaultFor : EncoderView → MessageFault → Type 0
+IsPlanFaultFor e Memory = ⊤
+IsPlanFaultFor e (World f) = IsWorldCause e f
+IsPlanFaultFor e (Plan f) = (w : ComponentWorldView) × IsWorldOf plain_options e w × IsFirstFault w f
+IsPlanFaultFor e f = ⊥

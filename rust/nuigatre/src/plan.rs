@@ -1,0 +1,85 @@
+//! The plan of a component: what each function that its core modules import needs.
+
+use crate::encoder::{ComponentEncoder, MainOrAdapter};
+use crate::error::Error;
+use crate::ffi::{self, Answered};
+use crate::ids::AbiVariant;
+use crate::json::Value;
+use crate::read::{Read, Unread, member, optional_member};
+use crate::world_error::WorldError;
+use std::str;
+
+/// How many bytes of a first buffer are for each byte of the message.
+const PER_BYTE: usize = 2;
+
+/// What a function that core modules import needs.
+#[derive(Clone, Debug, PartialEq, Eq)]
+#[non_exhaustive]
+pub struct Use {
+    /// The module that imports it.
+    pub module: MainOrAdapter,
+    /// The name that its interface has outside of the world; `None` for a function of the world itself.
+    pub interface: Option<String>,
+    /// Its name.
+    pub name: String,
+    /// How it is called.
+    pub abi: AbiVariant,
+    /// Its index among the functions that others stand in for until there is a memory; `None` where it is lowered before
+    /// its module is instantiated.
+    pub slot: Option<u32>,
+    /// The export of its module that makes room for its results; `None` where it needs none.
+    pub realloc: Option<String>,
+}
+
+/// The functions that the core modules of a component import, each once, with what it needs: those of the main module, and
+/// then those of each adapter.
+#[derive(Clone, Debug, PartialEq, Eq)]
+#[non_exhaustive]
+pub struct Plan {
+    /// The functions, in the order of the modules and of their imports.
+    pub uses: Vec<Use>,
+}
+
+impl Plan {
+    /// The plan of the component whose world [`ComponentWorld::new`](crate::ComponentWorld::new) makes of the same.
+    ///
+    /// # Errors
+    ///
+    /// - `World`: the world is refused; or a function needs a memory or a realloc, and none is there
+    ///   ([`WorldFault::Plan`](crate::WorldFault::Plan)).
+    /// - `Memory`: an allocation failed.
+    /// - `OtherVersion`: the library is of another version than this crate.
+    pub fn new(encoder: &ComponentEncoder<'_>) -> Result<Self, Error> {
+        let message = encoder.message()?;
+        let modules = encoder.modules()?;
+        let room = PER_BYTE * message.len() + 4096;
+        match ffi::plan(message.as_bytes(), &modules, room)? {
+            Answered::Bytes { bytes, .. } => Ok(read_plan(&bytes)?),
+            Answered::Same => Err(Error::OtherVersion),
+            Answered::Fault { number, text, .. } => {
+                Err(Error::World(WorldError::of(number, text, encoder)?))
+            }
+        }
+    }
+}
+
+/// The plan of this text, which the archive wrote.
+fn read_plan(text: &[u8]) -> Result<Plan, Unread> {
+    let value = Value::parse(str::from_utf8(text).map_err(|_| Unread::Unknown)?)?;
+    Ok(Plan {
+        uses: Vec::read(&value)?,
+    })
+}
+
+impl Read for Use {
+    fn read(value: &Value<'_>) -> Result<Self, Unread> {
+        Ok(Use {
+            module: member(value, "module")?,
+            interface: optional_member(value, "interface")?,
+            name: member(value, "name")?,
+            abi: member(value, "abi")?,
+            slot: optional_member(value, "slot")?,
+            realloc: optional_member(value, "realloc")?,
+        })
+    }
+}
