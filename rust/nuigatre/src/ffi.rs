@@ -159,33 +159,32 @@ pub(crate) fn trim(arguments: TrimArguments<'_>, room: usize) -> Result<Answered
     })
 }
 
+/// A call of the archive on a message and the bytes of modules, under a seed.
+type OnMessage =
+    unsafe extern "C" fn(u64, u64, *const u8, usize, *const u8, usize, *mut u8, usize) -> Answer;
+
 /// Makes the world of a component. The answer has the bytes of its modules, and then its record as JSON.
 pub(crate) fn world(message: &[u8], modules: &[u8], room: usize) -> Result<Answered, Error> {
-    let (seed0, seed1) = seed();
-    answered(room, true, |out| {
-        // SAFETY: as above.
-        unsafe {
-            nuigatre_world(
-                seed0,
-                seed1,
-                message.as_ptr(),
-                message.len(),
-                modules.as_ptr(),
-                modules.len(),
-                start(out),
-                out.len(),
-            )
-        }
-    })
+    answer_to(nuigatre_world, message, modules, room)
 }
 
 /// Makes the plan of a component. The answer is its text, which is JSON.
 pub(crate) fn plan(message: &[u8], modules: &[u8], room: usize) -> Result<Answered, Error> {
+    answer_to(nuigatre_plan, message, modules, room)
+}
+
+/// What one of these calls answers to a message.
+fn answer_to(
+    call: OnMessage,
+    message: &[u8],
+    modules: &[u8],
+    room: usize,
+) -> Result<Answered, Error> {
     let (seed0, seed1) = seed();
     answered(room, true, |out| {
-        // SAFETY: as above.
+        // SAFETY: as above, of each of these calls.
         unsafe {
-            nuigatre_plan(
+            call(
                 seed0,
                 seed1,
                 message.as_ptr(),

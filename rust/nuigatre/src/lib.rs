@@ -1,16 +1,16 @@
 //! Core WebAssembly modules made ready to be parts of a component: repeated imports renamed
 //! ([`ModuleImportMap`]), adapters trimmed to what is used of them ([`gc::run`]), and all of that for the world of a
-//! component ([`ComponentWorld`]). The names are those of the Rust crate `wit-component`, and so is what they do.
+//! component and its plan ([`ComponentWorld`], [`Plan`]). The names are those of the Rust crate `wit-component`, and so is what they do.
 //!
 //! The work is done by `libnuigatre.a`, whose functions are proved: each ends on all bytes, and answers what its
 //! contract says. This crate is the way there, and is tested: a heap, four calls, and the reading of their answers. It
 //! has no dependency but the standard library. Calls may run on several threads at once, and keep nothing but the seed of
-//! their maps, which the first one draws for the process.
+//! their maps, which the first trim, world or plan draws for the process.
 //!
 //! No call ends the process or panics: where an allocation fails, the library's or this crate's, the answer is
 //! [`Error::Memory`]. (A library that was compiled without its proof stops the process where it is wrong. The seed is of
-//! `RandomState`, which panics where the system gives no random bytes.) A thread that calls [`ComponentWorld::new`] needs a
-//! stack of 256 KB, whatever the input; for the other calls the smallest one that a thread can have is enough, 16 KB.
+//! `RandomState`, which panics where the system gives no random bytes.) A thread that calls [`ComponentWorld::new`] or
+//! [`Plan::new`] needs a stack of 256 KB, whatever the input; for the other calls the smallest one that a thread can have is enough, 16 KB.
 //!
 //! ```
 //! use nuigatre::{ModuleImportMap, gc};
