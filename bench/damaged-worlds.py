@@ -13,10 +13,10 @@ moved, an item of a list removed or doubled, a number is one out of range or non
 value of another place, or arrays and objects nested in each other up to 100,000 times.
 
 Each run has 10 seconds and 1 GB of memory. Its status has to be 0 or 1. With status 1 it has to print one line to
-standard error, which begins with `wcplan: `, and nothing to standard output, and no file may be written; with status 0
-lines of a plan to standard output alone, and all files are. No byte of a line may be a control character. What went
-wrong is printed, and kept in bench/data/damaged-worlds; the last lines count the runs. The status is 1 where one went
-wrong.
+standard error, which begins with `wcplan: `, under it none but lines that begin with two blanks, and nothing to standard
+output, and no file may be written; with status 0 lines of a plan to standard output alone, and all files are. No byte of
+a line may be a control character. What went wrong is printed, and kept in bench/data/damaged-worlds; the last lines
+count the runs. The status is 1 where one went wrong.
 """
 import argparse
 import collections
@@ -205,7 +205,7 @@ def fault_in(ran, files):
         return None if files else "no file"
     if not printed.startswith(b"wcplan: ") or len(printed) < 10:
         return "no line of a fault"
-    if len(lines) != 1:
+    if not all(line.startswith(b"  ") for line in lines[1:]):
         return "several lines"
     return "a file" if files else None
 
@@ -230,7 +230,7 @@ def try_case(program, text, original, folder):
 
 def kind_of(printed):
     """The kind of a fault: its name, and of the worlds' text what is wrong, without the path there."""
-    words = printed.decode(errors="replace").strip().split(": ")[1:]
+    words = printed.decode(errors="replace").split("\n")[0].split(": ")[1:]
     if words[:1] == ["Json"]:
         return " Json: " + words[-1]
     return " " + re.sub("`.*", "..", words[0]) if words else ""

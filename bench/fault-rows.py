@@ -78,7 +78,9 @@ def written(name, text):
     named = re.findall(r'%s::(\w+)\(\w+\) => (?:\{\s*)?write!\(f, "(.*?)"\)' % name, text)
     carried = re.findall(r"%s::(\w+) \{ path, (\w+) \} =>" % name, text)
     found = [(own, words, []) for own, words in shown] + [(own, "{0}", [field.capitalize()]) for own, field in carried]
-    return found + [(own, re.sub(r"\{\w+\}", "{0}", words), ["String"]) for own, words in named]
+    body = re.search(r"pub enum %s\b.*?\{(.*?)\n\}" % name, text, re.S)
+    types = dict(re.findall(r"^ +(\w+)\((\w+Fault)\b", body.group(1), re.M)) if body else {}
+    return found + [(own, re.sub(r"\{\w+\}", "{0}", words), [types.get(own, "String")]) for own, words in named]
 
 
 def numbered(words):

@@ -1,40 +1,24 @@
--- Adapters out of messages, each with its bytes from the front of what is left; and worlds by their names.
-use Rattle.std.proofs.Common.{◌≡◌, ℕ, suc, ◌+◌, ◌<◌, List, [], ◌∷◌, ◌++◌, map, length, get_or, take, drop, sum, Bool, true, false, not, cond, is_some, nat_lt, Option, Some, None, refl, sym, ap, subst, ◌∙◌, append_assoc, String, Global, string_bytes, string_eq, append-nil, inl, inr, arith}
-use Rattle.std.specs.List.{AllZip, Contains, flat_map, position, position_or_len, prefix_len, sum_by}
+-- Adapters out of messages, each with its bytes from the front of what is left.
+use Rattle.std.proofs.Common.{◌≡◌, ℕ, suc, ◌+◌, ◌<◌, List, [], ◌∷◌, ◌++◌, map, length, get_or, take, drop, sum, Bool, true, false, cond, is_some, Option, Some, refl, sym, ap, subst, ◌∙◌, append_assoc, String, Global, string_bytes, string_eq, append-nil, inl, inr, arith}
+use Rattle.std.specs.List.{AllZip, Contains, flat_map, sum_by}
 use Rattle.std.specs.Map.{lookup}
-use Rattle.std.specs.Option.{option_and_then, option_map}
+use Rattle.std.specs.Option.{option_map}
 use Rattle.std.specs.Str.{bytes_eq}
 use Rattle.std.proofs.lemmas.Bool.{cases_Bool, false≢true}
-use Rattle.std.proofs.lemmas.List.{map-append, length-append, length-map, take-append-drop, drop_more}
+use Rattle.std.proofs.lemmas.List.{map-append, length-append, take-append-drop, drop_more}
 use Rattle.std.proofs.lemmas.List.Concat.{flat_map-append, flat_map-cons}
 use Rattle.std.proofs.lemmas.List.Sums.{sum-map, sum_by-append, sum_by-cons}
 use Rattle.std.proofs.lemmas.Slice.Eq.{bytes_eq-Decides}
 use Rattle.indexmap.specs.IndexMap.{insert_entry}
 use Rattle.wc_encoder.specs.Adapters.{AdapterView, adapter_entry, adapter_view}
 use Rattle.wc_encoder.specs.declared.adapters.Adapter.{Adapter}
-use Rattle.wc_resolve.specs.Views.{WorldView, key_view, world_view}
-use Rattle.wc_resolve.specs.declared.worlds.World.{World}
-use Rattle.wc_calls.specs.Encoders.{AreAdaptersOf, IsAdapterOf, key_set, small_index, world_of}
+use Rattle.wc_selection.specs.Keys.{NamedKey}
+use Rattle.wc_calls.specs.AskedKeys.{adapter_keys}
+use Rattle.wc_calls.specs.Encoders.{AreAdaptersOf, IsAdapterOf}
 use Rattle.wc_calls.specs.Libraries.{library_message_view}
 use Rattle.wc_calls.specs.MessageFaults.{IsNamedTwice}
-use Rattle.wc_calls.specs.Messages.{AdapterMessageView, adapter_message_view, of_name}
+use Rattle.wc_calls.specs.Messages.{AdapterMessageView, adapter_message_view}
 use Rattle.wc_calls.specs.declared.messages.AdapterMessage.{AdapterMessage}
-
--- the first position in what a list is seen as
-
-prefix_len-map : {X Y : Type 0} (p : Y → Bool) (f : X → Y) (xs : List X) → prefix_len p (map f xs) ≡ prefix_len (λ x. p (f x)) xs
-prefix_len-map p f [] = refl
-prefix_len-map p f (x ∷ xs) = ap (λ n. cond (p (f x)) (1 + n) 0) (prefix_len-map p f xs)
-
-pub position-map : {X Y : Type 0} (p : Y → Bool) (f : X → Y) (xs : List X) → position p (map f xs) ≡ position (λ x. p (f x)) xs
-position-map p f xs =
-    ap (λ n. cond (nat_lt n (length (map f xs))) (Some n) None) (prefix_len-map (λ y. not (p y)) f xs)
-    ∙ ap (λ m. cond (nat_lt (position_or_len (λ x. p (f x)) xs) m) (Some (position_or_len (λ x. p (f x)) xs)) None) (length-map xs f)
-
--- the world of a name, by its position
-pub named_world : (worlds : List World) (name : List ℕ) (found : Option ℕ) → found ≡ position (λ (w : World). bytes_eq (world_view w).name name) worlds
-    → world_of (map world_view worlds) (of_name name) ≡ option_and_then small_index found
-named_world worlds name found is = ap (option_and_then small_index) (position-map (λ (w : WorldView). bytes_eq w.name name) world_view worlds ∙ sym is)
 
 -- an item of a list, after those that were passed, as all are seen
 
@@ -65,8 +49,8 @@ sizes_of-cons x xs =
     ∙ ap (λ n. x.size + n) (sym (sum-map (λ (m : AdapterMessageView). m.size) xs))
 
 -- the adapters of the messages so far, whose bytes are before the rest
-pub record AreAdaptersBefore (ms : List AdapterMessageView) (bytes rest : List ℕ) (adapters : List (List ℕ × AdapterView)) : Type 0 where
-  pub each : AllZip IsAdapterOf ms adapters
+pub record AreAdaptersBefore (ns ks : List NamedKey) (ms : List AdapterMessageView) (bytes rest : List ℕ) (adapters : List (List ℕ × AdapterView)) : Type 0 where
+  pub each : AllZip (IsAdapterOf ns ks) ms adapters
   pub cut : bytes ≡ flat_map (λ (a : List ℕ × AdapterView). a.1.wasm) adapters ++ rest
   pub size : length bytes ≡ sizes_of ms + length rest
 
@@ -90,12 +74,12 @@ insert_new (e ∷ es) name adapter fresh = elim (cases_Bool (string_eq name e.0)
 ]
 
 -- one adapter more
-pub adapters_more : (ms : List AdapterMessageView) (bytes rest wasm others : List ℕ) (entries after : List (String Global × Adapter)) (m : AdapterMessageView)
+pub adapters_more : (ns ks : List NamedKey) (ms : List AdapterMessageView) (bytes rest wasm others : List ℕ) (entries after : List (String Global × Adapter)) (m : AdapterMessageView)
     (name : String Global) (adapter : Adapter)
-    → AreAdaptersBefore ms bytes rest (map adapter_entry entries) → rest ≡ wasm ++ others → length wasm ≡ m.size → adapter.wasm.items ≡ wasm
-    → IsAdapterOf m (adapter_entry (name, adapter)) → is_some (named (string_bytes name) entries) ≡ false → after ≡ insert_entry string_eq entries name adapter
-    → AreAdaptersBefore (ms ++ m ∷ []) bytes others (map adapter_entry after)
-adapters_more ms bytes rest wasm others entries after m name adapter before cut size has is fresh put =
+    → AreAdaptersBefore ns ks ms bytes rest (map adapter_entry entries) → rest ≡ wasm ++ others → length wasm ≡ m.size → adapter.wasm.items ≡ wasm
+    → IsAdapterOf ns ks m (adapter_entry (name, adapter)) → is_some (named (string_bytes name) entries) ≡ false → after ≡ insert_entry string_eq entries name adapter
+    → AreAdaptersBefore ns ks (ms ++ m ∷ []) bytes others (map adapter_entry after)
+adapters_more ns ks ms bytes rest wasm others entries after m name adapter before cut size has is fresh put =
     let wasm_of : List ℕ × AdapterView → List ℕ = λ a. a.1.wasm in
     let grown : map adapter_entry after ≡ map adapter_entry entries ++ adapter_entry (name, adapter) ∷ [] =
     ap (map adapter_entry) (put ∙ insert_new entries name adapter fresh) ∙ map-append adapter_entry entries ((name, adapter) ∷ []) in
@@ -104,72 +88,72 @@ adapters_more ms bytes rest wasm others entries after m name adapter before cut 
     ∙ ap (λ l. flat_map wasm_of (map adapter_entry entries) ++ l) (flat_map-cons wasm_of (adapter_entry (name, adapter)) [] ∙ append-nil adapter.wasm.items ∙ has) in
     let lengths : length rest ≡ length wasm + length others = ap length cut ∙ length-append wasm others in
     let sums : sizes_of (ms ++ m ∷ []) ≡ sizes_of ms + m.size = sizes_of-append ms (m ∷ []) ∙ ap (λ n. sizes_of ms + n) (sizes_of-cons m [] ∙ omega arith) in
-    subst (AreAdaptersBefore (ms ++ m ∷ []) bytes others) (sym grown) (record {
-      each = zip_push IsAdapterOf ms (map adapter_entry entries) m (adapter_entry (name, adapter)) before.each is;
+    subst (AreAdaptersBefore ns ks (ms ++ m ∷ []) bytes others) (sym grown) (record {
+      each = zip_push (IsAdapterOf ns ks) ms (map adapter_entry entries) m (adapter_entry (name, adapter)) before.each is;
       cut = before.cut ∙ ap (λ l. flat_map wasm_of (map adapter_entry entries) ++ l) cut
           ∙ sym (append_assoc (flat_map wasm_of (map adapter_entry entries)) wasm others) ∙ ap (λ l. l ++ others) (sym texts);
       size = omega (arith, before.size, lengths, sums, size);
     })
 
 -- the adapter of a message is added under its name, which was not there
-pub message_added : (passed : List AdapterMessage) (bytes rest wasm others : List ℕ) (entries after : List (String Global × Adapter)) (message : AdapterMessage)
-    (adapter : Adapter) (text : List ℕ) (there : Bool) → AreAdaptersBefore (map adapter_message_view passed) bytes rest (map adapter_entry entries)
+pub message_added : (ns ks : List NamedKey) (passed : List AdapterMessage) (bytes rest wasm others : List ℕ) (entries after : List (String Global × Adapter)) (message : AdapterMessage)
+    (adapter : Adapter) (text : List ℕ) (there : Bool) → AreAdaptersBefore ns ks (map adapter_message_view passed) bytes rest (map adapter_entry entries)
     → rest ≡ wasm ++ others → length wasm ≡ message.length → (adapter_view adapter).wasm ≡ wasm
-    → (adapter_view adapter).required_exports ≡ key_set (map key_view message.exports.items)
+    → (adapter_view adapter).required_exports ≡ adapter_keys ns ks (adapter_message_view message)
     → (adapter_view adapter).library_info ≡ option_map library_message_view message.library_info
     → text ≡ string_bytes message.name → there ≡ is_some (named text entries) → there ≡ false → after ≡ insert_entry string_eq entries message.name adapter
-    → AreAdaptersBefore (map adapter_message_view (passed ++ message ∷ [])) bytes others (map adapter_entry after)
-message_added passed bytes rest wasm others entries after message adapter text there before cut size has keys library is found absent put =
+    → AreAdaptersBefore ns ks (map adapter_message_view (passed ++ message ∷ [])) bytes others (map adapter_entry after)
+message_added ns ks passed bytes rest wasm others entries after message adapter text there before cut size has keys library is found absent put =
     let m = adapter_message_view message in
     let fresh : is_some (named (string_bytes message.name) entries) ≡ false = subst (λ (t : List ℕ). is_some (named t entries) ≡ false) is (sym found ∙ absent) in
-    let made : IsAdapterOf m (adapter_entry (message.name, adapter)) = record { name = refl; size = ap length has ∙ size; required = keys; library = library } in
-    subst (λ ms. AreAdaptersBefore ms bytes others (map adapter_entry after)) (sym (map-append adapter_message_view passed (message ∷ [])))
-    (adapters_more (map adapter_message_view passed) bytes rest wasm others entries after m message.name adapter before cut size has made fresh put)
+    let made : IsAdapterOf ns ks m (adapter_entry (message.name, adapter)) = record { name = refl; size = ap length has ∙ size; required = keys; library = library } in
+    subst (λ ms. AreAdaptersBefore ns ks ms bytes others (map adapter_entry after)) (sym (map-append adapter_message_view passed (message ∷ [])))
+    (adapters_more ns ks (map adapter_message_view passed) bytes rest wasm others entries after m message.name adapter before cut size has made fresh put)
 
 -- after the last message nothing may be left
-pub adapters_end : (ms : List AdapterMessageView) (bytes rest : List ℕ) (adapters : List (List ℕ × AdapterView)) → AreAdaptersBefore ms bytes rest adapters
-    → rest ≡ [] → AreAdaptersOf ms bytes adapters
-adapters_end ms bytes rest adapters before none =
+pub adapters_end : (ns ks : List NamedKey) (ms : List AdapterMessageView) (bytes rest : List ℕ) (adapters : List (List ℕ × AdapterView)) → AreAdaptersBefore ns ks ms bytes rest adapters
+    → rest ≡ [] → AreAdaptersOf ns ks ms bytes adapters
+adapters_end ns ks ms bytes rest adapters before none =
     let wasm_of : List ℕ × AdapterView → List ℕ = λ a. a.1.wasm in
     record {
       each = before.each;
       cut = before.cut ∙ ap (λ l. flat_map wasm_of adapters ++ l) none ∙ append-nil (flat_map wasm_of adapters);
     }
 
-pub longer : (ms : List AdapterMessageView) (bytes rest : List ℕ) (adapters : List (List ℕ × AdapterView)) → AreAdaptersBefore ms bytes rest adapters
+pub longer : (ns ks : List NamedKey) (ms : List AdapterMessageView) (bytes rest : List ℕ) (adapters : List (List ℕ × AdapterView)) → AreAdaptersBefore ns ks ms bytes rest adapters
     → 0 < length rest → sizes_of ms ≡ length bytes → ⊥
-longer ms bytes rest adapters before some same = absurd (omega (arith, before.size, some, same))
+longer ns ks ms bytes rest adapters before some same = absurd (omega (arith, before.size, some, same))
 
 -- the bytes that are left are fewer than an adapter has
-pub shorter : (all ms left : List AdapterMessageView) (m : AdapterMessageView) (bytes rest : List ℕ) (adapters : List (List ℕ × AdapterView))
-    → all ≡ ms ++ m ∷ left → AreAdaptersBefore ms bytes rest adapters → length rest < m.size → sizes_of all ≡ length bytes → ⊥
-shorter all ms left m bytes rest adapters cut before fewer same =
+pub shorter : (ns ks : List NamedKey) (all ms left : List AdapterMessageView) (m : AdapterMessageView) (bytes rest : List ℕ) (adapters : List (List ℕ × AdapterView))
+    → all ≡ ms ++ m ∷ left → AreAdaptersBefore ns ks ms bytes rest adapters → length rest < m.size → sizes_of all ≡ length bytes → ⊥
+shorter ns ks all ms left m bytes rest adapters cut before fewer same =
     let sums : sizes_of all ≡ sizes_of ms + (m.size + sizes_of left) =
     ap sizes_of cut ∙ sizes_of-append ms (m ∷ left) ∙ ap (λ n. sizes_of ms + n) (sizes_of-cons m left) in
     absurd (omega (arith, before.size, fewer, same, sums))
 
 -- a name that an adapter has is among those of the messages
-name_among : (ms : List AdapterMessageView) (entries : List (String Global × Adapter)) (text : List ℕ) → AllZip IsAdapterOf ms (map adapter_entry entries)
+name_among : (ns ks : List NamedKey) (ms : List AdapterMessageView) (entries : List (String Global × Adapter)) (text : List ℕ) → AllZip (IsAdapterOf ns ks) ms (map adapter_entry entries)
     → is_some (named text entries) ≡ true → Contains (map (λ (m : AdapterMessageView). m.name) ms) text
-name_among [] [] text h there = absurd (false≢true there)
-name_among [] (e ∷ es) text h there = absurd h
-name_among (m ∷ ms) [] text h there = absurd h
-name_among (m ∷ ms) (e ∷ es) text h there = elim (cases_Bool (bytes_eq text (string_bytes e.0))) [
+name_among ns ks [] [] text h there = absurd (false≢true there)
+name_among ns ks [] (e ∷ es) text h there = absurd h
+name_among ns ks (m ∷ ms) [] text h there = absurd h
+name_among ns ks (m ∷ ms) (e ∷ es) text h there = elim (cases_Bool (bytes_eq text (string_bytes e.0))) [
   | inl same ↦ (0, omega arith, sym h.0.name ∙ sym ((bytes_eq-Decides text (string_bytes e.0)).0 same))
-  | inr other ↦ let at = name_among ms es text h.1 (sym (ap (λ b. is_some (cond b (Some e.1) (named text es))) other) ∙ there) in
+  | inr other ↦ let at = name_among ns ks ms es text h.1 (sym (ap (λ b. is_some (cond b (Some e.1) (named text es))) other) ∙ there) in
       (suc at.0, omega (arith, at.1), at.2)
 ]
 
 -- two adapters have one name
-pub named_twice : (all ms left : List AdapterMessageView) (m : AdapterMessageView) (bytes rest : List ℕ) (entries : List (String Global × Adapter))
-    → all ≡ ms ++ m ∷ left → AreAdaptersBefore ms bytes rest (map adapter_entry entries) → is_some (named m.name entries) ≡ true → IsNamedTwice all m.name
-named_twice all ms left m bytes rest entries cut before there = record {
+pub named_twice : (ns ks : List NamedKey) (all ms left : List AdapterMessageView) (m : AdapterMessageView) (bytes rest : List ℕ) (entries : List (String Global × Adapter))
+    → all ≡ ms ++ m ∷ left → AreAdaptersBefore ns ks ms bytes rest (map adapter_entry entries) → is_some (named m.name entries) ≡ true → IsNamedTwice all m.name
+named_twice ns ks all ms left m bytes rest entries cut before there = record {
   front = ms;
   again = m;
   back = left;
   cut = cut;
   named = refl;
-  before = name_among ms entries m.name before.each there;
+  before = name_among ns ks ms entries m.name before.each there;
 }
 
 -- texts one after another, and one of them more

@@ -1,5 +1,5 @@
 -- Causes of faults, step by step.
-use Rattle.std.proofs.Common.{◌≡◌, ◌≢◌, ℕ, ◌+◌, ◌<◌, Bool, false, List, [], ◌++◌, map, length, sum, ◌∷◌, Option, unwrap_or, Result, Ok, Err, IfErr, ap, ◌∙◌, arith}
+use Rattle.std.proofs.Common.{◌≡◌, ◌≢◌, ℕ, ◌+◌, ◌<◌, Bool, false, List, [], ◌++◌, map, length, sum, ◌∷◌, Option, unwrap_or, Result, Ok, Err, IfErr, ap, refl, subst, sym, ◌∙◌, arith}
 use Rattle.std.proofs.lemmas.List.{length-append}
 use Rattle.std.proofs.lemmas.List.Sums.{sum_by-cons}
 use Rattle.json.specs.Json.{document}
@@ -20,11 +20,17 @@ use Rattle.wc_resolve.specs.World.{ResolveView}
 use Rattle.wc_resolve.specs.Faults.{IsCause as IsResolveCause}
 use Rattle.wc_resolve.specs.declared.fault.ResolveFault.{ResolveFault}
 use Rattle.wc_resolve.specs.declared.fault.ResolveFault.TheVariants.{Memory as resolve_memory}
-use Rattle.wc_calls.specs.Encoders.{AreAdaptersOf, AreChosen, IsMessage, IsPartsOf, key_set}
-use Rattle.wc_calls.specs.MessageFaults.{IsAdaptersCause, IsMessageCause, IsPartsCause, IsRenamingCause, of_dedupe, of_encoder, of_json, of_resolve, sizes}
-use Rattle.wc_calls.specs.Messages.{AdapterMessageView, MessageView, message}
+use Rattle.wc_json.specs.Document.{DocumentView}
+use Rattle.wc_selection.specs.Worlds.{IsWorldCause}
+use Rattle.wc_selection.specs.declared.fault.RequestFault.{RequestFault}
+use Rattle.wc_selection.specs.declared.fault.RequestFault.TheVariants.{Memory as request_memory, PackageRange, UnknownWorld, SeveralWorlds}
+use Rattle.wc_calls.specs.AskedKeys.{keys_in, request_in}
+use Rattle.wc_calls.specs.Encoders.{AreChosen, AreExporters, IsMessage, IsPartsOf}
+use Rattle.wc_calls.specs.MessageFaults.{IsAdaptersCause, IsAskedCause, IsMessageCause, IsNameCause, IsPartsCause, IsRenamingCause, IsWorldNameCause, of_dedupe, of_encoder, of_json, of_request, of_resolve, sizes}
+use Rattle.wc_calls.specs.Messages.{AdapterMessageView, MessageView, WorldNameView, at_index, message, of_name}
+use Rattle.wc_calls.specs.Private.AskedKeys.{IsExportersCause}
 use Rattle.wc_calls.specs.declared.message_fault.MessageFault.{MessageFault}
-use Rattle.wc_calls.specs.declared.message_fault.MessageFault.TheVariants.{Memory, NotText, Json, Lengths, AdapterTwice, Dedupe, Encoder, World, Plan}
+use Rattle.wc_calls.specs.declared.message_fault.MessageFault.TheVariants.{Memory, NotText, Json, UnknownWorld as unknown_world, Lengths, AdapterTwice, Dedupe, Encoder, World, SeveralWorlds as several_worlds, PackageRange as package_range, UnknownKey, SeveralKeys, RepeatedKey, Plan}
 
 sum_cons : (n : ℕ) (ns : List ℕ) → sum (n ∷ ns) ≡ n + sum ns
 sum_cons n ns = sum_by-cons (λ k. k) n ns
@@ -33,6 +39,27 @@ sum_cons n ns = sum_by-cons (λ k. k) n ns
 pub renaming_cause : (bytes : List ℕ) (f : DedupeFault) → IsDedupeCause bytes f → IsRenamingCause bytes (of_dedupe f)
 renaming_cause bytes dedupe_memory h = tt
 renaming_cause bytes f h = h
+
+-- a world that is not selected
+
+pub unselected : (d : DocumentView) (name : List ℕ) (f : RequestFault) → IsWorldCause d name f → IsNameCause d name (of_request f)
+unselected d name request_memory h = tt
+unselected d name PackageRange h = h
+unselected d name (UnknownWorld text) h = (h.0, h.1.1, h.1.2)
+unselected d name (SeveralWorlds text) h = (h.0, h.1.1)
+unselected d name f h = tt
+
+name_cause : (m : MessageView) (modules : List ℕ) (name : WorldNameView) → m.world ≡ name → (f : MessageFault) → IsWorldNameCause m.document name f
+    → IsPartsCause m modules f
+name_cause m modules (at_index n) is f h = absurd h
+name_cause m modules (of_name name) is Memory h = tt
+name_cause m modules (of_name name) is unknown_world h = subst (λ w. IsWorldNameCause m.document w unknown_world) (sym is) h
+name_cause m modules (of_name name) is several_worlds h = subst (λ w. IsWorldNameCause m.document w several_worlds) (sym is) h
+name_cause m modules (of_name name) is package_range h = subst (λ w. IsWorldNameCause m.document w package_range) (sym is) h
+name_cause m modules (of_name name) is f h = absurd h
+
+pub world_cause : (m : MessageView) (modules : List ℕ) (f : MessageFault) → IsWorldNameCause m.document m.world f → IsPartsCause m modules f
+world_cause m modules f h = name_cause m modules m.world refl f h
 
 -- faults of the parts of an encoder
 
@@ -52,6 +79,19 @@ adapters_cause m modules main others Lengths cut size h = λ same.
 adapters_cause m modules main others (AdapterTwice name) cut size h = h
 adapters_cause m modules main others f cut size h = absurd h
 
+key_cause : (m : MessageView) (r : ResolveView) (world : ℕ) (f : MessageFault) → r ≡ m.document.parts
+    → IsAskedCause (request_in r world m.exports m.adapters) (keys_in r world m.exports m.adapters) f
+    → IsAskedCause (request_in m.document.parts world m.exports m.adapters) (keys_in m.document.parts world m.exports m.adapters) f
+key_cause m r world f is h =
+    subst (λ (p : ResolveView). IsAskedCause (request_in p world m.exports m.adapters) (keys_in p world m.exports m.adapters) f) is h
+
+pub exporters_cause : (m : MessageView) (modules main others : List ℕ) (world : ℕ) (r : ResolveView) (f : MessageFault) → AreChosen m modules world main others
+    → r ≡ m.document.parts → IsExportersCause r world m.exports m.adapters others f → IsPartsCause m modules f
+exporters_cause m modules main others world r (UnknownKey key) chosen is h = (world, chosen.named, key_cause m r world (UnknownKey key) is h)
+exporters_cause m modules main others world r (SeveralKeys key) chosen is h = (world, chosen.named, key_cause m r world (SeveralKeys key) is h)
+exporters_cause m modules main others world r (RepeatedKey key) chosen is h = (world, chosen.named, key_cause m r world (RepeatedKey key) is h)
+exporters_cause m modules main others world r f chosen is h = adapters_cause m modules main others f chosen.cut chosen.size h
+
 pub main_cause : (m : MessageView) (modules main others : List ℕ) (f : MessageFault) → modules ≡ main ++ others → length main ≡ m.size → IsRenamingCause main f
     → IsPartsCause m modules f
 main_cause m modules main others Memory cut size h = tt
@@ -66,7 +106,7 @@ encoder_cause m modules e f is h = (e, is, h)
 -- the parts of an encoder
 pub parts_of : (m : MessageView) (modules main others : List ℕ) (world : ℕ) (wasm : List ℕ) (renames : Option (List RenameValue)) (resolve : ResolveView)
     (keys : List KeyView) (adapters : List (List ℕ × AdapterView)) (rejects grows : Bool) (hook : List ℕ) → AreChosen m modules world main others
-    → IsDeduped main wasm (renames_in renames) → resolve ≡ m.document.parts → keys ≡ key_set m.exports → AreAdaptersOf m.adapters others adapters
+    → IsDeduped main wasm (renames_in renames) → resolve ≡ m.document.parts → AreExporters resolve world m.exports m.adapters others keys adapters
     → rejects ≡ unwrap_or m.reject_legacy_names false → grows ≡ unwrap_or m.realloc_via_memory_grow false → hook ≡ unwrap_or m.task_hook []
     → IsPartsOf m modules (record {
       module_bytes = wasm;
@@ -79,7 +119,7 @@ pub parts_of : (m : MessageView) (modules main others : List ℕ) (world : ℕ) 
       realloc_via_memory_grow = grows;
       task_hook = hook;
     })
-parts_of m modules main others world wasm renames resolve keys adapters rejects grows hook chosen deduped resolved keyed adapted rejecting growing hooked = record {
+parts_of m modules main others world wasm renames resolve keys adapters rejects grows hook chosen deduped resolved exporting rejecting growing hooked = record {
   main = main;
   others = others;
   cut = chosen.cut;
@@ -87,8 +127,7 @@ parts_of m modules main others world wasm renames resolve keys adapters rejects 
   renamed = deduped;
   resolve = resolved;
   world = chosen.named;
-  exports = keyed;
-  adapters = adapted;
+  exporters = subst (λ (r : ResolveView). AreExporters r world m.exports m.adapters others keys adapters) resolved exporting;
   rejects = rejecting;
   grows = growing;
   hook = hooked;

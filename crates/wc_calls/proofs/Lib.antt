@@ -5,4 +5,4 @@ mod ComponentWorldLemmas
 mod RequiredLemmas
 mod MissingLemmas
 mod TrimmingLemmas
-mod MessageLemmas
+mod AskedKeyLemmas

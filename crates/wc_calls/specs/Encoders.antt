@@ -1,52 +1,57 @@
 -- Which encoder a message is, with the bytes of its modules.
-use Rattle.std.specs.Prelude.{◌≡◌, ◌^◌, ◌++◌, ℕ, List, [], map, length, nat_lt, false, unwrap_or, option_and_then, Option, Some, None, IsSomeAnd, Ok, if◌then◌else◌, flat_map}
-use Rattle.std.specs.List.{AllZip, position}
-use Rattle.std.specs.Str.{bytes_eq}
-use Rattle.indexmap.specs.IndexSet.{insert_all}
+use Rattle.std.specs.Prelude.{◌≡◌, ◌++◌, ℕ, List, [], length, false, Option, unwrap_or, IsSomeAnd, Ok, flat_map}
+use Rattle.std.specs.List.{AllZip}
 use Rattle.json.specs.Json.{document}
 use Rattle.json.specs.Strict.{HasUniqueKeys}
 use Rattle.wc_dedupe.specs.Dedupe.{IsDeduped, renames_in}
 use Rattle.wc_encoder.specs.Adapters.{AdapterView}
 use Rattle.wc_encoder.specs.EncoderParts.{EncoderView}
 use Rattle.wc_encoder.specs.WellFormed.{IsWellFormed}
-use Rattle.wc_resolve.proofs.KeyLemmas.{key_view_eq}
-use Rattle.wc_resolve.specs.Views.{KeyView, WorldView}
-use Rattle.wc_calls.specs.Messages.{AdapterMessageView, MessageView, WorldNameView, at_index, message, of_name}
+use Rattle.wc_json.specs.Document.{DocumentView}
+use Rattle.wc_resolve.specs.Views.{KeyView}
+use Rattle.wc_resolve.specs.World.{ResolveView}
+use Rattle.wc_selection.specs.Keys.{NamedKey, export_keys, texts_of}
+use Rattle.wc_selection.specs.RequiredExports.{AreKeysThere}
+use Rattle.wc_selection.specs.Requests.{given_keys}
+use Rattle.wc_selection.specs.Worlds.{IsSelected}
+use Rattle.wc_calls.specs.AskedKeys.{adapter_keys, gives_none, keys_in, main_keys, request_in}
+use Rattle.wc_calls.specs.Messages.{AdapterMessageView, KeyMessageView, MessageView, WorldNameView, at_index, message, of_name}
 
 -- the text is JSON, no object in it repeats a member, and its value is read as the message
 abbrev pub IsMessage : List ℕ → MessageView → Type 0
 IsMessage text m = IsSomeAnd (document text) (λ j. HasUniqueKeys j × (message j ≡ Ok m))
 
--- an index below 2^32
-abbrev pub small_index : ℕ → Option ℕ
-small_index n = if nat_lt n (2 ^ 32) then Some n else None
+-- the index that a message gives; or the only world that its text names
+abbrev pub IsWorldNamed : DocumentView → WorldNameView → ℕ → Type 0
+IsWorldNamed d (at_index n) index = index ≡ n
+IsWorldNamed d (of_name name) index = IsSelected d name index
 
--- the index of a world; of several that have the name, the first
-abbrev pub world_of : List WorldView → WorldNameView → Option ℕ
-world_of worlds (at_index n) = Some n
-world_of worlds (of_name name) = option_and_then small_index (position (λ (w : WorldView). bytes_eq w.name name) worlds)
-
--- keys in the order of their first occurrences
-abbrev pub key_set : List KeyView → List KeyView
-key_set keys = insert_all key_view_eq [] keys
-
--- an adapter of a message, with its bytes
-pub record IsAdapterOf (m : AdapterMessageView) (a : List ℕ × AdapterView) : Type 0 where
+-- an adapter of a message, with its bytes, and with the keys of exports that it has to export: these are those of exports by
+-- their own texts, and by those that the message gives
+pub record IsAdapterOf (named keys : List NamedKey) (m : AdapterMessageView) (a : List ℕ × AdapterView) : Type 0 where
   pub name : a.0 ≡ m.name
   pub size : length a.1.wasm ≡ m.size
-  pub required : a.1.required_exports ≡ key_set m.exports
+  pub required : a.1.required_exports ≡ adapter_keys named keys m
   pub library : a.1.library_info ≡ m.library_info
 
 -- the adapters of a message in order, with these bytes one after another
-pub record AreAdaptersOf (ms : List AdapterMessageView) (bytes : List ℕ) (adapters : List (List ℕ × AdapterView)) : Type 0 where
-  pub each : AllZip IsAdapterOf ms adapters
+pub record AreAdaptersOf (named keys : List NamedKey) (ms : List AdapterMessageView) (bytes : List ℕ) (adapters : List (List ℕ × AdapterView)) : Type 0 where
+  pub each : AllZip (IsAdapterOf named keys) ms adapters
   pub cut : bytes ≡ flat_map (λ (a : List ℕ × AdapterView). a.1.wasm) adapters
+
+-- the keys that modules have to export: all that are given are those of the world's exports, and none is given twice; the main
+-- module's; and the adapters with theirs
+pub record AreExporters (r : ResolveView) (world : ℕ) (exports : Option (List KeyMessageView)) (ms : List AdapterMessageView) (bytes : List ℕ)
+    (required : List KeyView) (adapters : List (List ℕ × AdapterView)) : Type 0 where
+  pub there : AreKeysThere (given_keys (request_in r world exports ms)) (texts_of (keys_in r world exports ms))
+  pub main : required ≡ main_keys (gives_none exports) (request_in r world exports ms) (keys_in r world exports ms)
+  pub others : AreAdaptersOf (export_keys r world) (keys_in r world exports ms) ms bytes adapters
 
 -- the world's index, and how the bytes are cut: those of the main module before the others
 pub record AreChosen (m : MessageView) (modules : List ℕ) (world : ℕ) (main others : List ℕ) : Type 0 where
   pub cut : modules ≡ main ++ others
   pub size : length main ≡ m.size
-  pub named : world_of m.document.parts.worlds m.world ≡ Some world
+  pub named : IsWorldNamed m.document m.world world
 
 -- the parts of an encoder: the main module's bytes are before those of the adapters, and its repeated imports are renamed
 pub record IsPartsOf (m : MessageView) (modules : List ℕ) (e : EncoderView) : Type 0 where
@@ -56,9 +61,8 @@ pub record IsPartsOf (m : MessageView) (modules : List ℕ) (e : EncoderView) : 
   pub size : length main ≡ m.size
   pub renamed : IsDeduped main e.module_bytes (renames_in e.module_import_map)
   pub resolve : e.resolve ≡ m.document.parts
-  pub world : world_of m.document.parts.worlds m.world ≡ Some e.world
-  pub exports : e.main_module_exports ≡ key_set m.exports
-  pub adapters : AreAdaptersOf m.adapters others e.adapters
+  pub world : IsWorldNamed m.document m.world e.world
+  pub exporters : AreExporters m.document.parts e.world m.exports m.adapters others e.main_module_exports e.adapters
   pub rejects : e.reject_legacy_names ≡ unwrap_or m.reject_legacy_names false
   pub grows : e.realloc_via_memory_grow ≡ unwrap_or m.realloc_via_memory_grow false
   pub hook : e.task_hook ≡ unwrap_or m.task_hook []

@@ -1,4 +1,5 @@
 pub mod Answers
+pub mod AskedKeys
 pub mod ComponentPlans
 pub mod ComponentWorlds
 pub mod Encoders

@@ -1,5 +1,5 @@
 -- Why a message has no component's world.
-use Rattle.std.specs.Prelude.{◌≡◌, ◌≢◌, ◌++◌, ℕ, List, ◌∷◌, map, length, sum, None, ⊤, Contains, string_bytes}
+use Rattle.std.specs.Prelude.{◌≡◌, ◌≢◌, ◌⊎◌, ◌<◌, ◌++◌, ℕ, List, ◌∷◌, map, length, sum, ⊤, All, Contains, string_bytes}
 use Rattle.std.specs.Str.{IsUtf8}
 use Rattle.json.specs.Json.{document}
 use Rattle.wc_dedupe.specs.Dedupe.{IsCause as IsDedupeCause}
@@ -24,10 +24,19 @@ use Rattle.wc_world.specs.Views.{ComponentWorldView}
 use Rattle.wc_world.specs.World.{IsWorldOf}
 use Rattle.wc_world.specs.declared.fault.WorldFault.{WorldFault}
 use Rattle.wc_world.specs.declared.fault.WorldFault.TheVariants.{Memory as world_memory}
-use Rattle.wc_calls.specs.Encoders.{IsEncoderOf, IsMessage, IsPartsOf, world_of}
-use Rattle.wc_calls.specs.Messages.{AdapterMessageView, MessageView, message}
+use Rattle.wc_json.specs.Document.{DocumentView}
+use Rattle.wc_selection.specs.KeyNames.{count_unversioned}
+use Rattle.wc_selection.specs.Keys.{NamedKey, texts_of}
+use Rattle.wc_selection.specs.Requests.{RequestValue, given_keys}
+use Rattle.wc_selection.specs.Texts.{IsFirstMissing, IsFirstRepeated}
+use Rattle.wc_selection.specs.Worlds.{ArePackagesIn, AreSeveralWorlds, IsNoWorld}
+use Rattle.wc_selection.specs.declared.fault.RequestFault.{RequestFault}
+use Rattle.wc_selection.specs.declared.fault.RequestFault.TheVariants as request
+use Rattle.wc_calls.specs.AskedKeys.{keys_in, request_in}
+use Rattle.wc_calls.specs.Encoders.{IsEncoderOf, IsMessage, IsPartsOf, IsWorldNamed}
+use Rattle.wc_calls.specs.Messages.{AdapterMessageView, MessageView, WorldNameView, at_index, message, of_name}
 use Rattle.wc_calls.specs.declared.message_fault.MessageFault.{MessageFault}
-use Rattle.wc_calls.specs.declared.message_fault.MessageFault.TheVariants.{Memory, NotText, Json, UnknownWorld, Lengths, Resolve, AdapterTwice, Dedupe, Encoder, World, Plan}
+use Rattle.wc_calls.specs.declared.message_fault.MessageFault.TheVariants.{Memory, NotText, Json, UnknownWorld, Lengths, Resolve, AdapterTwice, Dedupe, Encoder, World, SeveralWorlds, PackageRange, UnknownKey, SeveralKeys, RepeatedKey, Plan}
 
 -- faults that are carried; that of memory as the own one
 
@@ -56,6 +65,43 @@ of_plan plan_memory = Memory
 of_plan (plan_world f) = World f
 of_plan f = Plan f
 
+-- a world that is not selected; the name is left out
+abbrev pub of_request : RequestFault → MessageFault
+of_request request.PackageRange = PackageRange
+of_request (request.UnknownWorld name) = UnknownWorld
+of_request (request.SeveralWorlds name) = SeveralWorlds
+of_request f = Memory
+
+-- why a text names no world of a document
+abbrev pub IsNameCause : DocumentView → List ℕ → MessageFault → Type 0
+IsNameCause d name Memory = ⊤
+IsNameCause d name UnknownWorld = IsNoWorld d name
+IsNameCause d name SeveralWorlds = AreSeveralWorlds d name
+IsNameCause d name PackageRange = ¬ ArePackagesIn d
+IsNameCause d name f = ⊥
+
+abbrev pub IsWorldNameCause : DocumentView → WorldNameView → MessageFault → Type 0
+IsWorldNameCause d (at_index n) f = ⊥
+IsWorldNameCause d (of_name name) f = IsNameCause d name f
+
+-- why keys that are given are not those of exports: the first that none has is not that of several without their versions, or is;
+-- or it is that of one that is given with its version too, or all are there, and one is given again
+abbrev pub IsAskedCause : RequestValue → List NamedKey → MessageFault → Type 0
+IsAskedCause q keys Memory = ⊤
+IsAskedCause q keys (UnknownKey key) =
+    IsFirstMissing (given_keys q) (texts_of keys) (string_bytes key) × (count_unversioned keys (string_bytes key) ≡ 0)
+IsAskedCause q keys (SeveralKeys key) =
+    IsFirstMissing (given_keys q) (texts_of keys) (string_bytes key) × (1 < count_unversioned keys (string_bytes key))
+IsAskedCause q keys (RepeatedKey key) =
+    (IsFirstMissing (given_keys q) (texts_of keys) (string_bytes key) × (count_unversioned keys (string_bytes key) ≡ 1))
+    ⊎ (All (Contains (texts_of keys)) (given_keys q) × IsFirstRepeated (given_keys q) (string_bytes key))
+IsAskedCause q keys f = ⊥
+
+-- those of a message, for the world that it names
+abbrev pub AreKeysCause : MessageView → MessageFault → Type 0
+AreKeysCause m f = (world : ℕ) × IsWorldNamed m.document m.world world × IsAskedCause (request_in m.document.parts world m.exports m.adapters)
+    (keys_in m.document.parts world m.exports m.adapters) f
+
 -- how many bytes the modules of a message have
 abbrev pub sizes : MessageView → ℕ
 sizes m = sum (m.size ∷ map (λ (a : AdapterMessageView). a.size) m.adapters)
@@ -74,7 +120,12 @@ abbrev pub IsMessageCause : List ℕ → List ℕ → MessageFault → Type 0
 IsMessageCause text modules Memory = ⊤
 IsMessageCause text modules NotText = ¬ IsUtf8 text
 IsMessageCause text modules (Json f) = IsCauseOf message (document text) f
-IsMessageCause text modules UnknownWorld = (m : MessageView) × IsMessage text m × (world_of m.document.parts.worlds m.world ≡ None)
+IsMessageCause text modules UnknownWorld = (m : MessageView) × IsMessage text m × IsWorldNameCause m.document m.world UnknownWorld
+IsMessageCause text modules SeveralWorlds = (m : MessageView) × IsMessage text m × IsWorldNameCause m.document m.world SeveralWorlds
+IsMessageCause text modules PackageRange = (m : MessageView) × IsMessage text m × IsWorldNameCause m.document m.world PackageRange
+IsMessageCause text modules (UnknownKey key) = (m : MessageView) × IsMessage text m × AreKeysCause m (UnknownKey key)
+IsMessageCause text modules (SeveralKeys key) = (m : MessageView) × IsMessage text m × AreKeysCause m (SeveralKeys key)
+IsMessageCause text modules (RepeatedKey key) = (m : MessageView) × IsMessage text m × AreKeysCause m (RepeatedKey key)
 IsMessageCause text modules Lengths = (m : MessageView) × IsMessage text m × (sizes m ≢ length modules)
 IsMessageCause text modules (Resolve f) = (m : MessageView) × IsMessage text m × IsResolveCause m.document.parts f
 IsMessageCause text modules (AdapterTwice name) = (m : MessageView) × IsMessage text m × IsNamedTwice m.adapters (string_bytes name)
@@ -88,7 +139,12 @@ IsMessageCause text modules (Plan f) =
 -- why a step of the encoder's making fails, for a message that is read
 abbrev pub IsPartsCause : MessageView → List ℕ → MessageFault → Type 0
 IsPartsCause m modules Memory = ⊤
-IsPartsCause m modules UnknownWorld = world_of m.document.parts.worlds m.world ≡ None
+IsPartsCause m modules UnknownWorld = IsWorldNameCause m.document m.world UnknownWorld
+IsPartsCause m modules SeveralWorlds = IsWorldNameCause m.document m.world SeveralWorlds
+IsPartsCause m modules PackageRange = IsWorldNameCause m.document m.world PackageRange
+IsPartsCause m modules (UnknownKey key) = AreKeysCause m (UnknownKey key)
+IsPartsCause m modules (SeveralKeys key) = AreKeysCause m (SeveralKeys key)
+IsPartsCause m modules (RepeatedKey key) = AreKeysCause m (RepeatedKey key)
 IsPartsCause m modules Lengths = sizes m ≢ length modules
 IsPartsCause m modules (Resolve f) = IsResolveCause m.document.parts f
 IsPartsCause m modules (AdapterTwice name) = IsNamedTwice m.adapters (string_bytes name)

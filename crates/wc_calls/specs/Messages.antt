@@ -1,6 +1,7 @@
 -- Messages, and how they are read from JSON values.
-use Rattle.std.specs.Prelude.{ℕ, Bool, List, map, Option, Ok, codes, string_bytes}
+use Rattle.std.specs.Prelude.{ℕ, Bool, List, Vec, map, Option, Ok, codes, string_bytes}
 use Rattle.std.specs.Option.{option_map}
+use Rattle.std.specs.declared.alloc.Global.{Global}
 use Rattle.json.specs.Json.{Json, string}
 use Rattle.wc_encoder.specs.Adapters.{LibraryView}
 use Rattle.wc_json.specs.Document.{DocumentView, document_of, document_view}
@@ -12,11 +13,12 @@ use Rattle.wc_json.specs.Members.{optional_member, required_member}
 use Rattle.wc_resolve.specs.Views.{KeyView, key_view}
 use Rattle.wc_calls.specs.Libraries.{library, library_message_view}
 use Rattle.wc_calls.specs.declared.messages.AdapterMessage.{AdapterMessage}
+use Rattle.wc_calls.specs.declared.messages.KeyMessage.{KeyMessage}
 use Rattle.wc_calls.specs.declared.messages.Message.{Message}
 use Rattle.wc_calls.specs.declared.messages.WorldName.{WorldName}
 use Rattle.wc_calls.specs.declared.messages.WorldName.TheVariants.{Index, Name}
 
--- the world at an index, or the first of a name
+-- the world at an index, or the one that a text names
 pub data WorldNameView : Type 0 where
   at_index : ℕ → WorldNameView
   of_name : List ℕ → WorldNameView
@@ -33,19 +35,36 @@ abbrev pub world_name : Json → Reading WorldNameView
 world_name (string s) = Ok (of_name s)
 world_name j = world_index j
 
+-- a key of an export: its text, and the key that the text is by itself
+pub record KeyMessageView : Type 0 where
+  pub text : List ℕ
+  pub key : KeyView
+
+abbrev pub key_message_view : KeyMessage → KeyMessageView
+key_message_view k = record { text = string_bytes k.text; key = key_view k.key }
+
+abbrev pub key_message : Json → Reading KeyMessageView
+key_message j = do
+  text ← text j
+  key ← key j
+  Ok (record { text = text; key = key })
+
+abbrev pub exports_view : Option (Vec KeyMessage Global) → Option (List KeyMessageView)
+exports_view exports = option_map (λ (keys : Vec KeyMessage Global). map key_message_view keys.items) exports
+
 -- an adapter or a library: its name, how many bytes it has, the keys that it has to export, and how it is instantiated, if
 -- it is a library
 pub record AdapterMessageView : Type 0 where
   pub name : List ℕ
   pub size : ℕ
-  pub exports : List KeyView
+  pub exports : List KeyMessageView
   pub library_info : Option LibraryView
 
 abbrev pub adapter_message_view : AdapterMessage → AdapterMessageView
 adapter_message_view a = record {
   name = string_bytes a.name;
   size = a.length;
-  exports = map key_view a.exports.items;
+  exports = map key_message_view a.exports.items;
   library_info = option_map library_message_view a.library_info;
 }
 
@@ -53,12 +72,12 @@ abbrev pub adapter_message : Json → Reading AdapterMessageView
 adapter_message j = do
   name ← required_member (codes "name") text j
   size ← required_member (codes "length") index j
-  exports ← required_member (codes "exports") (list key) j
+  exports ← required_member (codes "exports") (list key_message) j
   library_info ← optional_member (codes "library_info") library j
   Ok (record { name = name; size = size; exports = exports; library_info = library_info })
 
 -- the worlds, interfaces, types and packages; the world; flags, which may be missing, and the name of the task hook; how
--- many bytes the main module has, and the keys that it has to export; and the adapters
+-- many bytes the main module has, and the keys that it has to export, which may be missing; and the adapters
 pub record MessageView : Type 0 where
   pub document : DocumentView
   pub world : WorldNameView
@@ -66,7 +85,7 @@ pub record MessageView : Type 0 where
   pub realloc_via_memory_grow : Option Bool
   pub task_hook : Option (List ℕ)
   pub size : ℕ
-  pub exports : List KeyView
+  pub exports : Option (List KeyMessageView)
   pub adapters : List AdapterMessageView
 
 abbrev pub message_view : Message → MessageView
@@ -77,7 +96,7 @@ message_view m = record {
   realloc_via_memory_grow = m.realloc_via_memory_grow;
   task_hook = option_map string_bytes m.task_hook;
   size = m.length;
-  exports = map key_view m.exports.items;
+  exports = exports_view m.exports;
   adapters = map adapter_message_view m.adapters.items;
 }
 
@@ -89,7 +108,7 @@ message j = do
   realloc_via_memory_grow ← optional_member (codes "realloc_via_memory_grow") truth j
   task_hook ← optional_member (codes "task_hook") text j
   size ← required_member (codes "length") index j
-  exports ← required_member (codes "exports") (list key) j
+  exports ← optional_member (codes "exports") (list key_message) j
   adapters ← required_member (codes "adapters") (list adapter_message) j
   Ok (record {
     document = document;

@@ -116,12 +116,13 @@ pub(crate) fn answer_fault(alloc: Global, fault: &MessageFault, out: &mut [u8]) 
 /// an object with the members
 ///
 /// - `resolve`: worlds, interfaces, types and packages, as `wc_json` reads them;
-/// - `world`: the index of a world, or its name (of several worlds of that name it is the first);
+/// - `world`: the index of a world, or a name as `select_world` of `wc_selection` takes it;
 /// - `reject_legacy_names` and `realloc_via_memory_grow`, true or false, and `task_hook`, the name of the task hook; each
 ///   of them may be missing, which is false and the empty name;
 /// - `length`: how many bytes the main module has;
-/// - `exports`: the keys of the world's exports that it has to export, a list of texts as they are in `resolve`
-///   (`interface-3`, or a plain name);
+/// - `exports`: the keys of the world's exports that it has to export, a list of texts. Each is `interface-3`, as it is in
+///   `resolve`, or the text of an export, of an interface also without its version where one alone has it so
+///   (`request_keys` of `wc_selection`). It may be missing, which is all keys that no adapter has to export;
 /// - `adapters`: a list of objects with `name`, `length` and `exports`, and `library_info`, missing or null for one that is
 ///   no library, else as `wc_record` writes it.
 ///

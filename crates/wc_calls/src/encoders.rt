@@ -2,79 +2,68 @@
 
 ghost use Rattle.std.specs.Prelude.{◌≡◌, ◌++◌, ◌<◌, [], IfErr, IfNone, IfOk, IfSome, List, length, map, string_bytes, unwrap_or, ℕ};
 ghost use Rattle.std.specs.Cow.{cow_slice_items};
-ghost use Rattle.std.specs.List.{position};
 ghost use Rattle.std.specs.Option.{option_map};
-ghost use Rattle.std.specs.Str.{bytes_eq};
 ghost use Rattle.wc_dedupe.specs.Dedupe.{IsDeduped, renames_in};
 ghost use Rattle.wc_encoder.specs.Adapters.{adapter_entry, adapter_view, library_view};
-ghost use Rattle.wc_encoder.specs.EncoderParts.{parts_view};
 ghost use Rattle.wc_encoder.specs.WellFormed.{IsWellFormed};
-ghost use Rattle.wc_resolve.specs.Views.{key_view, world_view};
-ghost use Rattle.wc_calls.specs.Encoders.{AreAdaptersOf, AreChosen, IsEncoderOf, IsPartsOf, key_set, small_index, world_of};
+ghost use Rattle.wc_json.specs.Document.{document_view};
+ghost use Rattle.wc_resolve.specs.Views.{key_view};
+ghost use Rattle.wc_selection.specs.Keys.{AreKeysApart, named_key};
+ghost use Rattle.wc_selection.specs.Worlds.{IsSelected};
+ghost use Rattle.wc_calls.specs.Encoders.{AreAdaptersOf, AreChosen, AreExporters, IsEncoderOf, IsPartsOf, IsWorldNamed};
 ghost use Rattle.wc_calls.specs.Libraries.{library_message_view};
-ghost use Rattle.wc_calls.specs.MessageFaults.{IsAdaptersCause, IsMessageCause, IsPartsCause, IsRenamingCause};
-ghost use Rattle.wc_calls.specs.Messages.{adapter_message_view, message_view, of_name, world_name_view};
+ghost use Rattle.wc_calls.specs.MessageFaults.{IsAdaptersCause, IsMessageCause, IsNameCause, IsPartsCause, IsRenamingCause, IsWorldNameCause, of_request};
+ghost use Rattle.wc_calls.specs.Messages.{adapter_message_view, exports_view, message_view, world_name_view};
+ghost use Rattle.wc_calls.specs.Private.AskedKeys.{IsExportersCause};
 
+use crate::asked_keys::{adapter_keys, asked_of, named_exports};
 use crate::libraries::LibraryMessage;
 use crate::message_fault::MessageFault;
-use crate::messages::{AdapterMessage, Message, WorldName};
+use crate::messages::{AdapterMessage, KeyMessage, Message, WorldName};
 use std::alloc::{AllocError, Global};
 use std::borrow::CowSlice;
 use std::str;
 use wc_dedupe::ModuleImportMap;
 use wc_encoder::{Adapter, ComponentEncoder, EncoderParts, LibraryInfo, Metadata};
-use wc_json::value_from_json;
+use wc_json::{Document, value_from_json};
 use wc_maps::{Map, Seed, Set};
-use wc_resolve::{Resolve, World, WorldId, WorldKey};
+use wc_resolve::{Resolve, WorldId, WorldKey};
+use wc_selection::{RequestFault, select_world};
 
-/// The position of the first world of this name.
-fn position_named(worlds: &[World], name: &str) -> Option<usize>
-    ensures { result ≡ position (λ w. bytes_eq (world_view w).name name.now) worlds.now }
+/// The fault of a message whose world is not selected.
+fn world_fault(fault: RequestFault<'_>) -> MessageFault
+    ensures { result ≡ of_request fault.entry }
 {
-    worlds.iter().position(|world| world.name.as_str() == name)
-}
-
-/// The id of the world at a position, if it is below 2^32.
-fn small_id(position: usize) -> Option<WorldId>
-    ensures { option_map (λ id. id.0) result ≡ small_index position }
-{
-    match u32::try_from(position) {
-        Ok(index) => Some(WorldId(index)),
-        Err(_) => None,
+    match fault {
+        RequestFault::PackageRange => MessageFault::PackageRange,
+        RequestFault::UnknownWorld(_) => MessageFault::UnknownWorld,
+        RequestFault::SeveralWorlds(_) => MessageFault::SeveralWorlds,
+        _ => MessageFault::Memory,
     }
 }
 
-/// The id of the first world of this name.
-fn first_named(worlds: &[World], name: &str) -> Option<WorldId>
-    ensures { option_map (λ id. id.0) result
-        ≡ world_of (map world_view worlds.now) (of_name name.now) }
+/// The id of the world of a document that a text names (`select_world`).
+fn named_world(alloc: Global, document: &Document, name: &str) -> Result<WorldId, MessageFault>
+    ensures selected { IfOk result (λ id. IsSelected (document_view document.now) name.now id.0) }
+    ensures fault { IfErr result (IsNameCause (document_view document.now) name.now) }
 {
-    match position_named(worlds, name) {
-        Some(position) => small_id(position),
-        None => None,
+    match select_world(alloc, document, name) {
+        Ok(id) => Ok(id),
+        Err(fault) => Err(world_fault(fault)),
     }
 }
 
-/// The id of the world that a message names. An index may be out of range.
-fn world_of(worlds: &[World], name: &WorldName) -> Option<WorldId>
-    ensures { option_map (λ id. id.0) result
-        ≡ world_of (map world_view worlds.now) (world_name_view name.now) }
+/// The id of the world of a document that a message names. An index may be out of range.
+fn world_of(alloc: Global, document: &Document, name: &WorldName) -> Result<WorldId, MessageFault>
+    ensures named { IfOk result (λ id.
+        IsWorldNamed (document_view document.now) (world_name_view name.now) id.0) }
+    ensures fault { IfErr result (IsWorldNameCause (document_view document.now)
+        (world_name_view name.now)) }
 {
     match name {
-        WorldName::Index(id) => Some(*id),
-        WorldName::Name(name) => first_named(worlds, name),
+        WorldName::Index(id) => Ok(*id),
+        WorldName::Name(name) => named_world(alloc, document, name.as_str()),
     }
-}
-
-/// Keys as a set. `seed`: the seed of the set.
-fn key_set(alloc: Global, seed: Seed, keys: Vec<WorldKey>) -> Result<Set<WorldKey>, AllocError>
-    ensures { IfOk result (λ set. map key_view set.keys ≡ key_set (map key_view keys.items)) }
-{
-    let mut set = Set::with_hasher(alloc, seed);
-    for key in keys {
-        set.insert(key)?;
-    }
-    Ok(set)
 }
 
 /// So many of the first bytes, and the others; `None` where there are fewer.
@@ -100,22 +89,20 @@ fn library_of(library: Option<LibraryMessage>) -> Option<LibraryInfo>
     }
 }
 
-/// The adapter with these bytes, keys and library information. `seed`: the seed of its set of keys.
+/// The adapter with these bytes, keys and library information.
 fn adapter_with(
     alloc: Global,
-    seed: Seed,
     wasm: &[u8],
-    exports: Vec<WorldKey>,
+    required_exports: Set<WorldKey>,
     library: Option<LibraryMessage>,
 ) -> Result<Adapter, AllocError>
     ensures wasm { IfOk result (λ a. (adapter_view a).wasm ≡ wasm.now) }
     ensures required { IfOk result (λ a. (adapter_view a).required_exports
-        ≡ key_set (map key_view exports.items)) }
+        ≡ map key_view required_exports.keys) }
     ensures library { IfOk result (λ a. (adapter_view a).library_info
         ≡ option_map library_message_view library) }
 {
     let wasm = Vec::from_slice(alloc, wasm)?;
-    let required_exports = key_set(alloc, seed, exports)?;
     Ok(Adapter {
         wasm,
         required_exports,
@@ -123,15 +110,19 @@ fn adapter_with(
     })
 }
 
-/// The adapters of messages, with these bytes one after another. `seed`: the seed of the maps that are made.
+/// The adapters of messages, with these bytes one after another, and with those of the keys of exports (`keys`) that
+/// they have to export. `seed`: the seed of the maps that are made.
 fn adapters_of(
     alloc: Global,
     seed: Seed,
+    named: &[(WorldKey, String)],
+    keys: &[(WorldKey, String)],
     messages: Vec<AdapterMessage>,
     bytes: &[u8],
 ) -> Result<Map<String, Adapter>, MessageFault>
-    ensures adapters { IfOk result (λ m. AreAdaptersOf
-        (map adapter_message_view messages.items) bytes.now (map adapter_entry m.entries)) }
+    requires { AreKeysApart (map named_key keys.now) }
+    ensures adapters { IfOk result (λ m. AreAdaptersOf (map named_key named.now)
+        (map named_key keys.now) (map adapter_message_view messages.items) bytes.now (map adapter_entry m.entries)) }
     ensures fault { IfErr result (IsAdaptersCause
         (map adapter_message_view messages.items) bytes.now) }
 {
@@ -145,13 +136,47 @@ fn adapters_of(
         if adapters.contains_key(message.name.as_str()) {
             return Err(MessageFault::AdapterTwice(message.name));
         }
-        let adapter = adapter_with(alloc, seed, wasm, message.exports, message.library_info)?;
+        let required = adapter_keys(alloc, seed, named, keys, &message)?;
+        let adapter = adapter_with(alloc, wasm, required, message.library_info)?;
         adapters.insert(message.name, adapter)?;
     }
     if !rest.is_empty() {
         return Err(MessageFault::Lengths);
     }
     Ok(adapters)
+}
+
+/// What modules have to export: the main module, and the adapters.
+#[derive(Drop)]
+struct Exporters {
+    main: Set<WorldKey>,
+    adapters: Map<String, Adapter>,
+}
+
+/// What the modules of a message have to export of a world. `bytes`: those of the adapters. `seed`: the seed of the
+/// maps that are made.
+fn exporters_of(
+    alloc: Global,
+    seed: Seed,
+    resolve: &Resolve,
+    world: WorldId,
+    exports: &Option<Vec<KeyMessage>>,
+    adapters: Vec<AdapterMessage>,
+    bytes: &[u8],
+) -> Result<Exporters, MessageFault>
+    ensures exporters { IfOk result (λ e. AreExporters resolve.now world.0
+        (exports_view exports.now) (map adapter_message_view adapters.items) bytes.now
+        (map key_view e.main.keys) (map adapter_entry e.adapters.entries)) }
+    ensures fault { IfErr result (IsExportersCause resolve.now world.0
+        (exports_view exports.now) (map adapter_message_view adapters.items) bytes.now) }
+{
+    let named = named_exports(alloc, resolve, world)?;
+    let asked = asked_of(alloc, seed, &named, exports, &adapters, resolve, world)?;
+    let adapters = adapters_of(alloc, seed, &named, &asked.keys, adapters, bytes)?;
+    Ok(Exporters {
+        main: asked.main,
+        adapters,
+    })
 }
 
 /// The bytes, copied where they are borrowed.
@@ -212,9 +237,8 @@ fn encoder_for(
         adapters,
     } = message;
     let resolve = Resolve::build(alloc, document.parts)?;
-    let adapters = adapters_of(alloc, seed, adapters, others)?;
+    let exporters = exporters_of(alloc, seed, &resolve, world, &exports, adapters, others)?;
     let (wasm, renames) = renamed(alloc, main)?;
-    let main_module_exports = key_set(alloc, seed, exports)?;
     let rejects = reject_legacy_names.unwrap_or(false);
     let grows = realloc_via_memory_grow.unwrap_or(false);
     let hook = text_or_empty(alloc, task_hook);
@@ -222,8 +246,8 @@ fn encoder_for(
         module: wasm,
         module_import_map: renames,
         metadata: Metadata { resolve, world },
-        main_module_exports,
-        adapters,
+        main_module_exports: exporters.main,
+        adapters: exporters.adapters,
         reject_legacy_names: rejects,
         realloc_via_memory_grow: grows,
         task_hook: hook,
@@ -242,9 +266,7 @@ fn encoder_with(
     ensures formed { IfOk result IsWellFormed }
     ensures fault { IfErr result (IsPartsCause (message_view message) modules.now) }
 {
-    let Some(world) = world_of(&message.document.parts.worlds, &message.world) else {
-        return Err(MessageFault::UnknownWorld);
-    };
+    let world = world_of(alloc, &message.document, &message.world)?;
     let Some((main, others)) = split(modules, message.length) else {
         return Err(MessageFault::Lengths);
     };

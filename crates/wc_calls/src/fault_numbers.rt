@@ -209,7 +209,7 @@ pub fn plan_fault_number(fault: &PlanFault) -> u32
     }
 }
 
-/// The number of a fault of a message. Names and paths are no part of it.
+/// The number of a fault of a message. Names, keys and paths are no part of it.
 pub fn message_fault_number(fault: &MessageFault) -> u32
     ensures { result ≡ message_fault_number fault.now }
 {
@@ -225,5 +225,10 @@ pub fn message_fault_number(fault: &MessageFault) -> u32
         MessageFault::Encoder(fault) => 8 + CARRIED * encoder_fault_number(*fault),
         MessageFault::World(fault) => 9 + CARRIED * world_fault_number(fault),
         MessageFault::Plan(fault) => 10 + CARRIED * plan_fault_number(fault),
+        MessageFault::SeveralWorlds => 11,
+        MessageFault::PackageRange => 12,
+        MessageFault::UnknownKey(_) => 13,
+        MessageFault::SeveralKeys(_) => 14,
+        MessageFault::RepeatedKey(_) => 15,
     }
 }

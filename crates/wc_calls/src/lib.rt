@@ -24,6 +24,7 @@
 #![tactic(auto)]
 
 mod answers;
+mod asked_keys;
 mod component_plans;
 mod component_worlds;
 mod encoders;

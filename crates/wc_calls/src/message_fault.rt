@@ -12,8 +12,11 @@ use wc_plan::PlanFault;
 use wc_resolve::ResolveFault;
 use wc_world::WorldFault;
 
-/// Why a message has no component's world, or no plan of it. Of several causes the first in this order is named; `Memory` may come in
-/// place of any. None carries a `Memory` of its own but by the step that it is of.
+/// Why a message has no component's world, or no plan of it. Of several causes the first in this order is named, with
+/// those of `UnknownWorld`, `SeveralWorlds` and `PackageRange` at the place of the first, and those of keys after
+/// `Resolve`; `Lengths` of adapters is at the place of `AdapterTwice`, and `Memory` may come in place of any. Of keys
+/// those of the main module are before those of adapters, and one that no export has is before one that is given twice.
+/// None carries a `Memory` of its own but by the step that it is of.
 #[derive(Debug, Drop, Error)]
 pub enum MessageFault {
     /// An allocation failed.
@@ -49,6 +52,21 @@ pub enum MessageFault {
     /// The component's world has no plan. It carries neither `World` nor `Memory`.
     #[error("Plan: {0}")]
     Plan(PlanFault),
+    /// Several worlds have the name that the message has.
+    #[error("SeveralWorlds")]
+    SeveralWorlds,
+    /// The world is given by its name, and a world says to be of a package that is not there.
+    #[error("PackageRange")]
+    PackageRange,
+    /// No export of the world has this key.
+    #[error("UnknownKey `{0}`")]
+    UnknownKey(String),
+    /// Several exports of the world have this key, but for their versions.
+    #[error("SeveralKeys `{0}`")]
+    SeveralKeys(String),
+    /// This key of an export is given twice, for one module or for two.
+    #[error("RepeatedKey `{0}`")]
+    RepeatedKey(String),
 }
 
 impl From<AllocError> for MessageFault {

@@ -8,7 +8,7 @@ use wc_json::{Document, FromJson, JsonFault, optional_member, required_member};
 use wc_maps::Seed;
 use wc_resolve::{WorldId, WorldKey};
 
-/// Which world a component is encoded for: that at an index, or the first of a name.
+/// Which world a component is encoded for: that at an index, or the one that a text names.
 #[derive(Drop)]
 pub(crate) enum WorldName {
     Index(WorldId),
@@ -32,6 +32,29 @@ impl FromJson for WorldName {
     }
 }
 
+/// A key of the world's exports: its text, and the key that the text is by itself.
+#[derive(Drop)]
+pub(crate) struct KeyMessage {
+    pub text: String,
+    pub key: WorldKey,
+}
+
+impl FromJson for KeyMessage {
+    ghost use Rattle.wc_calls.specs.Messages.{KeyMessageView, key_message, key_message_view};
+
+    ghost View = { KeyMessageView };
+
+    ghost view = { key_message_view };
+
+    ghost reading = { key_message };
+
+    fn from_json(alloc: Global, seed: Seed, value: &Value<'_>) -> Result<KeyMessage, JsonFault> {
+        let text = String::from_json(alloc, seed, value)?;
+        let key = WorldKey::from_json(alloc, seed, value)?;
+        Ok(KeyMessage { text, key })
+    }
+}
+
 /// An adapter or a library.
 #[derive(Drop)]
 pub(crate) struct AdapterMessage {
@@ -39,7 +62,7 @@ pub(crate) struct AdapterMessage {
     /// How many bytes its module has.
     pub length: u32,
     /// The keys of the world's exports that it has to export.
-    pub exports: Vec<WorldKey>,
+    pub exports: Vec<KeyMessage>,
     /// How it is instantiated, if it is a library.
     pub library_info: Option<LibraryMessage>,
 }
@@ -81,8 +104,8 @@ pub(crate) struct Message {
     pub task_hook: Option<String>,
     /// How many bytes the main module has.
     pub length: u32,
-    /// The keys of the world's exports that the main module has to export.
-    pub exports: Vec<WorldKey>,
+    /// The keys of the world's exports that the main module has to export. None: all that no adapter has to export.
+    pub exports: Option<Vec<KeyMessage>>,
     pub adapters: Vec<AdapterMessage>,
 }
 
@@ -107,7 +130,7 @@ impl FromJson for Message {
         )?;
         let task_hook = optional_member(alloc, seed, value, "task_hook")?;
         let length = required_member(alloc, seed, value, "length")?;
-        let exports = required_member(alloc, seed, value, "exports")?;
+        let exports = optional_member(alloc, seed, value, "exports")?;
         let adapters = required_member(alloc, seed, value, "adapters")?;
         Ok(Message {
             document,

@@ -1,6 +1,6 @@
 -- Look-ups in a table of names, by the records of its entries.
-use Rattle.std.proofs.Common.{◌≡◌, ℕ, ◌+◌, ◌<◌, ◌≤◌, Bool, true, false, cond, List, [], ◌∷◌, Option, Some, None, String, string_bytes, refl, sym, ap, ◌∙◌, subst, inl, inr, arith}
-use Rattle.std.specs.Option.{option_map, IsSome, is_some}
+use Rattle.std.proofs.Common.{◌≡◌, ℕ, ◌+◌, ◌<◌, ◌≤◌, Bool, true, false, cond, List, [], ◌∷◌, MutBor, Option, Some, None, String, string_bytes, refl, sym, ap, ◌∙◌, subst, inl, inr, arith}
+use Rattle.std.specs.Option.{option_map, option_copied_mut, IsSome, is_some}
 use Rattle.std.specs.Map.{lookup, update}
 use Rattle.std.specs.Str.{bytes_eq}
 use Rattle.std.specs.BTreeMap.{is_at}
@@ -65,6 +65,11 @@ name_records_stay es fs original m n there h q =
       | false ↦ λ differs. refl
     ] refl)
 
+-- what a copy has, its original has
+pub IsSome-from_copied : (o : Option (MutBor NameRecord)) → IsSome (option_copied_mut o) → IsSome o
+IsSome-from_copied None h = h
+IsSome-from_copied (Some x) h = refl
+
 -- with each number from 2 below its `next` a name is a name that has an entry
 abbrev pub Tried : (List ℕ → Option NameRecord) → Type 0
 Tried f = (n : List ℕ) (g : NameRecord) → f n ≡ Some g → (2 ≤ g.next) × ((k : ℕ) → 2 ≤ k → k < g.next → IsSome (f (name_with_number n k)))
@@ -81,6 +86,15 @@ module _ (f h : List ℕ → Option NameRecord) (name : List ℕ) (m : NameRecor
   -- the name that was put has one
   pub here_update : IsSome (h name)
   here_update = rw (put name, (bytes_eq-Decides name name).1 refl) refl
+
+  -- an entry that was put there, and put back
+  pub put_back : (g : List ℕ → Option NameRecord) (before : NameRecord) → f name ≡ Some before → ((q : List ℕ) → g q ≡ update bytes_eq h name (Some before) q) → (q : List ℕ) → g q ≡ f q
+  put_back g before was back q =
+      rw (back q, put q)
+      (elim (bytes_eq name q) as (λ b. bytes_eq name q ≡ b → cond b (Some before) (cond b (Some m) (f q)) ≡ f q) [
+        | true ↦ λ same. sym (subst (λ (x : List ℕ). f x ≡ Some before) ((bytes_eq-Decides name q).0 same) was)
+        | false ↦ λ differs. refl
+      ] refl)
 
   -- with each number below its `next` a name is a name that has an entry, where that is so of the old entries and of
   -- the new one

@@ -2,7 +2,7 @@
 -- the rename to it, or None again where it is an original name.
 use Rattle.std.specs.Prelude.{◌≡◌, ℕ, ◌<◌, ◌≤◌, cond, List, map, String, string_bytes, Option, Some, None}
 use Rattle.std.specs.Option.{IsSome}
-use Rattle.std.specs.Map.{lookup}
+use Rattle.std.specs.Map.{lookup, update}
 use Rattle.std.specs.Str.{bytes_eq}
 use Rattle.std.specs.BTreeMap.{BTreeMap, get_by_text}
 use Rattle.wc_dedupe.specs.Renaming.{name_with_number, IsLeastNumberedName}
@@ -16,14 +16,19 @@ name_records es = map (λ e. (string_bytes e.0, e.1.rename)) es
 abbrev pub name_record_of : List (List ℕ × Option ℕ) → List ℕ → Option (Option ℕ)
 name_record_of table n = lookup (bytes_eq n) table
 
--- with each number from 2 below this one the original name is a name that an import has
-abbrev pub AreTaken : List (List ℕ × Option ℕ) → List ℕ → ℕ → Type 0
-AreTaken table original end = (k : ℕ) → 2 ≤ k → k < end → IsSome (name_record_of table (name_with_number original k))
-
 -- with each number from 2 below its `next` a name is a name that an import has
 abbrev pub IsTried : {Y : Type 0} → BTreeMap (String Y) NameRecord → Type 0
 IsTried m = (n : List ℕ) (g : NameRecord) → get_by_text m n ≡ Some g
     → (2 ≤ g.next) × ((k : ℕ) → 2 ≤ k → k < g.next → IsSome (get_by_text m (name_with_number n k)))
+
+-- the name was free and is the name of a rename now, and every other name has the record that it had
+abbrev pub AddsName : {Y : Type 0} → BTreeMap (String Y) NameRecord → BTreeMap (String Y) NameRecord → List ℕ → ℕ → Type 0
+AddsName old new name index = (get_by_text old name ≡ None)
+    × ((q : List ℕ) → get_by_text new q ≡ update bytes_eq (get_by_text old) name (Some (record { next = 2; rename = Some index })) q)
+
+-- each name has the record that it had
+abbrev pub KeepsNames : {Y : Type 0} → BTreeMap (String Y) NameRecord → BTreeMap (String Y) NameRecord → Type 0
+KeepsNames old new = (q : List ℕ) → get_by_text new q ≡ get_by_text old q
 
 -- the name n has the record, and every other name the one that it had
 abbrev pub Records : (List ℕ → Option (Option ℕ)) → (List ℕ → Option (Option ℕ)) → List ℕ → Option ℕ → Type 0

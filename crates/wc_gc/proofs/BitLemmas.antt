@@ -1,10 +1,11 @@
 -- Sets of bits.
-use Rattle.std.proofs.Common.{◌≡◌, ◌≢◌, ℕ, zero, suc, ◌*◌, ◌/◌, ◌%◌, ◌^◌, ◌<◌, List, length, get_or, set, max, refl, sym, ◌∙◌, ap, not, ◌⊎◌, inl, inr, arith, bit_or, bit_and}
+use Rattle.std.proofs.Common.{◌≡◌, ◌≢◌, ℕ, zero, suc, ◌*◌, ◌/◌, ◌%◌, ◌^◌, ◌<◌, ◌≤◌, List, length, get_or, set, max, refl, sym, ◌∙◌, ap, not, ◌⊎◌, inl, inr, arith, bit_or, bit_and}
+use Rattle.std.proofs.Common.{Bool, true, false, ◌&&◌, nat_lt}
 use Rattle.std.specs.Prelude.{◌==◌}
 use Rattle.std.specs.Int.{bit_at}
-use Rattle.std.proofs.lemmas.Nat.Bits.{bit_at_or, bit_at-pow_same, bit_at-pow_other, and_pow, bit_at-lt}
+use Rattle.std.proofs.lemmas.Nat.Bits.{bit_at-zero, bit_at_or, bit_at-pow_same, bit_at-pow_other, and_pow, bit_at-lt}
 use Rattle.std.proofs.lemmas.Bool.Decides.{eqb_tells, nat_tests}
-use Rattle.std.proofs.lemmas.List.{get_or-set_same, get_or-set_other}
+use Rattle.std.proofs.lemmas.List.{get_or_past, get_or-set_same, get_or-set_other}
 use Rattle.std.proofs.lemmas.Nat.{pow_pos}
 use Rattle.wc_read.proofs.NumbersLemmas.{shl_without_overflow}
 use Rattle.wc_gc.specs.Bits.{bit_of}
@@ -48,3 +49,19 @@ mask_is x = shl_without_overflow 1 (x % 64) 1 (omega arith) (omega arith) ∙ on
   where
     one_mul : (n : ℕ) → 1 * n ≡ n
     one_mul n = omega arith
+
+-- past the last word no bit is set, so a set that has the bits below is whole
+
+past_bits : (words : List ℕ) (y : ℕ) → 64 * length words ≤ y → bit_of words y ≡ false
+past_bits words y h =
+    let past : length words ≤ y / 64 = omega arith in
+    ap (λ (w : ℕ). bit_at w (y % 64) == 1) (get_or_past words (y / 64) 0 past) ∙ ap (λ (w : ℕ). w == 1) (bit_at-zero (y % 64))
+
+pub all_bits : (words : List ℕ) (set : ℕ → Bool) (x : ℕ) → ((y : ℕ) → set y ≡ (nat_lt y x && bit_of words y)) → 64 * length words ≤ x → (y : ℕ) → set y ≡ bit_of words y
+all_bits words set x h le y = at (nat_lt y x) refl
+  where
+    at : (b : Bool) → nat_lt y x ≡ b → set y ≡ bit_of words y
+    at true is = h y ∙ ap (λ b. b && bit_of words y) is
+    at false is =
+        let past : 64 * length words ≤ y = grind (arith, nat_tests) in
+        h y ∙ (ap (λ b. b && bit_of words y) is ∙ sym (past_bits words y past))

@@ -1,14 +1,22 @@
 -- Functions that are edited or added, under new indices.
-use Rattle.std.proofs.Common.{◌≡◌, ℕ, ◌&&◌, ◌+◌, ◌++◌, refl, ◌∙◌, ap, Bool, true, false, cond, Option, Some, None}
-use Rattle.std.specs.Prelude.{◌==◌, is_some}
+use Rattle.std.proofs.Common.{◌≡◌, ℕ, ◌&&◌, ◌+◌, ◌++◌, List, [], ◌∷◌, refl, sym, ◌∙◌, ap, Bool, true, false, cond, Option, Some, None}
+use Rattle.std.specs.Prelude.{◌==◌, is_some, unwrap_or}
+use Rattle.std.specs.Borrow.{Bor}
 use Rattle.std.specs.Option.{option_map}
+use Rattle.std.proofs.lemmas.List.{map-append}
 use Rattle.wc_read.specs.Bodies.{BodyValue}
+use Rattle.wc_read.specs.Items.{DefValue, imported, def_value, item_value}
 use Rattle.wc_read.specs.Renumbering.{Renumbering}
-use Rattle.wc_read.specs.declared.operators.Space.TheVariants.{Funcs, Memories, Globals}
+use Rattle.wc_read.specs.declared.items.Item.{Item}
+use Rattle.wc_read.specs.declared.operators.Space.TheVariants.{Funcs, Memories, Globals, Types}
 use Rattle.wc_gc.specs.AddedCode.{growing_body, stack_body}
-use Rattle.wc_gc.specs.Edited.{edited_body, lazy_position, with_call}
-use Rattle.wc_gc.specs.Image.{new_body}
-use Rattle.wc_gc.specs.NewBodies.{call_added, calls_of}
+use Rattle.wc_gc.specs.Edited.{edited_body, import_func, lazy_position, only_if, with_call}
+use Rattle.wc_gc.specs.Found.{main_module}
+use Rattle.wc_gc.specs.Image.{new_body, new_func}
+use Rattle.wc_gc.specs.NewBodies.{body_written, call_added, calls_of}
+use Rattle.wc_gc.specs.Private.Edits.{imports_added, new_funcs, new_indices, settings_of, types_of, written_funcs}
+use Rattle.wc_gc.specs.declared.edit.Edit.{Edit}
+use Rattle.wc_gc.specs.declared.new_bodies.NewBody.{NewBody}
 use Rattle.wc_gc.specs.declared.parts.Parts.{Parts}
 
 -- bodies
@@ -36,3 +44,17 @@ old_new new funcs p exported body call some e = ap (λ o. record { locals = (new
     by b None h = absurd cc
     by true (Some body) h = refl
     by false (Some body) h = refl
+
+-- the import that is added
+
+pub text_or : {A : Type 0} (o : Option (Bor A)) (d : Bor A) → (unwrap_or o d).now ≡ unwrap_or (option_map (λ b. b.now) o) d.now
+text_or None d = refl
+text_or (Some b) d = refl
+
+pub import_appended : (e : Edit) (old new : List (Item ℕ NewBody)) (item : Item ℕ NewBody) → e.parts.import_realloc ≡ true → new ≡ old ++ item ∷ []
+    → item.ty ≡ new_indices e Types (types_of e) → def_value body_written item.def ≡ imported main_module (unwrap_or (settings_of e).realloc [])
+    → written_funcs new ≡ written_funcs old ++ new_funcs e (imports_added e)
+import_appended e old new item realloc grown type_is def_is =
+    ap written_funcs grown ∙ map-append (item_value body_written) old (item ∷ []) ∙ ap (λ z. written_funcs old ++ z ∷ [])
+    (ap (λ t. record { ty = t; def = def_value body_written item.def }) type_is ∙ ap (λ d. record { ty = new_indices e Types (types_of e); def = d }) def_is)
+    ∙ ap (λ b. written_funcs old ++ new_funcs e (only_if b (import_func (types_of e) (settings_of e)))) (sym realloc)

@@ -2,9 +2,7 @@
 use Rattle.std.proofs.Common.{◌≡◌, ◌≢◌, ℕ, zero, suc, ◌+◌, ◌-◌, ◌<◌, List, [], ◌∷◌, ◌++◌, map, length, take, drop, get_or, set, refl, sym, ◌∙◌, ap, subst, Bool}
 use Rattle.std.proofs.Common.{true, false, cond, not, Option, Some, None, arith}
 use Rattle.std.specs.Prelude.{All, AllPairs, fold, position}
-use Rattle.std.specs.List.{AllByRecursion, swap_remove, position_or_len}
-use Rattle.std.proofs.lemmas.List.Recursion.{is_position_or_len}
-use Rattle.std.specs.Prelude.{nat_lt}
+use Rattle.std.specs.List.{AllByRecursion, swap_remove}
 use Rattle.std.proofs.lemmas.List.Elements.{recursion_from_All, All-take, All-set, All-head}
 use Rattle.std.proofs.lemmas.List.{nil_from_length, length-map, map-set}
 use Rattle.std.specs.Option.{option_map_or}
@@ -13,8 +11,7 @@ use Rattle.std.specs.Bool.{Decides}
 use Rattle.std.proofs.lemmas.Slice.Eq.{bytes_eq-Decides}
 use Rattle.std.proofs.lemmas.List.{length-take-le, take_more, take-append-drop}
 use Rattle.std.specs.Borrow.{Bor}
-use Rattle.indexmap.specs.IndexMap.{swap_remove_entry, insert_entry}
-use Rattle.std.specs.Map.{keys_of}
+use Rattle.indexmap.specs.IndexMap.{insert_entry}
 use Rattle.wc_read.specs.Exports.{ExportValue, export_value}
 use Rattle.wc_read.specs.declared.exports.Export.{Export}
 use Rattle.wc_read.specs.declared.exports.ExportKind.TheVariants.{Func}
@@ -39,7 +36,7 @@ get-map f [] i d = refl
 get-map f (x ∷ xs) zero d = refl
 get-map f (x ∷ xs) (suc i) d = get-map f xs i d
 
-map-swap_remove : {A B : Type 0} (f : A → B) (xs : List A) (i : ℕ) (d : A) → map f (swap_remove xs i d) ≡ swap_remove (map f xs) i (f d)
+pub map-swap_remove : {A B : Type 0} (f : A → B) (xs : List A) (i : ℕ) (d : A) → map f (swap_remove xs i d) ≡ swap_remove (map f xs) i (f d)
 map-swap_remove f xs i d =
     map-take f (length xs - 1) (set xs i (get_or xs (length xs - 1) d))
     ∙ (ap (take (length xs - 1)) (map-set f xs i (get_or xs (length xs - 1) d) ∙ ap (set (map f xs) i) (get-map f xs (length xs - 1) d))
@@ -47,72 +44,6 @@ map-swap_remove f xs i d =
 
 abbrev Pair : Type 0
 Pair = Bor (List ℕ) × Export
-
-abbrev exported_value : Pair → ExportValue
-exported_value e = export_value e.1
-
--- the index of the first that passes, by cases
-index_by : {A : Type 0} → (A → Bool) → List A → ℕ
-index_by p [] = 0
-index_by p (x ∷ xs) = cond (p x) 0 (1 + index_by p xs)
-
-index_is : {A : Type 0} (p : A → Bool) (xs : List A) → index_by p xs ≡ position_or_len p xs
-unfolding index_by
-index_is p xs = is_position_or_len (index_by p) p refl (λ x ys. refl) xs
-
-indices_same : (p : Bor (List ℕ) → Bool) (q : ExportValue → Bool) (es : List Pair) → AllByRecursion (λ (e : Pair). p e.0 ≡ q (export_value e.1)) es
-    → index_by p (keys_of es) ≡ index_by q (export_entries es)
-unfolding index_by
-indices_same p q [] h = refl
-indices_same p q (e ∷ es) h =
-    ap (λ (b : Bool). cond b 0 (1 + index_by p (keys_of es))) h.0
-    ∙ ap (λ (n : ℕ). cond (q (export_value e.1)) 0 (1 + n)) (indices_same p q es h.1)
-
-same_index_of : (p : Bor (List ℕ) → Bool) (q : ExportValue → Bool) (es : List Pair) → AllByRecursion (λ (e : Pair). p e.0 ≡ q (export_value e.1)) es
-    → position_or_len p (keys_of es) ≡ position_or_len q (export_entries es)
-same_index_of p q es h = sym (index_is p (keys_of es)) ∙ (indices_same p q es h ∙ index_is q (export_entries es))
-
-same_position : (p : Bor (List ℕ) → Bool) (q : ExportValue → Bool) (es : List Pair) → AllByRecursion (λ (e : Pair). p e.0 ≡ q (export_value e.1)) es
-    → position p (keys_of es) ≡ position q (export_entries es)
-same_position p q es h =
-    ap (λ (n : ℕ). cond (nat_lt n (length (keys_of es))) (Some n) None) (same_index_of p q es h)
-    ∙ ap (λ (l : ℕ). cond (nat_lt (position_or_len q (export_entries es)) l) (Some (position_or_len q (export_entries es))) None)
-    (length-map es (λ (e : Pair). e.0) ∙ sym (length-map es exported_value))
-
-mapped_or : (xs : List Pair) (d : Pair) (o : Option ℕ) → export_entries (option_map_or (λ i. swap_remove xs i d) o xs) ≡ option_map_or
-    (λ i. swap_remove (export_entries xs) i (exported_value d)) o (export_entries xs)
-mapped_or xs d None = refl
-mapped_or xs d (Some i) = map-swap_remove exported_value xs i d
-
-tests_agree : (name : List ℕ) (p : Bor (List ℕ) → Bool) → ((k : Bor (List ℕ)) → p k ≡ bytes_eq name k.now) → (es : List Pair)
-    → AllByRecursion (λ (e : Pair). e.0.now ≡ e.1.name.now) es
-    → AllByRecursion (λ (e : Pair). p e.0 ≡ bytes_eq name (export_value e.1).name) es
-tests_agree name p h [] n = tt
-tests_agree name p h (e ∷ es) n = (h e.0 ∙ ap (bytes_eq name) n.0, tests_agree name p h es n.1)
-
--- an entry of a map is taken out as an export of a list is
-pub entry_without : (name : List ℕ) (p : Bor (List ℕ) → Bool) (es : List Pair) → ((k : Bor (List ℕ)) → p k ≡ bytes_eq name k.now) → AreNamed es
-    → export_entries (swap_remove_entry p es) ≡ without (export_entries es) name
-entry_without name p [] h named = refl
-entry_without name p (e ∷ es) h named =
-    mapped_or (e ∷ es) e (position p (keys_of (e ∷ es)))
-    ∙ ap (λ (o : Option ℕ). option_map_or (λ i. swap_remove (export_entries (e ∷ es)) i (exported_value e)) o (export_entries (e ∷ es)))
-    (same_position p (λ (x : ExportValue). bytes_eq name x.name) (e ∷ es)
-    (tests_agree name p h (e ∷ es) (recursion_from_All (λ (e : Pair). e.0.now ≡ e.1.name.now) (e ∷ es) named)))
-
-still_named_or : (xs : List Pair) (d : Pair) → AreNamed xs → d.0.now ≡ d.1.name.now → (o : Option ℕ) → AreNamed (option_map_or (λ i. swap_remove xs i d) o xs)
-still_named_or xs d all one None = all
-still_named_or xs d all one (Some i) =
-    All-take (λ (e : Pair). e.0.now ≡ e.1.name.now) (length xs - 1) (set xs i (get_or xs (length xs - 1) d))
-    (All-set (λ (e : Pair). e.0.now ≡ e.1.name.now) xs i (get_or xs (length xs - 1) d) (at_end (length xs) refl) all)
-  where
-    at_end : (n : ℕ) → length xs ≡ n → (get_or xs (length xs - 1) d).0.now ≡ (get_or xs (length xs - 1) d).1.name.now
-    at_end zero e = subst (λ (z : List Pair). (get_or z (length z - 1) d).0.now ≡ (get_or z (length z - 1) d).1.name.now) (sym (nil_from_length xs e)) one
-    at_end (suc n) e = all (length xs - 1) d (omega arith)
-
-pub still_named : (p : Bor (List ℕ) → Bool) (es : List Pair) → AreNamed es → AreNamed (swap_remove_entry p es)
-still_named p [] named = named
-still_named p (e ∷ es) named = still_named_or (e ∷ es) e named (All-head (λ (e : Pair). e.0.now ≡ e.1.name.now) e es named) (position p (keys_of (e ∷ es)))
 
 -- what is left of exports where those of other exports that are not required are taken out
 abbrev pub kept_from : List (List ℕ) → List ExportValue → List ExportValue → List ExportValue
@@ -162,19 +93,6 @@ item_kept keys es i kept all h there e =
     sym (ap (λ (z : List ExportValue). kept_from (map string_bytes keys) z kept) (drop_more es i no_export h)
     ∙ step_kept (map string_bytes keys) (export_value (get_or es i no_export)) (map export_value (drop (i + 1) es)) kept
     (sym (required_is (get_or es i no_export).name.now keys) ∙ there)) ∙ e
-
-pub item_dropped : (keys : List (String Global)) (es : List Export) (i : ℕ) (p : Bor (List ℕ) → Bool) (entries after : List Pair)
-    (all : List ExportValue) → i < length es
-    → list_any (λ k. bytes_eq (get_or es i no_export).name.now (string_bytes k)) keys ≡ false
-    → ((k : Bor (List ℕ)) → p k ≡ bytes_eq (get_or es i no_export).name.now k.now) → AreNamed entries → after ≡ swap_remove_entry p entries
-    → kept_from (map string_bytes keys) (map export_value (drop i es)) (export_entries entries) ≡ all
-    → kept_from (map string_bytes keys) (map export_value (drop (i + 1) es)) (export_entries after) ≡ all
-item_dropped keys es i p entries after all h missing same named is e =
-    ap (kept_from (map string_bytes keys) (map export_value (drop (i + 1) es)))
-    (ap export_entries is ∙ entry_without (get_or es i no_export).name.now p entries same named)
-    ∙ (sym (ap (λ (z : List ExportValue). kept_from (map string_bytes keys) z (export_entries entries)) (drop_more es i no_export h)
-    ∙ step_dropped (map string_bytes keys) (export_value (get_or es i no_export)) (map export_value (drop (i + 1) es)) (export_entries entries)
-    (sym (required_is (get_or es i no_export).name.now keys) ∙ missing)) ∙ e)
 
 -- an export of a new name is put after the others
 

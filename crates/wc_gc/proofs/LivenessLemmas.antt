@@ -1,9 +1,7 @@
 -- The causes of faults of liveness, and their order.
 use Rattle.std.proofs.Common.{◌≡◌, ◌≢◌, ℕ, ◌<◌, List, [], ◌∷◌, map, refl, sym, ◌∙◌, ap, subst, Bool, true, false, Option, Some, None, ◌⊎◌, inl, inr, arith}
 use Rattle.std.proofs.Common.{String, Global}
-use Rattle.std.specs.Prelude.{IsTrue, All, ◌↔◌, Result, Ok, Err, IfOk, IfErr, IsOk, IsErrOf, string_bytes, nat_lt}
-use Rattle.std.specs.Map.{values_of}
-use Rattle.std.specs.Borrow.{Bor}
+use Rattle.std.specs.Prelude.{IsTrue, All, ◌↔◌, Err, IsErrOf, string_bytes, nat_lt}
 use Rattle.std.proofs.lemmas.Bool.{lt-ltb, both_ways}
 use Rattle.std.proofs.lemmas.List.Elements.{All-map, All-weaker}
 use Rattle.std.proofs.lemmas.List.{length-map}
@@ -21,10 +19,10 @@ use Rattle.wc_read.proofs.ModulesLemmas.{modules_one}
 use Rattle.wc_gc.specs.Decoded.{ItemIndex, decode, decoded_module, exported_item, is_in, size_of, space_of}
 use Rattle.wc_gc.specs.Entries.{refs_in}
 use Rattle.wc_gc.specs.Faults.{of_read}
-use Rattle.wc_gc.specs.KeptExports.{kept_exports, missing_name, export_entries}
+use Rattle.wc_gc.specs.KeptExports.{kept_exports, missing_name}
 use Rattle.wc_gc.specs.Reached.{IsReachedFrom}
 use Rattle.wc_gc.specs.InRange.{is_item_in_range}
-use Rattle.wc_gc.specs.Liveness.{IsCount, HasLiveBody, HasUnsupported, IsSupported, IsLive, IsLivenessOf, IsLiveness, IsFaultOf, TrimInput, IsCause, IsFault}
+use Rattle.wc_gc.specs.Liveness.{IsCount, HasLiveBody, HasUnsupported, IsSupported, IsLive, IsLivenessOf, IsFaultOf, TrimInput, IsCause, IsFault}
 use Rattle.wc_gc.specs.Liveness.{order_of}
 use Rattle.wc_gc.specs.declared.fault.GcFault.{GcFault}
 use Rattle.wc_gc.specs.declared.fault.GcFault.TheVariants.{Memory, Read, MissingExport, UnsupportedSection, LiveBody}
@@ -32,9 +30,9 @@ use Rattle.wc_gc.proofs.ExportLemmas.{all_kept}
 
 -- roots
 
-pub values_are : (es : List (Bor (List ℕ) × Export)) → map (λ e. exported_item (export_value e)) (values_of es) ≡ map exported_item (export_entries es)
-values_are [] = refl
-values_are (e ∷ es) = ap (λ xs. exported_item (export_value e.1) ∷ xs) (values_are es)
+pub roots_seen : (es : List Export) → map (λ e. exported_item (export_value e)) es ≡ map exported_item (map export_value es)
+roots_seen [] = refl
+roots_seen (e ∷ es) = ap (λ xs. exported_item (export_value e) ∷ xs) (roots_seen es)
 
 size_is : (m : ModuleValue) (k : ExportKind) → count_of m k ≡ size_of (decode m) (space_of k)
 size_is m Func = sym (length-map m.funcs _)
@@ -147,22 +145,6 @@ module _ (w : TrimInput) (m : ModuleValue) (s : SpellsModule w.bytes m) where
   no_cause_of none in_range UnsupportedSection c = not_unsupported none.1 c
   no_cause_of none in_range LiveBody c = not_live in_range c
   no_cause_of none in_range f c = c.2
-
-  -- what was answered of a module that was read, of the bytes
-
-  pub fault_answer : {T : Type 0} (r : Result T GcFault) → IfErr r (IsFaultOf w.required m) → IfErr r (IsFault w)
-  fault_answer (Ok x) h = h
-  fault_answer (Err f) h = fault_of f h
-
-  pub live_answer : {T : Type 0} (live : T → ItemIndex → Bool) (turns : T → ℕ) (r : Result T GcFault)
-      → IfOk r (λ l. IsLivenessOf w.required m (live l) (turns l)) → IfOk r (λ l. IsLiveness w (live l) (turns l))
-  live_answer live turns (Ok x) h = (m, s, h)
-  live_answer live turns (Err f) h = h
-
-  pub no_cause_answer : {T : Type 0} (live : T → ItemIndex → Bool) (turns : T → ℕ) (r : Result T GcFault)
-      → IfOk r (λ l. IsLivenessOf w.required m (live l) (turns l)) → IsOk r → (f : GcFault) → ¬ (IsCause w f)
-  no_cause_answer live turns (Ok x) h ok = no_cause_of h.supported h.in_range
-  no_cause_answer live turns (Err f) h ok = absurd cc
 
 -- bytes that are no module
 

@@ -1,18 +1,15 @@
 -- The causes of faults of trimming, and their order.
-use Rattle.std.proofs.Common.{◌≡◌, ℕ, ◌<◌, ◌≤◌, ◌^◌, List, [], ◌∷◌, length, map, refl, sym, ◌∙◌, ap, subst, Bool, true, false, Option, Some, None, ◌⊎◌, inl}
+use Rattle.std.proofs.Common.{◌≡◌, ℕ, ◌<◌, ◌≤◌, ◌^◌, List, [], length, map, refl, sym, subst, Bool, true, false, Option, Some, None, ◌⊎◌, inl}
 use Rattle.std.proofs.Common.{inr, arith}
 use Rattle.std.specs.Prelude.{IsTrue, MatchOption, IfSome, Result, Ok, Err, IfOk, IfErr, IsOk}
-use Rattle.std.specs.Map.{values_of}
-use Rattle.std.specs.Borrow.{Bor}
 use Rattle.std.proofs.Math.Path.{fun_ext}
 use Rattle.std.proofs.lemmas.List.{length-map}
-use Rattle.wc_read.specs.Exports.{ExportValue, export_value}
+use Rattle.wc_read.specs.Exports.{ExportValue}
 use Rattle.wc_read.specs.Contents.{SpellsFuncTypes}
 use Rattle.wc_read.specs.Types.{FuncTypeValue}
 use Rattle.wc_read.specs.Order.{content_of}
 use Rattle.wc_read.specs.Sections.{type_id}
 use Rattle.wc_read.specs.Modules.{ModuleValue, module_value, SpellsModule}
-use Rattle.wc_read.specs.declared.exports.Export.{Export}
 use Rattle.wc_read.specs.declared.core_module.Module.{Module}
 use Rattle.wc_read.specs.declared.operators.Space.TheVariants.{Funcs}
 use Rattle.wc_read.proofs.ModulesLemmas.{modules_one}
@@ -28,7 +25,7 @@ use Rattle.wc_gc.specs.Found.{FoundValue, found_in}
 use Rattle.wc_gc.specs.Edited.{edit}
 use Rattle.wc_gc.specs.EditedImage.{FitsBits, edited_image}
 use Rattle.wc_gc.specs.Parts.{SettingsValue}
-use Rattle.wc_gc.specs.KeptExports.{kept_exports, export_entries}
+use Rattle.wc_gc.specs.KeptExports.{kept_exports}
 use Rattle.wc_gc.specs.Liveness.{IsCause, IsFault, IsFaultOf, IsLivenessOf, TrimInput, order_of}
 use Rattle.wc_gc.specs.InRange.{is_item_in_range}
 use Rattle.wc_gc.specs.Trimming.{IsLaterCause, IsLaterCauseIn, IsLaterFault, IsTrimCause, IsTrimFault, IsTrimFaultOf, IsTrimmed, IsTrimmedOf}
@@ -36,17 +33,6 @@ use Rattle.wc_gc.specs.declared.fault.GcFault.{GcFault}
 use Rattle.wc_gc.specs.declared.fault.GcFault.TheVariants.{Memory, Read, MissingExport, UnsupportedSection, LiveBody, SeveralNamed, LiveTable, SeveralMemories}
 use Rattle.wc_gc.specs.declared.fault.GcFault.TheVariants.{LocalMemory, ReallocType, ReallocMemory, TooLarge}
 use Rattle.wc_gc.proofs.LivenessLemmas.{fault_of, no_cause_of}
-
--- exports by their names
-
-pub values_seen : (es : List (Bor (List ℕ) × Export)) → map export_value (values_of es) ≡ export_entries es
-values_seen [] = refl
-values_seen (e ∷ es) = ap (λ xs. export_value e.1 ∷ xs) (values_seen es)
-
-pub seen_answer : {T E : Type 0} (items : T → List Export) (r : Result T E) (vs : List Export) (seen : List ExportValue) → IfOk r (λ v. items v ≡ vs)
-    → map export_value vs ≡ seen → IfOk r (λ v. map export_value (items v) ≡ seen)
-seen_answer items (Ok v) vs seen h e = ap (map export_value) h ∙ e
-seen_answer items (Err f) vs seen h e = h
 
 -- causes of what is found, and the one after them
 

@@ -1,19 +1,109 @@
 //! The exports that are kept.
 
-ghost use Rattle.std.specs.Prelude.{◌≡◌, ◌≢◌, map, AllPairs, None, Some, IfErr, IfOk, IsOk, String, string_bytes};
+ghost use Rattle.std.specs.Prelude.{◌≡◌, ◌≢◌, ◌<◌, ℕ, map, length, AllPairs, None, IfErr, IfOk, IsOk, String, string_bytes};
+ghost use Rattle.std.specs.List.{range_with_len, swap_remove};
 ghost use Rattle.std.specs.Option.{option_map};
-ghost use Rattle.std.specs.Str.{bytes_eq};
-ghost use Rattle.indexmap.specs.IndexMap.{swap_remove_entry};
 ghost use Rattle.wc_read.specs.Exports.{export_value};
 ghost use Rattle.wc_gc.specs.KeptExports.{AreNamed, IsMissingFault, by_name, export_entries, export_names, kept_exports, missing_name};
+ghost use Rattle.wc_gc.specs.Private.Places.{IsPlaced};
 
 use crate::fault::GcFault;
+use crate::places::Places;
 use std::alloc::{AllocError, Global};
 use wc_maps::{Map, Seed, Set};
 use wc_read::Export;
 
+/// The exports whose names are required, where each of these names is exported.
+pub fn required_exports<'a>(
+    alloc: Global,
+    exports: &[Export<'a>],
+    required: &Set<String>,
+) -> Result<Vec<Export<'a>>, GcFault>
+    requires { AllPairs (λ x y. x ≢ y) (export_names (map export_value exports.now)) }
+    ensures kept { IfOk result (λ v. map export_value v.items
+        ≡ kept_exports (map string_bytes required.now.keys) (map export_value exports.now)) }
+    ensures none { IsOk result → missing_name (map export_value exports.now)
+        (map string_bytes required.now.keys) ≡ None }
+    ensures fault { IfErr result (IsMissingFault (map export_value exports.now)
+        (map string_bytes required.now.keys)) }
+{
+    let kept = kept_exports(alloc, exports, required)?;
+    check_required(alloc, exports, &kept, required)?;
+    Ok(kept)
+}
+
+/// The exports whose names are required. Each other one is taken out, in their order; the last export takes its index.
+fn kept_exports<'a>(
+    alloc: Global,
+    exports: &[Export<'a>],
+    required: &Set<String>,
+) -> Result<Vec<Export<'a>>, AllocError>
+    requires { AllPairs (λ x y. x ≢ y) (export_names (map export_value exports.now)) }
+    ensures { IfOk result (λ v. map export_value v.items
+        ≡ kept_exports (map string_bytes required.now.keys) (map export_value exports.now)) }
+{
+    let mut kept = Vec::from_slice(alloc, exports)?;
+    let mut places = Places::of_all(alloc, exports.len())?;
+    drop_exports(&mut kept, &mut places, exports, required);
+    Ok(kept)
+}
+
+/// Takes out each export that is not required. `places`: the place of each export by its index.
+fn drop_exports<'a>(
+    kept: &mut Vec<Export<'a>>,
+    places: &mut Places,
+    exports: &[Export<'a>],
+    required: &Set<String>,
+)
+    requires distinct { AllPairs (λ x y. x ≢ y) (export_names (map export_value exports.now)) }
+    requires all { kept.old.items ≡ exports.now }
+    requires order { places.old.order.items ≡ range_with_len 0 (length exports.now) }
+    requires placed { (n : ℕ) → n < length exports.now → IsPlaced places.old n }
+    ensures { map export_value kept.new.items
+        ≡ kept_exports (map string_bytes required.now.keys) (map export_value exports.now) }
+{
+    let mut index = 0;
+    for export in exports {
+        if !required.contains(export.name) {
+            remove_at(kept, places.take_out(index));
+        }
+        index += 1;
+    }
+}
+
+/// Takes out the export at a place. The last one takes it.
+fn remove_at<'a>(kept: &mut Vec<Export<'a>>, place: usize) -> Export<'a>
+    requires { place < length kept.old.items }
+    ensures { kept.new.items ≡ swap_remove kept.old.items place result }
+{
+    kept.swap_remove(place)
+}
+
+/// Says which of the names is not exported, the first of them. `kept`: the exports whose names are required.
+fn check_required(
+    alloc: Global,
+    exports: &[Export<'_>],
+    kept: &[Export<'_>],
+    required: &Set<String>,
+) -> Result<(), GcFault>
+    requires distinct { AllPairs (λ x y. x ≢ y) (export_names (map export_value exports.now)) }
+    requires kept { map export_value kept.now
+        ≡ kept_exports (map string_bytes required.now.keys) (map export_value exports.now) }
+    ensures none { IsOk result → missing_name (map export_value exports.now)
+        (map string_bytes required.now.keys) ≡ None }
+    ensures fault { IfErr result (IsMissingFault (map export_value exports.now)
+        (map string_bytes required.now.keys)) }
+{
+    // The names of exports are distinct, so if as many are kept as are required, none is missing.
+    if kept.len() == required.len() {
+        return Ok(());
+    }
+    let named = exports_by_name(alloc, *required.hasher(), exports)?;
+    check_named(alloc, &named, required)
+}
+
 /// Exports by their names. `seed`: the seed of the map.
-pub fn exports_by_name<'a>(
+fn exports_by_name<'a>(
     alloc: Global,
     seed: Seed,
     exports: &[Export<'a>],
@@ -43,7 +133,7 @@ fn missing_name<'a>(exports: &Map<&str, Export<'_>>, required: &'a Set<String>) 
 }
 
 /// Says which of the names is not exported, the first of them.
-pub fn check_required(
+fn check_named(
     alloc: Global,
     exports: &Map<&str, Export<'_>>,
     required: &Set<String>,
@@ -58,30 +148,4 @@ pub fn check_required(
         None => Ok(()),
         Some(name) => Err(GcFault::MissingExport(String::from_str(alloc, name)?)),
     }
-}
-
-/// Takes out each export that is not required, in their order; the last export takes its index.
-pub fn drop_exports<'a>(
-    kept: &mut Map<&'a str, Export<'a>>,
-    exports: &[Export<'a>],
-    required: &Set<String>,
-)
-    requires { kept.old.entries ≡ map by_name exports.now }
-    ensures { export_entries kept.new.entries
-        ≡ kept_exports (map string_bytes required.now.keys) (map export_value exports.now) }
-{
-    for export in exports {
-        if required.contains(export.name) {
-            continue;
-        }
-        take_out(kept, export.name);
-    }
-}
-
-/// Takes out the export of a name; the last one takes its index.
-fn take_out<'a>(kept: &mut Map<&'a str, Export<'a>>, name: &'a str)
-    ensures { kept.new.entries
-        ≡ swap_remove_entry (λ k. bytes_eq name.now k.now) kept.old.entries }
-{
-    kept.swap_remove(name);
 }

@@ -1,7 +1,7 @@
 //! Trimming of adapter modules: an adapter cut to what its required exports reach, under new indices, with imported
 //! reallocs replaced and code added that allocates a stack (`run`); that code alone (`realloc_via_memory_grow`,
 //! `allocate_stack_via_realloc`); the items that exports reach (`liveness_counted`), and the sets that these are in
-//! (`LiveSet`, `LiveSets`, `RangeSet`, `BitVec`, `Ranks`).
+//! (`LiveSet`, `LiveSets`, `RangeSet`, `BitVec`, `Ranks`); and what a fault is about (`explain`).
 //!
 //! An item is a type, function, table, memory or global. An export names an item, a function its type and what the
 //! operators of its body name, a global what its initialiser names. What is reached is the end of a list of items that
@@ -37,7 +37,6 @@ mod exports;
 mod fault;
 mod found;
 mod func_groups;
-mod gathered;
 pub mod laws;
 mod live;
 mod live_items;
@@ -47,6 +46,7 @@ mod merging;
 mod new_bodies;
 mod new_indices;
 mod parts;
+mod places;
 mod range_set;
 mod ranks;
 mod restriction_laws;
@@ -55,6 +55,7 @@ mod search;
 mod settings;
 mod trace_laws;
 mod trim;
+mod trim_place;
 mod untouched_laws;
 
 pub use added_code::{allocate_stack_via_realloc, realloc_via_memory_grow};
@@ -64,3 +65,4 @@ pub use live_items::{Liveness, liveness_counted};
 pub use range_set::RangeSet;
 pub use ranks::Ranks;
 pub use trim::run;
+pub use trim_place::{TrimPlace, explain};

@@ -105,15 +105,23 @@ impl LiveSet for BitVec {
     }
 
     fn ranks(&self, alloc: Global) -> Result<Ranks, AllocError> {
-        let mut ranges = RangeSet::new(alloc);
-        for x in 0..self.words.len() * 64 {
-            insert_if(&mut ranges, x as u32, has_bit(&self.words, x as u32))?;
-        }
+        let ranges = RangeSet::of_bits(alloc, &self.words)?;
         ranges.ranks(alloc)
     }
 }
 
 impl BitVec {
+    /// The same numbers in a set of any kind. They are put in in ascending order.
+    pub(crate) fn in_set<L: LiveSet>(&self, alloc: Global) -> Result<L, AllocError>
+        ensures { IfOk result (λ s. (y : ℕ) → L.has s y ≡ bit_of self.now.words.items y) }
+    {
+        let mut set = L::new(alloc);
+        for x in 0..self.words.len() * 64 {
+            insert_if(&mut set, x as u32, has_bit(&self.words, x as u32))?;
+        }
+        Ok(set)
+    }
+
     /// Makes room for a word. It takes no memory where there is room.
     fn make_room(&mut self, index: usize) -> Result<(), AllocError>
         requires { index < 2 ^ 26 }
@@ -218,7 +226,7 @@ impl<L: LiveSet> LiveSets<L> {
 }
 
 /// Whether a bit of words is set.
-fn has_bit(words: &[u64], x: u32) -> bool
+pub fn has_bit(words: &[u64], x: u32) -> bool
     ensures { result ≡ bit_of words.now x }
 {
     match words.get((x / 64) as usize) {
@@ -236,16 +244,5 @@ pub fn insert_if<L: LiveSet>(set: &mut L, index: u32, condition: bool) -> Result
         return Ok(());
     }
     set.insert(index)?;
-    Ok(())
-}
-
-/// Puts numbers in, in any order.
-pub fn insert_all<L: LiveSet>(set: &mut L, numbers: &[u32]) -> Result<(), AllocError>
-    ensures { OnOk result ((y : ℕ) →
-        L.has set.new y ≡ (L.has set.old y || holds numbers.now y)) }
-{
-    for number in numbers {
-        insert_if(set, *number, true)?;
-    }
     Ok(())
 }

@@ -1,23 +1,21 @@
 //! The items that the required exports of an adapter reach.
 
 ghost use Rattle.std.specs.Prelude.{◌≡◌, map, IsTrue, IsOk, IfOk, IfErr, ◌↔◌};
-ghost use Rattle.indexmap.specs.IndexMap.{values};
 ghost use Rattle.wc_read.specs.Exports.{export_value};
 ghost use Rattle.wc_read.specs.Modules.{IsModule, module_value};
+ghost use Rattle.wc_gc.specs.Bits.{bit_of};
 ghost use Rattle.wc_gc.specs.Decoded.{ItemIndex, exported_item};
-ghost use Rattle.wc_gc.specs.Gathering.{has_or_aside};
 ghost use Rattle.wc_gc.specs.KeptExports.{kept_exports};
 ghost use Rattle.wc_gc.specs.LiveSets.{has_item};
 ghost use Rattle.wc_gc.specs.Liveness.{HasUnsupported, IsCause, IsFault, IsFaultOf, IsLiveness, IsLivenessOf, IsSupported, names_of, trim_input};
 
-use crate::exports::{check_required, drop_exports, exports_by_name};
+use crate::exports::required_exports;
 use crate::fault::GcFault;
-use crate::gathered::Gathered;
-use crate::live::{LiveSet, LiveSets};
+use crate::live::{BitVec, LiveSet, LiveSets};
 use crate::range_set::RangeSet;
 use crate::search::Search;
 use std::alloc::{AllocError, Global};
-use wc_maps::{Map, Set};
+use wc_maps::Set;
 use wc_read::{Export, ExportKind, Module, Space, read_module};
 
 /// The reached items of an adapter.
@@ -72,64 +70,69 @@ fn find_live<L: LiveSet>(
         (f : GcFault) → ¬ (IsCause (trim_input wasm.now required.now.keys) f) }
 {
     let adapter = read_module(alloc, wasm)?;
-    find_live_in(alloc, &adapter, required)
-}
-
-/// The live items of a module that was read.
-pub fn find_live_in<L: LiveSet>(
-    alloc: Global,
-    adapter: &Module<'_>,
-    required: &Set<String>,
-) -> Result<Liveness<L>, GcFault>
-    requires { IsModule (module_value adapter.now) }
-    ensures live { IfOk result (λ l. IsLivenessOf
-        (names_of required.now.keys) (module_value adapter.now) (has_item L.has l.live) l.turns) }
-    ensures fault { IfErr result
-        (IsFaultOf (names_of required.now.keys) (module_value adapter.now)) }
-{
-    let roots = roots_of(alloc, adapter, required)?;
-    let mut search = Search::<Gathered<L>>::new(alloc);
-    let turns = search.reach_all(alloc, adapter, &roots)?;
-    let Search { live, order: _ } = search;
-    let live = settled(live)?;
-    Ok(Liveness { live, turns })
-}
-
-/// The sets of all that was gathered.
-fn settled<L: LiveSet>(gathered: LiveSets<Gathered<L>>) -> Result<LiveSets<L>, AllocError>
-    ensures { IfOk result (λ s. (x : ItemIndex) →
-        has_item L.has s x ≡ has_item (has_or_aside L.has) gathered x) }
-{
-    Ok(LiveSets {
-        types: gathered.types.settled()?,
-        funcs: gathered.funcs.settled()?,
-        tables: gathered.tables.settled()?,
-        memories: gathered.memories.settled()?,
-        globals: gathered.globals.settled()?,
+    let (_, found) = find_live_in(alloc, &adapter, required)?;
+    let live = settled(alloc, &found.live)?;
+    Ok(Liveness {
+        live,
+        turns: found.turns,
     })
 }
 
-/// The items that kept exports name.
-fn roots_of(
+/// The exports that are kept of a module that was read, and its live items.
+pub fn find_live_in<'a>(
     alloc: Global,
-    adapter: &Module<'_>,
+    adapter: &Module<'a>,
     required: &Set<String>,
-) -> Result<Vec<(Space, u32)>, GcFault>
+) -> Result<(Vec<Export<'a>>, Liveness<BitVec>), GcFault>
     requires { IsModule (module_value adapter.now) }
-    ensures found { IfOk result (λ v. v.items ≡ map exported_item
-        (kept_exports (names_of required.now.keys) (module_value adapter.now).exports)) }
+    ensures kept { IfOk result (λ r. map export_value r.0.items
+        ≡ kept_exports (names_of required.now.keys) (module_value adapter.now).exports) }
+    ensures live { IfOk result (λ r. IsLivenessOf (names_of required.now.keys)
+        (module_value adapter.now) (has_item (λ b. bit_of b.words.items) r.1.live) r.1.turns) }
+    ensures fault { IfErr result
+        (IsFaultOf (names_of required.now.keys) (module_value adapter.now)) }
+{
+    let exports = supported_exports(alloc, adapter, required)?;
+    let roots = exported_items(alloc, &exports)?;
+    let mut search = Search::<BitVec>::new(alloc);
+    let turns = search.reach_all(alloc, adapter, &roots)?;
+    let live = search.live;
+    Ok((exports, Liveness { live, turns }))
+}
+
+/// The same items in sets of any kind.
+fn settled<L: LiveSet>(alloc: Global, found: &LiveSets<BitVec>) -> Result<LiveSets<L>, AllocError>
+    ensures { IfOk result (λ s. (x : ItemIndex) → has_item L.has s x
+        ≡ has_item (λ b. bit_of b.words.items) found.now x) }
+{
+    Ok(LiveSets {
+        types: found.types.in_set(alloc)?,
+        funcs: found.funcs.in_set(alloc)?,
+        tables: found.tables.in_set(alloc)?,
+        memories: found.memories.in_set(alloc)?,
+        globals: found.globals.in_set(alloc)?,
+    })
+}
+
+/// The exports that are kept, where there is nothing that is not supported.
+fn supported_exports<'a>(
+    alloc: Global,
+    adapter: &Module<'a>,
+    required: &Set<String>,
+) -> Result<Vec<Export<'a>>, GcFault>
+    requires { IsModule (module_value adapter.now) }
+    ensures kept { IfOk result (λ v. map export_value v.items
+        ≡ kept_exports (names_of required.now.keys) (module_value adapter.now).exports) }
     ensures supported { IsOk result →
         IsSupported (names_of required.now.keys) (module_value adapter.now) }
     ensures fault { IfErr result
         (IsFaultOf (names_of required.now.keys) (module_value adapter.now)) }
 {
-    let mut exports = exports_by_name(alloc, *required.hasher(), &adapter.exports)?;
-    check_required(alloc, &exports, required)?;
+    let exports = required_exports(alloc, &adapter.exports, required)?;
     if has_unsupported(adapter) {
         return Err(GcFault::UnsupportedSection);
     }
-    drop_exports(&mut exports, &adapter.exports, required);
-    Ok(exported_items(alloc, &exports)?)
+    Ok(exports)
 }
 
 /// Whether a module has a start function, or a section of elements, data or a data count.
@@ -140,15 +143,15 @@ fn has_unsupported(adapter: &Module<'_>) -> bool
 }
 
 /// The items that exports name.
-fn exported_items(
+pub fn exported_items(
     alloc: Global,
-    exports: &Map<&str, Export<'_>>,
+    exports: &[Export<'_>],
 ) -> Result<Vec<(Space, u32)>, AllocError>
     ensures { IfOk result
-        (λ v. v.items ≡ map (λ e. exported_item (export_value e)) (values exports.now)) }
+        (λ v. v.items ≡ map (λ e. exported_item (export_value e)) exports.now) }
 {
     exports
-        .values()
+        .iter()
         .map(|export| exported_item(export))
         .collect(alloc)
 }

@@ -1,10 +1,12 @@
 //! Sorted ranges to which numbers are added in one pass.
 
-ghost use Rattle.std.specs.Prelude.{◌≡◌, ◌≤◌, ◌<◌, ◌+◌, ◌-◌, ℕ, ◌||◌, IsTrue, false, nat_lt, length, slice_index_or, ◌↔◌, IfOk, OnOk};
+ghost use Rattle.std.specs.Prelude.{◌≡◌, ◌≤◌, ◌<◌, ◌+◌, ◌-◌, ◌^◌, ℕ, ◌&&◌, ◌||◌, IsTrue, false, nat_eq, nat_lt, length, slice_index_or, ◌↔◌, IfOk, OnOk};
 ghost use Rattle.std.specs.List.Sorted.{IsSortedBy};
+ghost use Rattle.wc_gc.specs.Bits.{bit_of};
 ghost use Rattle.wc_gc.specs.Ranges.{AreRanges, holds, in_ranges, is_within};
 ghost use Rattle.wc_gc.specs.Private.Merging.{BeginBy, HasAppended, lengthened};
 
+use crate::live::has_bit;
 use std::alloc::{AllocError, Global};
 
 /// Ranges, and numbers in ascending order, as ranges.
@@ -28,6 +30,35 @@ pub fn merged(
     }
     append_rest(&mut merged, ranges, next)?;
     Ok(merged)
+}
+
+/// The numbers of bits, as ranges.
+pub fn ranges_of_bits(alloc: Global, words: &[u64]) -> Result<Vec<(u32, u32)>, AllocError>
+    requires { length words.now ≤ 2 ^ 26 }
+    ensures sorted { IfOk result (λ v. AreRanges v.items) }
+    ensures has { IfOk result (λ v. (y : ℕ) → in_ranges v.items y ≡ bit_of words.now y) }
+{
+    let mut ranges = Vec::new(alloc);
+    for x in 0..words.len() * 64 {
+        append_if(&mut ranges, x as u32, has_bit(words, x as u32))?;
+    }
+    Ok(ranges)
+}
+
+/// Appends a number, if a condition holds.
+fn append_if(ranges: &mut Vec<(u32, u32)>, x: u32, condition: bool) -> Result<(), AllocError>
+    requires sorted { AreRanges ranges.old.items }
+    requires begun { BeginBy x ranges.old.items }
+    ensures sorted { OnOk result (AreRanges ranges.new.items) }
+    ensures begun { OnOk result (BeginBy x ranges.new.items) }
+    ensures has { OnOk result ((y : ℕ) → in_ranges ranges.new.items y
+        ≡ (in_ranges ranges.old.items y || (condition && nat_eq y x))) }
+{
+    if !condition {
+        return Ok(());
+    }
+    append_range(ranges, x, x)?;
+    Ok(())
 }
 
 /// Appends the ranges from an index on that do not begin after a number, and answers the index of the next.

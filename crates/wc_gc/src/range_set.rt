@@ -1,13 +1,13 @@
 //! Sets of numbers as sorted ranges.
 
-ghost use Rattle.std.specs.Prelude.{◌≡◌, ◌≤◌, ◌<◌, ◌+◌, ◌-◌, ℕ, IsTrue, not, false, length, slice_index_or, IfOk, OnOk, OnErr};
+ghost use Rattle.std.specs.Prelude.{◌≡◌, ◌≤◌, ◌<◌, ◌+◌, ◌-◌, ◌^◌, ℕ, IsTrue, not, false, length, slice_index_or, IfOk, OnOk, OnErr};
+ghost use Rattle.wc_gc.specs.Bits.{bit_of};
 ghost use Rattle.wc_gc.specs.Ranges.{AreRanges, in_ranges};
 ghost use Rattle.wc_gc.specs.LiveSets.{Inserts};
 ghost use Rattle.wc_gc.specs.Private.Positions.{IsCut, joined_at};
-ghost use Rattle.wc_gc.specs.Ranks.{has_number};
 
 use crate::live::LiveSet;
-use crate::merging::merged;
+use crate::merging::{merged, ranges_of_bits};
 use crate::ranks::Ranks;
 use std::alloc::{AllocError, Global};
 
@@ -58,6 +58,15 @@ impl LiveSet for RangeSet {
 }
 
 impl RangeSet {
+    /// The numbers of bits.
+    pub(crate) fn of_bits(alloc: Global, words: &[u64]) -> Result<RangeSet, AllocError>
+        requires { length words.now ≤ 2 ^ 26 }
+        ensures { IfOk result (λ s. (y : ℕ) → in_ranges s.ranges.items y ≡ bit_of words.now y) }
+    {
+        let ranges = ranges_of_bits(alloc, words)?;
+        Ok(RangeSet { ranges })
+    }
+
     /// The ranges, in their order.
     pub fn ranges(&self) -> &[(u32, u32)]
         ensures sorted { AreRanges result.now }
@@ -65,16 +74,6 @@ impl RangeSet {
             ≡ ⟦<RangeSet as LiveSet>⟧.has self.now x }
     {
         &self.ranges
-    }
-
-    /// The set of the numbers that are ranked.
-    pub(crate) fn of_ranks(alloc: Global, ranks: &Ranks) -> Result<RangeSet, AllocError>
-        ensures { IfOk result (λ s. (x : ℕ) →
-            in_ranges s.ranges.items x ≡ has_number ranks.now x) }
-    {
-        Ok(RangeSet {
-            ranges: Vec::from_slice(alloc, ranks.ranges())?,
-        })
     }
 }
 

@@ -1,11 +1,17 @@
 //! Ranks of numbers in a set: how many of its numbers are below one.
 
-ghost use Rattle.std.specs.Prelude.{◌≡◌, ◌≤◌, ◌<◌, ◌+◌, ◌^◌, ℕ, All, length, slice_index, slice_index_or, IfOk};
+ghost use Rattle.std.specs.Prelude.{◌≡◌, ◌≤◌, ◌<◌, ◌+◌, ◌^◌, ℕ, All, length, slice_index, slice_index_or, IsTrue, IfOk, IfSome};
 ghost use Rattle.wc_gc.specs.Ranges.{AreRanges, in_ranges};
 ghost use Rattle.wc_gc.specs.Counts.{count_below};
 
 use crate::range_set::{has_at, range_from};
 use std::alloc::{AllocError, Global};
+
+/// In how many ranges a number is looked for, from where it may be on, before all are searched.
+const NEAR: usize = 9;
+
+/// How many numbers a block has at least. No more than eight ranges end in one that has no more.
+const BLOCK: usize = 16;
 
 /// A set of numbers that is not changed any more, as sorted ranges, and how many of its numbers are before each range.
 #[derive(Debug, Drop)]
@@ -13,12 +19,17 @@ pub struct Ranks {
     ranges: Vec<(u32, u32)>,
     before: Vec<u32>,
     total: u64,
+    /// For each block of numbers the index of the first range that ends in it or later: where a number may be.
+    starts: Vec<usize>,
+    /// How many numbers a block has.
+    block: usize,
     ghost sorted: { AreRanges ranges.items },
     ghost long: { length before.items ≡ length ranges.items },
     ghost each: { (i : ℕ) → i < length ranges.items → slice_index before.items i
         ≡ count_below (in_ranges ranges.items) (slice_index_or ranges.items i (0, 0)).0 },
     ghost whole: { (x : ℕ) → All (λ r. r.1 < x) ranges.items
         → total ≡ count_below (in_ranges ranges.items) x },
+    ghost filled: { 0 < block },
 }
 
 impl Ranks {
@@ -36,11 +47,15 @@ impl Ranks {
             before.push(total as u32)?;
             total += u64::from(last_of(range) - first) + 1;
         }
+        let block = block_of(ranges);
+        let starts = starts_of(alloc, ranges, block)?;
         let ranges = Vec::from_slice(alloc, ranges)?;
         Ok(Ranks {
             ranges,
             before,
             total,
+            starts,
+            block,
         })
     }
 
@@ -59,11 +74,53 @@ impl Ranks {
         has_at(&self.ranges, range_from(&self.ranges, x), x)
     }
 
-    /// How many numbers of the set are below one.
+    /// How many numbers of the set are below one. It is looked for in at most ten ranges, from where its block begins on;
+    /// if it is in none of them, all are searched, as `rank_counted` does.
     pub fn rank(&self, x: u32) -> u32
         ensures { result ≡ rank_of self.now x }
     {
-        self.rank_counted(x).0
+        match self.rank_at(self.place(x), x) {
+            Some(rank) => rank,
+            None => self.rank_counted(x).0,
+        }
+    }
+
+    /// The index of the range of a number, if it is one of the first of its block.
+    fn place(&self, x: u32) -> usize {
+        let mut index = self.start(x);
+        for _ in 0..NEAR {
+            if ends_before(&self.ranges, index, x) {
+                index += 1;
+            } else {
+                return index;
+            }
+        }
+        index
+    }
+
+    /// Where the range of a number may be.
+    fn start(&self, x: u32) -> usize {
+        match self.starts.get(x as usize / self.block) {
+            Some(start) => *start,
+            None => self.ranges.len(),
+        }
+    }
+
+    /// The rank of a number, if it is in the range at an index.
+    fn rank_at(&self, index: usize, x: u32) -> Option<u32>
+        ensures { IfSome result (λ rank. rank ≡ rank_of self.now x) }
+    {
+        if index >= self.ranges.len() {
+            return None;
+        }
+        let (first, last) = self.ranges[index];
+        if x < first {
+            return None;
+        }
+        if last < x {
+            return None;
+        }
+        Some(self.before[index] + (x - first))
     }
 
     /// How many numbers of the set are below one, and with how many ranges it was compared.
@@ -105,6 +162,54 @@ impl Ranks {
             Some(before) => *before,
             None => self.total as u32,
         }
+    }
+}
+
+/// How many numbers a block has: so many that there are hardly more blocks than ranges.
+fn block_of(ranges: &[(u32, u32)]) -> usize
+    ensures { 0 < result }
+{
+    let end = match ranges.last() {
+        Some(range) => range.1,
+        None => 0,
+    };
+    let block = end as usize / (ranges.len() + 1);
+    if block < BLOCK {
+        return BLOCK;
+    }
+    block
+}
+
+/// For each block of numbers the index of the first range that ends in it or later.
+fn starts_of(alloc: Global, ranges: &[(u32, u32)], block: usize) -> Result<Vec<usize>, AllocError>
+    requires { 0 < block }
+{
+    let mut starts = Vec::new(alloc);
+    for index in 0..ranges.len() {
+        append_starts(&mut starts, ranges[index].1 as usize / block, index)?;
+    }
+    Ok(starts)
+}
+
+/// Appends an index for each block up to one that has none.
+fn append_starts(starts: &mut Vec<usize>, block: usize, index: usize) -> Result<(), AllocError> {
+    if starts.len() > block {
+        return Ok(());
+    }
+    for _ in starts.len()..block {
+        starts.push(index)?;
+    }
+    starts.push(index)?;
+    Ok(())
+}
+
+/// Whether there is a range at an index that ends before a number.
+fn ends_before(ranges: &[(u32, u32)], index: usize, x: u32) -> bool
+    ensures { IsTrue result → index < length ranges.now }
+{
+    match ranges.get(index) {
+        Some(range) => range.1 < x,
+        None => false,
     }
 }
 

@@ -45,7 +45,7 @@ impl<L: LiveSet> Search<L> {
     }
 
     /// Finds an item.
-    fn reach(&mut self, item: (Space, u32)) -> Result<(), AllocError>
+    pub fn reach(&mut self, item: (Space, u32)) -> Result<(), AllocError>
         ensures { OnOk result (FindsItems L.has self.old self.new (item ∷ [])) }
     {
         if self.live.insert(item)? {
@@ -146,7 +146,7 @@ impl<L: LiveSet> Search<L> {
 
     /// Finds the items that an operator names, and answers whether it names items of the adapter
     /// alone.
-    fn reach_operator(
+    pub fn reach_operator(
         &mut self,
         adapter: &Module<'_>,
         instr: &Instr<'_>,
@@ -352,7 +352,7 @@ impl<L: LiveSet> Search<L> {
     }
 
     /// Finds the items that an item names.
-    fn reach_from(
+    pub fn reach_from(
         &mut self,
         alloc: Global,
         adapter: &Module<'_>,

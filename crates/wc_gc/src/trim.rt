@@ -1,7 +1,6 @@
 //! Trimming, from bytes to bytes.
 
 ghost use Rattle.std.specs.Prelude.{◌≡◌, ◌≢◌, ◌≤◌, ◌⊎◌, ℕ, [], map, true, IsTrue, IfOk, IfErr, IsOk};
-ghost use Rattle.indexmap.specs.IndexMap.{values};
 ghost use Rattle.wc_read.specs.Exports.{export_value};
 ghost use Rattle.wc_read.specs.Modules.{IsModule, module_value};
 ghost use Rattle.wc_read.specs.declared.operators.Space.TheVariants.{Funcs};
@@ -16,19 +15,17 @@ ghost use Rattle.wc_gc.specs.LiveSets.{has_item};
 ghost use Rattle.wc_gc.specs.Parts.{settings, settings_value};
 ghost use Rattle.wc_gc.specs.InRange.{is_item_in_range};
 ghost use Rattle.wc_gc.specs.TrimmedText.{IsTrimmedRead};
-ghost use Rattle.wc_gc.specs.Trimming.{IsLaterCause, IsLaterFault, IsTrimCause, IsTrimFault, IsTrimFaultOf, IsTrimmed, IsTrimmedOf, wanted_exports};
+ghost use Rattle.wc_gc.specs.Trimming.{IsLaterCause, IsLaterFault, IsTrimCause, IsTrimFault, IsTrimFaultOf, IsTrimmed, IsTrimmedOf};
 
 use crate::causes::check_parts;
 use crate::edited_text::edited_text;
-use crate::exports::{drop_exports, exports_by_name};
 use crate::fault::GcFault;
 use crate::found::find_parts;
 use crate::live::{LiveSet, LiveSets};
 use crate::live_items::find_live_in;
-use crate::range_set::RangeSet;
 use crate::settings::Settings;
-use std::alloc::{AllocError, Global};
-use wc_maps::{Map, Set};
+use std::alloc::Global;
+use wc_maps::Set;
 use wc_read::{Export, Module, read_module};
 use wc_write::laws::slices_are_bytes;
 
@@ -103,11 +100,11 @@ pub fn run(
         realloc: main_module_realloc,
         page_size_log2,
     };
-    trim::<RangeSet>(alloc, wasm, required, settings)
+    trim(alloc, wasm, required, settings)
 }
 
-/// The same with sets of any kind.
-fn trim<L: LiveSet>(
+/// Trims an adapter under settings.
+fn trim(
     alloc: Global,
     wasm: &[u8],
     required: &Set<String>,
@@ -126,11 +123,11 @@ fn trim<L: LiveSet>(
     // So a vector has fewer than 2^32 items.
     slices_are_bytes(wasm);
     let adapter = read_module(alloc, wasm)?;
-    trim_module::<L>(alloc, &adapter, required, settings)
+    trim_module(alloc, &adapter, required, settings)
 }
 
 /// Trims a module that was read.
-fn trim_module<L: LiveSet>(
+fn trim_module(
     alloc: Global,
     adapter: &Module<'_>,
     required: &Set<String>,
@@ -143,15 +140,15 @@ fn trim_module<L: LiveSet>(
     ensures fault { IfErr result (IsTrimFaultOf (settings_value settings.entry)
         (names_of required.now.keys) (module_value adapter.now)) }
 {
-    let found = find_live_in::<L>(alloc, adapter, required)?;
-    image_text(alloc, adapter, required, &found.live, settings)
+    let (exports, found) = find_live_in(alloc, adapter, required)?;
+    image_text(alloc, adapter, &exports, &found.live, settings)
 }
 
-/// The text of the image of a module, where nothing that is live stops it.
+/// The text of the image of a module with these exports, where nothing that is live stops it.
 fn image_text<L: LiveSet>(
     alloc: Global,
     adapter: &Module<'_>,
-    required: &Set<String>,
+    exports: &[Export<'_>],
     live: &LiveSets<L>,
     settings: Settings<'_>,
 ) -> Result<Vec<u8>, GcFault>
@@ -162,45 +159,20 @@ fn image_text<L: LiveSet>(
     ensures written { IfOk result (λ v. v.items
         ≡ built_text (edited_image (edit
         (settings_value settings.entry) (decoded_module adapter.now)
-        (wanted_exports required.now.keys adapter.now)
+        (map export_value exports.now)
         (has_item L.has live.now)))) }
     ensures none { IsOk result → (f : GcFault) →
         ¬ (IsLaterCause (settings_value settings.entry) (decoded_module adapter.now)
-        (wanted_exports required.now.keys adapter.now)
+        (map export_value exports.now)
         (has_item L.has live.now) f) }
     ensures fault { IfErr result (λ f. (f ≡ GcFault.Memory)
         ⊎ IsLaterFault (settings_value settings.entry) (decoded_module adapter.now)
-        (wanted_exports required.now.keys adapter.now)
+        (map export_value exports.now)
         (has_item L.has live.now) f) }
 {
     let found = find_parts(alloc, adapter, live)?;
     check_parts(adapter, settings, &found)?;
-    let exports = exports_kept(alloc, adapter, required)?;
-    edited_text(alloc, adapter, &exports, live, settings, &found)
-}
-
-/// The exports that are kept.
-fn exports_kept<'a>(
-    alloc: Global,
-    adapter: &Module<'a>,
-    required: &Set<String>,
-) -> Result<Vec<Export<'a>>, AllocError>
-    requires { IsModule (module_value adapter.now) }
-    ensures { IfOk result (λ v. map export_value v.items
-        ≡ wanted_exports required.now.keys adapter.now) }
-{
-    let mut exports = exports_by_name(alloc, *required.hasher(), &adapter.exports)?;
-    drop_exports(&mut exports, &adapter.exports, required);
-    exports_of(alloc, &exports)
-}
-
-fn exports_of<'a>(
-    alloc: Global,
-    exports: &Map<&str, Export<'a>>,
-) -> Result<Vec<Export<'a>>, AllocError>
-    ensures { IfOk result (λ v. v.items ≡ values exports.now) }
-{
-    exports.values().copied().collect(alloc)
+    edited_text(alloc, adapter, exports, live, settings, &found)
 }
 
 /// A realloc's name is text, and pages have 2^16 bytes at most. A call does nothing when it runs.

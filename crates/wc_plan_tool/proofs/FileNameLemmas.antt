@@ -1,9 +1,9 @@
 -- The first name that is no file's.
 use Rattle.std.proofs.Common.{◌≡◌, ℕ, ◌<◌, suc, true, false, List, map, length, take, drop, get_or, All}
 use Rattle.std.specs.Borrow.{Bor}
-use Rattle.wc_plan_tool.specs.Arguments.{text_of}
+use Rattle.wc_selection.proofs.ListLemmas.{cut_at}
+use Rattle.wc_selection.specs.Texts.{text_of}
 use Rattle.wc_plan_tool.specs.FileNames.{IsFirstUnfit, is_file_name}
-use Rattle.wc_plan_tool.proofs.ListLemmas.{cut_at}
 
 abbrev pub IsFit : List ℕ → Type 0
 IsFit name = is_file_name name ≡ true

@@ -1,10 +1,6 @@
 mod TextsLemmas
-mod TestLemmas
-mod ListLemmas
-mod SelectionLemmas
-mod KeyListLemmas
-mod KeyNameLemmas
 mod FileNameLemmas
-mod FirstLemmas
+mod NamesLemmas
 mod ProgramLemmas
 mod RunLemmas
+mod NearestLemmas

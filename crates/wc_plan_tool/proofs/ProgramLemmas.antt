@@ -12,10 +12,16 @@ use Rattle.wc_resolve.specs.Views.{key_view}
 use Rattle.wc_resolve.specs.WellFormed.{IsWellFormed as IsResolve}
 use Rattle.wc_resolve.specs.declared.fault.ResolveFault.{ResolveFault}
 use Rattle.wc_resolve.specs.declared.fault.ResolveFault.TheVariants.{Memory as resolve_memory}
-use Rattle.wc_plan_tool.specs.Selection.{IsSelected}
+use Rattle.wc_selection.proofs.ListLemmas.{passed_more}
+use Rattle.wc_selection.specs.KeyNames.{count_unversioned, request_keys}
+use Rattle.wc_selection.specs.Keys.{NamedKey}
+use Rattle.wc_selection.specs.RequiredExports.{required_keys}
+use Rattle.wc_selection.specs.Texts.{first_parts, second_parts, text_pair}
+use Rattle.wc_selection.specs.Worlds.{IsSelected, IsWorldCause}
 use Rattle.wc_plan_tool.specs.declared.faults.SelectionFault.{SelectionFault}
-use Rattle.wc_plan_tool.specs.declared.faults.SelectionFault.TheVariants.{UnknownKey, SeveralKeys, RepeatedKey}
-use Rattle.wc_plan_tool.proofs.ListLemmas.{passed_more}
+use Rattle.wc_plan_tool.specs.declared.faults.SelectionFault.TheVariants.{Request}
+use Rattle.wc_selection.specs.declared.fault.RequestFault.{RequestFault}
+use Rattle.wc_selection.specs.declared.fault.RequestFault.TheVariants.{Memory as request_memory, UnknownKey, SeveralKeys, RepeatedKey}
 use Rattle.std.proofs.lemmas.List.{map-append}
 use Rattle.std.specs.List.{AllPairs, AllZip}
 use Rattle.std.proofs.lemmas.Bool.{cases_Bool}
@@ -29,11 +35,10 @@ use Rattle.wc_encoder.specs.declared.adapters.Adapter.{Adapter}
 use Rattle.wc_encoder.proofs.PairLemmas.{pairs_head, pairs_tail}
 use Rattle.wc_resolve.proofs.KeyLemmas.{texts_law}
 use Rattle.wc_resolve.proofs.SearchLemmas.{contains_cons, contains_head, contains_none, contains_tail}
-use Rattle.wc_plan_tool.specs.Faults.{of_dedupe, of_encoder, of_resolve}
-use Rattle.wc_plan_tool.specs.KeyNames.{command_keys, count_unversioned}
-use Rattle.wc_plan_tool.specs.RequiredExports.{IsNamesCause, NamedKey, first_parts, required_keys, second_parts}
+use Rattle.wc_plan_tool.specs.Faults.{of_dedupe, of_encoder, of_request, of_resolve, of_selection}
+use Rattle.wc_plan_tool.specs.RequiredExports.{IsNamesCause, request_of}
 use Rattle.wc_tool.specs.Files.{Held, Holds}
-use Rattle.wc_plan_tool.specs.Arguments.{CommandValue, text_pair}
+use Rattle.wc_plan_tool.specs.Arguments.{CommandValue}
 use Rattle.wc_plan_tool.specs.Program.{IsAdapterIn, IsAdaptersCause, IsChosen, IsDocumentIn, IsListed, IsListedCause, IsListedSelection, IsMainCause, IsModulesCause, IsPartsOf, IsPartsWith, IsPlanCause, IsReadFault, IsUnknownKey}
 use Rattle.wc_plan_tool.specs.declared.faults.ProgramFault.{ProgramFault}
 use Rattle.wc_plan_tool.specs.declared.faults.ProgramFault.TheVariants.{Memory, CannotRead, Selection, NoExport, Dedupe}
@@ -110,7 +115,7 @@ pub adapters_more : (before : Option Held) (c : CommandValue) (keys : List Named
     (entries after : List (String Global × Adapter)) (name : String Global) (adapter : Adapter)
     → k < length pairs → AllPairs NotEqual (first_parts (map text_pair pairs)) → string_bytes name ≡ (get_or pairs k d).0.now
     → Holds before (get_or pairs k d).1.now adapter.wasm.items
-    → map key_view adapter.required_exports.keys ≡ required_keys c (Some (get_or pairs k d).0.now) keys → adapter.library_info ≡ None
+    → map key_view adapter.required_exports.keys ≡ required_keys (request_of c) (Some (get_or pairs k d).0.now) keys → adapter.library_info ≡ None
     → after ≡ insert_entry string_eq entries name adapter
     → AllZip (IsAdapterIn before c keys) (map text_pair (take k pairs)) (map adapter_entry entries)
     → AllZip (IsAdapterIn before c keys) (map text_pair (take (k + 1) pairs)) (map adapter_entry after)
@@ -130,41 +135,46 @@ adapters_more before c keys pairs k d entries after name adapter lt distinct nam
 
 -- causes of faults that come before there is an encoder
 
+pub world_unnamed : (c : CommandValue) (before : Option Held) (d : DocumentView) (f : RequestFault) → IsDocumentIn before c.worlds d
+    → IsWorldCause d c.world f → IsPlanCause c before (of_selection (of_request f))
+world_unnamed c before d request_memory document cause = tt
+world_unnamed c before d f document cause = inl (d, document, cause)
+
 pub resolve_cause : (c : CommandValue) (before : Option Held) (d : DocumentView) (world : ℕ) (f : ResolveFault) → IsDocumentIn before c.worlds d
     → IsSelected d c.world world → IsResolveCause d.parts f → IsPlanCause c before (of_resolve f)
 resolve_cause c before d world resolve_memory document selected cause = tt
 resolve_cause c before d world f document selected cause = (d, world, document, selected, (λ e. cc), cause)
 
 pub names_cause : (c : CommandValue) (before : Option Held) (d : DocumentView) (world : ℕ) (f : ProgramFault) → IsDocumentIn before c.worlds d
-    → IsSelected d c.world world → IsResolve d.parts → IsListedCause c (command_keys c d.parts world) f → IsPlanCause c before f
+    → IsSelected d c.world world → IsResolve d.parts → IsListedCause c (request_keys (request_of c) d.parts world) f → IsPlanCause c before f
 names_cause c before d world Memory document selected formed cause = tt
 names_cause c before d world (Selection f) document selected formed cause = inr (d, world, document, selected, formed, cause)
 names_cause c before d world (NoExport key listing) document selected formed cause = (d, world, document, selected, formed, cause)
 names_cause c before d world f document selected formed cause = absurd cause
 
 -- a key that isn't there
-unknown_listed : (c : CommandValue) (keys : List NamedKey) (key : Bor (List ℕ)) (g : ProgramFault) → IsNamesCause c keys (UnknownKey key)
+unknown_listed : (c : CommandValue) (keys : List NamedKey) (key : Bor (List ℕ)) (g : ProgramFault) → IsNamesCause c keys (Request (UnknownKey key))
     → IsUnknownKey keys key g → IsListedCause c keys g
 unknown_listed c keys key Memory cause h = tt
-unknown_listed c keys key (Selection (RepeatedKey k)) cause h =
-    inr (subst (λ z. IsNamesCause c keys (UnknownKey z)) (sym h.0) cause, subst (λ z. count_unversioned keys z.now ≡ 1) (sym h.0) h.1)
-unknown_listed c keys key (Selection (SeveralKeys k)) cause h =
-    (subst (λ z. IsNamesCause c keys (UnknownKey z)) (sym h.0) cause, subst (λ z. 1 < count_unversioned keys z.now) (sym h.0) h.1)
+unknown_listed c keys key (Selection (Request (RepeatedKey k))) cause h =
+    inr (subst (λ z. IsNamesCause c keys (Request (UnknownKey z))) (sym h.0) cause, subst (λ z. count_unversioned keys z.now ≡ 1) (sym h.0) h.1)
+unknown_listed c keys key (Selection (Request (SeveralKeys k))) cause h =
+    (subst (λ z. IsNamesCause c keys (Request (UnknownKey z))) (sym h.0) cause, subst (λ z. 1 < count_unversioned keys z.now) (sym h.0) h.1)
 unknown_listed c keys key (NoExport k listing) cause h =
-    (subst (λ z. IsNamesCause c keys (UnknownKey z)) (sym h.0.0) cause, subst (λ z. count_unversioned keys z.now ≡ 0) (sym h.0.0) h.1, h.0.1)
+    (subst (λ z. IsNamesCause c keys (Request (UnknownKey z))) (sym h.0.0) cause, subst (λ z. count_unversioned keys z.now ≡ 0) (sym h.0.0) h.1, h.0.1)
 unknown_listed c keys key g cause h = absurd h
 
 -- another fault of names
 selection_listed : (c : CommandValue) (keys : List NamedKey) (f g : SelectionFault) → IsNamesCause c keys f → IsListed f keys (Selection g)
     → IsListedCause c keys (Selection g)
-selection_listed c keys (UnknownKey key) g cause listed = unknown_listed c keys key (Selection g) cause listed
-selection_listed c keys (SeveralKeys key) g cause listed = absurd cause.1
-selection_listed c keys (RepeatedKey key) g cause listed = subst (IsListedSelection c keys) (sym listed) (inl cause)
+selection_listed c keys (Request (UnknownKey key)) g cause listed = unknown_listed c keys key (Selection g) cause listed
+selection_listed c keys (Request (SeveralKeys key)) g cause listed = absurd cause.1
+selection_listed c keys (Request (RepeatedKey key)) g cause listed = subst (IsListedSelection c keys) (sym listed) (inl cause)
 selection_listed c keys f g cause listed = subst (IsListedSelection c keys) (sym listed) cause
 
 pub listed_cause : (c : CommandValue) (keys : List NamedKey) (f : SelectionFault) (g : ProgramFault) → IsNamesCause c keys f
     → IsListed f keys g → IsListedCause c keys g
-listed_cause c keys (UnknownKey key) g cause listed = unknown_listed c keys key g cause listed
+listed_cause c keys (Request (UnknownKey key)) g cause listed = unknown_listed c keys key g cause listed
 listed_cause c keys f Memory cause listed = tt
 listed_cause c keys f (Selection g) cause listed = selection_listed c keys f g cause listed
 listed_cause c keys f g cause listed = absurd listed
@@ -182,10 +192,10 @@ encoder_cause c before e encoder_memory parts cause = tt
 encoder_cause c before e f parts cause = (e, parts, (λ e. cc), cause)
 
 pub parts_of : (c : CommandValue) (before : Option Held) (d : DocumentView) (world : ℕ) (keys : List NamedKey) (e : EncoderView) → IsChosen c before d world
-    → e.world ≡ world → e.resolve ≡ d.parts → keys ≡ command_keys c d.parts world → IsPartsWith c before keys e → IsPartsOf c before e
+    → e.world ≡ world → e.resolve ≡ d.parts → keys ≡ request_keys (request_of c) d.parts world → IsPartsWith c before keys e → IsPartsOf c before e
 parts_of c before d world keys e chosen at is keyed parts = record {
   document = d;
   chosen = subst (IsChosen c before d) (sym at) chosen;
   resolve = is;
-  parts = subst (λ (k : List NamedKey). IsPartsWith c before k e) (keyed ∙ (λ i. command_keys c (sym is i) (sym at i))) parts;
+  parts = subst (λ (k : List NamedKey). IsPartsWith c before k e) (keyed ∙ (λ i. request_keys (request_of c) (sym is i) (sym at i))) parts;
 }

@@ -18,11 +18,11 @@ use Rattle.wc_plan_tool.specs.Reading.{read_arguments}
 use Rattle.wc_plan_tool.specs.Screen.{Printing, nothing, printed}
 use Rattle.wc_plan_tool.specs.declared.arguments.NoCommand.{NoCommand}
 use Rattle.wc_plan_tool.specs.declared.arguments.NoCommand.TheVariants.{Memory, Help, Version, Wrong}
-use Rattle.wc_plan_tool.specs.Faults.{of_plan, of_world}
+use Rattle.wc_plan_tool.specs.Faults.{of_plan}
 use Rattle.wc_plan_tool.specs.Program.{CommandEnds, EndsWell, EndsWithoutMemory, IsEncoderOf, IsFileFault, IsPlanCause, IsPlanned, IsRunCause, IsUnwrittenFile, ProgramEnds, ReadingEnds, WritesAll, file_view, files_of, printed_text}
-use Rattle.wc_plan_tool.specs.Private.Runs.{AnswersStop, IsMakingFault, IsWritingFault}
+use Rattle.wc_plan_tool.specs.Private.Runs.{AnswersStop, IsMakingFault, IsOfWorld, IsWritingFault}
 use Rattle.wc_plan_tool.specs.declared.faults.ProgramFault.{ProgramFault}
-use Rattle.wc_plan_tool.specs.declared.faults.ProgramFault.TheVariants.{CannotMake, CannotWrite, Output}
+use Rattle.wc_plan_tool.specs.declared.faults.ProgramFault.TheVariants.{CannotMake, CannotWrite, Output, World}
 
 module _ (c : CommandValue) (before : Option Held) where
   -- before files are written nothing is printed
@@ -34,9 +34,11 @@ module _ (c : CommandValue) (before : Option Held) where
   quiet makes out f still h = (h, refl, still)
 
   -- a fault of the component's world
-  pub world_cause : (e : EncoderView) (f : WorldFault) → IsEncoderOf c before e → IsWorldMemory e f ⊎ IsWorldCause e f → IsPlanCause c before (of_world f)
-  world_cause e world_memory encodes h = tt
-  world_cause e f encodes h = (e, encodes, (λ is. cc), h)
+  pub world_cause : (e : EncoderView) (f : WorldFault) (g : ProgramFault) → IsEncoderOf c before e → IsWorldMemory e f ⊎ IsWorldCause e f
+      → IsOfWorld e f g → IsPlanCause c before g
+  world_cause e world_memory g encodes h is = subst (IsPlanCause c before) (sym is) tt
+  world_cause e f (World g x) encodes h is = subst (λ k. IsPlanCause c before (World k x)) (sym is.0) (e, encodes, (λ same. cc), h, is.1)
+  world_cause e f g encodes h is = absurd is
 
   -- a fault of its plan
   no_output : (w : ComponentWorldView) (p : IsFirstFault w plan_output) (k : UseFault) → p.kind ≡ k → ⊥

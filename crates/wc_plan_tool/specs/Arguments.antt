@@ -1,7 +1,7 @@
 -- Commands, their options, and why there is no command.
 use Rattle.std.specs.Prelude.{◌≡◌, ℕ, Bool, List, map, Option, Result, Ok, Err, ⊤}
-use Rattle.std.specs.Borrow.{Bor}
 use Rattle.std.specs.Option.{option_map}
+use Rattle.wc_selection.specs.Texts.{text_of, text_pair}
 use Rattle.wc_plan_tool.specs.declared.arguments.Command.{Command}
 use Rattle.wc_plan_tool.specs.declared.arguments.CommandOption.{CommandOption}
 use Rattle.wc_plan_tool.specs.declared.arguments.CommandOption.TheVariants.{Adapt, Export, AdapterExport, RejectLegacyNames, ReallocViaMemoryGrow, Json, Out}
@@ -22,12 +22,6 @@ pub record CommandValue : Type 0 where
   pub realloc_via_memory_grow : Bool
   pub json : Bool
   pub out : Option (List ℕ)
-
-abbrev pub text_pair : Bor (List ℕ) × Bor (List ℕ) → List ℕ × List ℕ
-text_pair p = (p.0.now, p.1.now)
-
-abbrev pub text_of : Bor (List ℕ) → List ℕ
-text_of t = t.now
 
 abbrev pub command_value : Command → CommandValue
 command_value c = record {

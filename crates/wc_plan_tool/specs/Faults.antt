@@ -13,16 +13,23 @@ use Rattle.wc_plan.specs.declared.fault.PlanFault.{PlanFault}
 use Rattle.wc_plan.specs.declared.fault.PlanFault.TheVariants.{Memory as plan_memory, Output as plan_output}
 use Rattle.wc_resolve.specs.declared.fault.ResolveFault.{ResolveFault}
 use Rattle.wc_resolve.specs.declared.fault.ResolveFault.TheVariants.{Memory as resolve_memory}
+use Rattle.wc_selection.specs.Faults.{quoted, request_fault_text}
+use Rattle.wc_selection.specs.declared.fault.RequestFault.{RequestFault}
+use Rattle.wc_selection.specs.declared.fault.RequestFault.TheVariants.{Memory as request_memory}
 use Rattle.wc_world.specs.declared.fault.WorldFault.{WorldFault}
-use Rattle.wc_world.specs.declared.fault.WorldFault.TheVariants.{Memory as world_memory, PageSize}
+use Rattle.wc_world.specs.declared.fault.WorldFault.TheVariants.{PageSize}
 use Rattle.wc_plan_tool.specs.declared.faults.SelectionFault.{SelectionFault}
-use Rattle.wc_plan_tool.specs.declared.faults.SelectionFault.TheVariants.{Memory as selection_memory, PackageRange, UnknownWorld, SeveralWorlds, RepeatedAdapter, UnknownAdapter, EmptyDirectory, FileName, MainFile, UnknownKey, SeveralKeys, RepeatedKey}
+use Rattle.wc_plan_tool.specs.declared.faults.SelectionFault.TheVariants.{Memory as selection_memory, Request, RepeatedAdapter, UnknownAdapter, EmptyDirectory, FileName, MainFile}
 use Rattle.wc_plan_tool.specs.declared.faults.ProgramFault.{ProgramFault}
 use Rattle.wc_plan_tool.specs.declared.faults.ProgramFault.TheVariants.{Memory, CannotRead, NotText, NotJson, RepeatedMember, Json, Selection, NoExport, Resolve, Dedupe, Encoder, World, Plan, CannotMake, CannotWrite, Output}
 
 abbrev pub of_json : JsonFault → ProgramFault
 of_json json_memory = Memory
 of_json f = Json f
+
+abbrev pub of_request : RequestFault → SelectionFault
+of_request request_memory = selection_memory
+of_request f = Request f
 
 abbrev pub of_selection : SelectionFault → ProgramFault
 of_selection selection_memory = Memory
@@ -40,32 +47,19 @@ abbrev pub of_encoder : EncoderFault → ProgramFault
 of_encoder encoder_memory = Memory
 of_encoder f = Encoder f
 
-abbrev pub of_world : WorldFault → ProgramFault
-of_world world_memory = Memory
-of_world f = World f
-
 abbrev pub of_plan : PlanFault → ProgramFault
 of_plan plan_memory = Memory
 of_plan plan_output = Output
 of_plan f = Plan f
 
--- a name in quotes, between two texts
-abbrev pub quoted : List ℕ → List ℕ → List ℕ → List ℕ
-quoted before name after = before ++ (name ++ after)
-
 abbrev pub selection_fault_text : SelectionFault → List ℕ
 selection_fault_text selection_memory = memory_text
-selection_fault_text PackageRange = codes "package of a world out of range"
-selection_fault_text (UnknownWorld name) = quoted (codes "no world `") name.now (codes "`")
-selection_fault_text (SeveralWorlds name) = quoted (codes "several worlds `") name.now (codes "`")
+selection_fault_text (Request f) = request_fault_text f
 selection_fault_text (RepeatedAdapter name) = quoted (codes "adapter `") name.now (codes "` twice")
 selection_fault_text (UnknownAdapter name) = quoted (codes "no adapter `") name.now (codes "`")
 selection_fault_text EmptyDirectory = codes "empty path of --out"
 selection_fault_text (FileName name) = quoted (codes "adapter `") name.now (codes "` is no file's name")
 selection_fault_text (MainFile name) = quoted (codes "adapter `") name.now (codes "` in the main module's file")
-selection_fault_text (UnknownKey key) = quoted (codes "no export `") key.now (codes "`")
-selection_fault_text (SeveralKeys key) = quoted (codes "several exports `") key.now (codes "`")
-selection_fault_text (RepeatedKey key) = quoted (codes "export `") key.now (codes "` twice")
 
 -- there is no export with a key, and what exports there are
 abbrev pub no_export_text : List ℕ → List ℕ → List ℕ
@@ -102,7 +96,7 @@ IsTextOf (NoExport key listing) text = text ≡ escaped (no_export_text key.now 
 IsTextOf (Resolve f) text = IsCarried (codes "Resolve") text
 IsTextOf (Dedupe f) text = IsCarried (codes "Dedupe") text
 IsTextOf (Encoder f) text = IsCarried (codes "Encoder") text
-IsTextOf (World f) text = IsWorldText f text
+IsTextOf (World f x) text = IsWorldText f text
 IsTextOf (Plan f) text = IsCarried (codes "Plan") text
 IsTextOf (CannotMake path) text = text ≡ codes "cannot make directory " ++ escaped path.now
 IsTextOf (CannotWrite path) text = text ≡ codes "cannot write " ++ escaped (string_bytes path)

@@ -2,11 +2,11 @@ pub mod Arguments
 pub mod Reading
 pub mod Usage
 pub mod Faults
+pub mod Nearest
+pub mod Details
 pub mod FileNames
 pub mod Lines
-pub mod Selection
 pub mod RequiredExports
-pub mod KeyNames
 pub mod Listing
 pub mod Screen
 pub mod Program

@@ -30,18 +30,23 @@ use Rattle.wc_world.specs.Options.{plain_options}
 use Rattle.wc_world.specs.Views.{ComponentWorldView, NamedWorldAdapter}
 use Rattle.wc_world.specs.World.{IsWorldOf}
 use Rattle.wc_world.specs.declared.fault.WorldFault.TheVariants.{Memory as world_memory}
+use Rattle.wc_selection.specs.KeyNames.{count_unversioned, request_keys}
+use Rattle.wc_selection.specs.Keys.{NamedKey, texts_of}
+use Rattle.wc_selection.specs.RequiredExports.{required_keys}
+use Rattle.wc_selection.specs.Texts.{second_parts}
+use Rattle.wc_selection.specs.Worlds.{IsSelected}
 use Rattle.wc_plan_tool.specs.Arguments.{CommandValue, Reading, Stop, help, version, wrong}
+use Rattle.wc_plan_tool.specs.Details.{IsAbout, fault_lines}
 use Rattle.wc_plan_tool.specs.Faults.{IsTextOf}
 use Rattle.wc_plan_tool.specs.Lines.{lines_text}
 use Rattle.wc_plan_tool.specs.Listing.{listing_text}
 use Rattle.wc_plan_tool.specs.Reading.{read_arguments}
-use Rattle.wc_plan_tool.specs.KeyNames.{command_keys, count_unversioned}
-use Rattle.wc_plan_tool.specs.RequiredExports.{AreNamesThere, IsNamesCause, NamedKey, required_keys, second_parts, texts_of}
+use Rattle.wc_plan_tool.specs.RequiredExports.{AreNamesThere, IsNamesCause, IsSelectionCause, request_of}
 use Rattle.wc_plan_tool.specs.Screen.{Printing, nothing, printed, failed}
 use Rattle.wc_plan_tool.specs.Usage.{fault_and_usage, fault_line, help_text, no_text, usage_text, version_text, wrong_text}
-use Rattle.wc_plan_tool.specs.Selection.{IsSelected, IsSelectionCause}
 use Rattle.wc_plan_tool.specs.declared.faults.SelectionFault.{SelectionFault}
-use Rattle.wc_plan_tool.specs.declared.faults.SelectionFault.TheVariants.{UnknownKey, SeveralKeys, RepeatedKey}
+use Rattle.wc_plan_tool.specs.declared.faults.SelectionFault.TheVariants.{Request}
+use Rattle.wc_selection.specs.declared.fault.RequestFault.TheVariants.{UnknownKey, SeveralKeys, RepeatedKey}
 use Rattle.wc_plan_tool.specs.declared.faults.ProgramFault.{ProgramFault}
 use Rattle.wc_plan_tool.specs.declared.faults.ProgramFault.TheVariants.{Memory, CannotRead, NotText, NotJson, RepeatedMember, Json, Selection, NoExport, Resolve, Dedupe, Encoder, World, Plan, CannotMake, CannotWrite, Output}
 
@@ -65,7 +70,7 @@ pub record IsDocumentIn (before : Option Held) (path : List ℕ) (d : DocumentVi
 pub record IsAdapterIn (before : Option Held) (c : CommandValue) (keys : List NamedKey) (x : List ℕ × List ℕ) (y : List ℕ × AdapterView) : Type 0 where
   pub name : y.0 ≡ x.0
   pub wasm : Holds before x.1 y.1.wasm
-  pub required : y.1.required_exports ≡ required_keys c (Some x.0) keys
+  pub required : y.1.required_exports ≡ required_keys (request_of c) (Some x.0) keys
   pub library : y.1.library_info ≡ None
 
 -- the world that a command names, of the worlds in its file, which are well-formed; and its names and keys are there
@@ -73,7 +78,7 @@ pub record IsChosen (c : CommandValue) (before : Option Held) (d : DocumentView)
   pub worlds : IsDocumentIn before c.worlds d
   pub selected : IsSelected d c.world world
   pub resolve : IsResolve d.parts
-  pub named : AreNamesThere c (command_keys c d.parts world)
+  pub named : AreNamesThere c (request_keys (request_of c) d.parts world)
 
 -- the main module in its file, with its repeated imports renamed
 pub record IsMainIn (before : Option Held) (path text : List ℕ) (renames : List RenameValue) : Type 0 where
@@ -89,7 +94,7 @@ AreAdaptersIn before c keys adapters = AllZip (IsAdapterIn before c keys) c.adap
 -- flags, and a task hook without a name
 pub record IsPartsWith (c : CommandValue) (before : Option Held) (keys : List NamedKey) (e : EncoderView) : Type 0 where
   pub main : IsMainIn before c.main e.module_bytes (renames_in e.module_import_map)
-  pub exports : e.main_module_exports ≡ required_keys c None keys
+  pub exports : e.main_module_exports ≡ required_keys (request_of c) None keys
   pub adapters : AreAdaptersIn before c keys e.adapters
   pub rejects : e.reject_legacy_names ≡ c.reject_legacy_names
   pub grows : e.realloc_via_memory_grow ≡ c.realloc_via_memory_grow
@@ -100,7 +105,7 @@ pub record IsPartsOf (c : CommandValue) (before : Option Held) (e : EncoderView)
   pub document : DocumentView
   pub chosen : IsChosen c before document e.world
   pub resolve : e.resolve ≡ document.parts
-  pub parts : IsPartsWith c before (command_keys c e.resolve e.world) e
+  pub parts : IsPartsWith c before (request_keys (request_of c) e.resolve e.world) e
 
 pub record IsEncoderOf (c : CommandValue) (before : Option Held) (e : EncoderView) : Type 0 where
   pub parts : IsPartsOf c before e
@@ -239,30 +244,30 @@ IsNoExport texts key (NoExport k listing) = (k ≡ key) × (string_bytes listing
 IsNoExport texts key f = ⊥
 
 abbrev pub IsUnknownKey : List NamedKey → Bor (List ℕ) → ProgramFault → Type 0
-IsUnknownKey keys key (Selection (RepeatedKey k)) = (k ≡ key) × (count_unversioned keys key.now ≡ 1)
-IsUnknownKey keys key (Selection (SeveralKeys k)) = (k ≡ key) × (1 < count_unversioned keys key.now)
+IsUnknownKey keys key (Selection (Request (RepeatedKey k))) = (k ≡ key) × (count_unversioned keys key.now ≡ 1)
+IsUnknownKey keys key (Selection (Request (SeveralKeys k))) = (k ≡ key) × (1 < count_unversioned keys key.now)
 IsUnknownKey keys key (NoExport k listing) = IsNoExport (texts_of keys) key (NoExport k listing) × (count_unversioned keys key.now ≡ 0)
 IsUnknownKey keys key Memory = Unit {0}
 IsUnknownKey keys key f = ⊥
 
 -- the fault of a program for a fault of names
 abbrev pub IsListed : SelectionFault → List NamedKey → ProgramFault → Type 0
-IsListed (UnknownKey key) keys g = IsUnknownKey keys key g
+IsListed (Request (UnknownKey key)) keys g = IsUnknownKey keys key g
 IsListed f keys Memory = Unit {0}
 IsListed f keys (Selection g) = g ≡ f
 IsListed f keys g = ⊥
 
 abbrev pub IsListedSelection : CommandValue → List NamedKey → SelectionFault → Type 0
-IsListedSelection c keys (UnknownKey key) = ⊥
-IsListedSelection c keys (SeveralKeys key) = IsNamesCause c keys (UnknownKey key) × (1 < count_unversioned keys key.now)
-IsListedSelection c keys (RepeatedKey key) =
-    IsNamesCause c keys (RepeatedKey key) ⊎ (IsNamesCause c keys (UnknownKey key) × (count_unversioned keys key.now ≡ 1))
+IsListedSelection c keys (Request (UnknownKey key)) = ⊥
+IsListedSelection c keys (Request (SeveralKeys key)) = IsNamesCause c keys (Request (UnknownKey key)) × (1 < count_unversioned keys key.now)
+IsListedSelection c keys (Request (RepeatedKey key)) =
+    IsNamesCause c keys (Request (RepeatedKey key)) ⊎ (IsNamesCause c keys (Request (UnknownKey key)) × (count_unversioned keys key.now ≡ 1))
 IsListedSelection c keys f = IsNamesCause c keys f
 
 abbrev pub IsListedCause : CommandValue → List NamedKey → ProgramFault → Type 0
 IsListedCause c keys Memory = Unit {0}
 IsListedCause c keys (NoExport key listing) =
-    IsNamesCause c keys (UnknownKey key) × (count_unversioned keys key.now ≡ 0) × (string_bytes listing ≡ listing_text (texts_of keys))
+    IsNamesCause c keys (Request (UnknownKey key)) × (count_unversioned keys key.now ≡ 0) × (string_bytes listing ≡ listing_text (texts_of keys))
 IsListedCause c keys (Selection f) = IsListedSelection c keys f
 IsListedCause c keys f = ⊥
 
@@ -270,7 +275,7 @@ IsListedCause c keys f = ⊥
 abbrev pub IsUnnamed : CommandValue → Option Held → ProgramFault → Type 0
 IsUnnamed c before f =
     (d : DocumentView) × (world : ℕ) × IsDocumentIn before c.worlds d × IsSelected d c.world world × IsResolve d.parts
-    × IsListedCause c (command_keys c d.parts world) f
+    × IsListedCause c (request_keys (request_of c) d.parts world) f
 
 -- why there is no plan
 abbrev pub IsPlanCause : CommandValue → Option Held → ProgramFault → Type 0
@@ -286,7 +291,8 @@ IsPlanCause c before (Resolve f) =
     (d : DocumentView) × (world : ℕ) × IsDocumentIn before c.worlds d × IsSelected d c.world world × (f ≢ resolve_memory) × IsResolveCause d.parts f
 IsPlanCause c before (Dedupe f) = IsAnyChosen c before × IsMainCause before c.main (Dedupe f)
 IsPlanCause c before (Encoder f) = (e : EncoderView) × IsPartsOf c before e × (f ≢ encoder_memory) × IsEncoderCause e f
-IsPlanCause c before (World f) = (e : EncoderView) × IsEncoderOf c before e × (f ≢ world_memory) × (IsWorldMemory e f ⊎ IsWorldCause e f)
+IsPlanCause c before (World f x) =
+    (e : EncoderView) × IsEncoderOf c before e × (f ≢ world_memory) × (IsWorldMemory e f ⊎ IsWorldCause e f) × IfSome x (IsAbout e f)
 IsPlanCause c before (Plan f) = (e : EncoderView) × (w : ComponentWorldView) × IsEncoderOf c before e × IsWorldOf plain_options e w × IsFirstFault w f
 IsPlanCause c before (CannotMake path) = ⊥
 IsPlanCause c before (CannotWrite path) = ⊥
@@ -311,9 +317,14 @@ Prints text wanted out status = (out (printed text) × (status ≡ wanted)) ⊎ 
 abbrev pub IsPrintedOf : ProgramFault → List ℕ → Type 0
 IsPrintedOf fault text = IsTextOf fault text ⊎ (text ≡ memory_text)
 
--- a fault is printed in a line
+-- what is printed under it: the lines of the fault, or none, where there was no memory for them
+abbrev pub ArePrintedUnder : ProgramFault → List ℕ → Type 0
+ArePrintedUnder fault lines = (lines ≡ fault_lines fault) ⊎ (lines ≡ [])
+
+-- a fault is printed in a line, and under it the lines that say what it is about
 abbrev pub IsReported : ProgramFault → (Printing → Type 0) → ℕ → Type 0
-IsReported fault err status = (text : List ℕ) × IsPrintedOf fault text × Prints (fault_line text) failure err status
+IsReported fault err status =
+    (text lines : List ℕ) × IsPrintedOf fault text × ArePrintedUnder fault lines × Prints (fault_line (text ++ lines)) failure err status
 
 -- there was no memory, which is printed
 abbrev pub EndsWithoutMemory : (Printing → Type 0) → (Printing → Type 0) → ℕ → Type 0

@@ -3,7 +3,8 @@ use Rattle.std.specs.Prelude.{ℕ, ◌==◌, ◌&&◌, ◌||◌, Bool, true, fal
 use Rattle.std.specs.List.{position_or_len, before_first, after_first}
 use Rattle.std.specs.Option.{option_map}
 use Rattle.std.specs.Str.{bytes_eq}
-use Rattle.wc_plan_tool.specs.Arguments.{CommandValue, OptionValue, Reading, adapt, export, adapter_export, reject_legacy_names, realloc_via_memory_grow, json, out, help, version, wrong, unknown_option, missing_value, not_a_pair, repeated_option, unexpected, missing, text_of}
+use Rattle.wc_selection.specs.Texts.{text_of}
+use Rattle.wc_plan_tool.specs.Arguments.{CommandValue, OptionValue, Reading, adapt, export, adapter_export, reject_legacy_names, realloc_via_memory_grow, json, out, help, version, wrong, unknown_option, missing_value, not_a_pair, repeated_option, unexpected, missing}
 use Rattle.wc_plan_tool.specs.declared.arguments.Draft.{Draft}
 
 -- the code of `=`, and of `-`

@@ -4,6 +4,7 @@ ghost use Rattle.std.specs.Prelude.{◌≡◌, ◌++◌, IfOk, Some, string_byte
 ghost use Rattle.wc_json.specs.Escape.{escaped};
 ghost use Rattle.wc_plan_tool.specs.Faults.{IsCarried, IsTextOf, IsWorldText, no_export_text, page_size_text, repeated_text, selection_fault_text};
 
+use crate::explained::Explained;
 use std::alloc::{AllocError, AllocFailed, Global};
 use std::error::Error as StdError;
 use std::fmt;
@@ -12,21 +13,18 @@ use wc_encoder::EncoderFault;
 use wc_json::{JsonFault, escaped};
 use wc_plan::PlanFault;
 use wc_resolve::ResolveFault;
+use wc_selection::RequestFault;
 use wc_world::WorldFault;
 use wc_write::PutFailed;
 
-/// Why no world is selected, or why modules can't export what the arguments say. Of several causes the first in this
-/// order is named; `Memory` may come in place of any.
+/// Why the worlds don't have what the arguments name, or why adapters or their files can't be named so. `run_command`
+/// says which of several causes is named; `Memory` may come in place of any.
 #[derive(Clone, Copy, Debug, PartialEq, Eq)]
 pub enum SelectionFault<'a> {
     /// An allocation failed.
     Memory,
-    /// The package that a world says to be of is not in range.
-    PackageRange,
-    /// No world has this name.
-    UnknownWorld(&'a str),
-    /// Several worlds have this name.
-    SeveralWorlds(&'a str),
+    /// The world or a key is not there, or several are, or a key is given twice. It carries why, never `Memory`.
+    Request(RequestFault<'a>),
     /// Two adapters have this name.
     RepeatedAdapter(&'a str),
     /// No adapter has the name of one that has to export something.
@@ -37,12 +35,6 @@ pub enum SelectionFault<'a> {
     FileName(&'a str),
     /// This adapter would be written to the file of the main module.
     MainFile(&'a str),
-    /// The world has no export with this key.
-    UnknownKey(&'a str),
-    /// Several exports of the world have this key, but for their versions.
-    SeveralKeys(&'a str),
-    /// This key of an export is given twice.
-    RepeatedKey(&'a str),
 }
 
 impl fmt::Display for SelectionFault<'_> {
@@ -53,9 +45,7 @@ impl fmt::Display for SelectionFault<'_> {
     fn fmt<W: fmt::Write>(&self, f: &mut fmt::Formatter<W>) -> fmt::Result {
         match self {
             SelectionFault::Memory => f.write_str("out of memory"),
-            SelectionFault::PackageRange => f.write_str("package of a world out of range"),
-            SelectionFault::UnknownWorld(name) => write!(f, "no world `{name}`"),
-            SelectionFault::SeveralWorlds(name) => write!(f, "several worlds `{name}`"),
+            SelectionFault::Request(fault) => write!(f, "{fault}"),
             SelectionFault::RepeatedAdapter(name) => write!(f, "adapter `{name}` twice"),
             SelectionFault::UnknownAdapter(name) => write!(f, "no adapter `{name}`"),
             SelectionFault::EmptyDirectory => f.write_str("empty path of --out"),
@@ -63,9 +53,6 @@ impl fmt::Display for SelectionFault<'_> {
             SelectionFault::MainFile(name) => {
                 write!(f, "adapter `{name}` in the main module's file")
             }
-            SelectionFault::UnknownKey(key) => write!(f, "no export `{key}`"),
-            SelectionFault::SeveralKeys(key) => write!(f, "several exports `{key}`"),
-            SelectionFault::RepeatedKey(key) => write!(f, "export `{key}` twice"),
         }
     }
 }
@@ -92,6 +79,19 @@ impl<T: Drop> From<AllocFailed<T>> for SelectionFault<'_> {
     }
 }
 
+impl<'a> From<RequestFault<'a>> for SelectionFault<'a> {
+    ghost use Rattle.wc_plan_tool.specs.Faults.{of_request};
+
+    ghost from_gives = { λ f e. e ≡ of_request f };
+
+    fn from(e: RequestFault<'a>) -> SelectionFault<'a> {
+        match e {
+            RequestFault::Memory => SelectionFault::Memory,
+            _ => SelectionFault::Request(e),
+        }
+    }
+}
+
 /// Why the program could not do what its arguments say. `run_command` says which of several causes is named; `Memory`
 /// may come in place of any.
 #[derive(Debug, Drop)]
@@ -109,7 +109,7 @@ pub enum ProgramFault<'a> {
     /// The worlds could not be read. It carries why, a value that is wrong.
     Json(JsonFault),
     /// The arguments name a world or an adapter that isn't there, or a key or an adapter twice, or files can't be named.
-    /// It carries why, never `Memory` or `UnknownKey`.
+    /// It carries why, never `Memory`, nor that a key is unknown.
     Selection(SelectionFault<'a>),
     /// The world has no export with this key. It carries what exports it has, as a text.
     NoExport(&'a str, String),
@@ -119,8 +119,9 @@ pub enum ProgramFault<'a> {
     Dedupe(DedupeFault),
     /// Modules can't be encoded for the world. It carries why, never `Memory`.
     Encoder(EncoderFault),
-    /// The component has no world. It carries why, never `Memory` itself.
-    World(WorldFault),
+    /// The component has no world. It carries why, never `Memory` itself, and what that is about, if it is about an import
+    /// or an export; without memory for this `None`.
+    World(WorldFault, Option<Explained>),
     /// The component's world has no plan. It carries why, never `Memory`.
     Plan(PlanFault),
     /// The directory of this path could not be made.
@@ -132,7 +133,7 @@ pub enum ProgramFault<'a> {
 }
 
 impl ProgramFault<'_> {
-    /// The text of the fault, which the program prints: a path after what could not be done with it, the text of a
+    /// The text of the fault, which the program prints in a line: a path after what could not be done with it, the text of a
     /// `SelectionFault`, or the name of a fault, `: `, and what `Display` writes of the one that it carries. Texts from
     /// outside in it are escaped (`wc_json::escaped`).
     ///
@@ -154,7 +155,7 @@ impl ProgramFault<'_> {
             ProgramFault::Resolve(fault) => carried_text(alloc, "Resolve", fault),
             ProgramFault::Dedupe(fault) => carried_text(alloc, "Dedupe", fault),
             ProgramFault::Encoder(fault) => carried_text(alloc, "Encoder", fault),
-            ProgramFault::World(fault) => world_text(alloc, fault),
+            ProgramFault::World(fault, _) => world_text(alloc, fault),
             ProgramFault::Plan(fault) => carried_text(alloc, "Plan", fault),
             ProgramFault::CannotMake(path) => path_text(alloc, "cannot make directory ", path),
             ProgramFault::CannotWrite(path) => path_text(alloc, "cannot write ", path),
@@ -277,6 +278,16 @@ impl<'a> From<SelectionFault<'a>> for ProgramFault<'a> {
     }
 }
 
+impl<'a> From<RequestFault<'a>> for ProgramFault<'a> {
+    ghost use Rattle.wc_plan_tool.specs.Faults.{of_request, of_selection};
+
+    ghost from_gives = { λ f e. e ≡ of_selection (of_request f) };
+
+    fn from(e: RequestFault<'a>) -> ProgramFault<'a> {
+        ProgramFault::from(SelectionFault::from(e))
+    }
+}
+
 impl From<ResolveFault> for ProgramFault<'_> {
     ghost use Rattle.wc_plan_tool.specs.Faults.{of_resolve};
 
@@ -312,19 +323,6 @@ impl From<EncoderFault> for ProgramFault<'_> {
         match e {
             EncoderFault::Memory => ProgramFault::Memory,
             _ => ProgramFault::Encoder(e),
-        }
-    }
-}
-
-impl From<WorldFault> for ProgramFault<'_> {
-    ghost use Rattle.wc_plan_tool.specs.Faults.{of_world};
-
-    ghost from_gives = { λ f e. e ≡ of_world f };
-
-    fn from(e: WorldFault) -> Self {
-        match e {
-            WorldFault::Memory => ProgramFault::Memory,
-            _ => ProgramFault::World(e),
         }
     }
 }

@@ -1,13 +1,12 @@
 //! The names of the files that are written.
 
 ghost use Rattle.std.specs.Prelude.{◌≡◌, All, IfNone, IfSome, map, true};
-ghost use Rattle.std.specs.List.{list_any};
 ghost use Rattle.std.specs.Option.{option_map};
-ghost use Rattle.std.specs.Str.{bytes_eq};
-ghost use Rattle.wc_plan_tool.specs.Arguments.{text_of};
+ghost use Rattle.wc_selection.specs.Texts.{text_of};
 ghost use Rattle.wc_plan_tool.specs.FileNames.{AreFilesNamed, IsFilesCause, IsFirstUnfit, IsNameCause, AreNamesFit, is_file_name, is_parted, main_file};
 
 use crate::faults::SelectionFault;
+use wc_selection::has_text;
 
 /// The name of the file of the main module.
 const MAIN: &str = "main";
@@ -77,11 +76,4 @@ fn is_parted(name: &str) -> bool
     name.as_bytes()
         .iter()
         .any(|byte| *byte == b'/' || *byte == b'\\' || *byte == 0)
-}
-
-/// Whether one of the texts is this one.
-pub(crate) fn has_text(texts: &[&str], text: &str) -> bool
-    ensures { result ≡ list_any (λ t. bytes_eq t.now text.now) texts.now }
-{
-    texts.iter().any(|one| *one == text)
 }

@@ -5,21 +5,23 @@
 #![tactic(auto)]
 
 mod arguments;
+mod details;
 mod documents;
+mod explained;
 mod faults;
 mod file_names;
 mod json_place;
-mod key_names;
 mod lines;
 mod listing;
+mod nearest;
 mod program;
 mod required_exports;
 mod screen;
-mod selection;
 mod store;
 mod usage;
 
 pub use arguments::{Command, NoCommand, WrongArgument, parse};
+pub use explained::Explained;
 pub use faults::{ProgramFault, SelectionFault};
 pub use program::{run, run_command};
 pub use screen::Screen;

@@ -1,8 +1,8 @@
 //! The keys of a world's exports as a text.
 
 ghost use Rattle.std.specs.Prelude.{◌≡◌, ◌++◌, IfOk, OnOk, map, string_bytes, take};
+ghost use Rattle.wc_selection.specs.Keys.{named_key, texts_of};
 ghost use Rattle.wc_plan_tool.specs.Listing.{listed_key, listed_keys, listing_text, more_text};
-ghost use Rattle.wc_plan_tool.specs.RequiredExports.{named_key, texts_of};
 
 use std::alloc::{AllocError, Global};
 use wc_resolve::WorldKey;

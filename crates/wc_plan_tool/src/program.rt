@@ -11,22 +11,24 @@ ghost use Rattle.wc_plan.specs.Faults.{AreNameable};
 ghost use Rattle.wc_plan.specs.PlanViews.{plan_view};
 ghost use Rattle.wc_plan.specs.Plans.{plan_of};
 ghost use Rattle.wc_world.specs.WorldViews.{world_view};
-ghost use Rattle.wc_plan_tool.specs.Arguments.{command_value, text_of};
-ghost use Rattle.wc_plan_tool.specs.RequiredExports.{AreDistinct, AreKeysApart, AreNamesThere, adapter_names, named_key, texts_of};
+ghost use Rattle.wc_selection.specs.Keys.{AreKeysApart, named_key, texts_of};
+ghost use Rattle.wc_selection.specs.Texts.{AreDistinct, text_of};
+ghost use Rattle.wc_plan_tool.specs.Arguments.{command_value};
+ghost use Rattle.wc_plan_tool.specs.RequiredExports.{AreNamesThere, adapter_names};
 ghost use Rattle.wc_plan_tool.specs.Screen.{Becomes};
 ghost use Rattle.wc_plan_tool.specs.Program.{AreAdaptersIn, CommandEnds, EndsWell, EndsWithoutArguments, IsAdaptersCause, IsEncoderOf, IsFileFault, IsListed, IsListedCause, IsMainCause, IsMainIn, IsModulesCause, IsNoExport, IsPartsWith, IsPlanCause, IsPlanned, IsReported, IsRunCause, IsUnknownKey, Prints, ProgramEnds, WritesAll, failure, file_view, files_of, path_in, printed_text, record_line, wrong_arguments};
-ghost use Rattle.wc_plan_tool.specs.Private.Runs.{AnswersStop, IsMadeFor, IsMakingFault, IsWritingFault};
+ghost use Rattle.wc_plan_tool.specs.Private.Runs.{AnswersStop, IsMadeFor, IsMakingFault, IsReportedWith, IsWritingFault};
 ghost use Rattle.wc_plan_tool.specs.Usage.{fault_and_usage, fault_line};
 
 use crate::arguments::{Command, NoCommand, parse};
+use crate::details::detailed_text;
 use crate::documents::{read_document, read_file};
+use crate::explained::world_fault;
 use crate::faults::{ProgramFault, SelectionFault};
-use crate::key_names::{command_keys, count_unversioned};
 use crate::lines::plan_lines;
 use crate::listing::listing;
-use crate::required_exports::{Exporter, check_names, required_keys};
+use crate::required_exports::{check_names, command_keys, required_keys};
 use crate::screen::Screen;
-use crate::selection::select_world;
 use crate::store::DirectoryStore;
 use crate::usage::{AND_USAGE, NO_TEXT, OPTIONS, USAGE, VERSION};
 use std::alloc::{AllocError, Global};
@@ -39,6 +41,7 @@ use wc_plan::laws::worlds_nameable;
 use wc_plan::{Plan, plan};
 use wc_record::world_to_json;
 use wc_resolve::{Resolve, WorldId, WorldKey};
+use wc_selection::{Exporter, RequestFault, count_unversioned, select_world};
 use wc_tool::FileStore;
 use wc_world::{ComponentWorld, PlainOptions};
 use wc_write::PutFailed;
@@ -63,13 +66,14 @@ const OUT_OF_MEMORY: &[u8] = b"out of memory";
 /// | 0 | there are no arguments | the usage text, to `out` |
 /// | 0 | `parse` answers `Help` or `Version` | the help text or the version, to `out` |
 /// | 0 | the command was run | the lines of the plan, or with `--json` the record, to `out` |
-/// | 1 | the command could not be run | the line `wcplan: TEXT`, to `err` |
+/// | 1 | the command could not be run | the line `wcplan: TEXT`, and lines of what the fault is about, to `err` |
 /// | 1 | there was no memory for the arguments | the line `wcplan: out of memory`, to `err` |
 /// | 2 | an argument is wrong, or no text | the line `wcplan: TEXT` and the usage text, to `err` |
 /// | 1 | `out` or `err` failed | not known there |
 ///
 /// TEXT is the text of `run_command`'s fault (`ProgramFault::text`) or of the wrong argument (`WrongArgument::text`), or
-/// `out of memory` where there was no memory for it; then the status is 1. All that is printed is flushed. Nothing is
+/// `out of memory` where there was no memory for it; then the status is 1. The lines under it are those of
+/// `ProgramFault::details`, or none where there was no memory for them. All that is printed is flushed. Nothing is
 /// printed to the other output, unless `out` failed before. Files are as `run_command` leaves them; without a command
 /// they are unchanged.
 pub fn run<F: DirectoryStore, O: Screen, E: Screen>(
@@ -220,7 +224,7 @@ fn run_encoder<'a, F: DirectoryStore, O: Screen>(
     worlds_nameable(encoder);
     match ComponentWorld::new(alloc, encoder, &PlainOptions) {
         Ok(world) => run_world(alloc, command, &world, files, out),
-        Err(fault) => Err(ProgramFault::from(fault)),
+        Err(fault) => Err(world_fault(alloc, encoder, fault)),
     }
 }
 
@@ -395,7 +399,7 @@ fn listed_fault<'a>(
     ensures { IsListed fault.entry (map named_key keys.now) result }
 {
     match fault {
-        SelectionFault::UnknownKey(key) => unknown_key(alloc, key, keys),
+        SelectionFault::Request(RequestFault::UnknownKey(key)) => unknown_key(alloc, key, keys),
         _ => ProgramFault::from(fault),
     }
 }
@@ -407,8 +411,8 @@ fn unknown_key<'a>(alloc: Global, key: &'a str, keys: &[(WorldKey, String)]) -> 
 {
     match count_unversioned(keys, key) {
         0 => no_export(alloc, key, keys),
-        1 => ProgramFault::Selection(SelectionFault::RepeatedKey(key)),
-        _ => ProgramFault::Selection(SelectionFault::SeveralKeys(key)),
+        1 => ProgramFault::from(RequestFault::RepeatedKey(key)),
+        _ => ProgramFault::from(RequestFault::SeveralKeys(key)),
     }
 }
 
@@ -561,13 +565,23 @@ fn write_files<'a, F: FileStore>(
     Ok(())
 }
 
-/// Prints why the program failed. The answer is the status of a failure.
+/// Prints why the program failed, and what that is about. The answer is the status of a failure.
 fn report<E: Screen>(alloc: Global, err: &mut E, fault: &ProgramFault<'_>) -> u8
     ensures { IsReported fault.now (Becomes E.ends err.old err.new) result }
 {
     match fault.text(alloc) {
-        Ok(text) => print_fault(err, text.as_bytes()),
+        Ok(text) => report_text(alloc, err, fault, &text),
         Err(AllocError) => print_fault(err, OUT_OF_MEMORY),
+    }
+}
+
+/// Prints the text of a fault in a line, and under it what the fault is about. The answer is the status of a failure.
+fn report_text<E: Screen>(alloc: Global, err: &mut E, fault: &ProgramFault<'_>, text: &str) -> u8
+    ensures { IsReportedWith fault.now text.now (Becomes E.ends err.old err.new) result }
+{
+    match detailed_text(alloc, fault, text) {
+        Ok(text) => print_fault(err, text.as_bytes()),
+        Err(AllocError) => print_fault(err, text.as_bytes()),
     }
 }
 

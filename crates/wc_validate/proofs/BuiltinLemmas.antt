@@ -1,20 +1,33 @@
 -- Built-ins of no interface: where none of the first group is named, the classification of the others is that on all.
-use Rattle.std.proofs.Common.{◌≡◌, ◌↔◌, ℕ, Bool, true, false, not, List, Option, Some, Result, IsTrue, sym, refl, ap, ◌∙◌}
+use Rattle.std.proofs.Common.{◌≡◌, ◌↔◌, ℕ, Bool, true, false, not, List, Option, Some, Result, Ok, Err, IsTrue, sym, refl, ap, subst, ◌∙◌}
 use Rattle.std.specs.Str.{bytes_eq}
 use Rattle.std.proofs.lemmas.Slice.Eq.{bytes_eq-Decides}
 use Rattle.wc_encoder.specs.declared.encoding.StringEncoding.{StringEncoding}
 use Rattle.wc_read.specs.declared.types.ValType.{ValType}
-use Rattle.wc_read.specs.Types.{FuncTypeValue}
+use Rattle.wc_read.specs.declared.types.FuncType.{FuncType}
+use Rattle.wc_read.specs.Types.{FuncTypeValue, func_type_value}
 use Rattle.wc_names.specs.declared.imports.Import.{Import}
 use Rattle.wc_names.specs.Builtins.{NamesBuiltin, IsThreadBuiltin, builtin_import, builtin_type}
 use Rattle.wc_names.specs.Schemes.{Scheme}
 use Rattle.wc_names.specs.Classifications.{FaultKind, IsImportClassification, of_imports}
-use Rattle.wc_names.specs.Views.{Builtin, error_context_drop, backpressure_inc, backpressure_dec, waitable_set_new, waitable_set_wait, waitable_set_poll, waitable_set_drop, waitable_join, subtask_drop, subtask_cancel, error_context_new, error_context_debug_message, context_get, context_set, thread_index, thread_new_indirect, thread_resume_later, thread_suspend, thread_yield, thread_suspend_then_resume, thread_yield_then_resume, thread_suspend_then_promote, thread_yield_then_promote}
-use Rattle.wc_validate.specs.Private.Imports.Builtins.{IsAnyBuiltin, IsLaterBuiltin, MeansBuiltin, thread_type}
+use Rattle.wc_names.specs.Views.{ImportView, import_view, Builtin, error_context_drop, backpressure_inc, backpressure_dec, waitable_set_new, waitable_set_wait, waitable_set_poll, waitable_set_drop, waitable_join, subtask_drop, subtask_cancel, error_context_new, error_context_debug_message, context_get, context_set, thread_index, thread_new_indirect, thread_resume_later, thread_suspend, thread_yield, thread_suspend_then_resume, thread_yield_then_resume, thread_suspend_then_promote, thread_yield_then_promote}
+use Rattle.wc_validate.specs.Private.Imports.Builtins.{IsCheckedBy, IsAnyBuiltin, IsLaterBuiltin, MeansBuiltin, thread_type}
+use Rattle.wc_validate.specs.declared.fault.ValidateFault.{ValidateFault}
+use Rattle.wc_validate.specs.declared.fault.ValidateFault.TheVariants.{SignatureMismatch}
 use Rattle.wc_names.proofs.ClassificationLemmas.{classified_as}
+use Rattle.wc_validate.proofs.SignatureLemmas.{same_some, same_type}
 
 pub not_so : (b : Bool) (P : Type 0) → IsTrue b ↔ P → b ≡ false → ¬ P
 not_so b P h f p = let t : true ≡ false = sym (h.1 p) ∙ f in let bad : ⊥ = cc t in bad
+
+-- an import that is kept if its type is the one that it has to have
+pub checked_by : (type_of : ImportView → Option FuncTypeValue) (i : Import) (ty : FuncType) (b : Bool) (r : Result (Option Import) ValidateFault)
+    → IsTrue b ↔ (type_of (import_view i) ≡ Some (func_type_value ty)) → (IsTrue b → r ≡ Ok (Some i)) → (b ≡ false → r ≡ Err SignatureMismatch)
+    → IsCheckedBy type_of i ty r
+checked_by type_of i ty true r law kept refused =
+    subst (IsCheckedBy type_of i ty) (sym (kept refl)) (λ required_type is. (refl, same_type (sym (law.0 refl) ∙ is)))
+checked_by type_of i ty false r law kept refused =
+    subst (IsCheckedBy type_of i ty) (sym (refused refl)) (λ required_type is. (refl, λ e. not_so _ _ law refl (is ∙ same_some (sym e))))
 
 -- the signature of a built-in for threads
 pub thread_signature : (b : Builtin) → IsThreadBuiltin b → thread_type (builtin_import b) ≡ Some (builtin_type b)

@@ -32,7 +32,7 @@ use Rattle.wc_validate.specs.declared.fault.ValidateFault.{ValidateFault}
 use Rattle.wc_validate.specs.declared.fault.ValidateFault.TheVariants.{Memory, Read, NotAModule, SignatureMismatch}
 use Rattle.wc_validate.proofs.LawLemmas.{exports_alike, none_some, one_core, one_entry, one_name_scope, same_signature, import_scopes_same}
 
-kind_of : {K O : Type 0} (Holds : K → O → Type 0) (ks : List K) (o : O) → FirstOf Holds ks o → (k : K) × Holds k o
+pub kind_of : {K O : Type 0} (Holds : K → O → Type 0) (ks : List K) (o : O) → FirstOf Holds ks o → (k : K) × Holds k o
 kind_of Holds [] o h = absurd h
 kind_of Holds (k ∷ ks) o (inl h) = (k, h)
 kind_of Holds (k ∷ ks) o (inr h) = kind_of Holds ks o h.1

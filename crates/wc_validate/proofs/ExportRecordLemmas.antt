@@ -125,7 +125,7 @@ core_next : (m : ModuleValue) (x : ExportValue) (xs : List ExportValue) (ty : Ex
 unfolding core_exports
 core_next m x xs ty is = ap (λ (o : Option ExternType). cons_option (option_map (core_export x.name) o) (filter_map (typed_export m) xs)) is
 
-no_exports : (e : NameScope) (keys : List KeyView) (m : ModuleValue) → AreExports e keys (core_exports m []) []
+pub no_exports : (e : NameScope) (keys : List KeyView) (m : ModuleValue) → AreExports e keys (core_exports m []) []
 unfolding core_exports
 no_exports e keys m = refl
 

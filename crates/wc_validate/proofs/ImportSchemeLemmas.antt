@@ -1,5 +1,5 @@
 -- All kinds of names of imported functions, and the schemes that read them.
-use Rattle.std.proofs.Common.{◌≡◌, ℕ, Bool, true, false, List, [], ◌∷◌, ◌++◌, map, if◌then◌else◌, Option, Some, None, Result, Ok, Err, inl, inr, refl, sym, ap, subst, ◌∙◌}
+use Rattle.std.proofs.Common.{◌≡◌, ℕ, Bool, true, false, not, IsTrue, List, [], ◌∷◌, ◌++◌, map, if◌then◌else◌, Option, Some, None, Result, Ok, Err, inl, inr, refl, sym, ap, subst, ◌∙◌}
 use Rattle.std.proofs.lemmas.List.{append_cancel_left}
 use Rattle.wc_read.specs.Types.{FuncTypeValue}
 use Rattle.wc_names.specs.declared.imports.Import.{Import}
@@ -134,6 +134,14 @@ module _ {F : Type 0} (kind : F → FaultKind) (s : Scheme) (from name : List �
     typed_environment f refused typed =
         classified_fault of_imports kind (MeansEnvironment s from name ty) ty f
         (subst (IsReason of_imports (MeansEnvironment s from name ty) ty) (sym refused) (is, import_view i, named, rw typed refl))
+
+    pub kept_environment : (f : F) → kind f ≡ refused_name typed_reference → (b : Bool) → names_value_type (import_view i) ≡ b → (r : Result (Option Import) F)
+        → (IsTrue (not b) → r ≡ Ok (Some i))
+        → (not b ≡ false → r ≡ Err f) → IsImportClassification kind (MeansEnvironment s from name ty) ty r
+    kept_environment f refused true typed r kept unkept =
+        subst (IsImportClassification kind (MeansEnvironment s from name ty) ty) (sym (unkept refl)) (typed_environment f refused typed)
+    kept_environment f refused false plain r kept unkept =
+        subst (IsImportClassification kind (MeansEnvironment s from name ty) ty) (sym (kept refl)) (of_environment plain)
 
 -- the scheme of names without the marker
 pub scheme_is : (hook : List ℕ) (a b : Bool) → a ≡ b → (if a then standard else legacy hook) ≡ (if b then standard else legacy hook)

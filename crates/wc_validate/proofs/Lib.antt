@@ -41,3 +41,5 @@ pub mod FirstByKeyLemmas
 pub mod FirstPositionLemmas
 pub mod FirstExportLemmas
 pub mod FirstFunctionLemmas
+pub mod PlaceLemmas
+pub mod MissingLemmas

@@ -14,6 +14,7 @@ use Rattle.indexmap.specs.IndexMap.{insert_entry}
 use Rattle.wc_names.specs.declared.imports.Import.{Import}
 use Rattle.wc_validate.specs.Imports.Entries.{InstanceRecord, all_of, names_of, Records, IsAllRecorded, IsNameRecorded}
 use Rattle.wc_validate.specs.Imports.Instances.{import_entry, instance_view, instance_entry, add_to, put_in, IsFree, IsInstanceFault, IsWholeFault, IsWholePut}
+use Rattle.wc_validate.specs.Private.Imports.Required.{IsOneEntry}
 use Rattle.wc_validate.specs.declared.fault.ValidateFault.{ValidateFault}
 use Rattle.wc_validate.specs.declared.fault.ValidateFault.TheVariants.{Memory}
 use Rattle.wc_names.specs.Views.{ImportView, import_view}
@@ -77,6 +78,11 @@ added_is old new k v name there put key is absent =
     in
     ap names_of (ap (map import_entry) (put ∙ insert_new old k v free)
     ∙ (map-append import_entry old ((k, v) ∷ []) ∙ ap (λ z. map import_entry old ++ (z, import_view v) ∷ []) key))
+
+-- the first name of a module
+pub one_named : (es : List (String Global × Import)) (name : List ℕ) (i : Import) → IsOneEntry name i es
+    → names_of (map import_entry es) ≡ names_of ((name, import_view i) ∷ [])
+one_named es name i one = ap names_of (ap (map import_entry) one.2 ∙ ap (λ z. (z, import_view i) ∷ []) one.1)
 
 pub put_new : (es new : List (String Global × ImportInstance)) (k : String Global) (m name : List ℕ) (i : ImportView) (x : ImportInstance)
     → new ≡ insert_entry string_eq es k x → string_bytes k ≡ m → None ≡ lookup (is_called m) es

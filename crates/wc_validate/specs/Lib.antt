@@ -1,4 +1,5 @@
 -- What contracts of this crate cite.
+pub mod PlaceViews
 pub mod Texts
 pub mod Faults
 pub mod NameScopes
@@ -11,4 +12,5 @@ pub mod Exports
 pub mod FirstPositions
 pub mod FirstByKey
 pub mod Requirements
+pub mod Places
 pub mod Private

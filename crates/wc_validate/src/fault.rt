@@ -15,6 +15,13 @@ use wc_read::ReadFault;
 pub struct AdapterModuleDidNotExport(String);
 
 impl AdapterModuleDidNotExport {
+    /// The name of what isn't exported.
+    pub(crate) fn name(&self) -> &str
+        ensures { result.now ≡ name_not_exported self.now }
+    {
+        self.0.as_str()
+    }
+
     /// A copy of this value.
     ///
     /// # Errors

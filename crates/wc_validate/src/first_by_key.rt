@@ -81,7 +81,7 @@ impl FirstByKey {
             return keep_name(alloc, names, name, position);
         }
         let seed = *self.keys.hasher();
-        let names = one_entry(alloc, seed, String::from_str(alloc, name)?, position)?;
+        let names = one_entry(alloc, seed, name, position)?;
         self.keys.insert(key.clone(alloc)?, names)?;
         Ok(())
     }

@@ -25,6 +25,7 @@
 //! ```
 #![tactic(auto)]
 
+mod explain;
 mod exports;
 mod externs;
 mod fault;
@@ -32,15 +33,18 @@ mod first_by_key;
 mod imports;
 pub mod laws;
 mod name_scope;
+mod place;
 mod prefixes;
 mod requirements;
 mod signatures;
 mod validate;
 
+pub use explain::{explain_adapter_module, explain_module};
 pub use exports::iter::{Exports, Reallocs};
 pub use exports::map::ExportMap;
 pub use fault::{AdapterModuleDidNotExport, ValidateFault};
 pub use imports::instances::ImportInstance;
 pub use imports::iter::Imports;
 pub use imports::map::ImportMap;
+pub use place::{Place, Subject, TypeDifference};
 pub use validate::{ValidatedModule, validate_adapter_module, validate_module};

@@ -11,7 +11,7 @@ ghost use Rattle.wc_validate.specs.Private.RequiredExports.{AreMetBy, HasItemsIn
 ghost use Rattle.wc_validate.specs.NameScopes.{name_scope_of};
 ghost use Rattle.wc_validate.specs.Exports.Record.{AreExportsIn};
 
-mod exported_functions;
+pub(crate) mod exported_functions;
 
 use crate::ValidateFault;
 use crate::name_scope::Names;
@@ -33,7 +33,7 @@ pub(crate) struct RequiredExports<'a> {
 }
 
 /// Whether an export is a memory.
-fn is_memory(export: &Export) -> bool
+pub(crate) fn is_memory(export: &Export) -> bool
     ensures { result ≡ is_memory (export_view export.now) }
 {
     matches!(export, Export::Memory(_))
@@ -81,7 +81,7 @@ fn is_callback_for(export: &Export, callback: &Export) -> bool
 }
 
 /// Whether an export has its callback among those recorded, if it needs one.
-fn is_called_back(
+pub(crate) fn is_called_back(
     alloc: Global,
     names: &Map<String, Export>,
     name: &str,
@@ -140,7 +140,7 @@ fn check_record(alloc: Global, names: &Map<String, Export>) -> Result<(), Valida
 /// - `MissingInterfaceExport`: a function of the interface is not recorded.
 /// - `MissingWorldExport`: the function is not.
 /// - `Memory`: an allocation failed.
-fn check_key(
+pub(crate) fn check_key(
     alloc: Global,
     functions: &FunctionNames,
     resolve: &Resolve,

@@ -1,6 +1,6 @@
 //! Core types of imported functions, and the signatures that names fix.
 
-ghost use Rattle.std.specs.Prelude.{◌≡◌, ◌↔◌, IfOk, IsTrue, Some, map};
+ghost use Rattle.std.specs.Prelude.{◌≡◌, ◌↔◌, Err, IfOk, IsTrue, Ok, Some, false, map};
 ghost use Rattle.std.specs.List.{list_any};
 ghost use Rattle.wc_read.specs.Types.{func_type_value, names_type, names_types};
 ghost use Rattle.wc_resolve.specs.Signatures.{signature_view};
@@ -65,6 +65,14 @@ pub(crate) fn checked<T: Drop>(
     }
 }
 
+/// A value, if it is kept; else a fault.
+pub(crate) fn kept<T: Drop, F: Drop>(is_kept: bool, item: T, fault: F) -> Result<Option<T>, F>
+    ensures kept { IsTrue is_kept → result ≡ Ok (Some item) }
+    ensures refused { is_kept ≡ false → result ≡ Err fault }
+{
+    if is_kept { Ok(Some(item)) } else { Err(fault) }
+}
+
 /// Whether the type of a built-in for threads is the one that it has to have.
 fn has_thread_type(import: &Import, ty: &FuncType) -> bool
     ensures { IsTrue result
@@ -88,11 +96,8 @@ fn has_thread_type(import: &Import, ty: &FuncType) -> bool
 pub(crate) fn checked_thread(import: Import, ty: &FuncType) -> Result<Option<Import>, ValidateFault>
     ensures { IsCheckedBy thread_type import ty.now result }
 {
-    if has_thread_type(&import, ty) {
-        Ok(Some(import))
-    } else {
-        Err(ValidateFault::SignatureMismatch)
-    }
+    let has_its_type = has_thread_type(&import, ty);
+    kept(has_its_type, import, ValidateFault::SignatureMismatch)
 }
 
 /// Whether the type of a built-in of a future or stream is the one that it has to have.
@@ -134,11 +139,8 @@ pub(crate) fn checked_async_value(
 ) -> Result<Option<Import>, ValidateFault>
     ensures { IsCheckedBy async_value_type import ty.now result }
 {
-    if has_async_value_type(&import, ty) {
-        Ok(Some(import))
-    } else {
-        Err(ValidateFault::SignatureMismatch)
-    }
+    let has_its_type = has_async_value_type(&import, ty);
+    kept(has_its_type, import, ValidateFault::SignatureMismatch)
 }
 
 /// The value type of a core type: pointers and lengths are 32 bits.

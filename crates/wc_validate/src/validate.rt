@@ -68,14 +68,14 @@ fn names_of(encoder: &ComponentEncoder) -> Names<'_>
 /// some were renamed; and what it has to export.
 #[derive(Clone, Copy)]
 pub(crate) struct ValidationInput<'a> {
-    encoder: &'a ComponentEncoder,
-    library: Option<&'a LibraryInfo>,
-    renames: Option<&'a ModuleImportMap>,
-    required: RequiredExports<'a>,
+    pub(crate) encoder: &'a ComponentEncoder,
+    pub(crate) library: Option<&'a LibraryInfo>,
+    pub(crate) renames: Option<&'a ModuleImportMap>,
+    pub(crate) required: RequiredExports<'a>,
 }
 
 /// What the imports of a module are recorded by.
-fn import_context<'a>(
+pub(crate) fn import_context<'a>(
     alloc: Global,
     validation_input: ValidationInput<'a>,
     module: &'a Module<'_>,
@@ -121,7 +121,7 @@ fn module_imports(
 }
 
 /// What the names of exports are looked up in, for an encoder and an export set.
-fn export_context<'a>(
+pub(crate) fn export_context<'a>(
     alloc: Global,
     encoder: &'a ComponentEncoder,
     keys: &'a Set<WorldKey>,
@@ -228,6 +228,25 @@ fn validate_bytes(
     validate_read(alloc, validation_input, &module)
 }
 
+/// What the main module of an encoder is validated for, where other modules import these functions from it.
+pub(crate) fn main_validation_input<'a>(
+    encoder: &'a ComponentEncoder,
+    import_map: Option<&'a ModuleImportMap>,
+    functions: &'a Map<String, FuncType>,
+) -> ValidationInput<'a>
+    ensures { validation_input_of result ≡ main_input_requiring encoder.now
+        (option_copied import_map.entry) functions.now.entries }
+{
+    let keys = encoder.main_module_exports();
+    let required = RequiredExports { keys, functions };
+    ValidationInput {
+        encoder,
+        library: None,
+        renames: import_map,
+        required,
+    }
+}
+
 /// What is recorded of the main module of an encoder, where other modules import these functions from it.
 fn validate_main<'a>(
     alloc: Global,
@@ -243,14 +262,7 @@ fn validate_main<'a>(
     ensures no_cause { OnOk result (HasNoCause (main_input_requiring encoder.now
         (option_copied import_map.entry) functions.now.entries) bytes.now) }
 {
-    let keys = encoder.main_module_exports();
-    let required = RequiredExports { keys, functions };
-    let validation_input = ValidationInput {
-        encoder,
-        library: None,
-        renames: import_map,
-        required,
-    };
+    let validation_input = main_validation_input(encoder, import_map, functions);
     validate_bytes(alloc, validation_input, bytes)
 }
 

@@ -17,12 +17,15 @@ use Rattle.wc_write.specs.Values.{AreBytes}
 use Rattle.wc_gc.specs.declared.fault.GcFault.{GcFault}
 use Rattle.wc_gc.specs.declared.fault.GcFault.TheVariants as trim
 use Rattle.wc_validate.specs.Imports.Map.{memory_in}
+use Rattle.wc_validate.specs.Places.{IsExplained}
 use Rattle.wc_validate.specs.Validated.{IsCause as IsModuleCause, IsRecordOf, ValidationInput, ModuleRecord, adapter_input}
 use Rattle.wc_validate.specs.declared.fault.ValidateFault.{ValidateFault}
 use Rattle.wc_validate.specs.declared.fault.ValidateFault.TheVariants as validate
+use Rattle.wc_validate.specs.declared.place.Place.{Place}
 use Rattle.wc_world.specs.Adapters.{validation_input_of, main_page_size, main_realloc, page_size, required_names, trim_exponent}
 use Rattle.wc_world.specs.Causes.{IsMinimizedReached, IsNamed, IsRefused, IsTrimReached}
 use Rattle.wc_world.specs.Private.AdapterInput.{IsInputFault, IsInputTrimmedOrLibrary, IsInputRecord, IsInputTrimmedText, IsNeeded, main_of, named_adapter, required_of}
+use Rattle.wc_world.specs.Private.Explained.{input_of}
 use Rattle.wc_world.specs.Restricted.{RefusedAsCollision}
 use Rattle.wc_world.specs.Views.{WorldAdapterView}
 use Rattle.wc_world.specs.World.{IsTrimmedOrLibrary, settings_of, trim_input_of}
@@ -80,6 +83,10 @@ module _ (g : AdapterInput) (needed : IsNeeded g) (library : Option LibraryView)
   refused_input : (bytes other : List ℕ) (f : ValidateFault) → bytes ≡ other → IsModuleCause (adapter_input g.encoder.now library (named_adapter g).1.required_exports (required_of g)) bytes f → (f ≡ validate.Memory) ⊎ IsRefused validation_input other f
   refused_input bytes other f is h =
       refused_or_memory validation_input other f (subst (λ b. IsModuleCause validation_input b f) is (subst (λ j. IsModuleCause j bytes f) own_input h))
+
+  pub explained_input : (bytes : List ℕ) (f : ValidateFault) (o : Option Place) → IsExplained (adapter_input g.encoder.now library (named_adapter g).1.required_exports (required_of g)) bytes f o → IsExplained (input_of g) bytes f o
+  unfolding validation_input
+  explained_input bytes f o h = subst (λ j. IsExplained j bytes f o) own_input h
 
   -- a module that is refused as the encoder has it, and one that is refused once it is trimmed
   pub adapter_refused : (bytes : List ℕ) (v : ValidateFault) (f : WorldFault) → bytes ≡ g.adapter.now.wasm.items → IsModuleCause (adapter_input g.encoder.now library (named_adapter g).1.required_exports (required_of g)) bytes v

@@ -15,6 +15,7 @@ pub mod ImportEntryLemmas
 pub mod NeededLemmas
 pub mod FaultLemmas
 pub mod AdapterLemmas
+pub mod PlaceLemmas
 pub mod WorldLemmas
 pub mod RestrictedLemmas
 pub mod ExclusionLemmas

@@ -8,6 +8,7 @@ pub mod Adapters
 pub mod Live
 pub mod World
 pub mod Causes
+pub mod Places
 pub mod Restricted
 pub mod FunctionsLowered
 pub mod Laws

@@ -1,4 +1,5 @@
 -- Words of contracts of private functions. No contract of a public function cites these, directly or through others.
 pub mod AdapterInput
+pub mod Explained
 pub mod LoweringContext
 pub mod Required

@@ -3,8 +3,9 @@
 ghost use Rattle.std.specs.Prelude.{◌≡◌, ◌⊎◌, IfErr, IfOk, None, OnOk};
 ghost use Rattle.wc_encoder.specs.Adapters.{adapter_view as input_view};
 ghost use Rattle.wc_gc.specs.Liveness.{names_of};
+ghost use Rattle.wc_validate.specs.Imports.Map.{required_in};
 ghost use Rattle.wc_validate.specs.Validated.{ModuleRecord, module_record};
-ghost use Rattle.wc_world.specs.Adapters.{required_names};
+ghost use Rattle.wc_world.specs.Adapters.{is_adapter_needed, required_names};
 ghost use Rattle.wc_world.specs.Causes.{IsFirstStop, IsNamed, IsNeededStop};
 ghost use Rattle.wc_world.specs.Private.AdapterInput.{IsAdapterOfInput, IsInputFault, IsInputRecord, IsInputTrimmedOrLibrary, IsInputTrimmedText, IsNeeded, IsTrimmedInput, main_of, named_adapter, required_of};
 ghost use Rattle.wc_world.specs.declared.fault.WorldFault.TheVariants.{Memory};
@@ -29,13 +30,13 @@ use wc_write::laws::slices_are_bytes;
 
 /// An adapter or a library, and the main module for which it is trimmed.
 #[derive(Clone, Copy)]
-struct AdapterInput<'a, 'b> {
-    encoder: &'a ComponentEncoder,
-    main: &'b ValidatedModule,
+pub(crate) struct AdapterInput<'a, 'b> {
+    pub(crate) encoder: &'a ComponentEncoder,
+    pub(crate) main: &'b ValidatedModule,
     /// What the main module imports from it.
-    required: &'b Map<String, FuncType>,
-    name: &'a str,
-    adapter: &'a Adapter,
+    pub(crate) required: &'b Map<String, FuncType>,
+    pub(crate) name: &'a str,
+    pub(crate) adapter: &'a Adapter,
 }
 
 /// That the adapter of a name, or the library, is not valid.
@@ -69,7 +70,10 @@ fn minimized_fault(alloc: Global, name: &str, fault: ValidateFault) -> WorldFaul
 }
 
 /// What the bytes of the adapter import and export.
-fn input_record(alloc: Global, input: &AdapterInput<'_, '_>) -> Result<ValidatedModule, WorldFault>
+pub(crate) fn input_record(
+    alloc: Global,
+    input: &AdapterInput<'_, '_>,
+) -> Result<ValidatedModule, WorldFault>
     requires { IsNeeded input.now }
     ensures recorded { IfOk result (λ v. IsInputRecord input.now
         input.now.adapter.now.wasm.items (module_record v)) }
@@ -118,7 +122,7 @@ fn trim_to(
 }
 
 /// The bytes that an adapter is trimmed to, by what is recorded of those that the encoder has.
-fn trimmed_bytes(
+pub(crate) fn trimmed_bytes(
     alloc: Global,
     input: &AdapterInput<'_, '_>,
     first: &ValidatedModule,
@@ -242,6 +246,41 @@ fn one_adapter<'a>(
     Ok(adapter)
 }
 
+/// Whether a component has an adapter or a library.
+pub(crate) fn is_input_needed(input: &AdapterInput<'_, '_>) -> bool
+    requires { required_of input.now ≡ required_in input.now.main.now.imports input.now.name.now }
+    ensures { result ≡ is_adapter_needed input.now.encoder.now (main_of input.now)
+        (named_adapter input.now) }
+{
+    let encoder = input.encoder;
+    encoder.well_formedness();
+    let metadata = encoder.metadata();
+    let resolve = &metadata.resolve;
+    resolve.well_formedness();
+    let exports = &resolve.world(metadata.world).exports;
+    is_needed(resolve, exports, input.adapter, input.required)
+}
+
+/// Adds an adapter or a library, by what the main module imports from it, if a component has it.
+fn add_input<'a>(
+    alloc: Global,
+    input: &AdapterInput<'a, '_>,
+    found: &mut Map<&'a str, WorldAdapter<'a>>,
+) -> Result<(), WorldFault>
+    requires { required_of input.now ≡ required_in input.now.main.now.imports input.now.name.now }
+    ensures is_adapter { AddsAdapterOnOk result input.now.encoder.now (main_of input.now)
+        (named_adapter input.now) (adapters_view found.old) (adapters_view found.new) }
+    ensures fault { IfErr result (λ f. (f ≡ Memory) ⊎ IsNeededStop input.now.encoder.now
+        (main_of input.now) (named_adapter input.now) f) }
+{
+    if !is_input_needed(input) {
+        return Ok(());
+    }
+    let world_adapter = one_adapter(alloc, input)?;
+    found.insert(input.name, world_adapter)?;
+    Ok(())
+}
+
 /// Adds an adapter or a library, if a component has it.
 fn add_adapter<'a>(
     alloc: Global,
@@ -256,15 +295,7 @@ fn add_adapter<'a>(
     ensures fault { IfErr result (λ f. (f ≡ Memory) ⊎ IsNeededStop encoder.now
         (module_record main.now) (name.now, input_view adapter.now) f) }
 {
-    encoder.well_formedness();
-    let metadata = encoder.metadata();
-    let resolve = &metadata.resolve;
-    resolve.well_formedness();
-    let exports = &resolve.world(metadata.world).exports;
     let required = main.imports.required_from_adapter(alloc, name)?;
-    if !is_needed(resolve, exports, adapter, &required) {
-        return Ok(());
-    }
     let input = AdapterInput {
         encoder,
         main,
@@ -272,9 +303,7 @@ fn add_adapter<'a>(
         name,
         adapter,
     };
-    let world_adapter = one_adapter(alloc, &input)?;
-    found.insert(name, world_adapter)?;
-    Ok(())
+    add_input(alloc, &input, found)
 }
 
 /// The adapters and libraries that a component has, in order, by what its main module imports.

@@ -3,11 +3,12 @@
 //!
 //!     encoder WORLDS.json WORLD MAIN.wasm [NAME=ADAPTER.wasm [KEY]...]
 //!
-//! A KEY is an export of the world that the adapter has to have, as it is in the JSON (`interface-27`, or a plain name).
+//! A KEY is an export of the world that the adapter has to have: `wasi:cli/run`, or a plain name. The main module has to
+//! have the others.
 
 use nuigatre::{
     Adapter, ComponentEncoder, ComponentWorld, Export, Import, ImportInstance, Lowering,
-    RequiredOptions, ValidatedModule, World,
+    RequiredOptions, ValidatedModule,
 };
 use std::error::Error;
 use std::{env, fs};
@@ -112,7 +113,7 @@ fn main() -> Result<(), Box<dyn Error>> {
         );
     };
     let (resolve, module) = (fs::read_to_string(worlds)?, fs::read(main)?);
-    let mut encoder = ComponentEncoder::new(&resolve, World::Name(world), &module);
+    let mut encoder = ComponentEncoder::new(&resolve, world, &module);
     let wasm;
     if let [named, keys @ ..] = adapter {
         let (name, file) = named.split_once('=').ok_or("an adapter is NAME=FILE")?;

@@ -1,8 +1,9 @@
-//! Times the making of a component's world: `time_world WORLDS.json WORLD MAIN.wasm TIMES [NAME=ADAPTER.wasm [KEY]...]`
-//! prints the fastest of so many calls in nanoseconds, that of looking all imports up, and how many have a lowering or
-//! are an adapter's.
+//! Times the making of a component's world:
+//! `time_world [--resolved] WORLDS.json WORLD MAIN.wasm TIMES [NAME=ADAPTER.wasm [KEY]...]` prints the fastest of so many
+//! calls in nanoseconds, that of looking all imports up, and how many have a lowering or are an adapter's. With
+//! `--resolved` the worlds are read once before.
 
-use nuigatre::{Adapter, ComponentEncoder, ComponentWorld, World};
+use nuigatre::{Adapter, ComponentEncoder, ComponentWorld, Resolved};
 use std::error::Error;
 use std::hint::black_box;
 use std::time::Instant;
@@ -39,15 +40,24 @@ fn found(world: &ComponentWorld) -> usize {
 }
 
 fn main() -> Result<(), Box<dyn Error>> {
-    let arguments: Vec<String> = env::args().skip(1).collect();
+    let mut arguments: Vec<String> = env::args().skip(1).collect();
+    let is_resolved = arguments.first().is_some_and(|it| it == "--resolved");
+    if is_resolved {
+        arguments.remove(0);
+    }
     let [worlds, world, main, times, adapter @ ..] = &arguments[..] else {
         return Err(
-            "usage: time_world WORLDS.json WORLD MAIN.wasm TIMES [NAME=ADAPTER.wasm [KEY]...]"
+            "usage: time_world [--resolved] WORLDS.json WORLD MAIN.wasm TIMES [NAME=ADAPTER.wasm [KEY]...]"
                 .into(),
         );
     };
-    let (resolve, module) = (fs::read_to_string(worlds)?, fs::read(main)?);
-    let mut encoder = ComponentEncoder::new(&resolve, World::Name(world), &module);
+    let (json, module) = (fs::read_to_string(worlds)?, fs::read(main)?);
+    let mut encoder = ComponentEncoder::new(&json, world, &module);
+    let resolved;
+    if is_resolved {
+        resolved = Resolved::new(&json)?;
+        encoder.resolve = (&resolved).into();
+    }
     let wasm;
     if let [named, keys @ ..] = adapter {
         let (name, file) = named.split_once('=').ok_or("an adapter is NAME=FILE")?;

@@ -1,8 +1,9 @@
 //! Prints the world of a component:
 //! `world WORLDS.json WORLD MAIN.wasm [--adapt NAME=FILE]... [--export KEY]... [--adapter-export NAME=KEY]...`.
-//! A KEY is as it is in the JSON of the worlds (`interface-3`, or a plain name).
+//! A KEY is the id of an interface, with its version or without, or a plain name. Without `--export` the main module has
+//! to export all that no adapter has to.
 
-use nuigatre::{Adapter, ComponentEncoder, ComponentWorld, ImportInstance, ValidatedModule, World};
+use nuigatre::{Adapter, ComponentEncoder, ComponentWorld, ImportInstance, ValidatedModule};
 use std::process::ExitCode;
 use std::{env, fs};
 
@@ -49,8 +50,10 @@ fn asked(arguments: &[String]) -> Option<Asked> {
 }
 
 fn encoder(asked: &Asked) -> ComponentEncoder<'_> {
-    let mut encoder = ComponentEncoder::new(&asked.worlds, World::Name(&asked.world), &asked.main);
-    encoder.main_module_exports = asked.exports.iter().map(String::as_str).collect();
+    let mut encoder = ComponentEncoder::new(&asked.worlds, &asked.world, &asked.main);
+    if !asked.exports.is_empty() {
+        encoder.main_module_exports = Some(asked.exports.iter().map(String::as_str).collect());
+    }
     for (name, wasm) in &asked.adapters {
         let keys = asked.adapter_exports.iter().filter(|it| it.0 == *name);
         let mut adapter = Adapter::new(name, wasm);

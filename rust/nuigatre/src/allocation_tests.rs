@@ -5,7 +5,7 @@ use crate::error::Error;
 use crate::heap::counts::{add, fail_after, held, may_allocate};
 use crate::{
     Adapter, ComponentEncoder, ComponentWorld, ExportKind, Instance, Item, LibraryInfo,
-    MainOrAdapter, ModuleImportMap, World, gc,
+    MainOrAdapter, ModuleImportMap, Resolved, World, gc,
 };
 use std::alloc::{GlobalAlloc, Layout, System};
 use std::borrow::Cow;
@@ -61,6 +61,28 @@ const WORLDS: &str = r#"{
         "name": "hello", "kind": "freestanding", "params": [{"name": "x", "type": "u32"}], "result": null}}}],
     "types": [],
     "packages": [{"name": "my:demo", "interfaces": {"host": 0}, "worlds": {"demo": 0}}]
+}"#;
+
+/// Two futures and a stream, of which one has an escape in its name.
+const FUTURES: &str = r#"{
+    "worlds": [{"name": "de\u006do", "imports": {}, "exports": {}, "package": null}], "interfaces": [],
+    "types": [{"name": null, "kind": {"future": null}, "docs": {}}, {"name": null, "kind": {"str\u0065am": "u8"}},
+        {"name": null, "kind": {"future": 1}}],
+    "packages": []
+}"#;
+
+/// A world that exports the interfaces `a:b/run@1.0.0`, `a:b/run@2.0.0` and `a:b/go@2.0.0`, which have nothing.
+const EXPORTS: &str = r#"{
+    "worlds": [{"name": "demo", "imports": {}, "package": 1, "exports": {
+        "interface-0": {"interface": 0}, "interface-1": {"interface": 1}, "interface-2": {"interface": 2}}}],
+    "interfaces": [
+        {"name": "run", "types": {}, "functions": {}, "package": 0},
+        {"name": "run", "types": {}, "functions": {}, "package": 1},
+        {"name": "go", "types": {}, "functions": {}, "package": 1}],
+    "types": [],
+    "packages": [
+        {"name": "a:b@1.0.0", "interfaces": {"run": 0}, "worlds": {}},
+        {"name": "a:b@2.0.0", "interfaces": {"run": 1, "go": 2}, "worlds": {"demo": 0}}]
 }"#;
 
 /// Imports `hello` of `my:demo/host` twice, and `b` of `old`.
@@ -155,11 +177,11 @@ fn renaming() {
 
 #[test]
 fn trimming() {
-    assert!(failures(|| gc::run(THREE, &["b"], None, 16)) > 20);
-    assert!(failures(|| gc::run(REALLOC, &["f"], None, 16)) > 20);
-    assert!(failures(|| gc::run(REALLOC, &["f"], Some("realloc"), 16)) > 20);
+    assert!(failures(|| gc::run(THREE, ["b"], None, 16)) > 20);
+    assert!(failures(|| gc::run(REALLOC, ["f"], None, 16)) > 20);
+    assert!(failures(|| gc::run(REALLOC, ["f"], Some("realloc"), 16)) > 20);
     // one whose fault carries a name
-    assert!(failures(|| gc::run(THREE, &["b", "x"], None, 16)) > 5);
+    assert!(failures(|| gc::run(THREE, ["b", "x"], None, 16)) > 5);
 }
 
 #[test]
@@ -169,14 +191,42 @@ fn worlds() {
 }
 
 #[test]
+fn resolved_worlds() {
+    assert!(failures(|| Resolved::new(FUTURES)) > 40);
+    assert!(failures(|| Resolved::new("{}")) > 10);
+    let resolved = Resolved::new(WORLDS).expect("worlds");
+    let mut encoder = encoder();
+    encoder.resolve = (&resolved).into();
+    assert!(failures(|| ComponentWorld::new(&encoder)) > 200);
+}
+
+/// Keys in all forms, and those that are refused.
+#[test]
+fn keys() {
+    let failures = |main: &[&'static str], adapter: &[&'static str]| {
+        let mut encoder = ComponentEncoder::new(EXPORTS, "a:b/demo", THREE);
+        encoder.main_module_exports = Some(main.to_vec());
+        encoder.adapters.push(Adapter::new("old", THREE));
+        encoder.adapters[0].required_exports = adapter.to_vec();
+        failures(|| ComponentWorld::new(&encoder))
+    };
+    assert!(failures(&["a:b/go", "interface-1"], &["a:b/run@1.0.0"]) > 100);
+    for key in ["a:b/run", "a:b/go", "interface-0", "other"] {
+        assert!(failures(&[key, "a:b/go"], &["a:b/run@1.0.0"]) > 50);
+    }
+    let encoder = ComponentEncoder::new(EXPORTS, 0, THREE);
+    assert!(self::failures(|| ComponentWorld::new(&encoder)) > 100);
+}
+
+#[test]
 fn refused_worlds() {
-    assert!(refused(|it| it.resolve = "{},\"world\":1") > 0);
-    assert!(refused(|it| it.resolve = "{") > 0);
-    assert!(refused(|it| it.resolve = "{}") > 10);
+    assert!(refused(|it| it.resolve = "{},\"world\":1".into()) > 0);
+    assert!(refused(|it| it.resolve = "{".into()) > 0);
+    assert!(refused(|it| it.resolve = "{}".into()) > 10);
     assert!(refused(|it| it.world = World::Name("other")) > 50);
     assert!(refused(|it| it.adapters[1].name = "old") > 50);
     assert!(refused(|it| it.module = b"") > 50);
-    assert!(refused(|it| it.main_module_exports.push("run")) > 50);
+    assert!(refused(|it| it.main_module_exports = Some(vec!["run"])) > 50);
     assert!(refused(|it| it.adapters[0].name = "new") > 50);
     assert!(refused(|it| it.adapters[0].required_exports.push("run")) > 50);
     assert!(refused(|it| it.adapters[0].wasm = LIBRARY) > 50);

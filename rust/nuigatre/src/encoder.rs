@@ -2,10 +2,10 @@
 
 use crate::core_types::ExportKind;
 use crate::error::Error;
-use crate::json::{Value, is_one_value, put_list, put_string};
+use crate::json::{Value, put_list, put_string};
 use crate::memory::{OutOfMemory, Text, concat};
 use crate::read::{Read, Unread, list, member};
-use crate::world_error::WorldError;
+use crate::resolved::Worlds;
 use std::borrow::Cow;
 
 /// The main module, or the adapter of this name.
@@ -56,7 +56,7 @@ pub struct Adapter<'a> {
     pub name: &'a str,
     /// Its module.
     pub wasm: &'a [u8],
-    /// The keys of the world's exports that it has to export, as they are in the JSON of the worlds.
+    /// The keys of the world's exports that it has to export. [`ComponentEncoder::main_module_exports`] says what a key is.
     pub required_exports: Vec<&'a str>,
     /// How it is instantiated, if it is a library.
     pub library_info: Option<LibraryInfo>,
@@ -77,27 +77,49 @@ impl<'a> Adapter<'a> {
 
 /// Which world a component is encoded for.
 #[derive(Clone, Copy, Debug, PartialEq, Eq, Hash)]
+#[non_exhaustive]
 pub enum World<'a> {
     /// That at an index.
     Index(u32),
-    /// The first of a name.
+    /// The only one of a name: `wasi:cli/command@0.2.6`, or without the version, or `command`. A name that several worlds
+    /// have is refused.
     Name(&'a str),
+}
+
+impl From<u32> for World<'_> {
+    fn from(index: u32) -> Self {
+        World::Index(index)
+    }
+}
+
+impl<'a> From<&'a str> for World<'a> {
+    fn from(name: &'a str) -> Self {
+        World::Name(name)
+    }
+}
+
+impl<'a> From<&'a String> for World<'a> {
+    fn from(name: &'a String) -> Self {
+        World::Name(name)
+    }
 }
 
 /// What a component is encoded from: worlds, a main module, and adapters and libraries beside it.
 #[derive(Clone, Debug)]
 #[non_exhaustive]
 pub struct ComponentEncoder<'a> {
-    /// The worlds, as JSON: the serde form of wit-parser's `Resolve`, which `serde_json::to_string(&resolve)` makes, and
-    /// `wasm-tools component wit --json` prints.
-    pub resolve: &'a str,
+    /// The worlds.
+    pub resolve: Worlds<'a>,
     /// The world that the component is encoded for.
     pub world: World<'a>,
     /// The main module. Its repeated imports are renamed.
     pub module: &'a [u8],
-    /// The keys of the world's exports that the main module has to export, as they are in the JSON of the worlds:
-    /// `interface-3` for the interface 3 under its own id, any other text for a plain name.
-    pub main_module_exports: Vec<&'a str>,
+    /// The keys of the world's exports that the main module has to export; `None` for all that no adapter has to.
+    ///
+    /// A key is a plain name (`run`), or the id of an interface: `wasi:cli/run@0.2.6`, or `wasi:cli/run` where one export
+    /// alone has this id but for its version. An interface that is exported under its own id may be given by its index
+    /// among all interfaces too, as in the JSON: `interface-27`. Each key is given once, for one module.
+    pub main_module_exports: Option<Vec<&'a str>>,
     /// Adapters and libraries.
     pub adapters: Vec<Adapter<'a>>,
     /// Whether names of the older scheme are refused.
@@ -109,14 +131,20 @@ pub struct ComponentEncoder<'a> {
 }
 
 impl<'a> ComponentEncoder<'a> {
-    /// An encoder for this world, without adapters and flags, whose main module has to export nothing.
+    /// An encoder for this world of these, without adapters and flags, whose main module has to export all that no
+    /// adapter has to. The worlds are a [`Resolved`](crate::Resolved) or their JSON, and the world is given by its name or
+    /// its index.
     #[must_use]
-    pub fn new(resolve: &'a str, world: World<'a>, module: &'a [u8]) -> Self {
+    pub fn new(
+        resolve: impl Into<Worlds<'a>>,
+        world: impl Into<World<'a>>,
+        module: &'a [u8],
+    ) -> Self {
         ComponentEncoder {
-            resolve,
-            world,
+            resolve: resolve.into(),
+            world: world.into(),
             module,
-            main_module_exports: Vec::new(),
+            main_module_exports: None,
             adapters: Vec::new(),
             reject_legacy_names: false,
             realloc_via_memory_grow: false,
@@ -126,21 +154,18 @@ impl<'a> ComponentEncoder<'a> {
 
     /// The message for the archive.
     pub(crate) fn message(&self) -> Result<String, Error> {
-        // so that the worlds can't say what comes after them
-        if !is_one_value(self.resolve) {
-            return Err(Error::World(WorldError::not_json()?));
-        }
+        let resolve = self.resolve.json()?;
         let mut out = Text::default();
         out.0
-            .try_reserve(self.resolve.len() + 512)
+            .try_reserve(resolve.len() + 512)
             .map_err(OutOfMemory::from)?;
-        self.put_message(&mut out)?;
+        self.put_message(&mut out, resolve)?;
         Ok(out.0)
     }
 
-    fn put_message(&self, out: &mut Text) -> Result<(), OutOfMemory> {
+    fn put_message(&self, out: &mut Text, resolve: &str) -> Result<(), OutOfMemory> {
         out.put("{\"resolve\":")?;
-        out.put(self.resolve)?;
+        out.put(resolve)?;
         out.put(",\"world\":")?;
         match self.world {
             World::Index(index) => out.put_args(format_args!("{index}"))?,
@@ -151,7 +176,10 @@ impl<'a> ComponentEncoder<'a> {
             self.reject_legacy_names, self.realloc_via_memory_grow
         ))?;
         put_string(out, self.task_hook.unwrap_or_default())?;
-        put_exports(out, self.module, &self.main_module_exports)?;
+        put_length(out, self.module)?;
+        if let Some(keys) = &self.main_module_exports {
+            put_exports(out, keys)?;
+        }
         out.put(",\"adapters\":")?;
         put_list(out, &self.adapters, put_adapter)?;
         out.put("}")
@@ -169,15 +197,20 @@ impl<'a> ComponentEncoder<'a> {
     }
 }
 
-fn put_exports(out: &mut Text, module: &[u8], exports: &[&str]) -> Result<(), OutOfMemory> {
-    out.put_args(format_args!(",\"length\":{},\"exports\":", module.len()))?;
-    put_list(out, exports, |out, key| put_string(out, key))
+fn put_length(out: &mut Text, module: &[u8]) -> Result<(), OutOfMemory> {
+    out.put_args(format_args!(",\"length\":{}", module.len()))
+}
+
+fn put_exports(out: &mut Text, keys: &[&str]) -> Result<(), OutOfMemory> {
+    out.put(",\"exports\":")?;
+    put_list(out, keys, |out, key| put_string(out, key))
 }
 
 fn put_adapter(out: &mut Text, adapter: &Adapter<'_>) -> Result<(), OutOfMemory> {
     out.put("{\"name\":")?;
     put_string(out, adapter.name)?;
-    put_exports(out, adapter.wasm, &adapter.required_exports)?;
+    put_length(out, adapter.wasm)?;
+    put_exports(out, &adapter.required_exports)?;
     if let Some(library) = &adapter.library_info {
         out.put(",\"library_info\":")?;
         put_library(out, library)?;

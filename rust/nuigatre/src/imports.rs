@@ -8,6 +8,8 @@ use crate::json::Value;
 use crate::memory::{push, string};
 use crate::ordered_map::OrderedMap;
 use crate::read::{Read, Unread, map, member, optional_member};
+use crate::resolved::Resolved;
+use crate::wit_types::Type;
 
 /// The future or stream type that a built-in is for.
 #[derive(Clone, Debug, PartialEq, Eq, Hash)]
@@ -39,6 +41,18 @@ pub struct PayloadInfo {
     pub interface: Option<InterfaceId>,
     /// Whether the function is imported; else it is exported.
     pub imported: bool,
+}
+
+impl PayloadInfo {
+    /// The type of what the future or the stream carries, by the worlds that the component was encoded for; `None` where
+    /// it carries nothing.
+    #[must_use]
+    pub fn payload(&self, resolve: &Resolved) -> Option<Type> {
+        match &self.ty {
+            PayloadType::Typed { id, .. } => resolve.payload(*id),
+            PayloadType::UnitFuture | PayloadType::UnitStream => None,
+        }
+    }
 }
 
 /// What an import of a core module is, by its name. Fields are in the order of `wit-component`'s; the function of

@@ -21,14 +21,10 @@ const MAX_DEPTH: usize = 24;
 impl<'a> Value<'a> {
     /// The value that a text is.
     pub(crate) fn parse(text: &'a str) -> Result<Value<'a>, Unread> {
-        let mut reader = Reader { rest: text };
+        let mut reader = Reader::new(text);
         let value = reader.value(MAX_DEPTH)?;
-        reader.skip_spaces();
-        if reader.rest.is_empty() {
-            Ok(value)
-        } else {
-            Err(Unread::Unknown)
-        }
+        reader.end()?;
+        Ok(value)
     }
 
     /// The member of this name of an object, if it has one.
@@ -65,11 +61,29 @@ impl<'a> Value<'a> {
 }
 
 /// What is left of a text.
-struct Reader<'a> {
+pub(crate) struct Reader<'a> {
     rest: &'a str,
 }
 
 impl<'a> Reader<'a> {
+    pub(crate) fn new(text: &'a str) -> Self {
+        Reader { rest: text }
+    }
+
+    /// The text has to end here.
+    pub(crate) fn end(&mut self) -> Result<(), Unread> {
+        match self.peek() {
+            Some(_) => Err(Unread::Unknown),
+            None => Ok(()),
+        }
+    }
+
+    /// The first byte after spaces.
+    pub(crate) fn peek(&mut self) -> Option<u8> {
+        self.skip_spaces();
+        self.rest.as_bytes().first().copied()
+    }
+
     fn skip_spaces(&mut self) {
         self.rest = self.rest.trim_start_matches(SPACES);
     }
@@ -100,8 +114,7 @@ impl<'a> Reader<'a> {
     }
 
     fn value(&mut self, depth: usize) -> Result<Value<'a>, Unread> {
-        self.skip_spaces();
-        match self.rest.as_bytes().first() {
+        match self.peek() {
             Some(b'n') => self.word("null", Value::Null),
             Some(b't') => self.word("true", Value::Bool(true)),
             Some(b'f') => self.word("false", Value::Bool(false)),
@@ -123,45 +136,76 @@ impl<'a> Reader<'a> {
         Ok(Value::Number(number))
     }
 
-    /// The items up to this bracket, each by a function.
-    fn items<T>(
+    /// Goes through what these brackets are around, each item by a function.
+    fn items(
         &mut self,
         brackets: [&str; 2],
-        item: impl Fn(&mut Self) -> Result<T, Unread>,
-    ) -> Result<Vec<T>, Unread> {
+        mut item: impl FnMut(&mut Self) -> Result<(), Unread>,
+    ) -> Result<(), Unread> {
+        self.skip_spaces();
         self.expect(brackets[0])?;
-        let mut items = Vec::new();
         self.skip_spaces();
         if self.takes(brackets[1]) {
-            return Ok(items);
+            return Ok(());
         }
         loop {
-            push(&mut items, item(self)?)?;
+            item(self)?;
             self.skip_spaces();
             if self.takes(brackets[1]) {
-                return Ok(items);
+                return Ok(());
             }
             self.expect(",")?;
         }
     }
 
-    fn array(&mut self, depth: usize) -> Result<Value<'a>, Unread> {
-        let depth = depth.checked_sub(1).ok_or(Unread::Unknown)?;
-        Ok(Value::Array(
-            self.items(["[", "]"], |reader| reader.value(depth))?,
-        ))
+    /// Goes through the items of an array, each by a function.
+    pub(crate) fn elements(
+        &mut self,
+        element: impl FnMut(&mut Self) -> Result<(), Unread>,
+    ) -> Result<(), Unread> {
+        self.items(["[", "]"], element)
     }
 
-    fn object(&mut self, depth: usize) -> Result<Value<'a>, Unread> {
-        let depth = depth.checked_sub(1).ok_or(Unread::Unknown)?;
-        let member = |reader: &mut Self| {
+    /// Goes through the members of an object, each by a function, which is passed the name.
+    pub(crate) fn members(
+        &mut self,
+        mut member: impl FnMut(&mut Self, Cow<'a, str>) -> Result<(), Unread>,
+    ) -> Result<(), Unread> {
+        self.items(["{", "}"], |reader| {
             reader.skip_spaces();
             let name = reader.string()?;
             reader.skip_spaces();
             reader.expect(":")?;
-            Ok((name, reader.value(depth)?))
-        };
-        Ok(Value::Object(self.items(["{", "}"], member)?))
+            member(reader, name)
+        })
+    }
+
+    fn array(&mut self, depth: usize) -> Result<Value<'a>, Unread> {
+        let depth = depth.checked_sub(1).ok_or(Unread::Unknown)?;
+        let mut items = Vec::new();
+        self.elements(|reader| Ok(push(&mut items, reader.value(depth)?)?))?;
+        Ok(Value::Array(items))
+    }
+
+    fn object(&mut self, depth: usize) -> Result<Value<'a>, Unread> {
+        let depth = depth.checked_sub(1).ok_or(Unread::Unknown)?;
+        let mut members = Vec::new();
+        self.members(|reader, name| Ok(push(&mut members, (name, reader.value(depth)?))?))?;
+        Ok(Value::Object(members))
+    }
+
+    /// Goes past a value.
+    pub(crate) fn skip(&mut self) -> Result<(), Unread> {
+        self.raw().map(drop)
+    }
+
+    /// The text of a value, whose brackets and strings are closed where they have to be. No more of it is looked at.
+    pub(crate) fn raw(&mut self) -> Result<&'a str, Unread> {
+        self.skip_spaces();
+        let end = end_of_value(self.rest.as_bytes()).ok_or(Unread::Unknown)?;
+        let (raw, rest) = self.rest.split_at(end);
+        self.rest = rest;
+        Ok(raw)
     }
 
     fn string(&mut self) -> Result<Cow<'a, str>, Unread> {
@@ -237,26 +281,29 @@ const SPACES: [char; 4] = [' ', '\t', '\n', '\r'];
 /// text, it is one value of that. Whether it is JSON is not looked at.
 pub(crate) fn is_one_value(text: &str) -> bool {
     let text = text.trim_matches(SPACES).as_bytes();
+    end_of_value(text) == Some(text.len())
+}
+
+/// Where the value ends that a text begins with: after the bracket or the quote that closes it, or before what neither a
+/// number nor a word has. Which brackets close which is not looked at.
+fn end_of_value(text: &[u8]) -> Option<usize> {
     let (mut depth, mut at) = (0_usize, 0);
-    while let Some(byte) = text.get(at) {
-        match byte {
-            b'"' => match end_of_string(text, at) {
-                Some(end) => at = end,
-                None => return false,
-            },
-            b'[' | b'{' => depth += 1,
-            b']' | b'}' if depth > 0 => depth -= 1,
-            b']' | b'}' => return false,
-            b',' | b':' if depth == 0 => return false,
+    loop {
+        match text.get(at) {
+            Some(b'"') => at = end_of_string(text, at)?,
+            Some(b'[' | b'{') => depth += 1,
+            Some(b']' | b'}') if depth > 0 => depth -= 1,
+            None | Some(b',' | b':' | b']' | b'}' | b' ' | b'\t' | b'\n' | b'\r') if depth == 0 => {
+                return (at > 0).then_some(at);
+            }
+            None => return None,
             _ => {}
         }
         at += 1;
-        // a list, an object or a string ends where the text does
-        if depth == 0 && matches!(text[0], b'[' | b'{' | b'"') && at < text.len() {
-            return false;
+        if depth == 0 && matches!(text[0], b'[' | b'{' | b'"') {
+            return Some(at);
         }
     }
-    !text.is_empty() && depth == 0
 }
 
 /// Where the string ends whose first quote is at this position: the position of its last quote.
@@ -382,6 +429,7 @@ mod tests {
             "\"",
             "{\"\\\"}",
             "{\"\\\\\"},\"other\":{}",
+            "1 2",
         ] {
             assert!(!is_one_value(text), "{text}");
         }

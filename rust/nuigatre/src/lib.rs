@@ -1,6 +1,7 @@
 //! Core WebAssembly modules made ready to be parts of a component: repeated imports renamed
 //! ([`ModuleImportMap`]), adapters trimmed to what is used of them ([`gc::run`]), and all of that for the world of a
-//! component and its plan ([`ComponentWorld`], [`Plan`]). The names are those of the Rust crate `wit-component`, and so is what they do.
+//! component and its plan ([`ComponentWorld`], [`Plan`]), by resolved worlds as JSON, which may be read once for many
+//! components ([`Resolved`]). The names are those of the Rust crate `wit-component`, and so is what they do.
 //!
 //! The work is done by `libnuigatre.a`, whose functions are proved: each ends on all bytes, and answers what its
 //! contract says. This crate is the way there, and is tested: a heap, four calls, and the reading of their answers. It
@@ -9,8 +10,9 @@
 //!
 //! No call ends the process or panics: where an allocation fails, the library's or this crate's, the answer is
 //! [`Error::Memory`]. (A library that was compiled without its proof stops the process where it is wrong. The seed is of
-//! `RandomState`, which panics where the system gives no random bytes.) A thread that calls [`ComponentWorld::new`] or
-//! [`Plan::new`] needs a stack of 256 KB, whatever the input; for the other calls the smallest one that a thread can have is enough, 16 KB.
+//! `RandomState`, which panics where the system gives no random bytes.) A thread that calls [`ComponentWorld::new`],
+//! [`Plan::new`] or [`Resolved::new`] needs a stack of 256 KB, whatever the input; for the other calls the smallest one
+//! that a thread can have is enough, 16 KB.
 //!
 //! ```
 //! use nuigatre::{ModuleImportMap, gc};
@@ -25,13 +27,14 @@
 //!
 //! // an adapter of two functions, exported as `a` and `b`, without the first
 //! let adapter = b"\0asm\x01\0\0\0\x01\x04\x01\x60\0\0\x03\x03\x02\0\0\x07\x09\x02\x01a\0\0\x01b\0\x01\x0a\x07\x02\x02\0\x0b\x02\0\x0b";
-//! let trimmed = gc::run(adapter, &["b"], None, 16)?;
+//! let trimmed = gc::run(adapter, ["b"], None, 16)?;
 //! assert!(trimmed.len() < adapter.len());
 //! # Ok::<(), nuigatre::Error>(())
 //! ```
 #![deny(unsafe_code)]
 #![warn(missing_docs)]
 
+mod compact;
 mod core_types;
 mod encoder;
 mod error;
@@ -52,6 +55,8 @@ mod ordered_map;
 mod plan;
 mod read;
 mod renames;
+mod resolved;
+mod wit_types;
 mod world;
 mod world_error;
 
@@ -69,6 +74,8 @@ pub use imports::{Import, ImportInstance, ImportMap, PayloadInfo, PayloadType};
 pub use module_import_map::{ModuleImportMap, Rename};
 pub use ordered_map::{Iter, Lookup, OrderedMap};
 pub use plan::{Plan, Use};
+pub use resolved::{Resolved, Worlds};
+pub use wit_types::Type;
 pub use world::{
     ComponentWorld, ImportedInterface, Lowering, RequiredOptions, ValidatedModule, WorldAdapter,
 };

@@ -20,6 +20,17 @@ pub(crate) fn push<T>(items: &mut Vec<T>, item: T) -> Result<(), OutOfMemory> {
     Ok(())
 }
 
+/// The items of an iterator.
+pub(crate) fn collect<T>(items: impl IntoIterator<Item = T>) -> Result<Vec<T>, OutOfMemory> {
+    let items = items.into_iter();
+    let mut all = Vec::new();
+    all.try_reserve_exact(items.size_hint().0)?;
+    for item in items {
+        push(&mut all, item)?;
+    }
+    Ok(all)
+}
+
 /// Appends a text.
 pub(crate) fn push_str(out: &mut String, text: &str) -> Result<(), OutOfMemory> {
     out.try_reserve(text.len())?;
@@ -51,6 +62,14 @@ pub(crate) fn fitted(bytes: Vec<u8>) -> Vec<u8> {
         return bytes;
     }
     concat([bytes.as_slice()].into_iter()).unwrap_or(bytes)
+}
+
+/// The same of a text.
+pub(crate) fn fitted_text(text: String) -> String {
+    if text.len() > text.capacity() / 2 {
+        return text;
+    }
+    string(&text).unwrap_or(text)
 }
 
 /// A text that is written piece by piece. All that fails is an allocation.

@@ -10,6 +10,7 @@ use std::borrow::Cow;
 
 /// A renamed import.
 #[derive(Clone, Debug, PartialEq, Eq, Hash)]
+#[non_exhaustive]
 pub struct Rename {
     /// The name of its module, which stays the same.
     pub module: String,

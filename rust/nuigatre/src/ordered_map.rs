@@ -5,6 +5,7 @@ use crate::index::Index;
 use crate::memory::OutOfMemory;
 use std::fmt::{self, Debug, Formatter};
 use std::hash::Hash;
+use std::iter::FusedIterator;
 use std::{ops, slice, vec};
 
 /// What a map with keys `K` can be asked for: a key, or what it is without owning it. It hashes as the key does.
@@ -73,7 +74,6 @@ impl<K, V> OrderedMap<K, V> {
     };
 
     /// The entries in order.
-    #[must_use]
     pub fn iter(&self) -> Iter<'_, K, V> {
         Iter {
             entries: self.entries.iter(),
@@ -173,6 +173,7 @@ impl<K, V, Q: Lookup<K> + ?Sized> ops::Index<&Q> for OrderedMap<K, V> {
 
 /// The entries of an [`OrderedMap`] in order.
 #[derive(Debug)]
+#[must_use = "iterators do nothing unless they are gone through"]
 pub struct Iter<'a, K, V> {
     entries: slice::Iter<'a, (K, V)>,
 }
@@ -204,6 +205,8 @@ impl<K, V> DoubleEndedIterator for Iter<'_, K, V> {
 }
 
 impl<K, V> ExactSizeIterator for Iter<'_, K, V> {}
+
+impl<K, V> FusedIterator for Iter<'_, K, V> {}
 
 impl<'a, K, V> IntoIterator for &'a OrderedMap<K, V> {
     type Item = (&'a K, &'a V);

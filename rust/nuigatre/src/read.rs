@@ -102,7 +102,12 @@ pub(crate) fn optional_member<T: Read>(
     object: &Value<'_>,
     name: &str,
 ) -> Result<Option<T>, Unread> {
-    match object.get(name)? {
+    optional(object.get(name)?)
+}
+
+/// A value; `None` for null.
+pub(crate) fn optional<T: Read>(value: &Value<'_>) -> Result<Option<T>, Unread> {
+    match value {
         Value::Null => Ok(None),
         value => Ok(Some(T::read(value)?)),
     }

@@ -145,14 +145,14 @@ impl ComponentWorld {
     /// of lowered functions are those that their parameters and results need.
     ///
     /// ```no_run
-    /// use nuigatre::{Adapter, ComponentEncoder, ComponentWorld, World};
+    /// use nuigatre::{Adapter, ComponentEncoder, ComponentWorld};
     /// use std::fs;
     ///
     /// let worlds = fs::read_to_string("worlds.json")?;
     /// let (module, adapter) = (fs::read("main.wasm")?, fs::read("adapter.wasm")?);
-    /// let mut encoder = ComponentEncoder::new(&worlds, World::Name("command"), &module);
+    /// let mut encoder = ComponentEncoder::new(&worlds, "wasi:cli/command", &module);
     /// let mut adapter = Adapter::new("wasi_snapshot_preview1", &adapter);
-    /// adapter.required_exports.push("interface-27");
+    /// adapter.required_exports.push("wasi:cli/run");
     /// encoder.adapters.push(adapter);
     /// let world = ComponentWorld::new(&encoder)?;
     /// for (module, name, import) in world.info.imports.imports() {

@@ -14,16 +14,28 @@ pub struct WorldError {
     text: String,
 }
 
-/// Why a component has no world. Of several causes the first in this order is named.
+/// Why a component has no world. Of several causes the first in this order is named, and of several keys the first, those
+/// of the main module before those of adapters; but a key that is given twice after all that are unknown or of several
+/// exports.
 #[derive(Clone, Debug, PartialEq, Eq, Hash)]
 #[non_exhaustive]
 pub enum WorldFault {
-    /// The JSON of the worlds, or a key of an export, is not what it has to be.
+    /// The JSON of the worlds is not what it has to be.
     Json(JsonFault),
     /// No world has the name.
     UnknownWorld,
+    /// Several worlds have the name.
+    SeveralWorlds,
+    /// The world is given by its name, and a world says to be of a package that is not there.
+    PackageRange,
     /// The worlds, interfaces, types and packages are not well-formed.
     Resolve(ResolveFault),
+    /// A module has to export this key, and the world has no export with it.
+    UnknownKey(String),
+    /// A module has to export this key, which has no version, and several exports of the world have it but for theirs.
+    SeveralKeys(String),
+    /// This key is given twice, for one module or for two, in whichever forms.
+    RepeatedKey(String),
     /// Two adapters have this name.
     AdapterTwice(String),
     /// The main module's imports could not be renamed.
@@ -119,7 +131,8 @@ numbered! {
     EncoderFault {
         /// The `Resolve` has no world at the index.
         UnknownWorld = 1,
-        /// The world doesn't export a key of `main_module_exports`, or of an adapter's `required_exports`.
+        /// The world doesn't export a key of `main_module_exports`, or of an adapter's `required_exports`. Here that is
+        /// [`WorldFault::UnknownKey`].
         NotAnExport = 2,
         /// The world exports a type.
         TypeExported = 3,
@@ -268,6 +281,11 @@ impl WorldError {
             (8, carried) => WorldFault::Encoder(EncoderFault::from_number(carried)?),
             (9, carried) => of_module(carried, &text, encoder)?,
             (10, carried) => WorldFault::Plan(PlanFault::from_number(carried)?),
+            (11, 0) => WorldFault::SeveralWorlds,
+            (12, 0) => WorldFault::PackageRange,
+            (13, 0) => WorldFault::UnknownKey(quoted(&text, "UnknownKey ")?),
+            (14, 0) => WorldFault::SeveralKeys(quoted(&text, "SeveralKeys ")?),
+            (15, 0) => WorldFault::RepeatedKey(quoted(&text, "RepeatedKey ")?),
             _ => return Err(Unread::Unknown),
         };
         Ok(WorldError { fault, text })
@@ -313,6 +331,13 @@ fn named(text: &str, head: &str, encoder: &ComponentEncoder<'_>) -> Result<Strin
     };
     let name = names.filter(fits).max_by_key(|name| name.len());
     Ok(string(name.ok_or(Unread::Unknown)?)?)
+}
+
+/// What a text has in backquotes after its head.
+fn quoted(text: &str, head: &str) -> Result<String, Unread> {
+    let rest = text.strip_prefix(head).and_then(|it| it.strip_prefix('`'));
+    let quoted = rest.and_then(|it| it.strip_suffix('`'));
+    Ok(string(quoted.ok_or(Unread::Unknown)?)?)
 }
 
 /// The name of the export that the adapter of this name lacks, by the text of the fault.

@@ -2,6 +2,7 @@
 
 use nuigatre::{DedupeFault, Error, GcFault, ModuleImportMap, ReadFault, gc};
 use std::borrow::Cow;
+use std::collections::BTreeSet;
 use std::error::Error as _;
 
 /// Three functions, of which `a` is the first, and `b` the second, which calls the third.
@@ -15,38 +16,49 @@ const REALLOC: &[u8] = b"\0asm\x01\0\0\0\x01\x0c\x02\x60\x04\x7f\x7f\x7f\x7f\x01
 
 #[test]
 fn names_are_passed() {
-    assert_eq!(gc::run(THREE, &["b"], None, 16), Ok(TWO.to_vec()));
-    assert_eq!(gc::run(THREE, &["b", "b"], None, 16), Ok(TWO.to_vec()));
-    assert_eq!(gc::run(THREE, &["b", "a"], None, 0), Ok(THREE.to_vec()));
+    assert_eq!(gc::run(THREE, ["b"], None, 16), Ok(TWO.to_vec()));
+    assert_eq!(gc::run(THREE, ["b", "b"], None, 16), Ok(TWO.to_vec()));
+    assert_eq!(gc::run(THREE, ["b", "a"], None, 0), Ok(THREE.to_vec()));
+}
+
+/// Names of any collection of texts.
+#[test]
+fn collections_of_names() {
+    let names = ["b".to_owned(), "b".to_owned()];
+    assert_eq!(gc::run(THREE, &names, None, 16), Ok(TWO.to_vec()));
+    let set = BTreeSet::from(names.clone());
+    assert_eq!(gc::run(THREE, &set, None, 16), Ok(TWO.to_vec()));
+    let some = names.iter().skip(1).map(|name| name.as_str());
+    assert_eq!(gc::run(THREE, some, None, 16), Ok(TWO.to_vec()));
+    let missing = names.into_iter().chain(["x".to_owned()]);
+    let fault = gc::run(THREE, missing, None, 16).expect_err("x");
+    assert_eq!(fault, Error::Trim(GcFault::MissingExport("x".to_owned())));
 }
 
 #[test]
 fn the_realloc_is_passed() {
-    let named = gc::run(REALLOC, &["f"], Some("grow_it"), 16).expect("an adapter");
+    let named = gc::run(REALLOC, ["f"], Some("grow_it"), 16).expect("an adapter");
     let is_named = |name: &[u8]| named.windows(name.len()).any(|at| at == name);
     assert!(is_named(b"\x0f__main_module__\x07grow_it\0\0") && !is_named(b"cabi_realloc"));
-    let grown = gc::run(REALLOC, &["f"], None, 16).expect("an adapter");
+    let grown = gc::run(REALLOC, ["f"], None, 16).expect("an adapter");
     assert!(!grown.windows(15).any(|at| at == b"__main_module__"));
     // its memory has pages of 2^16 bytes
-    let fault = gc::run(REALLOC, &["f"], None, 0).expect_err("pages of one byte");
+    let fault = gc::run(REALLOC, ["f"], None, 0).expect_err("pages of one byte");
     assert_eq!(fault, Error::Trim(GcFault::ReallocMemory));
 }
 
 #[test]
 fn arguments_that_are_none() {
-    assert_eq!(gc::run(THREE, &[], None, 16), Err(Error::BadArgument));
-    assert_eq!(gc::run(THREE, &["b"], None, 17), Err(Error::BadArgument));
-    assert_eq!(
-        gc::run(b"", &["b"], None, u32::MAX),
-        Err(Error::BadArgument)
-    );
+    assert_eq!(gc::run(THREE, [""; 0], None, 16), Err(Error::BadArgument));
+    assert_eq!(gc::run(THREE, ["b"], None, 17), Err(Error::BadArgument));
+    assert_eq!(gc::run(b"", ["b"], None, u32::MAX), Err(Error::BadArgument));
 }
 
 #[test]
 fn faults_carry_what_they_are_about() {
-    let fault = gc::run(THREE, &["b", "b", "x", "y"], None, 16).expect_err("x");
+    let fault = gc::run(THREE, ["b", "b", "x", "y"], None, 16).expect_err("x");
     assert_eq!(fault, Error::Trim(GcFault::MissingExport("x".to_owned())));
-    let fault = gc::run(b"\0asm\x0d\0\x01\0", &["b"], None, 16).expect_err("a component");
+    let fault = gc::run(b"\0asm\x0d\0\x01\0", ["b"], None, 16).expect_err("a component");
     assert_eq!(fault, Error::Trim(GcFault::Read(ReadFault::Component)));
     assert_eq!(fault.to_string(), "Trim: Read: Component");
     // its text has all that is known

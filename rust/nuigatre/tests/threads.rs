@@ -26,6 +26,7 @@ fn values_can_be_sent() {
     fn is_sent<T: Send + Sync + 'static>() {}
     is_sent::<ModuleImportMap>();
     is_sent::<nuigatre::ComponentWorld>();
+    is_sent::<nuigatre::Resolved>();
     is_sent::<nuigatre::Error>();
 }
 
@@ -94,7 +95,7 @@ fn four_threads_at_once() {
     let renamed = ModuleImportMap::new(Cow::Borrowed(&module))
         .expect("a module")
         .0;
-    let trimmed = gc::run(&adapter, &["f"], None, 16).expect("an adapter");
+    let trimmed = gc::run(&adapter, ["f"], None, 16).expect("an adapter");
     assert_eq!(trimmed, adapter);
     thread::scope(|scope| {
         for _ in 0..4 {
@@ -104,7 +105,7 @@ fn four_threads_at_once() {
                         ModuleImportMap::new(Cow::Borrowed(&module)).expect("a module");
                     assert_eq!(bytes, renamed);
                     assert_eq!(map.expect("renames").renames().len(), 1_999);
-                    let bytes = gc::run(&adapter, &["f"], None, 16).expect("an adapter");
+                    let bytes = gc::run(&adapter, ["f"], None, 16).expect("an adapter");
                     assert_eq!(bytes, trimmed);
                 }
             });
@@ -117,7 +118,7 @@ fn small_stacks() {
     let modules = deep_modules();
     for kilobytes in [64, 16] {
         for module in &modules {
-            let call = || gc::run(module, &["f"], None, 16);
+            let call = || gc::run(module, ["f"], None, 16);
             thread::scope(|scope| {
                 let thread = thread::Builder::new().stack_size(kilobytes << 10);
                 let trimmed = thread.spawn_scoped(scope, call).expect("a thread").join();

@@ -147,7 +147,7 @@ fn a_world_by_its_index() {
 fn faults_have_their_paths() {
     let refused = |worlds: &str| {
         let mut encoder = encoder();
-        encoder.resolve = worlds;
+        encoder.resolve = worlds.into();
         fault_of(&encoder)
     };
     let wrong = |problem| WorldFault::Json(JsonFault::Wrong(problem));
@@ -187,12 +187,12 @@ fn worlds_are_one_value() {
     let spliced = format!("{WORLDS},\"other\":1");
     let mut encoder = encoder();
     for worlds in [&spliced, "", "{},\"world\":\"demo\",\"length\":0", "1,2"] {
-        encoder.resolve = worlds;
+        encoder.resolve = worlds.into();
         let fault = WorldFault::Json(JsonFault::NotJson);
         assert_eq!(fault_of(&encoder).0, fault, "{worlds}");
     }
     let spaced = format!(" \n{WORLDS}\t ");
-    encoder.resolve = &spaced;
+    encoder.resolve = (&spaced).into();
     assert!(ComponentWorld::new(&encoder).is_ok());
 }
 
@@ -227,12 +227,12 @@ fn modules_that_are_refused() {
         )
     );
     let mut key = encoder();
-    key.main_module_exports.push("run");
+    key.main_module_exports = Some(vec!["run"]);
     assert_eq!(
         fault_of(&key),
         (
-            WorldFault::Encoder(EncoderFault::NotAnExport),
-            "Encoder: NotAnExport".into()
+            WorldFault::UnknownKey("run".into()),
+            "UnknownKey `run`".into()
         )
     );
     // imports `b` of `old`, which it does not export
@@ -262,7 +262,7 @@ fn on_a_stack_of_its_size() {
         thread::scope(|scope| {
             let call = || {
                 let mut encoder = encoder();
-                encoder.resolve = &worlds;
+                encoder.resolve = (&worlds).into();
                 ComponentWorld::new(&encoder).is_ok()
             };
             let thread = thread::Builder::new().stack_size(256 << 10);

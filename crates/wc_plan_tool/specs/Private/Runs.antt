@@ -1,17 +1,21 @@
 -- What parts of a run of a command do.
-use Rattle.std.specs.Prelude.{◌≡◌, ℕ, List, Option, Some, IfSome, string_bytes, ◌⊎◌}
+use Rattle.std.specs.Prelude.{◌≡◌, ℕ, List, Option, Some, IfSome, string_bytes, ◌⊎◌, ◌++◌}
 use Rattle.wc_encoder.specs.EncoderParts.{EncoderView}
 use Rattle.wc_tool.specs.Files.{Held}
 use Rattle.wc_world.specs.Options.{plain_options}
 use Rattle.wc_world.specs.Views.{ComponentWorldView}
 use Rattle.wc_world.specs.World.{IsWorldOf}
 use Rattle.wc_plan_tool.specs.Arguments.{CommandValue, help, version, wrong, wrong_value}
-use Rattle.wc_plan_tool.specs.Program.{EndsWithoutMemory, IsEncoderOf, IsUnwrittenFile, StopEnds, WritesAll}
+use Rattle.wc_plan_tool.specs.Details.{IsAbout}
+use Rattle.wc_plan_tool.specs.Program.{ArePrintedUnder, EndsWithoutMemory, IsEncoderOf, IsUnwrittenFile, Prints, StopEnds, WritesAll, failure}
 use Rattle.wc_plan_tool.specs.Screen.{Printing, nothing, failed}
 use Rattle.wc_plan_tool.specs.declared.arguments.NoCommand.{NoCommand}
 use Rattle.wc_plan_tool.specs.declared.arguments.NoCommand.TheVariants.{Memory, Help, Version, Wrong}
 use Rattle.wc_plan_tool.specs.declared.faults.ProgramFault.{ProgramFault}
-use Rattle.wc_plan_tool.specs.declared.faults.ProgramFault.TheVariants.{CannotMake, CannotWrite, Output}
+use Rattle.wc_plan_tool.specs.declared.faults.ProgramFault.TheVariants.{CannotMake, CannotWrite, Output, World, Memory as no_memory}
+use Rattle.wc_plan_tool.specs.Usage.{fault_line}
+use Rattle.wc_world.specs.declared.fault.WorldFault.{WorldFault}
+use Rattle.wc_world.specs.declared.fault.WorldFault.TheVariants.{Memory as world_memory}
 
 -- the component's world of a command, with plain options
 pub record IsMadeFor (c : CommandValue) (before : Option Held) (w : ComponentWorldView) : Type 0 where
@@ -38,3 +42,13 @@ AnswersStop Memory out err status = EndsWithoutMemory out err status
 AnswersStop Help out err status = StopEnds help out err status
 AnswersStop Version out err status = StopEnds version out err status
 AnswersStop (Wrong w) out err status = StopEnds (wrong (wrong_value w)) out err status ⊎ EndsWithoutMemory out err status
+
+-- the fault of the program for one of the component's world
+abbrev pub IsOfWorld : EncoderView → WorldFault → ProgramFault → Type 0
+IsOfWorld e world_memory g = g ≡ no_memory
+IsOfWorld e f (World g x) = (g ≡ f) × IfSome x (IsAbout e f)
+IsOfWorld e f g = ⊥
+
+-- a text is printed in a line, and under it lines of the fault
+abbrev pub IsReportedWith : ProgramFault → List ℕ → (Printing → Type 0) → ℕ → Type 0
+IsReportedWith fault text err status = (lines : List ℕ) × ArePrintedUnder fault lines × Prints (fault_line (text ++ lines)) failure err status

@@ -7,7 +7,7 @@ ghost use Rattle.wc_validate.specs.Private.Imports.Functions.{IsOfEnvironment};
 
 use crate::ValidateFault;
 use crate::imports::items::ImportedFunction;
-use crate::signatures::names_type;
+use crate::signatures::{kept, names_type};
 use wc_names::{Import, NameMangling};
 
 /// The module of the functions by which linkers reach a thread's stack pointer and its local storage.
@@ -37,8 +37,6 @@ pub(crate) fn environment<N: NameMangling>(
     let Some(import) = scheme.env_import(function.name, function.ty) else {
         return Ok(None);
     };
-    if names_value_type(&import) {
-        return Err(ValidateFault::TypedReference);
-    }
-    Ok(Some(import))
+    let is_plain = !names_value_type(&import);
+    kept(is_plain, import, ValidateFault::TypedReference)
 }

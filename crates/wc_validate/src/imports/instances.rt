@@ -1,10 +1,10 @@
 //! What the imports of a core module are recorded as.
 
-ghost use Rattle.std.specs.Prelude.{◌≡◌, ◌∷◌, [], IfErr, IfOk, OnOk, map};
+ghost use Rattle.std.specs.Prelude.{◌≡◌, IfErr, IfOk, OnOk, map};
 ghost use Rattle.wc_encoder.specs.Adapters.{which_view};
-ghost use Rattle.wc_names.specs.Views.{import_view};
 ghost use Rattle.wc_validate.specs.Imports.Entries.{all_of};
-ghost use Rattle.wc_validate.specs.Imports.Instances.{IsFree, IsInstanceFault, IsPutFault, import_entry, instance_entry, instance_view, IsPutAs, IsPutWhole, IsRecordedAs, IsRefusedWhole};
+ghost use Rattle.wc_validate.specs.Imports.Instances.{IsFree, IsInstanceFault, IsPutFault, instance_entry, instance_view, IsPutAs, IsPutWhole, IsRecordedAs, IsRefusedWhole};
+ghost use Rattle.wc_validate.specs.Private.Imports.Required.{IsOneEntry};
 
 use crate::ValidateFault;
 use std::alloc::{AllocError, Global};
@@ -19,32 +19,17 @@ pub enum ImportInstance {
     Names(Map<String, Import>),
 }
 
-/// The one import of a module.
-fn one_import(
-    alloc: Global,
-    seed: Seed,
-    name: &str,
-    import: Import,
-) -> Result<Map<String, Import>, ValidateFault>
-    ensures ok { IfOk result (λ names. map import_entry names.entries
-        ≡ (name.now, import_view import) ∷ []) }
-    ensures memory { IfErr result (λ f. f ≡ ValidateFault.Memory) }
-{
-    let name = String::from_str(alloc, name)?;
-    Ok(one_entry(alloc, seed, name, import)?)
-}
-
 /// A map of one entry.
 pub(crate) fn one_entry<V: Drop>(
     alloc: Global,
     seed: Seed,
-    name: String,
+    name: &str,
     value: V,
 ) -> Result<Map<String, V>, AllocError>
-    ensures { IfOk result (λ names. names.entries ≡ (name, value) ∷ []) }
+    ensures { IfOk result (λ names. IsOneEntry name.now value names.entries) }
 {
     let mut names = Map::with_hasher(alloc, seed);
-    names.insert(name, value)?;
+    names.insert(String::from_str(alloc, name)?, value)?;
     Ok(names)
 }
 
@@ -81,7 +66,7 @@ pub(crate) fn put_import(
             }
         };
     }
-    let names = one_import(alloc, *instances.hasher(), name, import)?;
+    let names = one_entry(alloc, *instances.hasher(), name, import)?;
     instances.insert(
         String::from_str(alloc, module_name)?,
         ImportInstance::Names(names),

@@ -77,7 +77,7 @@ fn classify_import(
 }
 
 /// Records an import: as the library is passed it, or else as what it is.
-fn record_one(
+pub(crate) fn record_one(
     recorder: &mut Recorder,
     alloc: Global,
     context: &ImportContext<'_>,

@@ -112,7 +112,7 @@ fn add_typed<'m>(
 }
 
 /// The types of the functions that a module exports, by their names.
-fn typed_functions<'m>(
+pub(crate) fn typed_functions<'m>(
     alloc: Global,
     seed: Seed,
     module: &'m Module<'m>,
@@ -139,7 +139,7 @@ fn typed_functions<'m>(
 /// - `AdapterModuleDidNotExport`: no function of the name is exported.
 /// - `AdapterExportType`: it is exported with another type.
 /// - `Memory`: an allocation failed.
-fn check_function(
+pub(crate) fn check_function(
     alloc: Global,
     index: &Map<&str, &FuncType>,
     name: &str,

@@ -1,22 +1,22 @@
-use Rattle.std.proofs.Common.{◌≡◌, List, Some, map, sym, subst}
-use Rattle.wc_resolve.specs.Views.{world_view}
-use Rattle.wc_resolve.specs.declared.worlds.World.{World}
-use Rattle.wc_calls.specs.Encoders.{AreChosen, world_of}
-use Rattle.wc_calls.specs.Messages.{message_view, world_name_view}
+use Rattle.std.proofs.lemmas.Result.{err_from_is_err_and}
+use Rattle.wc_calls.specs.Encoders.{AreChosen}
+use Rattle.wc_calls.specs.Messages.{message_view}
+use Rattle.wc_calls.proofs.CauseLemmas.{world_cause}
 use Rattle.wc_calls.proofs.encoders.encoder_with.Goals as goal
+
+pub returns-in_err-world-clause-fault : goal.returns-in_err-world-clause-fault
+returns-in_err-world-clause-fault c =
+    let p = err_from_is_err_and c.from_residual.result c.from_residual.ensures.1 in
+    rw (p.1, p.2) (world_cause (message_view c.args.message) c.args.modules.now c.in_err-world.field-0.0 c.in_err-world.ensures.fault)
 
 pub returns-clause-parts : goal.returns-clause-parts
 returns-clause-parts c =
-    let named = sym (subst (λ (ws : List World). Some c.in-Some.world.0 ≡ world_of (map world_view ws) (world_name_view c.args.message.world)) c.deref.ensures.value
-    c.in-Some.ensures) in
-    let chosen : AreChosen (message_view c.args.message) c.args.modules.now c.in-Some.world.0 c.in-Some-split.main.now c.in-Some-split.others.now =
-    record { cut = c.in-Some-split.ensures.cut; size = c.in-Some-split.ensures.size; named = named } in
+    let chosen : AreChosen (message_view c.args.message) c.args.modules.now c.in_ok-world.world.0 c.in-Some.main.now c.in-Some.others.now =
+    record { cut = c.in-Some.ensures.cut; size = c.in-Some.ensures.size; named = c.in_ok-world.ensures.named } in
     c.encoder_for.ensures.parts c.args.modules.now chosen
 
 pub returns-clause-fault : goal.returns-clause-fault
 returns-clause-fault c =
-    let named = sym (subst (λ (ws : List World). Some c.in-Some.world.0 ≡ world_of (map world_view ws) (world_name_view c.args.message.world)) c.deref.ensures.value
-    c.in-Some.ensures) in
-    let chosen : AreChosen (message_view c.args.message) c.args.modules.now c.in-Some.world.0 c.in-Some-split.main.now c.in-Some-split.others.now =
-    record { cut = c.in-Some-split.ensures.cut; size = c.in-Some-split.ensures.size; named = named } in
+    let chosen : AreChosen (message_view c.args.message) c.args.modules.now c.in_ok-world.world.0 c.in-Some.main.now c.in-Some.others.now =
+    record { cut = c.in-Some.ensures.cut; size = c.in-Some.ensures.size; named = c.in_ok-world.ensures.named } in
     c.encoder_for.ensures.fault c.args.modules.now chosen

@@ -1,31 +1,50 @@
-use Rattle.std.proofs.Common.{◌≡◌, ℕ, ◌<◌, List, map, length, refl, sym, ◌∙◌, ap, subst, arith}
-use Rattle.std.specs.Prelude.{All, string_bytes}
-use Rattle.std.specs.Borrow.{Bor}
+use Rattle.std.proofs.Common.{◌+◌, ◌<◌, List, map, length, refl, sym, ◌∙◌, ap, subst, arith}
+use Rattle.std.specs.Prelude.{AllPairs, string_bytes}
 use Rattle.wc_read.specs.Exports.{export_value}
 use Rattle.wc_read.specs.declared.exports.Export.{Export}
-use Rattle.wc_gc.specs.KeptExports.{export_entries}
-use Rattle.wc_gc.proofs.ExportLemmas.{kept_from, still_named, named_by_name, entries_by_name, item_kept, item_dropped}
+use Rattle.wc_gc.specs.Private.Places.{IsPlaced}
+use Rattle.wc_gc.proofs.ExportLemmas.{kept_from, item_kept}
+use Rattle.wc_gc.proofs.PlaceLemmas.{Differ, same_first, differ_first, same_left, differ_left, rest_left}
 use Rattle.wc_gc.proofs.exports.drop_exports.Goals as goal
+use Rattle.wc_gc.proofs.exports.drop_exports.Goals.{then-not-contains, else-not-contains}
 
 pub loop-export-init : goal.loop-export-init
 loop-export-init c = record {
-  named = subst (λ (z : List (Bor (List ℕ) × Export)). All (λ (e : Bor (List ℕ) × Export). e.0.now ≡ e.1.name.now) z) (sym c.requires) (named_by_name c.args.exports.now);
-  rest = ap (kept_from (map string_bytes c.args.required.now.keys) (map export_value c.args.exports.now)) (ap export_entries c.requires ∙ entries_by_name c.args.exports.now);
+  counted = refl;
+  same = c.requires.all ∙ same_first c.args.exports.now c.args.places.now.order.items c.requires.order;
+  placed = λ n a b. c.requires.placed n b;
+  distinct = subst (λ (z : List Export). AllPairs Differ (map export_value z)) (sym c.requires.all) (differ_first c.args.exports.now c.requires.distinct);
+  rest = ap (λ (z : List Export). kept_from (map string_bytes c.args.required.now.keys) (map export_value c.args.exports.now) (map export_value z)) c.requires.all;
 }
 
-pub loop-export-preserved-then-contains : goal.loop-export-preserved-then-contains
-loop-export-preserved-then-contains c =
+pub take_out-requires : goal.take_out-requires
+take_out-requires c =
     let within : c.loop-export.export-index < length c.args.exports.now = omega arith in
-    record {
-      named = c.loop-export.invariant.named;
-      rest = item_kept c.args.required.now.keys c.args.exports.now c.loop-export.export-index (export_entries c.loop-export.kept.entries) _ within (sym c.contains.ensures ∙ c.if-contains.true) c.loop-export.invariant.rest;
-    }
+    subst (IsPlaced c.loop-export.places) (sym c.loop-export.invariant.counted) (c.loop-export.invariant.placed c.loop-export.export-index (omega arith) within)
 
 pub loop-export-preserved : goal.loop-export-preserved
 loop-export-preserved c =
     let within : c.loop-export.export-index < length c.args.exports.now = omega arith in
-    record {
-      named = subst (λ (z : List (Bor (List ℕ) × Export)). All (λ (e : Bor (List ℕ) × Export). e.0.now ≡ e.1.name.now) z) (sym c.take_out.ensures) (still_named _ c.loop-export.kept.entries c.loop-export.invariant.named);
-      rest = item_dropped c.args.required.now.keys c.args.exports.now c.loop-export.export-index _ c.loop-export.kept.entries c.take_out.new.kept.entries _ within (sym c.contains.ensures ∙ c.if-contains.false) (λ k. refl)
-          c.loop-export.invariant.named c.take_out.ensures c.loop-export.invariant.rest;
-    }
+    let es = c.args.exports.now in
+    let i = c.loop-export.export-index in
+    let inv = c.loop-export.invariant in
+    elim c.if-not-contains.branch [
+      | then-not-contains w ↦
+          let there = w.take_out.ensures.there ∙ inv.counted in
+          rw (w.kept-is, w.places-is) (record {
+            counted = ap (λ n. n + 1) inv.counted;
+            same = same_left es c.loop-export.kept.items _ c.loop-export.places.order.items _ i w.take_out.result _ _ inv.same w.take_out.ensures.within there w.remove_at.ensures w.take_out.ensures.order;
+            placed = λ n a b. w.take_out.ensures.placed n (λ e. let k = inv.counted in omega (arith, e, a, k)) (inv.placed n (omega (arith, a)) b);
+            distinct = differ_left es c.loop-export.kept.items _ c.loop-export.places.order.items c.loop-export.places.order.items i w.take_out.result 0 _ inv.same w.take_out.ensures.within there w.remove_at.ensures inv.distinct;
+            rest = rest_left es c.loop-export.kept.items _ c.loop-export.places.order.items c.loop-export.places.order.items i w.take_out.result 0 _ inv.same w.take_out.ensures.within there w.remove_at.ensures
+                c.args.required.now.keys _ inv.distinct within (sym c.contains.ensures ∙ w.if-not-contains.true) inv.rest;
+          })
+      | else-not-contains w ↦
+          rw (w.kept-is, w.places-is) (record {
+            counted = ap (λ n. n + 1) inv.counted;
+            same = inv.same;
+            placed = λ n a b. inv.placed n (omega (arith, a)) b;
+            distinct = inv.distinct;
+            rest = item_kept c.args.required.now.keys es i (map export_value c.loop-export.kept.items) _ within (sym c.contains.ensures ∙ w.if-not-contains.false) inv.rest;
+          })
+    ]

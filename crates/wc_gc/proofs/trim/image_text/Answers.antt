@@ -1,11 +1,8 @@
-use Rattle.std.proofs.Common.{refl, map, ◌∙◌, ap, inr}
+use Rattle.std.proofs.Common.{refl, map, inr}
 use Rattle.std.proofs.lemmas.Result.{err_from_is_err_and}
 use Rattle.wc_read.specs.Exports.{export_value}
-use Rattle.wc_read.specs.Modules.{module_value}
 use Rattle.wc_gc.specs.Decoded.{decoded_module}
 use Rattle.wc_gc.specs.Found.{found_value}
-use Rattle.wc_gc.specs.KeptExports.{kept_exports}
-use Rattle.wc_gc.specs.Liveness.{names_of}
 use Rattle.wc_gc.specs.LiveSets.{has_item}
 use Rattle.wc_gc.specs.Parts.{settings_value}
 use Rattle.wc_gc.proofs.TrimLemmas.{found_fault, text_fault, none_later}
@@ -14,22 +11,15 @@ use Rattle.wc_gc.proofs.trim.image_text.Goals as goal
 pub returns-in_err-check_parts-clause-fault : goal.returns-in_err-check_parts-clause-fault
 returns-in_err-check_parts-clause-fault g c =
     let p = err_from_is_err_and c.from_residual-in_err-check_parts.result c.from_residual-in_err-check_parts.ensures.1 in
-    rw (p.1, p.2) (inr (found_fault (settings_value c.args.settings) (decoded_module c.args.adapter.now) (kept_exports (names_of c.args.required.now.keys) (module_value c.args.adapter.now).exports) (has_item g.L.LiveSet.has c.args.live.now)
+    rw (p.1, p.2) (inr (found_fault (settings_value c.args.settings) (decoded_module c.args.adapter.now) (map export_value c.args.exports.now) (has_item g.L.LiveSet.has c.args.live.now)
     (found_value c.in_ok-found.found) c.in_ok-found.ensures _ c.in_err-check_parts.ensures.fault))
 
 pub returns-clause-fault : goal.returns-clause-fault
 returns-clause-fault g c =
-    let same = ap (map export_value) c.deref.ensures.value ∙ c.in_ok-exports.ensures in
-    text_fault (settings_value c.args.settings) (decoded_module c.args.adapter.now) (kept_exports (names_of c.args.required.now.keys) (module_value c.args.adapter.now).exports) (has_item g.L.LiveSet.has c.args.live.now)
-    (found_value c.in_ok-found.found) c.in_ok-found.ensures (c.in_ok-check_parts.ensures.none refl) c.edited_text.result (rw same at c.edited_text.ensures.fault)
+    text_fault (settings_value c.args.settings) (decoded_module c.args.adapter.now) (map export_value c.args.exports.now) (has_item g.L.LiveSet.has c.args.live.now)
+    (found_value c.in_ok-found.found) c.in_ok-found.ensures (c.in_ok-check_parts.ensures.none refl) c.edited_text.result c.edited_text.ensures.fault
 
 pub returns-clause-none : goal.returns-clause-none
 returns-clause-none g c =
-    let same = ap (map export_value) c.deref.ensures.value ∙ c.in_ok-exports.ensures in
-    λ ok. none_later (settings_value c.args.settings) (decoded_module c.args.adapter.now) (kept_exports (names_of c.args.required.now.keys) (module_value c.args.adapter.now).exports) (has_item g.L.LiveSet.has c.args.live.now)
-    (found_value c.in_ok-found.found) c.in_ok-found.ensures (c.in_ok-check_parts.ensures.none refl) (rw same at (c.edited_text.ensures.fits ok))
-
-pub returns-clause-written : goal.returns-clause-written
-returns-clause-written g c =
-    let same = ap (map export_value) c.deref.ensures.value ∙ c.in_ok-exports.ensures in
-    rw same at c.edited_text.ensures.written
+    λ ok. none_later (settings_value c.args.settings) (decoded_module c.args.adapter.now) (map export_value c.args.exports.now) (has_item g.L.LiveSet.has c.args.live.now)
+    (found_value c.in_ok-found.found) c.in_ok-found.ensures (c.in_ok-check_parts.ensures.none refl) (c.edited_text.ensures.fits ok)

@@ -1,8 +1,8 @@
 use Rattle.std.proofs.Common.{◌∙◌, All, map, rules, subst, sym}
 use Rattle.std.proofs.lemmas.List.{take_all}
-use Rattle.wc_plan_tool.specs.Arguments.{text_of}
+use Rattle.wc_selection.proofs.ListLemmas.{all_more}
+use Rattle.wc_selection.specs.Texts.{text_of}
 use Rattle.wc_plan_tool.proofs.FileNameLemmas.{IsFit, unfit_at}
-use Rattle.wc_plan_tool.proofs.ListLemmas.{all_more}
 use Rattle.wc_plan_tool.proofs.file_names.first_unfit.Goals as goal
 
 pub returns-then-not-is_file_name-clause-unfit : goal.returns-then-not-is_file_name-clause-unfit

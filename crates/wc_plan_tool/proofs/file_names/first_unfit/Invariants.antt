@@ -1,5 +1,5 @@
 use Rattle.std.proofs.Common.{All, map, take}
-use Rattle.wc_plan_tool.specs.Arguments.{text_of}
+use Rattle.wc_selection.specs.Texts.{text_of}
 use Rattle.wc_plan_tool.proofs.FileNameLemmas.{IsFit}
 use Rattle.wc_plan_tool.proofs.file_names.first_unfit.Given as goal
 

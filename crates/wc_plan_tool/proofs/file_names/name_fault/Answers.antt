@@ -1,8 +1,8 @@
 use Rattle.std.proofs.Common.{◌∙◌, map, refl, sym}
-use Rattle.wc_plan_tool.specs.Arguments.{text_of}
+use Rattle.wc_selection.proofs.FirstLemmas.{in_contains, out_lacks}
+use Rattle.wc_selection.proofs.TestLemmas.{text_in}
+use Rattle.wc_selection.specs.Texts.{text_of}
 use Rattle.wc_plan_tool.specs.FileNames.{main_file}
-use Rattle.wc_plan_tool.proofs.FirstLemmas.{in_contains, out_lacks}
-use Rattle.wc_plan_tool.proofs.TestLemmas.{text_in}
 use Rattle.wc_plan_tool.proofs.file_names.name_fault.Goals as goal
 
 pub returns-then-has_text-clause-fault : goal.returns-then-has_text-clause-fault

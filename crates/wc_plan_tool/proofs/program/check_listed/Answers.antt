@@ -1,6 +1,6 @@
 use Rattle.std.proofs.Common.{map}
+use Rattle.wc_selection.specs.Keys.{named_key}
 use Rattle.wc_plan_tool.specs.Arguments.{command_value}
-use Rattle.wc_plan_tool.specs.RequiredExports.{named_key}
 use Rattle.wc_plan_tool.proofs.ProgramLemmas.{listed_cause}
 use Rattle.wc_plan_tool.proofs.program.check_listed.Goals as goal
 

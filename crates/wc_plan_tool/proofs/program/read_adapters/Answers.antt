@@ -1,7 +1,8 @@
 use Rattle.std.proofs.Common.{None, map, ap, sym, subst, refl, rules}
 use Rattle.std.proofs.lemmas.Result.{err_from_is_err_and}
-use Rattle.wc_plan_tool.specs.Arguments.{command_value, text_pair}
-use Rattle.wc_plan_tool.specs.RequiredExports.{AreDistinct, first_parts, named_key}
+use Rattle.wc_selection.specs.Keys.{named_key}
+use Rattle.wc_selection.specs.Texts.{AreDistinct, first_parts, text_pair}
+use Rattle.wc_plan_tool.specs.Arguments.{command_value}
 use Rattle.wc_plan_tool.proofs.ProgramLemmas.{adapters_more, path_cause}
 use Rattle.wc_plan_tool.proofs.program.read_adapters.Goals as goal
 

@@ -1,8 +1,9 @@
 use Rattle.std.proofs.Common.{map, take}
 use Rattle.wc_encoder.specs.Adapters.{adapter_entry}
-use Rattle.wc_plan_tool.specs.Arguments.{command_value, text_pair}
+use Rattle.wc_selection.specs.Keys.{named_key}
+use Rattle.wc_selection.specs.Texts.{text_pair}
+use Rattle.wc_plan_tool.specs.Arguments.{command_value}
 use Rattle.wc_plan_tool.specs.Program.{IsAdapterIn}
-use Rattle.wc_plan_tool.specs.RequiredExports.{named_key}
 use Rattle.std.specs.List.{AllZip}
 use Rattle.wc_plan_tool.proofs.program.read_adapters.Given as goal
 

@@ -2,7 +2,6 @@ use Rattle.std.proofs.Common.{refl}
 use Rattle.wc_world.specs.Options.{plain_options}
 use Rattle.wc_world.specs.WorldViews.{world_view}
 use Rattle.wc_plan_tool.specs.Arguments.{command_value}
-use Rattle.wc_plan_tool.specs.Faults.{of_world}
 use Rattle.wc_plan_tool.specs.Screen.{Becomes}
 use Rattle.wc_plan_tool.proofs.RunLemmas.{quiet, world_cause}
 use Rattle.wc_plan_tool.proofs.program.run_encoder.Goals as goal
@@ -19,5 +18,6 @@ returns-in-Err-clause-fault g c =
     let before = g.F.FileStore.held c.args.files.now in
     let makes = g.F.DirectoryStore.makes c.args.files.now in
     let out = Becomes g.O.Screen.ends c.args.out.now c.args.out.now in
-    let cause = world_cause command before c.args.encoder.now c.in-Err.fault c.requires c.in-Err.ensures.fault in
-    rw c.from.ensures (quiet command before makes out (of_world c.in-Err.fault) refl cause)
+    let cause = world_cause command before c.args.encoder.now c.in-Err.fault c.world_fault.result c.requires c.in-Err.ensures.fault
+    c.world_fault.ensures in
+    quiet command before makes out c.world_fault.result refl cause

@@ -1,25 +1,18 @@
-use Rattle.std.proofs.Common.{◌≡◌, ◌++◌, ◌∙◌, All, Contains, map, subst}
-use Rattle.wc_plan_tool.specs.Arguments.{command_value, text_of, text_pair}
-use Rattle.wc_plan_tool.specs.RequiredExports.{AreDistinct, IsFirstRepeated, given_keys, named_key, second_parts, texts_of}
+use Rattle.std.proofs.Common.{map, subst}
+use Rattle.wc_selection.specs.Keys.{named_key, texts_of}
+use Rattle.wc_selection.specs.Requests.{given_keys}
+use Rattle.wc_selection.specs.RequiredExports.{AreKeysThere, IsKeysCause}
+use Rattle.wc_plan_tool.specs.Arguments.{command_value}
+use Rattle.wc_plan_tool.specs.RequiredExports.{request_of}
+use Rattle.wc_plan_tool.proofs.NamesLemmas.{request_cause}
 use Rattle.wc_plan_tool.proofs.required_exports.check_keys.Goals as goal
 
-pub returns-in-Some-2-clause-fault : goal.returns-in-Some-2-clause-fault
-returns-in-Some-2-clause-fault c =
-    let there = texts_of (map named_key c.args.keys.now) in
-    let given : map text_of c.in_ok-given.given.items ≡ given_keys (command_value c.args.command.now) =
-    c.in_ok-given.ensures ∙ (λ i. map text_of (c.deref.ensures.value i) ++ second_parts (map text_pair (c.deref-2.ensures.value i))) in
-    let all = subst (All (Contains there)) given (subst (λ xs. All (Contains there) (map text_of xs)) c.deref-3.ensures.value c.in_default.ensures.none) in
-    let again = rw c.in-Some-2.is at c.in_ok-key.ensures.repeated in (
-      all,
-      subst (λ l. IsFirstRepeated l c.in-Some-2.key.now) given
-          (subst (λ xs. IsFirstRepeated (map text_of xs) c.in-Some-2.key.now) c.deref-4.ensures.value again),
-    )
+pub returns-in-Ok-clause-there : goal.returns-in-Ok-clause-there
+returns-in-Ok-clause-there c =
+    subst (λ q. AreKeysThere (given_keys q) (texts_of (map named_key c.args.keys.now))) c.key_request-request.ensures c.in-Ok.ensures.there
 
-pub returns-clause-there : goal.returns-clause-there
-returns-clause-there c =
-    let there = texts_of (map named_key c.args.keys.now) in
-    let given : map text_of c.in_ok-given.given.items ≡ given_keys (command_value c.args.command.now) =
-    c.in_ok-given.ensures ∙ (λ i. map text_of (c.deref.ensures.value i) ++ second_parts (map text_pair (c.deref-2.ensures.value i))) in
-    let all = subst (All (Contains there)) given (subst (λ xs. All (Contains there) (map text_of xs)) c.deref-3.ensures.value c.in_default.ensures.none) in
-    let once = rw c.in-None.is at c.in_ok-key.ensures.none in
-    (all, subst AreDistinct given (subst (λ xs. AreDistinct (map text_of xs)) c.deref-4.ensures.value once))
+pub returns-in-Err-clause-fault : goal.returns-in-Err-clause-fault
+returns-in-Err-clause-fault c =
+    let texts = texts_of (map named_key c.args.keys.now) in
+    rw c.from.ensures (request_cause (given_keys (request_of (command_value c.args.command.now))) texts c.in-Err.fault
+    (subst (λ q. IsKeysCause (given_keys q) texts c.in-Err.fault) c.key_request-request.ensures c.in-Err.ensures.fault))

@@ -1,8 +1,10 @@
 use Rattle.std.proofs.Common.{◌≡◌, ◌∙◌, All, Contains, map, ap, subst}
-use Rattle.wc_plan_tool.specs.Arguments.{command_value, text_of, text_pair}
+use Rattle.wc_selection.specs.Keys.{named_key}
+use Rattle.wc_selection.specs.Texts.{AreDistinct, first_parts, text_of, text_pair}
+use Rattle.wc_plan_tool.specs.Arguments.{command_value}
 use Rattle.wc_plan_tool.specs.FileNames.{AreFilesNamed, IsFilesCause}
-use Rattle.wc_plan_tool.specs.RequiredExports.{AreDistinct, adapter_names, first_parts, named_key}
-use Rattle.wc_plan_tool.proofs.FirstLemmas.{adapters_there, files_failed, keys_done, keys_failed}
+use Rattle.wc_plan_tool.specs.RequiredExports.{adapter_names}
+use Rattle.wc_plan_tool.proofs.NamesLemmas.{adapters_there, files_failed, keys_done, keys_failed}
 use Rattle.wc_plan_tool.proofs.required_exports.check_names.Goals as goal
 
 pub returns-in-Some-file_fault-clause-fault : goal.returns-in-Some-file_fault-clause-fault

@@ -1,6 +1,5 @@
 use Rattle.std.proofs.Common.{◌≡◌, map, take}
-use Rattle.wc_plan_tool.specs.Arguments.{text_of, text_pair}
-use Rattle.wc_plan_tool.specs.RequiredExports.{first_parts}
+use Rattle.wc_selection.specs.Texts.{first_parts, text_of, text_pair}
 use Rattle.wc_plan_tool.proofs.required_exports.first_parts.Given as goal
 
 abbrev pub invariant-loop-name : goal.invariant-loop-name

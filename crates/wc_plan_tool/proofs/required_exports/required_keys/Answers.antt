@@ -1,24 +1,11 @@
-use Rattle.std.proofs.Common.{◌∙◌, map, sym, ap, rules}
+use Rattle.std.proofs.Common.{◌≡◌, IfOk, map, subst}
 use Rattle.wc_resolve.specs.Views.{key_view}
-use Rattle.wc_plan_tool.specs.Arguments.{command_value}
-use Rattle.wc_plan_tool.specs.RequiredExports.{NamedKey, exporter_name, is_required}
-use Rattle.wc_plan_tool.proofs.KeyListLemmas.{pick_no, pick_yes}
+use Rattle.wc_selection.specs.Keys.{named_key}
+use Rattle.wc_selection.specs.Requests.{exporter_name}
+use Rattle.wc_selection.specs.RequiredExports.{required_keys}
 use Rattle.wc_plan_tool.proofs.required_exports.required_keys.Goals as goal
-use Rattle.wc_plan_tool.proofs.required_exports.required_keys.Goals.{then-is_required+in_ok-clone+in_ok-insert, else-is_required}
 
-pub loop-key-preserved : goal.loop-key-preserved
-loop-key-preserved c =
-    let command = command_value c.args.command.now in
-    let exporter = exporter_name c.args.exporter in
-    let is_chosen = (λ (k : NamedKey). is_required command exporter k.1) in
-    let test = sym (c.is_required.ensures ∙ ap (is_required command exporter) c.deref.ensures) in
-    elim c.if-is_required.branch [
-      | then-is_required+in_ok-clone+in_ok-insert w ↦
-          ap (λ s. map key_view s.keys) w.required-is
-          ∙ pick_yes is_chosen c.args.keys.now c.loop-key.key-index c.loop-key-item.result w.in_ok-clone.field-0 c.loop-key.required.keys w.insert.new.self.keys
-          (search rules) c.loop-key-item.is c.requires (test ∙ w.if-is_required.true) w.in_ok-clone.ensures w.in_ok-insert.ensures.keys c.loop-key.invariant
-      | else-is_required w ↦
-          ap (λ s. map key_view s.keys) w.required-is
-          ∙ pick_no is_chosen c.args.keys.now c.loop-key.key-index c.loop-key-item.result c.loop-key.required.keys (search rules) c.loop-key-item.is
-          (test ∙ w.if-is_required.false) c.loop-key.invariant
-    ]
+pub returns : goal.returns
+returns c =
+    subst (λ q. IfOk c.required_keys.result (λ set. map key_view set.keys
+    ≡ required_keys q (exporter_name c.args.exporter) (map named_key c.args.keys.now))) c.key_request-request.ensures c.required_keys.ensures

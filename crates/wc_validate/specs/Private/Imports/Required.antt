@@ -1,5 +1,5 @@
 -- Functions of adapters, or what is kept of them by their names, gathered from imports.
-use Rattle.std.specs.Prelude.{◌≡◌, ℕ, List, [], map, String, ◌++◌, ◌∷◌, OnOk, Result}
+use Rattle.std.specs.Prelude.{◌≡◌, ℕ, List, [], map, String, string_bytes, ◌++◌, ◌∷◌, OnOk, Result}
 use Rattle.std.specs.List.{cons_option, filter_map}
 use Rattle.std.specs.declared.alloc.Global.{Global}
 use Rattle.wc_read.specs.declared.types.FuncType.{FuncType}
@@ -10,6 +10,10 @@ use Rattle.wc_validate.specs.Private.Imports.Arguments.{IsIndexOf}
 use Rattle.wc_validate.specs.Imports.FirstFunctions.{placed_function, position_entry, function_at, placed_functions}
 use Rattle.wc_validate.specs.Imports.Map.{first_of_names, function_of, required_entry}
 use Rattle.wc_validate.specs.Imports.Instances.{import_entry}
+
+-- there is one entry, under a name
+abbrev pub IsOneEntry : {V : Type 0} → List ℕ → V → List (String Global × V) → Type 0
+IsOneEntry name value entries = (k : String Global) × (string_bytes k ≡ name) × (entries ≡ (k, value) ∷ [])
 
 -- entries are the first of each name among others, and are found by their names
 abbrev pub HasFirsts : {X : Type 0} → List (List ℕ × X) → List (List ℕ × X) → Type 0

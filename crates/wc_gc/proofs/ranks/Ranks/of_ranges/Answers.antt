@@ -56,4 +56,5 @@ invariant_of-result c =
       long = v.long ∙ (let all : c.loop-range.range-index ≡ length c.args.ranges.now = omega (arith, done, end) in all) ∙ ap length (sym e);
       each = rw e (λ i lt. v.each i (omega (arith, done)));
       whole = rw e (λ x all. v.counted x (λ k d lt. all k d (omega (arith, end))) (λ k d le lt. absurd (omega (arith, done))));
+      filled = c.block_of-block.ensures;
     }

@@ -27,4 +27,4 @@ returns c = λ asked called.
     world_key_eq.it keys_agree c.args.self.now.keys.entries c.insert.new.self.entries c.in_ok-clone.field-0 c.in_ok-names.names
     (rw c.get_mut.follows.holds-at-none at c.in_ok-insert.ensures.entries) c.in_ok-clone.ensures
     (subst (λ z. lookup z c.args.self.now.keys.entries ≡ None) (key_test c.args.key.now) (sym c.in_default.ensures.value))
-    (rw (c.in_ok-names.ensures, c.in_ok-from_str.ensures.ok) refl)
+    (rw (c.in_ok-names.ensures.2, c.in_ok-names.ensures.1) refl)

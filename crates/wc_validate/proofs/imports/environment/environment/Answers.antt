@@ -1,4 +1,4 @@
-use Rattle.std.proofs.Common.{refl, sym, ◌∙◌}
+use Rattle.std.proofs.Common.{refl, sym}
 use Rattle.std.proofs.lemmas.Bool.{not-false, not-true}
 use Rattle.std.proofs.lemmas.Slice.Eq.{bytes_eq-Decides}
 use Rattle.wc_read.specs.Types.{func_type_value}
@@ -7,7 +7,7 @@ use Rattle.wc_names.proofs.ClassificationLemmas.{classified_nothing}
 use Rattle.wc_validate.specs.Faults.{fault_kind}
 use Rattle.wc_validate.specs.declared.fault.ValidateFault.TheVariants.{TypedReference}
 use Rattle.wc_validate.proofs.BuiltinLemmas.{not_equal}
-use Rattle.wc_validate.proofs.ImportSchemeLemmas.{no_environment, of_environment, typed_environment}
+use Rattle.wc_validate.proofs.ImportSchemeLemmas.{kept_environment, no_environment}
 use Rattle.wc_names.specs.Classifications.{of_imports}
 use Rattle.wc_validate.proofs.imports.environment.environment.Goals as goal
 
@@ -20,16 +20,9 @@ returns-in_default g c =
     no_environment fault_kind (g.N.NameMangling.scheme c.args.scheme.now) c.args.function.module_name.now c.args.function.name.now
     (func_type_value c.args.function.ty.now) (rw c.in_default.is at c.env_import.ensures)
 
-pub returns-then-names_value_type : goal.returns-then-names_value_type
-returns-then-names_value_type g c =
-    typed_environment fault_kind (g.N.NameMangling.scheme c.args.scheme.now) c.args.function.module_name.now c.args.function.name.now
-    (func_type_value c.args.function.ty.now) c.in-Some.import
-    ((bytes_eq-Decides c.args.function.module_name.now environment_module).0 (not-false _ (sym c.if-ne.ensures))) (rw c.in-Some.is at c.env_import.ensures)
-    TypedReference refl (sym c.names_value_type.ensures ∙ c.if-names_value_type.true)
-
 pub returns : goal.returns
 returns g c =
-    of_environment fault_kind (g.N.NameMangling.scheme c.args.scheme.now) c.args.function.module_name.now c.args.function.name.now
+    kept_environment fault_kind (g.N.NameMangling.scheme c.args.scheme.now) c.args.function.module_name.now c.args.function.name.now
     (func_type_value c.args.function.ty.now) c.in-Some.import
     ((bytes_eq-Decides c.args.function.module_name.now environment_module).0 (not-false _ (sym c.if-ne.ensures))) (rw c.in-Some.is at c.env_import.ensures)
-    (sym c.names_value_type.ensures ∙ c.if-names_value_type.false)
+    TypedReference refl c.names_value_type-is_plain.result (sym c.names_value_type-is_plain.ensures) c.kept.result c.kept.ensures.kept c.kept.ensures.refused

@@ -1,10 +1,9 @@
 use Rattle.std.proofs.Common.{◌∙◌, map, ap, sym, Some}
-use Rattle.wc_validate.specs.Imports.Entries.{names_of}
 use Rattle.wc_validate.specs.Imports.Instances.{instance_entry}
 use Rattle.wc_names.specs.Views.{import_view}
 use Rattle.wc_validate.specs.declared.imports.instances.ImportInstance.{ImportInstance}
 use Rattle.wc_validate.specs.declared.imports.instances.ImportInstance.TheVariants.{Names}
-use Rattle.wc_validate.proofs.PutLemmas.{all_recorded, name_recorded, free_after, free_new, put_found, added_is, put_new}
+use Rattle.wc_validate.proofs.PutLemmas.{all_recorded, name_recorded, free_after, free_new, one_named, put_found, added_is, put_new}
 use Rattle.wc_validate.proofs.imports.instances.put_import.Goals as goal
 
 pub returns-in_ok-insert-in-Names-clause-put : goal.returns-in_ok-insert-in-Names-clause-put
@@ -21,7 +20,7 @@ returns-clause-put c =
     put_new c.args.instances.now.entries c.insert-2.new.self.entries c.in_ok-from_str.field-0 c.args.module_name.now c.args.name.now (import_view c.args.import)
     (Names c.in_ok-names.names)
     (rw c.get_mut.follows.holds-at-none at c.in_ok-insert.ensures.entries) c.in_ok-from_str.ensures.ok c.in_default.ensures.value
-    (ap names_of c.in_ok-names.ensures.ok)
+    (one_named c.in_ok-names.names.entries c.args.name.now c.args.import c.in_ok-names.ensures)
 
 pub returns-in_ok-insert-in-Names-clause-free : goal.returns-in_ok-insert-in-Names-clause-free
 returns-in_ok-insert-in-Names-clause-free c =

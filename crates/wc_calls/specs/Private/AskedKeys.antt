@@ -1,0 +1,60 @@
+-- Words of contracts of private functions. No contract of a public function cites these, directly or through others.
+-- What is asked of a world's exports, and the faults of keys.
+use Rattle.std.specs.Prelude.{◌≡◌, ◌<◌, ℕ, Bool, List, map, Option, ⊤, string_bytes}
+use Rattle.wc_resolve.specs.Views.{key_view}
+use Rattle.wc_resolve.specs.World.{ResolveView}
+use Rattle.wc_selection.specs.KeyNames.{count_unversioned, request_keys}
+use Rattle.wc_selection.specs.Keys.{AreKeysApart, NamedKey, export_keys, named_key, texts_of}
+use Rattle.wc_selection.specs.RequiredExports.{AreKeysThere}
+use Rattle.wc_selection.specs.Requests.{RequestValue, given_keys}
+use Rattle.wc_selection.specs.declared.fault.RequestFault.{RequestFault}
+use Rattle.wc_selection.specs.declared.fault.RequestFault.TheVariants as request
+use Rattle.wc_calls.specs.AskedKeys.{gives_none, main_keys, request_for}
+use Rattle.wc_calls.specs.MessageFaults.{IsAdaptersCause, IsAskedCause}
+use Rattle.wc_calls.specs.Messages.{AdapterMessageView, KeyMessageView}
+use Rattle.wc_calls.specs.declared.asked_keys.AskedKeys.{AskedKeys}
+use Rattle.wc_calls.specs.declared.message_fault.MessageFault.{MessageFault}
+use Rattle.wc_calls.specs.declared.message_fault.MessageFault.TheVariants.{Memory, UnknownKey, SeveralKeys, RepeatedKey}
+
+-- the keys of the exports, under the texts that are given, are these; all that are given are there; and the main module's are
+-- those that it has to export
+pub record IsAsked (q : RequestValue) (none : Bool) (keys : List NamedKey) (a : AskedKeys) : Type 0 where
+  pub listed : map named_key a.keys.items ≡ keys
+  pub differ : AreKeysApart keys
+  pub there : AreKeysThere (given_keys q) (texts_of keys)
+  pub main : map key_view a.main.keys ≡ main_keys none q keys
+
+-- what keys of a message ask of the exports of a world, whose keys have these texts; and why it is refused
+abbrev pub IsAskedFor : List NamedKey → Option (List KeyMessageView) → List AdapterMessageView → ResolveView → ℕ → AskedKeys → Type 0
+IsAskedFor named exports ms r world a =
+    IsAsked (request_for named exports ms) (gives_none exports) (request_keys (request_for named exports ms) r world) a
+
+abbrev pub IsAskedCauseFor : List NamedKey → Option (List KeyMessageView) → List AdapterMessageView → ResolveView → ℕ → MessageFault → Type 0
+IsAskedCauseFor named exports ms r world f =
+    IsAskedCause (request_for named exports ms) (request_keys (request_for named exports ms) r world) f
+
+-- why there are no exporters of a message
+abbrev pub IsExportersCause : ResolveView → ℕ → Option (List KeyMessageView) → List AdapterMessageView → List ℕ → MessageFault → Type 0
+IsExportersCause r world exports ms bytes (UnknownKey key) = IsAskedCauseFor (export_keys r world) exports ms r world (UnknownKey key)
+IsExportersCause r world exports ms bytes (SeveralKeys key) = IsAskedCauseFor (export_keys r world) exports ms r world (SeveralKeys key)
+IsExportersCause r world exports ms bytes (RepeatedKey key) = IsAskedCauseFor (export_keys r world) exports ms r world (RepeatedKey key)
+IsExportersCause r world exports ms bytes f = IsAdaptersCause ms bytes f
+
+-- the fault of a key that no export has
+abbrev pub IsUnknownKey : List NamedKey → List ℕ → MessageFault → Type 0
+IsUnknownKey keys key Memory = ⊤
+IsUnknownKey keys key (UnknownKey k) = (string_bytes k ≡ key) × (count_unversioned keys key ≡ 0)
+IsUnknownKey keys key (RepeatedKey k) = (string_bytes k ≡ key) × (count_unversioned keys key ≡ 1)
+IsUnknownKey keys key (SeveralKeys k) = (string_bytes k ≡ key) × (1 < count_unversioned keys key)
+IsUnknownKey keys key f = ⊥
+
+abbrev pub IsRepeatedKey : List ℕ → MessageFault → Type 0
+IsRepeatedKey key Memory = ⊤
+IsRepeatedKey key (RepeatedKey k) = string_bytes k ≡ key
+IsRepeatedKey key f = ⊥
+
+-- the fault of a message for that of its keys as a request
+abbrev pub IsKeyFault : List NamedKey → RequestFault → MessageFault → Type 0
+IsKeyFault keys (request.UnknownKey key) g = IsUnknownKey keys key.now g
+IsKeyFault keys (request.RepeatedKey key) g = IsRepeatedKey key.now g
+IsKeyFault keys f g = g ≡ Memory

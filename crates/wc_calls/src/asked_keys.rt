@@ -1,0 +1,292 @@
+//! Which keys of a world's exports a message asks of its modules.
+
+ghost use Rattle.std.specs.Prelude.{◌≡◌, IfErr, IfOk, OnOk, flat_map, map};
+ghost use Rattle.wc_resolve.specs.Views.{key_view};
+ghost use Rattle.wc_selection.specs.KeyNames.{request_keys};
+ghost use Rattle.wc_selection.specs.Keys.{AreKeysApart, export_keys, named_key, texts_of};
+ghost use Rattle.wc_selection.specs.RequiredExports.{AreKeysThere};
+ghost use Rattle.wc_selection.specs.Requests.{given_keys, request_value};
+ghost use Rattle.wc_selection.specs.Texts.{text_of, text_pair};
+ghost use Rattle.wc_calls.specs.AskedKeys.{adapter_keys, adapter_texts, gives_none, main_keys, main_texts, text_meant, texts_meant};
+ghost use Rattle.wc_calls.specs.MessageFaults.{IsAskedCause};
+ghost use Rattle.wc_calls.specs.Messages.{adapter_message_view, exports_view, key_message_view};
+ghost use Rattle.wc_calls.specs.Private.AskedKeys.{IsAsked, IsAskedCauseFor, IsAskedFor, IsKeyFault, IsRepeatedKey, IsUnknownKey};
+
+use crate::message_fault::MessageFault;
+use crate::messages::{AdapterMessage, KeyMessage};
+use std::alloc::{AllocError, Global};
+use wc_maps::{Seed, Set};
+use wc_resolve::{Resolve, WorldId, WorldKey};
+use wc_selection::{
+    Exporter, KeyRequest, RequestFault, check_keys, count_unversioned, export_keys, request_keys,
+    required_keys,
+};
+
+/// What a message asks of a world's exports.
+#[derive(Drop)]
+pub(crate) struct AskedKeys {
+    /// The keys of the world's exports, in order, each with the text by which the message gives it.
+    pub keys: Vec<(WorldKey, String)>,
+    /// Those that the main module has to export.
+    pub main: Set<WorldKey>,
+}
+
+/// The keys of a world's exports with their texts; none where there is no such world.
+pub(crate) fn named_exports(
+    alloc: Global,
+    resolve: &Resolve,
+    world: WorldId,
+) -> Result<Vec<(WorldKey, String)>, AllocError>
+    ensures { IfOk result (λ v. map named_key v.items ≡ export_keys resolve.now world.0) }
+{
+    if resolve.has_world(world) {
+        export_keys(alloc, resolve, world)
+    } else {
+        Ok(Vec::new(alloc))
+    }
+}
+
+/// The text by which exports have a message's key: that of the interface whose own id it is, if it is exported under
+/// this; else the text as it is.
+fn text_meant<'k>(named: &'k [(WorldKey, String)], key: &'k KeyMessage) -> &'k str
+    ensures { result.now ≡ text_meant (map named_key named.now) (key_message_view key.now) }
+{
+    for one in named {
+        if one.0 == key.key {
+            return one.1.as_str();
+        }
+    }
+    key.text.as_str()
+}
+
+/// The texts by which exports have some keys.
+fn texts_meant<'k>(
+    alloc: Global,
+    named: &'k [(WorldKey, String)],
+    keys: &'k [KeyMessage],
+) -> Result<Vec<&'k str>, AllocError>
+    ensures { IfOk result (λ v. map text_of v.items
+        ≡ texts_meant (map named_key named.now) (map key_message_view keys.now)) }
+{
+    let mut texts = Vec::with_capacity(alloc, keys.len())?;
+    for key in keys {
+        texts.push(text_meant(named, key))?;
+    }
+    Ok(texts)
+}
+
+/// The texts of the main module's keys; none, if they are missing.
+fn main_texts<'k>(
+    alloc: Global,
+    named: &'k [(WorldKey, String)],
+    exports: &'k Option<Vec<KeyMessage>>,
+) -> Result<Vec<&'k str>, AllocError>
+    ensures { IfOk result (λ v. map text_of v.items ≡ main_texts (map named_key named.now)
+        (exports_view exports.now)) }
+{
+    match exports {
+        Some(keys) => texts_meant(alloc, named, keys),
+        None => Ok(Vec::new(alloc)),
+    }
+}
+
+/// The texts of an adapter's keys, each after its name.
+fn adapter_texts<'k>(
+    alloc: Global,
+    named: &'k [(WorldKey, String)],
+    adapter: &'k AdapterMessage,
+) -> Result<Vec<(&'k str, &'k str)>, AllocError>
+    ensures { IfOk result (λ v. map text_pair v.items
+        ≡ adapter_texts (map named_key named.now) (adapter_message_view adapter.now)) }
+{
+    let name = adapter.name.as_str();
+    let mut texts = Vec::with_capacity(alloc, adapter.exports.len())?;
+    for key in &adapter.exports {
+        texts.push((name, text_meant(named, key)))?;
+    }
+    Ok(texts)
+}
+
+/// The texts of the keys of adapters, each after the name of its adapter.
+fn texts_of_adapters<'k>(
+    alloc: Global,
+    named: &'k [(WorldKey, String)],
+    adapters: &'k [AdapterMessage],
+) -> Result<Vec<(&'k str, &'k str)>, AllocError>
+    ensures { IfOk result (λ v. map text_pair v.items ≡ flat_map
+        (adapter_texts (map named_key named.now)) (map adapter_message_view adapters.now)) }
+{
+    let mut texts = Vec::new(alloc);
+    for adapter in adapters {
+        let more = adapter_texts(alloc, named, adapter)?;
+        texts.extend_from_slice(&more)?;
+    }
+    Ok(texts)
+}
+
+/// Whether the main module is given a list without keys.
+fn gives_none(exports: &Option<Vec<KeyMessage>>) -> bool
+    ensures { result ≡ gives_none (exports_view exports.now) }
+{
+    match exports {
+        Some(keys) => keys.is_empty(),
+        None => false,
+    }
+}
+
+/// The keys of a world's exports, in order, each with the text by which the request gives it; none where there is no
+/// such world.
+fn keys_in(
+    alloc: Global,
+    request: &KeyRequest<'_, '_>,
+    resolve: &Resolve,
+    world: WorldId,
+) -> Result<Vec<(WorldKey, String)>, AllocError>
+    ensures keys { IfOk result (λ v. map named_key v.items
+        ≡ request_keys (request_value request.now) resolve.now world.0) }
+    ensures differ { IfOk result (λ v. AreKeysApart (map named_key v.items)) }
+{
+    if resolve.has_world(world) {
+        request_keys(alloc, request, resolve, world)
+    } else {
+        Ok(Vec::new(alloc))
+    }
+}
+
+/// The fault of a key that no export has: that of several which have it without their versions, or of one that is given
+/// with it too; or else there is none.
+fn unknown_key(alloc: Global, key: &str, keys: &[(WorldKey, String)]) -> MessageFault
+    ensures { IsUnknownKey (map named_key keys.now) key.now result }
+{
+    let Ok(text) = String::from_str(alloc, key) else {
+        return MessageFault::Memory;
+    };
+    match count_unversioned(keys, key) {
+        0 => MessageFault::UnknownKey(text),
+        1 => MessageFault::RepeatedKey(text),
+        _ => MessageFault::SeveralKeys(text),
+    }
+}
+
+/// The fault of a key that is given twice.
+fn repeated_key(alloc: Global, key: &str) -> MessageFault
+    ensures { IsRepeatedKey key.now result }
+{
+    match String::from_str(alloc, key) {
+        Ok(text) => MessageFault::RepeatedKey(text),
+        Err(_) => MessageFault::Memory,
+    }
+}
+
+/// The fault of a message for one of its keys as a request.
+fn key_fault(alloc: Global, fault: RequestFault<'_>, keys: &[(WorldKey, String)]) -> MessageFault
+    ensures { IsKeyFault (map named_key keys.now) fault.entry result }
+{
+    match fault {
+        RequestFault::UnknownKey(key) => unknown_key(alloc, key, keys),
+        RequestFault::RepeatedKey(key) => repeated_key(alloc, key),
+        _ => MessageFault::Memory,
+    }
+}
+
+/// Checks the keys of a request against those of a world's exports (`wc_selection::check_keys`).
+fn check_asked(
+    alloc: Global,
+    seed: Seed,
+    request: &KeyRequest<'_, '_>,
+    keys: &[(WorldKey, String)],
+) -> Result<(), MessageFault>
+    ensures there { OnOk result (AreKeysThere (given_keys (request_value request.now))
+        (texts_of (map named_key keys.now))) }
+    ensures fault { IfErr result (IsAskedCause (request_value request.now)
+        (map named_key keys.now)) }
+{
+    match check_keys(alloc, seed, request, keys) {
+        Ok(()) => Ok(()),
+        Err(fault) => Err(key_fault(alloc, fault, keys)),
+    }
+}
+
+/// The keys that the main module has to export: none, if it is given none; else those of the request.
+fn main_keys(
+    alloc: Global,
+    seed: Seed,
+    request: &KeyRequest<'_, '_>,
+    gives_none: bool,
+    keys: &[(WorldKey, String)],
+) -> Result<Set<WorldKey>, AllocError>
+    requires { AreKeysApart (map named_key keys.now) }
+    ensures { IfOk result (λ set. map key_view set.keys
+        ≡ main_keys gives_none (request_value request.now) (map named_key keys.now)) }
+{
+    if gives_none {
+        return Ok(Set::with_hasher(alloc, seed));
+    }
+    required_keys(alloc, seed, request, Exporter::Main, keys)
+}
+
+/// The keys that an adapter has to export, of those of exports by their own texts and by those that are given.
+pub(crate) fn adapter_keys<'k>(
+    alloc: Global,
+    seed: Seed,
+    named: &'k [(WorldKey, String)],
+    keys: &[(WorldKey, String)],
+    adapter: &'k AdapterMessage,
+) -> Result<Set<WorldKey>, AllocError>
+    requires { AreKeysApart (map named_key keys.now) }
+    ensures { IfOk result (λ set. map key_view set.keys
+        ≡ adapter_keys (map named_key named.now) (map named_key keys.now)
+        (adapter_message_view adapter.now)) }
+{
+    let texts = adapter_texts(alloc, named, adapter)?;
+    let request = KeyRequest {
+        exports: &[],
+        adapter_exports: &texts,
+    };
+    let exporter = Exporter::Adapter(adapter.name.as_str());
+    required_keys(alloc, seed, &request, exporter, keys)
+}
+
+/// What a request asks of a world's exports. `gives_none`: whether the main module has to export nothing.
+fn asked_by(
+    alloc: Global,
+    seed: Seed,
+    request: &KeyRequest<'_, '_>,
+    gives_none: bool,
+    resolve: &Resolve,
+    world: WorldId,
+) -> Result<AskedKeys, MessageFault>
+    ensures asked { IfOk result (IsAsked (request_value request.now) gives_none
+        (request_keys (request_value request.now) resolve.now world.0)) }
+    ensures fault { IfErr result (IsAskedCause (request_value request.now)
+        (request_keys (request_value request.now) resolve.now world.0)) }
+{
+    let keys = keys_in(alloc, request, resolve, world)?;
+    check_asked(alloc, seed, request, &keys)?;
+    let main = main_keys(alloc, seed, request, gives_none, &keys)?;
+    Ok(AskedKeys { keys, main })
+}
+
+/// What the keys of a message ask of a world's exports.
+pub(crate) fn asked_of<'k>(
+    alloc: Global,
+    seed: Seed,
+    named: &'k [(WorldKey, String)],
+    exports: &'k Option<Vec<KeyMessage>>,
+    adapters: &'k [AdapterMessage],
+    resolve: &Resolve,
+    world: WorldId,
+) -> Result<AskedKeys, MessageFault>
+    ensures asked { IfOk result (IsAskedFor (map named_key named.now) (exports_view exports.now)
+        (map adapter_message_view adapters.now) resolve.now world.0) }
+    ensures fault { IfErr result (IsAskedCauseFor (map named_key named.now)
+        (exports_view exports.now) (map adapter_message_view adapters.now) resolve.now world.0) }
+{
+    let texts = main_texts(alloc, named, exports)?;
+    let adapter_texts = texts_of_adapters(alloc, named, adapters)?;
+    let request = KeyRequest {
+        exports: &texts,
+        adapter_exports: &adapter_texts,
+    };
+    asked_by(alloc, seed, &request, gives_none(exports), resolve, world)
+}

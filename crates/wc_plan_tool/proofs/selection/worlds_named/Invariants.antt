@@ -1,8 +1,0 @@
-use Rattle.std.proofs.Common.{◌≡◌}
-use Rattle.std.specs.List.{filter, range_with_len}
-use Rattle.wc_json.specs.Document.{document_view}
-use Rattle.wc_plan_tool.specs.Selection.{is_named}
-use Rattle.wc_plan_tool.proofs.selection.worlds_named.Given as goal
-
-abbrev pub invariant-loop-index : goal.invariant-loop-index
-invariant-loop-index l = l.indices.items ≡ filter (is_named (document_view l.document) l.form l.name) (range_with_len 0 l.index)

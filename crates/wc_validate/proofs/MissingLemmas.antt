@@ -1,0 +1,362 @@
+-- What is missing among the exports of a module: the first that something does not hold of.
+use Rattle.std.proofs.Common.{◌≡◌, ◌≢◌, ◌≤◌, ◌+◌, ℕ, Bool, true, false, cond, arith, List, [], ◌∷◌, ◌++◌, map, All, Contains, Option, Some, None, IfOk, Result, Ok, Err, String, refl, sym, ap, subst, ◌∙◌, append_assoc, append-nil, inl, inr}
+use Rattle.std.specs.Borrow.{Bor}
+use Rattle.std.specs.Option.{IfSome, option_to_list}
+use Rattle.std.specs.declared.alloc.Global.{Global}
+use Rattle.std.proofs.lemmas.List.{map-append}
+use Rattle.std.proofs.lemmas.List.Elements.{All-append, All-cons, All-nil, filter_map-append}
+use Rattle.wc_read.specs.declared.core_module.Module.{Module}
+use Rattle.wc_read.specs.declared.exports.Export.{Export as RawExport}
+use Rattle.wc_read.specs.declared.types.FuncType.{FuncType}
+use Rattle.wc_read.specs.Modules.{module_value}
+use Rattle.wc_read.specs.Types.{FuncTypeValue, func_type_value}
+use Rattle.wc_resolve.specs.declared.ids.InterfaceId.{InterfaceId}
+use Rattle.wc_resolve.specs.declared.worlds.WorldItem.{WorldItem}
+use Rattle.wc_resolve.specs.declared.worlds.WorldKey.{WorldKey}
+use Rattle.wc_resolve.specs.Views.{FunctionView, KeyView, key_view, world_entry}
+use Rattle.wc_resolve.specs.World.{ResolveView}
+use Rattle.wc_encoder.specs.Entries.{Entries}
+use Rattle.wc_names.specs.declared.exports.Export.{Export}
+use Rattle.wc_names.specs.Exports.{CoreExport}
+use Rattle.wc_names.specs.ExportViews.{ExportView}
+use Rattle.wc_validate.specs.declared.exports.classify.ExportContext.{ExportContext}
+use Rattle.wc_validate.specs.declared.fault.ValidateFault.{ValidateFault}
+use Rattle.wc_validate.specs.declared.fault.ValidateFault.TheVariants.{AdapterExportType, Memory}
+use Rattle.wc_validate.specs.declared.name_scope.Names.{Names}
+use Rattle.wc_validate.specs.declared.place.Place.{Place}
+use Rattle.wc_validate.specs.declared.place.Subject.{Subject}
+use Rattle.wc_validate.specs.declared.requirements.RequiredExports.{RequiredExports}
+use Rattle.wc_validate.specs.declared.validate.ValidationInput.{ValidationInput as CodeInput}
+use Rattle.wc_validate.specs.Exports.Map.{ExportRecord, export_entry, is_memory}
+use Rattle.wc_validate.specs.Exports.Record.{AreExports, AreExportsAdded, AreRecordedBy, exports_in}
+use Rattle.wc_validate.specs.Imports.Map.{required_entry}
+use Rattle.wc_validate.specs.Places.{IsFirstFailing, IsFirstLacking, IsFirstUnexported, IsFunctionLack, IsFunctionPlace, IsKeyPlace, IsLack, IsSecondMemory, PlaceView, an_export, SubjectView, difference_of, interface_text, missing_export, missing_function, place_view}
+use Rattle.wc_validate.specs.Private.Explained.{HasRecordedImports, IsCallbackExplained, IsFunctionLackAt, IsLackAt, IsLackNamed, IsLackOf, IsMemoryExplained, IsMissingExplained, IsMissingFrom, IsModuleExplained, IsRetyped, IsSaidAs, IsSecondNamed, IsUncalled}
+use Rattle.wc_validate.specs.NameScopes.{name_scope_of}
+use Rattle.wc_validate.specs.Private.ExportedFunctions.{IsExportIndexOf}
+use Rattle.wc_validate.specs.Private.ValidationInputs.{validation_input_of}
+use Rattle.wc_validate.specs.Requirements.{AreMet, IsFirstUnmet, IsMet, IsUnmetFault, Requirement, callback_name, callbacks, function_names, functions_of, interface_functions, key_requirement, key_requirements, memory_count, one_memory, type_requirement, typed_function, world_function}
+use Rattle.wc_validate.specs.Validated.{IsNameScopeOf}
+use Rattle.wc_validate.proofs.RequirementLemmas.{keys_next, met_append}
+
+-- a list that is gone through as long as something holds
+pub record Passed {X : Type 0} (P : X → Type 0) (all rest : List X) : Type 0 where
+  pub before : List X
+  pub cut : all ≡ before ++ rest
+  pub hold : All P before
+
+pub passed_start : {X : Type 0} (P : X → Type 0) (all rest : List X) → rest ≡ all → Passed P all rest
+passed_start P all rest is = record { before = []; cut = sym is; hold = All-nil P }
+
+pub passed_next : {X : Type 0} (P : X → Type 0) (all left rest : List X) (x : X) → Passed P all left → left ≡ x ∷ rest → P x → Passed P all rest
+passed_next P all left rest x p is here = record {
+  before = p.before ++ x ∷ [];
+  cut = p.cut ∙ (ap (λ z. p.before ++ z) is ∙ sym (append_assoc p.before (x ∷ []) rest));
+  hold = All-append P p.before (x ∷ []) p.hold (All-cons P x [] here (All-nil P));
+}
+
+pub passed_first : {X : Type 0} (P : X → Type 0) (all left rest : List X) (x : X) → Passed P all left → left ≡ x ∷ rest → ¬ P x → IsFirstFailing P all x
+passed_first P all left rest x p is not_here = record {
+  before = p.before;
+  after = rest;
+  cut = p.cut ∙ ap (λ z. p.before ++ z) is;
+  hold = p.hold;
+  fails = not_here;
+}
+
+pub passed_end : {X : Type 0} (P : X → Type 0) (all left : List X) → Passed P all left → left ≡ [] → All P all
+passed_end P all left p is =
+    let whole : all ≡ p.before = p.cut ∙ (ap (λ z. p.before ++ z) is ∙ append-nil p.before) in
+    subst (All P) (sym whole) p.hold
+
+-- keys that are gone through as long as their requirements are met
+pub record KeysPassed (r : ResolveView) (xs : List CoreExport) (recorded : ExportRecord) (exports : Entries) (all rest : List KeyView) : Type 0 where
+  pub before : List KeyView
+  pub cut : all ≡ before ++ rest
+  pub met : AreMet r xs recorded (key_requirements exports before)
+
+module _ (r : ResolveView) (xs : List CoreExport) (recorded : ExportRecord) (exports : Entries) (all : List KeyView) where
+  pub keys_start : (rest : List KeyView) → rest ≡ all → KeysPassed r xs recorded exports all rest
+  keys_start rest is = record { before = []; cut = sym is; met = tt }
+
+  requirements_more : (before : List KeyView) (key : KeyView)
+      → key_requirements exports (before ++ key ∷ []) ≡ key_requirements exports before ++ option_to_list (key_requirement exports key)
+  requirements_more before key =
+      filter_map-append (key_requirement exports) before (key ∷ [])
+      ∙ ap (λ z. key_requirements exports before ++ z)
+      (keys_next exports (key ∷ []) [] key refl ∙ append-nil (option_to_list (key_requirement exports key)))
+
+  pub keys_more : (left rest : List KeyView) (key : KeyView) → KeysPassed r xs recorded exports all left → left ≡ key ∷ rest
+      → AreMet r xs recorded (option_to_list (key_requirement exports key)) → KeysPassed r xs recorded exports all rest
+  keys_more left rest key p is here = record {
+    before = p.before ++ key ∷ [];
+    cut = p.cut ∙ (ap (λ z. p.before ++ z) is ∙ sym (append_assoc p.before (key ∷ []) rest));
+    met = subst (AreMet r xs recorded) (sym (requirements_more p.before key))
+        (met_append r xs recorded (key_requirements exports p.before) (option_to_list (key_requirement exports key)) p.met here);
+  }
+
+  pub keys_end : (left : List KeyView) → KeysPassed r xs recorded exports all left → left ≡ [] → AreMet r xs recorded (key_requirements exports all)
+  keys_end left p is =
+      let whole : all ≡ p.before = p.cut ∙ (ap (λ z. p.before ++ z) is ∙ append-nil p.before) in
+      subst (λ z. AreMet r xs recorded (key_requirements exports z)) (sym whole) p.met
+
+  lack_at : (left rest : List KeyView) (key : KeyView) (f : ValidateFault) (o : Option Requirement) → KeysPassed r xs recorded exports all left
+      → left ≡ key ∷ rest → key_requirement exports key ≡ o → IsFirstUnmet r xs recorded (option_to_list o) f
+      → IsFirstLacking r xs recorded exports all key f
+  lack_at left rest key f None p is required h = absurd h
+  lack_at left rest key f (Some need) p is required (inr h) = absurd h.1
+  lack_at left rest key f (Some need) p is required (inl h) = record {
+    before = p.before;
+    after = rest;
+    cut = p.cut ∙ ap (λ z. p.before ++ z) is;
+    met = p.met;
+    need = need;
+    required = required;
+    unmet = h.0;
+    short = h.1;
+  }
+
+  pub keys_lack : (left rest : List KeyView) (key : KeyView) (f : ValidateFault) → KeysPassed r xs recorded exports all left → left ≡ key ∷ rest
+      → IsUnmetFault r xs recorded (option_to_list (key_requirement exports key)) f → IsLackAt r xs recorded exports all key f
+  keys_lack left rest key Memory p is h = tt
+  keys_lack left rest key f p is h = lack_at left rest key f (key_requirement exports key) p is refl h
+
+-- what is missing for a key
+some_same : {X : Type 0} {x y : X} → Some x ≡ Some y → x ≡ y
+some_same e = cc e
+
+pub lack_in_interface : (r : ResolveView) (recorded : ExportRecord) (key : KeyView) (i : ℕ) (module_name name own : List ℕ)
+    → interface_text r key i ≡ Some module_name → name ≡ own
+    → (f : List ℕ × FunctionView) × (f.0 ≡ own)
+    × IsFirstFailing (λ (g : List ℕ × FunctionView). Contains (function_names recorded) (Some i, g.0)) (functions_of r i) f
+    → IsLack r recorded key (interface_functions i) (missing_function module_name name)
+lack_in_interface r recorded key i module_name name own text called h =
+    (module_name, h.0, text, h.2, ap (missing_function module_name) (called ∙ sym h.1))
+
+pub named_lack : {F : Type 0} (r : ResolveView) (functions : List (Option InterfaceId × String Global)) (exports : List (WorldKey × WorldItem)) (key : WorldKey)
+    (need : Requirement) (result : Result (Option Subject) F) → key_requirement (map world_entry exports) (key_view key) ≡ Some need
+    → IfOk result (IsLackOf r functions (key_view key) need) → IfOk result (IsLackNamed r functions exports key)
+named_lack r functions exports key need (Ok answer) required h = λ other is.
+    subst (λ z. IsLackOf r functions (key_view key) z answer) (some_same (sym required ∙ is)) h
+named_lack r functions exports key need (Err e) required h = tt
+
+pub named_world : (r : ResolveView) (recorded : ExportRecord) (exports : Entries) (key : KeyView) (name own : List ℕ) (need : Requirement)
+    → key_requirement exports key ≡ Some (world_function own) → name ≡ own → key_requirement exports key ≡ Some need
+    → IsLack r recorded key need (missing_export name)
+named_world r recorded exports key name own need required called is =
+    subst (λ z. IsLack r recorded key z (missing_export name)) (some_same (sym required ∙ is)) (ap missing_export called)
+
+pub key_placed : (r : ResolveView) (xs : List CoreExport) (recorded : ExportRecord) (exports : Entries) (keys : List KeyView) (key : KeyView)
+    (f g : ValidateFault) (subject : SubjectView) → IsLackAt r xs recorded exports keys key g → g ≢ Memory → f ≡ g
+    → ((need : Requirement) → key_requirement exports key ≡ Some need → IsLack r recorded key need subject)
+    → IsKeyPlace r xs recorded exports keys f (record { subject = subject; types = None })
+key_placed r xs recorded exports keys key f Memory subject h real same lack = absurd (real refl)
+key_placed r xs recorded exports keys key f g subject h real same lack =
+    let first : IsFirstLacking r xs recorded exports keys key f = subst (IsFirstLacking r xs recorded exports keys key) (sym same) h in
+    record { key = key; first = first; lack = lack first.need first.required; types = refl }
+
+-- the types of a place
+pub difference_is : (a b : FuncType) (wanted found : FuncTypeValue) → func_type_value a ≡ wanted → func_type_value b ≡ found
+    → Some (difference_of (func_type_value a) (func_type_value b)) ≡ Some (difference_of wanted found)
+difference_is a b wanted found p q = λ i. Some (difference_of (p i) (q i))
+
+-- functions that are gone through as long as they are exported as they are required
+pub record FunctionsPassed (r : ResolveView) (xs : List CoreExport) (recorded : ExportRecord) (all rest : List (List ℕ × FuncTypeValue)) : Type 0 where
+  pub before : List (List ℕ × FuncTypeValue)
+  pub cut : all ≡ before ++ rest
+  pub met : AreMet r xs recorded (map type_requirement before)
+
+module _ (r : ResolveView) (xs : List CoreExport) (recorded : ExportRecord) (all : List (List ℕ × FuncTypeValue)) where
+  pub functions_start : (rest : List (List ℕ × FuncTypeValue)) → rest ≡ all → FunctionsPassed r xs recorded all rest
+  functions_start rest is = record { before = []; cut = sym is; met = tt }
+
+  pub functions_more : (left rest : List (List ℕ × FuncTypeValue)) (own name : List ℕ) (ty : FuncTypeValue) → FunctionsPassed r xs recorded all left
+      → left ≡ (own, ty) ∷ rest → name ≡ own → IsMet r xs recorded (typed_function name ty) → FunctionsPassed r xs recorded all rest
+  functions_more left rest own name ty p is called here = record {
+    before = p.before ++ (own, ty) ∷ [];
+    cut = p.cut ∙ (ap (λ z. p.before ++ z) is ∙ sym (append_assoc p.before ((own, ty) ∷ []) rest));
+    met = subst (AreMet r xs recorded) (sym (map-append type_requirement p.before ((own, ty) ∷ [])))
+        (met_append r xs recorded (map type_requirement p.before) (typed_function own ty ∷ []) p.met
+        (subst (λ z. IsMet r xs recorded (typed_function z ty)) called here, tt));
+  }
+
+  lack_here : (left rest : List (List ℕ × FuncTypeValue)) (name : List ℕ) (ty : FuncTypeValue) (f : ValidateFault) → FunctionsPassed r xs recorded all left
+      → left ≡ (name, ty) ∷ rest → IsFirstUnmet r xs recorded (typed_function name ty ∷ []) f → IsFirstUnexported r xs recorded all (name, ty) f
+  lack_here left rest name ty f p is (inr h) = absurd h.1
+  lack_here left rest name ty f p is (inl h) = record {
+    before = p.before;
+    after = rest;
+    cut = p.cut ∙ ap (λ z. p.before ++ z) is;
+    met = p.met;
+    unmet = h.0;
+    short = h.1;
+  }
+
+  lack_by : (left rest : List (List ℕ × FuncTypeValue)) (name : List ℕ) (ty : FuncTypeValue) (f : ValidateFault) → FunctionsPassed r xs recorded all left
+      → left ≡ (name, ty) ∷ rest → IsUnmetFault r xs recorded (typed_function name ty ∷ []) f → IsFunctionLackAt r xs recorded all (name, ty) f
+  lack_by left rest name ty Memory p is h = tt
+  lack_by left rest name ty f p is h = lack_here left rest name ty f p is h
+
+  pub functions_lack : (left rest : List (List ℕ × FuncTypeValue)) (own name : List ℕ) (ty : FuncTypeValue) (f : ValidateFault)
+      → FunctionsPassed r xs recorded all left → left ≡ (own, ty) ∷ rest → name ≡ own → IsUnmetFault r xs recorded (typed_function name ty ∷ []) f
+      → IsFunctionLackAt r xs recorded all (name, ty) f
+  functions_lack left rest own name ty f p is called h = lack_by left rest name ty f p (is ∙ ap (λ z. (z, ty) ∷ rest) (sym called)) h
+
+  pub function_first : (x : List ℕ × FuncTypeValue) (f g : ValidateFault) → IsFunctionLackAt r xs recorded all x g → g ≢ Memory → IsSaidAs g f
+      → IsFirstUnexported r xs recorded all x f
+  function_first x f Memory h real said = absurd (real refl)
+  function_first x f g h real said =
+      record { before = h.before; after = h.after; cut = h.cut; met = h.met; unmet = h.unmet; short = said xs (type_requirement x) h.short }
+
+  pub function_retyped : {F : Type 0} (index : List (Bor (List ℕ) × Bor FuncType)) (name : List ℕ) (ty : FuncType) (f : ValidateFault)
+      (result : Result (Option Place) F) → IsExportIndexOf index xs → IsFirstUnexported r xs recorded all (name, func_type_value ty) f
+      → f ≡ AdapterExportType → IfOk result (IsRetyped index name ty)
+      → IfOk result (λ answer. IfSome answer (λ (p : Place). IsFunctionPlace r xs recorded all f (place_view p)))
+  function_retyped index name ty f (Ok None) same first is h = tt
+  function_retyped index name ty f (Ok (Some p)) same first is h = record {
+    required = (name, func_type_value ty);
+    first = first;
+    lack = subst (λ z. IsFunctionLack xs (name, func_type_value ty) z (place_view p)) (sym is) (h xs same);
+  }
+  function_retyped index name ty f (Err e) same first is h = tt
+
+  other_lack : (x : List ℕ × FuncTypeValue) (f : ValidateFault) (p : PlaceView) → f ≢ AdapterExportType → p.subject ≡ missing_export x.0 → p.types ≡ None
+      → IsFunctionLack xs x f p
+  other_lack x AdapterExportType p other subject types = absurd (other refl)
+  other_lack x f p other subject types = (subject, types)
+
+  pub function_missing : (x : List ℕ × FuncTypeValue) (f : ValidateFault) (name : List ℕ) → IsFirstUnexported r xs recorded all x f → f ≢ AdapterExportType
+      → name ≡ x.0 → IsFunctionPlace r xs recorded all f (record { subject = missing_export name; types = None })
+  function_missing x f name first other called = record {
+    required = x;
+    first = first;
+    lack = other_lack x f (record { subject = missing_export name; types = None }) other (ap missing_export called) refl;
+  }
+
+-- memories that are gone through
+swapped : (a b : Bool) (n : ℕ) → cond a (cond b (n + 1) n + 1) (cond b (n + 1) n) ≡ cond b (cond a (n + 1) n + 1) (cond a (n + 1) n)
+swapped true true n = refl
+swapped true false n = refl
+swapped false true n = refl
+swapped false false n = refl
+
+count_more : (xs : ExportRecord) (x : List ℕ × ExportView)
+    → memory_count (xs ++ x ∷ []) ≡ cond (is_memory x.1) (memory_count xs + 1) (memory_count xs)
+count_more [] x = refl
+count_more (y ∷ ys) x = ap (λ n. cond (is_memory y.1) (n + 1) n) (count_more ys x) ∙ swapped (is_memory y.1) (is_memory x.1) (memory_count ys)
+
+pub record MemoriesPassed (found : Bool) (all rest : ExportRecord) : Type 0 where
+  pub before : ExportRecord
+  pub cut : all ≡ before ++ rest
+  pub count : memory_count before ≡ cond found 1 0
+
+pub second_start : (all rest : ExportRecord) → rest ≡ all → MemoriesPassed false all rest
+second_start all rest is = record { before = []; cut = sym is; count = refl }
+
+second_next : (found now : Bool) (all left rest : ExportRecord) (x : List ℕ × ExportView) → (p : MemoriesPassed found all left) → left ≡ x ∷ rest
+    → cond (is_memory x.1) (memory_count p.before + 1) (memory_count p.before) ≡ cond now 1 0 → MemoriesPassed now all rest
+second_next found now all left rest x p is count = record {
+  before = p.before ++ x ∷ [];
+  cut = p.cut ∙ (ap (λ z. p.before ++ z) is ∙ sym (append_assoc p.before (x ∷ []) rest));
+  count = count_more p.before x ∙ count;
+}
+
+pub second_pass : (found : Bool) (all left rest : ExportRecord) (x : List ℕ × ExportView) → MemoriesPassed found all left → left ≡ x ∷ rest
+    → is_memory x.1 ≡ false → MemoriesPassed found all rest
+second_pass found all left rest x p is none =
+    second_next found found all left rest x p is (ap (λ b. cond b (memory_count p.before + 1) (memory_count p.before)) none ∙ p.count)
+
+pub second_first : (all left rest : ExportRecord) (x : List ℕ × ExportView) → MemoriesPassed false all left → left ≡ x ∷ rest → is_memory x.1 ≡ true
+    → MemoriesPassed true all rest
+second_first all left rest x p is one =
+    second_next false true all left rest x p is
+    (ap (λ b. cond b (memory_count p.before + 1) (memory_count p.before)) one ∙ ap (λ n. n + 1) p.count)
+
+pub second_found : (all left rest : ExportRecord) (x : List ℕ × ExportView) → MemoriesPassed true all left → left ≡ x ∷ rest → is_memory x.1 ≡ true
+    → IsSecondMemory all x
+second_found all left rest x p is one =
+    record { before = p.before; after = rest; cut = p.cut ∙ ap (λ z. p.before ++ z) is; one = p.count; memory = one }
+
+pub second_end : (found : Bool) (all left : ExportRecord) → MemoriesPassed found all left → left ≡ [] → memory_count all ≤ 1
+second_end found all left p is =
+    let whole : all ≡ p.before = p.cut ∙ (ap (λ z. p.before ++ z) is ∙ append-nil p.before) in
+    at_most found (memory_count all) (ap memory_count whole ∙ p.count) where
+      at_most : (b : Bool) (n : ℕ) → n ≡ cond b 1 0 → n ≤ 1
+      at_most true n e = omega (arith, e)
+      at_most false n e = omega (arith, e)
+
+-- what is missing of all that is required
+module _ (n : Names) (q : RequiredExports) (xs : List CoreExport) (es : List (String Global × Export)) (f : ValidateFault) where
+  pub memory_missing : {F : Type 0} (name : Bor (List ℕ)) (result : Result (Option Place) F) → IsSecondNamed es name
+      → IfOk result (IsMemoryExplained name.now f) → IfOk result (IsMissingExplained n q xs es f)
+  memory_missing name (Ok None) h k = tt
+  memory_missing name (Ok (Some p)) h k =
+      inl (record { is_several = k.0; export = h.0; second = h.2; subject = k.1 ∙ ap an_export (sym h.1); types = k.2 })
+  memory_missing name (Err e) h k = tt
+
+  pub callback_missing : {F : Type 0} (name : Bor (List ℕ)) (result : Result (Option Place) F) → memory_count (map export_entry es) ≤ 1 → IsUncalled es name
+      → IfOk result (IsCallbackExplained name.now f) → IfOk result (IsMissingExplained n q xs es f)
+  callback_missing name (Ok None) one h k = tt
+  callback_missing name (Ok (Some p)) one h k =
+      inr (inl (record {
+        is_callback = k.0;
+        one_memory = one;
+        export = h.0;
+        first = h.2;
+        subject = k.1 ∙ ap (λ z. missing_export (callback_name z)) (sym h.1);
+        types = k.2;
+      }))
+  callback_missing name (Err e) one h k = tt
+
+  pub key_missing : {F : Type 0} (result : Result (Option Place) F)
+      → AreMet n.resolve.now xs (map export_entry es) (one_memory ∷ callbacks ∷ [])
+      → IfOk result (λ answer. IfSome answer (λ (p : Place). IsKeyPlace n.resolve.now xs (map export_entry es) (map world_entry n.world.now.exports.entries)
+      (map key_view q.keys.now.keys) f (place_view p)))
+      → IfOk result (IsMissingExplained n q xs es f)
+  key_missing (Ok None) alone h = tt
+  key_missing (Ok (Some p)) alone h = inr (inr (alone, inl h))
+  key_missing (Err e) alone h = tt
+
+  pub function_lacking : {F : Type 0} (result : Result (Option Place) F)
+      → AreMet n.resolve.now xs (map export_entry es) (one_memory ∷ callbacks ∷ [])
+      → AreMet n.resolve.now xs (map export_entry es) (key_requirements (map world_entry n.world.now.exports.entries) (map key_view q.keys.now.keys))
+      → IfOk result (λ answer. IfSome answer (λ (p : Place). IsFunctionPlace n.resolve.now xs (map export_entry es)
+      (map required_entry q.functions.now.entries) f (place_view p)))
+      → IfOk result (IsMissingExplained n q xs es f)
+  function_lacking (Ok None) alone keys h = tt
+  function_lacking (Ok (Some p)) alone keys h = inr (inr (alone, inr (keys, h)))
+  function_lacking (Err e) alone keys h = tt
+
+-- by the context that the exports are recorded by
+pub missing_from : {F : Type 0} (c : ExportContext) (q : RequiredExports) (m : Module) (es : List (String Global × Export)) (passed : List RawExport)
+    (f : ValidateFault) (result : Result (Option Place) F) → passed ≡ m.exports.items → AreExportsAdded c m passed es
+    → IfOk result (IsMissingExplained c.names q (exports_in m m.exports.items) es f) → IfOk result (IsMissingFrom c q m f)
+missing_from c q m es passed f (Ok None) same recorded h =
+    (map export_entry es, subst (λ z. AreRecordedBy c (exports_in m z) (map export_entry es)) same recorded)
+missing_from c q m es passed f (Ok (Some p)) same recorded h =
+    (map export_entry es, subst (λ z. AreRecordedBy c (exports_in m z) (map export_entry es)) same recorded, h)
+missing_from c q m es passed f (Err e) same recorded h = tt
+
+pub missing_explained : {F : Type 0} (i : CodeInput) (m : Module) (c : ExportContext) (f : ValidateFault)
+    → HasRecordedImports (validation_input_of i) (module_value m) → IsNameScopeOf i.encoder.now (name_scope_of c.names)
+    → c.standard.keys ≡ map key_view i.required.keys.now.keys → (result : Result (Option Place) F)
+    → IfOk result (IsMissingFrom c i.required m f) → IfOk result (IsModuleExplained (validation_input_of i) (module_value m) f)
+missing_explained i m c f imports names keys (Ok None) h =
+    inr (
+      imports.0,
+      imports.1,
+      name_scope_of c.names,
+      names,
+      inl (h.0, subst (λ z. AreExports (name_scope_of c.names) z (exports_in m m.exports.items) h.0) keys h.1),
+    )
+missing_explained i m c f imports names keys (Ok (Some p)) h =
+    inr (inr (
+      imports.0,
+      imports.1,
+      name_scope_of c.names,
+      names,
+      h.0,
+      subst (λ z. AreExports (name_scope_of c.names) z (exports_in m m.exports.items) h.0) keys h.1,
+      h.2,
+    ))
+missing_explained i m c f imports names keys (Err e) h = tt

@@ -1,0 +1,108 @@
+//! Functions that other modules import, and that are not exported as they are required.
+
+ghost use Rattle.std.specs.Prelude.{◌≡◌, ◌≢◌, ◌↔◌, IfErr, IfOk, IsTrue};
+ghost use Rattle.wc_validate.specs.Private.Explained.{IsFunctionExplained, IsFunctionLackIn, IsRetyped, IsSaidAs};
+
+use crate::ValidateFault;
+use crate::place::{Place, Subject, TypeDifference};
+use crate::requirements::exported_functions::check_function;
+use std::alloc::{AllocError, Global};
+use wc_maps::Map;
+use wc_read::FuncType;
+
+/// A required function that is not exported as it is required, and why it is refused.
+#[derive(Drop)]
+pub(crate) struct LackingFunction<'r> {
+    pub(crate) name: &'r str,
+    pub(crate) ty: &'r FuncType,
+    pub(crate) fault: ValidateFault,
+}
+
+/// The first required function that is not exported as it is required, if there is one.
+pub(crate) fn first_unexported<'r>(
+    alloc: Global,
+    index: &Map<&str, &FuncType>,
+    functions: &'r Map<String, FuncType>,
+) -> Result<(), LackingFunction<'r>>
+    ensures { IfErr result (IsFunctionLackIn index.now.entries functions.now.entries) }
+{
+    for (name, ty) in functions.iter() {
+        let text = name.as_str();
+        if let Err(fault) = check_function(alloc, index, text, ty) {
+            return Err(LackingFunction {
+                name: text,
+                ty,
+                fault,
+            });
+        }
+    }
+    Ok(())
+}
+
+/// Whether a fault says all that another one says of what is missing.
+fn is_said_too(fault: &ValidateFault, found: &ValidateFault) -> bool
+    ensures same { IsTrue result → IsSaidAs found.now fault.now }
+    ensures real { IsTrue result → found.now ≢ ValidateFault.Memory }
+{
+    match found {
+        ValidateFault::AdapterExportType => matches!(fault, ValidateFault::AdapterExportType),
+        ValidateFault::TypedReference => matches!(fault, ValidateFault::TypedReference),
+        ValidateFault::AdapterModuleDidNotExport(missing) => match fault {
+            ValidateFault::AdapterModuleDidNotExport(own) => own.name() == missing.name(),
+            _ => false,
+        },
+        _ => false,
+    }
+}
+
+/// Whether a fault is that of an exported function's type.
+fn is_retyped(fault: &ValidateFault) -> bool
+    ensures { IsTrue result ↔ (fault.now ≡ ValidateFault.AdapterExportType) }
+{
+    matches!(fault, ValidateFault::AdapterExportType)
+}
+
+/// A function that is exported with another type than the one that is required.
+fn retyped_place(
+    alloc: Global,
+    index: &Map<&str, &FuncType>,
+    name: &str,
+    ty: &FuncType,
+) -> Result<Option<Place>, AllocError>
+    ensures { IfOk result (IsRetyped index.now.entries name.now ty.now) }
+{
+    let Some(own) = index.get(name) else {
+        return Ok(None);
+    };
+    let wanted = ty.clone(alloc)?;
+    let found = (*own).clone(alloc)?;
+    Ok(Some(Place {
+        subject: Subject::Export(String::from_str(alloc, name)?),
+        types: Some(TypeDifference { wanted, found }),
+    }))
+}
+
+/// A required function that is refused, as the place of a fault: if it is refused with this fault.
+pub(crate) fn function_place(
+    alloc: Global,
+    index: &Map<&str, &FuncType>,
+    lacking: LackingFunction<'_>,
+    fault: &ValidateFault,
+) -> Result<Option<Place>, AllocError>
+    ensures { IsFunctionExplained index.now.entries lacking.entry fault.now result }
+{
+    if matches!(lacking.fault, ValidateFault::Memory) {
+        return Err(AllocError);
+    }
+    if !is_said_too(fault, &lacking.fault) {
+        return Ok(None);
+    }
+    if is_retyped(fault) {
+        return retyped_place(alloc, index, lacking.name, lacking.ty);
+    }
+    let name = String::from_str(alloc, lacking.name)?;
+    Ok(Some(Place {
+        subject: Subject::MissingExport(name),
+        types: None,
+    }))
+}

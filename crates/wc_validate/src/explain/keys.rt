@@ -1,0 +1,173 @@
+//! What is missing for the keys of an export set.
+
+ghost use Rattle.std.specs.Prelude.{◌≡◌, ◌≢◌, ◌<◌, All, IfErr, IfOk, IfSome, IsTrue, length, map, string_bytes};
+ghost use Rattle.std.specs.Option.{option_map};
+ghost use Rattle.wc_resolve.specs.Ranges.{IsItemIn};
+ghost use Rattle.wc_resolve.specs.Views.{key_view, world_entry};
+ghost use Rattle.wc_validate.specs.NameScopes.{name_scope_of};
+ghost use Rattle.wc_validate.specs.Places.{interface_text};
+ghost use Rattle.wc_validate.specs.Private.Explained.{IsKeyExplained, IsLackIn, IsLackNamed, IsLackOf, IsLackingFunction};
+ghost use Rattle.wc_validate.specs.Private.RequiredExports.{HasItemsInRange, MeetsByNames, requirements_of_keys};
+ghost use Rattle.wc_validate.specs.Requirements.{interface_functions};
+
+use crate::ValidateFault;
+use crate::name_scope::Names;
+use crate::place::{Place, Subject};
+use crate::requirements::check_key;
+use crate::requirements::exported_functions::{FunctionNames, is_recorded};
+use std::alloc::{AllocError, Global};
+use wc_maps::{Map, Set};
+use wc_resolve::{InterfaceId, Resolve, WorldItem, WorldKey};
+
+/// A key of an export set for which something is missing, and why it is refused.
+#[derive(Drop)]
+pub(crate) struct LackingKey<'k> {
+    pub(crate) key: &'k WorldKey,
+    pub(crate) fault: ValidateFault,
+}
+
+/// The first key of an export set for which something is missing, if there is one.
+pub(crate) fn first_lacking<'k>(
+    alloc: Global,
+    functions: &FunctionNames,
+    resolve: &Resolve,
+    exports: &Map<WorldKey, WorldItem>,
+    keys: &'k Set<WorldKey>,
+) -> Result<(), LackingKey<'k>>
+    requires { All (λ x. IsItemIn resolve.now x.1) (map world_entry exports.now.entries) }
+    ensures met { MeetsByNames resolve.now functions.now.keys
+        (requirements_of_keys exports.now.entries keys.now.keys) result }
+    ensures lacking { IfErr result (IsLackIn resolve.now functions.now.keys exports.now.entries
+        keys.now.keys) }
+{
+    for key in keys.iter() {
+        if let Err(fault) = check_key(alloc, functions, resolve, exports, key) {
+            return Err(LackingKey { key, fault });
+        }
+    }
+    Ok(())
+}
+
+/// The first function of an interface that is not recorded, if one isn't.
+fn lacking_function<'r>(
+    alloc: Global,
+    functions: &FunctionNames,
+    resolve: &'r Resolve,
+    id: InterfaceId,
+) -> Result<Option<&'r str>, AllocError>
+    requires { id.0 < length resolve.now.interfaces }
+    ensures { IfOk result (λ name. IfSome name (IsLackingFunction resolve.now functions.now.keys
+        id.0)) }
+{
+    for (name, _function) in resolve.interface(id).functions.iter() {
+        if !is_recorded(alloc, functions, Some(id), name.as_str())? {
+            return Ok(Some(name.as_str()));
+        }
+    }
+    Ok(None)
+}
+
+/// The text of an interface under a key: a plain name, or the id of the interface, if it has one.
+fn interface_text(
+    alloc: Global,
+    resolve: &Resolve,
+    key: &WorldKey,
+    id: InterfaceId,
+) -> Result<Option<String>, AllocError>
+    requires { id.0 < length resolve.now.interfaces }
+    ensures { IfOk result (λ text. option_map string_bytes text
+        ≡ interface_text resolve.now (key_view key.now) id.0) }
+{
+    match key {
+        WorldKey::Name(name) => Ok(Some(String::from_str(alloc, name)?)),
+        WorldKey::Interface(_) => resolve.id_of(alloc, id),
+    }
+}
+
+/// The first function of an interface that is missing, under the text of the interface.
+fn interface_lack(
+    alloc: Global,
+    functions: &FunctionNames,
+    resolve: &Resolve,
+    key: &WorldKey,
+    id: InterfaceId,
+) -> Result<Option<Subject>, AllocError>
+    requires { id.0 < length resolve.now.interfaces }
+    ensures { IfOk result (IsLackOf resolve.now functions.now.keys (key_view key.now)
+        (interface_functions id.0)) }
+{
+    let Some(function) = lacking_function(alloc, functions, resolve, id)? else {
+        return Ok(None);
+    };
+    let Some(module_name) = interface_text(alloc, resolve, key, id)? else {
+        return Ok(None);
+    };
+    let name = String::from_str(alloc, function)?;
+    Ok(Some(Subject::MissingFunction { module_name, name }))
+}
+
+/// What is missing for a key.
+fn key_lack(
+    alloc: Global,
+    functions: &FunctionNames,
+    resolve: &Resolve,
+    exports: &Map<WorldKey, WorldItem>,
+    key: &WorldKey,
+) -> Result<Option<Subject>, AllocError>
+    requires { All (λ x. IsItemIn resolve.now x.1) (map world_entry exports.now.entries) }
+    ensures { IfOk result (IsLackNamed resolve.now functions.now.keys exports.now.entries
+        key.now) }
+{
+    let Some(item) = exports.get(key) else {
+        return Ok(None);
+    };
+    match item {
+        WorldItem::Interface { id, .. } => interface_lack(alloc, functions, resolve, key, *id),
+        WorldItem::Function(function) => {
+            let name = String::from_str(alloc, &function.name)?;
+            Ok(Some(Subject::MissingExport(name)))
+        }
+        WorldItem::TypeItem { .. } => Ok(None),
+    }
+}
+
+/// Whether two faults are the same fault of a key.
+fn is_same_fault(fault: &ValidateFault, found: &ValidateFault) -> bool
+    ensures same { IsTrue result → fault.now ≡ found.now }
+    ensures real { IsTrue result → found.now ≢ ValidateFault.Memory }
+{
+    match found {
+        ValidateFault::MissingInterfaceExport => {
+            matches!(fault, ValidateFault::MissingInterfaceExport)
+        }
+        ValidateFault::MissingWorldExport => matches!(fault, ValidateFault::MissingWorldExport),
+        _ => false,
+    }
+}
+
+/// What is missing for the key that is refused, as the place of a fault: if the key is refused with this fault.
+pub(crate) fn key_place(
+    alloc: Global,
+    functions: &FunctionNames,
+    names: &Names<'_>,
+    lacking: LackingKey<'_>,
+    fault: &ValidateFault,
+) -> Result<Option<Place>, AllocError>
+    requires { HasItemsInRange (name_scope_of names.now) }
+    ensures { IsKeyExplained names.now functions.now.keys lacking.entry fault.now result }
+{
+    if matches!(lacking.fault, ValidateFault::Memory) {
+        return Err(AllocError);
+    }
+    if !is_same_fault(fault, &lacking.fault) {
+        return Ok(None);
+    }
+    let exports = &names.world.exports;
+    match key_lack(alloc, functions, names.resolve, exports, lacking.key)? {
+        Some(subject) => Ok(Some(Place {
+            subject,
+            types: None,
+        })),
+        None => Ok(None),
+    }
+}

@@ -1,0 +1,145 @@
+//! What is missing among the exports of a module.
+
+ghost use Rattle.std.specs.Prelude.{◌≤◌, IfOk, MatchOption, map};
+ghost use Rattle.wc_read.specs.Modules.{HaveTypes, module_value};
+ghost use Rattle.wc_validate.specs.Exports.Map.{export_entry};
+ghost use Rattle.wc_validate.specs.Exports.Record.{AreExportsIn, exports_in};
+ghost use Rattle.wc_validate.specs.NameScopes.{name_scope_of};
+ghost use Rattle.wc_validate.specs.Private.Explained.{AreAlone, IsCallbackExplained, IsMemoryExplained, IsMissingExplained, IsSecondNamed, IsUncalled};
+ghost use Rattle.wc_validate.specs.Private.RequiredExports.{AreCalledBack, HasItemsInRange};
+ghost use Rattle.wc_validate.specs.Requirements.{memory_count};
+
+use crate::ValidateFault;
+use crate::explain::functions::{first_unexported, function_place};
+use crate::explain::keys::{first_lacking, key_place};
+use crate::name_scope::Names;
+use crate::place::{Place, Subject};
+use crate::requirements::exported_functions::{names_of_functions, typed_functions};
+use crate::requirements::{RequiredExports, is_called_back, is_memory};
+use std::alloc::{AllocError, Global};
+use wc_maps::Map;
+use wc_names::Export;
+use wc_read::Module;
+
+/// The name of the second memory that is recorded, if there are two.
+fn second_memory<'n>(names: &'n Map<String, Export>) -> Option<&'n str>
+    ensures { MatchOption result (memory_count (map export_entry names.now.entries) ≤ 1)
+        (IsSecondNamed names.now.entries) }
+{
+    let mut found = false;
+    for (name, export) in names.iter() {
+        if !is_memory(export) {
+            continue;
+        }
+        if found {
+            return Some(name.as_str());
+        }
+        found = true;
+    }
+    None
+}
+
+/// A second memory, as the place of a fault: if the fault is that there are two.
+fn memory_place(
+    alloc: Global,
+    name: &str,
+    fault: &ValidateFault,
+) -> Result<Option<Place>, AllocError>
+    ensures { IfOk result (IsMemoryExplained name.now fault.now) }
+{
+    if !matches!(fault, ValidateFault::SeveralMemoryExports) {
+        return Ok(None);
+    }
+    Ok(Some(Place {
+        subject: Subject::Export(String::from_str(alloc, name)?),
+        types: None,
+    }))
+}
+
+/// The name of the first recorded export whose callback is missing, if one is.
+fn uncalled<'n>(
+    alloc: Global,
+    names: &'n Map<String, Export>,
+) -> Result<Option<&'n str>, AllocError>
+    ensures { IfOk result (λ name. MatchOption name (AreCalledBack names.now.entries)
+        (IsUncalled names.now.entries)) }
+{
+    for (name, export) in names.iter() {
+        if !is_called_back(alloc, names, name.as_str(), export)? {
+            return Ok(Some(name.as_str()));
+        }
+    }
+    Ok(None)
+}
+
+/// The callback of an export, as the place of a fault: if the fault is that a callback is missing.
+fn callback_place(
+    alloc: Global,
+    name: &str,
+    fault: &ValidateFault,
+) -> Result<Option<Place>, AllocError>
+    ensures { IfOk result (IsCallbackExplained name.now fault.now) }
+{
+    if !matches!(fault, ValidateFault::MissingCallback) {
+        return Ok(None);
+    }
+    let mut callback = String::from_str(alloc, "[callback]")?;
+    callback.push_str(name)?;
+    Ok(Some(Place {
+        subject: Subject::MissingExport(callback),
+        types: None,
+    }))
+}
+
+/// What is missing for a key or of the required functions, where memories and callbacks are as required.
+fn unmet_place<'m>(
+    alloc: Global,
+    recorded: &Map<String, Export>,
+    names: &Names<'_>,
+    module: &'m Module<'m>,
+    required: RequiredExports<'_>,
+    fault: &ValidateFault,
+) -> Result<Option<Place>, AllocError>
+    requires items { AreExportsIn «module».now «module».now.exports.items }
+    requires typed { HaveTypes (module_value «module».now) }
+    requires world { HasItemsInRange (name_scope_of names.now) }
+    requires alone { AreAlone names.now «module».now recorded.now.entries }
+    ensures { IfOk result (IsMissingExplained names.now required.entry
+        (exports_in «module».now «module».now.exports.items) recorded.now.entries fault.now) }
+{
+    let functions = names_of_functions(alloc, recorded)?;
+    let exports = &names.world.exports;
+    if let Err(lacking) = first_lacking(alloc, &functions, names.resolve, exports, required.keys) {
+        return key_place(alloc, &functions, names, lacking, fault);
+    }
+    let seed = *required.functions.hasher();
+    let index = typed_functions(alloc, seed, module, &module.exports)?;
+    match first_unexported(alloc, &index, required.functions) {
+        Ok(()) => Ok(None),
+        Err(lacking) => function_place(alloc, &index, lacking, fault),
+    }
+}
+
+/// What is missing, as the place of a fault: if this fault is the first of what is missing.
+pub(crate) fn missing_place<'m>(
+    alloc: Global,
+    recorded: &Map<String, Export>,
+    names: &Names<'_>,
+    module: &'m Module<'m>,
+    required: RequiredExports<'_>,
+    fault: &ValidateFault,
+) -> Result<Option<Place>, AllocError>
+    requires items { AreExportsIn «module».now «module».now.exports.items }
+    requires typed { HaveTypes (module_value «module».now) }
+    requires world { HasItemsInRange (name_scope_of names.now) }
+    ensures { IfOk result (IsMissingExplained names.now required.entry
+        (exports_in «module».now «module».now.exports.items) recorded.now.entries fault.now) }
+{
+    if let Some(name) = second_memory(recorded) {
+        return memory_place(alloc, name, fault);
+    }
+    match uncalled(alloc, recorded)? {
+        Some(name) => callback_place(alloc, name, fault),
+        None => unmet_place(alloc, recorded, names, module, required, fault),
+    }
+}

@@ -1,0 +1,185 @@
+//! What faults of core modules are about.
+
+ghost use Rattle.std.specs.Prelude.{Some};
+
+use std::fmt;
+use wc_read::{FuncType, ValType};
+
+/// What a fault is about, by its names.
+#[derive(Debug, PartialEq, Eq, Drop)]
+pub enum Subject {
+    /// An import.
+    Import {
+        /// The name of the module that it comes from.
+        module_name: String,
+        /// The name of the import in that module.
+        name: String,
+        /// Its index among all imports.
+        index: usize,
+    },
+    /// An export, by its name.
+    Export(String),
+    /// A function of an interface that is not exported.
+    MissingFunction {
+        /// The text of the interface's key.
+        module_name: String,
+        /// The name of the function in that interface.
+        name: String,
+    },
+    /// An export that is not there, by its name.
+    MissingExport(String),
+}
+
+impl fmt::Display for Subject {
+    ghost use Rattle.wc_validate.specs.PlaceViews.{subject_view};
+    ghost use Rattle.wc_validate.specs.Texts.{subject_text};
+
+    ghost output = { λ subject. Some (subject_text (subject_view subject)) };
+
+    /// `import "m" "f"`, `export "f"`, `missing "m" "f"` or `missing export "f"`. Names are printed as they are.
+    fn fmt<W: fmt::Write>(&self, f: &mut fmt::Formatter<W>) -> fmt::Result {
+        match self {
+            Subject::Import {
+                module_name,
+                name,
+                ..
+            } => write!(f, "import \"{module_name}\" \"{name}\""),
+            Subject::Export(name) => write!(f, "export \"{name}\""),
+            Subject::MissingFunction { module_name, name } => {
+                write!(f, "missing \"{module_name}\" \"{name}\"")
+            }
+            Subject::MissingExport(name) => write!(f, "missing export \"{name}\""),
+        }
+    }
+}
+
+/// Two core types that differ.
+#[derive(Debug, PartialEq, Eq, Drop)]
+pub struct TypeDifference {
+    /// The type that is wanted.
+    pub wanted: FuncType,
+    /// The type that is found.
+    pub found: FuncType,
+}
+
+impl fmt::Display for TypeDifference {
+    ghost use Rattle.wc_validate.specs.PlaceViews.{difference_view};
+    ghost use Rattle.wc_validate.specs.Texts.{difference_text};
+
+    ghost output = { λ d. Some (difference_text (difference_view d)) };
+
+    /// `wanted T, found T`, where a type `T` is as `(i32, i64) -> i32`, with several results, or none, in parentheses too.
+    fn fmt<W: fmt::Write>(&self, f: &mut fmt::Formatter<W>) -> fmt::Result {
+        let wanted = Signature(&self.wanted);
+        let found = Signature(&self.found);
+        write!(f, "wanted {wanted}, found {found}")
+    }
+}
+
+/// What a fault is about, and the core types that differ, where it compares types.
+#[derive(Debug, PartialEq, Eq, Drop)]
+pub struct Place {
+    pub subject: Subject,
+    pub types: Option<TypeDifference>,
+}
+
+impl fmt::Display for Place {
+    ghost use Rattle.wc_validate.specs.PlaceViews.{place_view};
+    ghost use Rattle.wc_validate.specs.Texts.{place_text};
+
+    ghost output = { λ place. Some (place_text (place_view place)) };
+
+    /// The subject, and, if there are types, a line feed and their difference.
+    fn fmt<W: fmt::Write>(&self, f: &mut fmt::Formatter<W>) -> fmt::Result {
+        let subject = &self.subject;
+        match &self.types {
+            Some(types) => write!(f, "{subject}\n{types}"),
+            None => write!(f, "{subject}"),
+        }
+    }
+}
+
+/// A value type, as it is printed.
+#[derive(Clone, Copy)]
+struct TypeName(ValType);
+
+impl fmt::Display for TypeName {
+    ghost use Rattle.wc_validate.specs.Texts.{type_name};
+
+    ghost output = { λ t. Some (type_name t.0) };
+
+    fn fmt<W: fmt::Write>(&self, f: &mut fmt::Formatter<W>) -> fmt::Result {
+        match self.0 {
+            ValType::I32 => f.write_str("i32"),
+            ValType::I64 => f.write_str("i64"),
+            ValType::F32 => f.write_str("f32"),
+            ValType::F64 => f.write_str("f64"),
+            ValType::V128 => f.write_str("v128"),
+            ValType::FuncRef => f.write_str("funcref"),
+            ValType::ExternRef => f.write_str("externref"),
+            ValType::FuncRefNonNull => f.write_str("(ref func)"),
+            ValType::ExternRefNonNull => f.write_str("(ref extern)"),
+            ValType::TypeRef { nullable, index } => {
+                if nullable {
+                    write!(f, "(ref null {index})")
+                } else {
+                    write!(f, "(ref {index})")
+                }
+            }
+        }
+    }
+}
+
+/// Value types, with `, ` between two of them.
+#[derive(Clone, Copy)]
+struct TypeList<'a>(&'a [ValType]);
+
+impl fmt::Display for TypeList<'_> {
+    ghost use Rattle.wc_validate.specs.Texts.{type_list_text};
+
+    ghost output = { λ types. Some (type_list_text types.0.now) };
+
+    fn fmt<W: fmt::Write>(&self, f: &mut fmt::Formatter<W>) -> fmt::Result {
+        if let [first, rest @ ..] = self.0 {
+            write!(f, "{}", TypeName(*first))?;
+            for ty in rest {
+                write!(f, ", {}", TypeName(*ty))?;
+            }
+        }
+        Ok(())
+    }
+}
+
+/// The results of a function type: one alone, and any other number of them in parentheses.
+#[derive(Clone, Copy)]
+struct ResultTypes<'a>(&'a [ValType]);
+
+impl fmt::Display for ResultTypes<'_> {
+    ghost use Rattle.wc_validate.specs.Texts.{results_text};
+
+    ghost output = { λ types. Some (results_text types.0.now) };
+
+    fn fmt<W: fmt::Write>(&self, f: &mut fmt::Formatter<W>) -> fmt::Result {
+        match self.0 {
+            [ty] => write!(f, "{}", TypeName(*ty)),
+            types => write!(f, "({})", TypeList(types)),
+        }
+    }
+}
+
+/// A function type, as it is printed.
+#[derive(Clone, Copy)]
+struct Signature<'a>(&'a FuncType);
+
+impl fmt::Display for Signature<'_> {
+    ghost use Rattle.wc_read.specs.Types.{func_type_value};
+    ghost use Rattle.wc_validate.specs.Texts.{signature_text};
+
+    ghost output = { λ ty. Some (signature_text (func_type_value ty.0.now)) };
+
+    fn fmt<W: fmt::Write>(&self, f: &mut fmt::Formatter<W>) -> fmt::Result {
+        let params = TypeList(self.0.params());
+        let results = ResultTypes(self.0.results());
+        write!(f, "({params}) -> {results}")
+    }
+}

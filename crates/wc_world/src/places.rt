@@ -1,0 +1,435 @@
+//! What faults of a component's world are about: places in the main module, and in adapters.
+
+ghost use Rattle.std.specs.Prelude.{◌≡◌, ◌↔◌, IfOk, IsTrue, None, Some, option_map};
+ghost use Rattle.std.specs.Map.{lookup};
+ghost use Rattle.std.specs.Str.{bytes_eq};
+ghost use Rattle.wc_encoder.specs.Adapters.{adapter_view};
+ghost use Rattle.wc_validate.specs.Imports.Map.{required_in};
+ghost use Rattle.wc_validate.specs.Validated.{library_of, module_record};
+ghost use Rattle.wc_world.specs.Places.{IsWorldExplained};
+ghost use Rattle.wc_world.specs.Private.AdapterInput.{IsInputRecord, IsNeeded, main_of, named_adapter, required_of};
+ghost use Rattle.wc_world.specs.Private.Explained.{IsAdapterAnswer, IsFirstFound, IsIn, IsInputAnswer, IsMainFound, IsMinimizedAnswer, IsNamedAnswer, IsRefusal, IsTrimAnswer, IsTrimRefusal, IsTrimmedFound, IsUnderAnswer, IsValidationAnswer, input_of};
+ghost use Rattle.wc_world.specs.World.{IsMainRecord};
+
+use crate::adapters::{AdapterInput, input_record, is_input_needed, trimmed_bytes};
+use crate::fault::WorldFault;
+use crate::trimming::required_names;
+use std::alloc::{AllocError, Global};
+use wc_encoder::{Adapter, ComponentEncoder, LibraryInfo};
+use wc_gc::{GcFault, TrimPlace};
+use wc_validate::{
+    Place, ValidateFault, ValidatedModule, explain_adapter_module, explain_module, validate_module,
+};
+
+/// What a fault of a module is about.
+#[derive(Debug, PartialEq, Eq, Drop)]
+pub enum ModulePlace {
+    /// An import or an export, by its names.
+    Validation(Place),
+    /// A section, or the body of a function.
+    Trim(TrimPlace),
+}
+
+/// What a fault of a component's world is about: a place in its main module, or in one of its adapters or libraries.
+#[derive(Debug, PartialEq, Eq, Drop)]
+pub struct WorldPlace {
+    /// The name of the adapter, or of the library; `None` for the main module.
+    pub adapter: Option<String>,
+    /// What the fault is about in it.
+    pub place: ModulePlace,
+}
+
+/// A fault of the bytes of an adapter or a library.
+#[derive(Clone, Copy)]
+enum AdapterFault<'a> {
+    /// As the encoder has them.
+    Original(&'a ValidateFault),
+    /// As they are to be trimmed.
+    Trim(&'a GcFault),
+    /// As they are trimmed.
+    Minimized(&'a ValidateFault),
+}
+
+/// Whether a fault of validation is that an allocation failed.
+fn is_module_memory(fault: &ValidateFault) -> bool
+    ensures { IsTrue result ↔ (fault.now ≡ ValidateFault.Memory) }
+{
+    matches!(fault, ValidateFault::Memory)
+}
+
+/// Whether a fault of trimming is that an allocation failed.
+fn is_trim_memory(fault: &GcFault) -> bool
+    ensures { IsTrue result ↔ (fault.now ≡ GcFault.Memory) }
+{
+    matches!(fault, GcFault::Memory)
+}
+
+/// Whether a fault says that an adapter is refused as the encoder has it.
+fn is_refusal(fault: &WorldFault) -> bool
+    ensures { IsTrue result → IsRefusal fault.now }
+{
+    match fault {
+        WorldFault::Adapter(_, fault) => !is_module_memory(fault),
+        _ => false,
+    }
+}
+
+/// Whether a fault says that an adapter can't be trimmed.
+fn is_trim_refusal(fault: &WorldFault) -> bool
+    ensures { IsTrue result → IsTrimRefusal fault.now }
+{
+    match fault {
+        WorldFault::Trim(_, fault) => !is_trim_memory(fault),
+        _ => false,
+    }
+}
+
+/// What the main module of an encoder imports and exports, if it is valid.
+fn main_found(
+    alloc: Global,
+    encoder: &ComponentEncoder,
+) -> Result<Option<ValidatedModule>, AllocError>
+    ensures { IfOk result (IsMainFound encoder.now) }
+{
+    match validate_module(
+        alloc,
+        encoder,
+        encoder.module(),
+        encoder.module_import_map(),
+    ) {
+        Ok(info) => Ok(Some(info)),
+        Err(fault) => {
+            if is_module_memory(&fault) {
+                Err(AllocError)
+            } else {
+                Ok(None)
+            }
+        }
+    }
+}
+
+/// What an adapter that is to be trimmed imports and exports, if it is valid.
+fn first_found(
+    alloc: Global,
+    input: &AdapterInput<'_, '_>,
+) -> Result<Option<ValidatedModule>, AllocError>
+    requires { IsNeeded input.now }
+    ensures { IfOk result (IsFirstFound input.now) }
+{
+    if input.adapter.library_info.is_some() {
+        return Ok(None);
+    }
+    match input_record(alloc, input) {
+        Ok(first) => Ok(Some(first)),
+        Err(fault) => {
+            if is_refusal(&fault) {
+                Ok(None)
+            } else {
+                Err(AllocError)
+            }
+        }
+    }
+}
+
+/// The bytes that an adapter is trimmed to, by what is recorded of it, if it can be trimmed.
+fn trimmed_by(
+    alloc: Global,
+    input: &AdapterInput<'_, '_>,
+    first: &ValidatedModule,
+) -> Result<Option<Vec<u8>>, AllocError>
+    requires needed { IsNeeded input.now }
+    requires trims { input.now.adapter.now.library_info ≡ None }
+    requires original { IsInputRecord input.now input.now.adapter.now.wasm.items
+        (module_record first.now) }
+    ensures { IfOk result (IsTrimmedFound input.now) }
+{
+    match trimmed_bytes(alloc, input, first) {
+        Ok(bytes) => Ok(Some(bytes)),
+        Err(fault) => {
+            if is_trim_refusal(&fault) {
+                Ok(None)
+            } else {
+                Err(AllocError)
+            }
+        }
+    }
+}
+
+/// The bytes that an adapter is trimmed to, if it is trimmed.
+fn trimmed_found(alloc: Global, input: &AdapterInput<'_, '_>) -> Result<Option<Vec<u8>>, AllocError>
+    requires { IsNeeded input.now }
+    ensures { IfOk result (IsTrimmedFound input.now) }
+{
+    match first_found(alloc, input)? {
+        Some(first) => trimmed_by(alloc, input, &first),
+        None => Ok(None),
+    }
+}
+
+/// A place of validation.
+fn in_module(place: Option<Place>) -> Option<ModulePlace>
+    ensures { result ≡ option_map ModulePlace.Validation place }
+{
+    match place {
+        Some(place) => Some(ModulePlace::Validation(place)),
+        None => None,
+    }
+}
+
+/// What a fault of these bytes is about, by what an adapter or a library is validated for.
+fn place_in(
+    alloc: Global,
+    input: &AdapterInput<'_, '_>,
+    bytes: &[u8],
+    library: Option<&LibraryInfo>,
+    fault: &ValidateFault,
+) -> Result<Option<ModulePlace>, AllocError>
+    requires needed { IsNeeded input.now }
+    requires library { library_of library ≡ (named_adapter input.now).1.library_info }
+    ensures { IfOk result (IsValidationAnswer (input_of input.now) bytes.now fault.now) }
+{
+    let place = explain_adapter_module(
+        alloc,
+        input.encoder,
+        bytes,
+        input.required,
+        &input.adapter.required_exports,
+        library,
+        fault,
+    )?;
+    Ok(in_module(place))
+}
+
+/// What a fault of an adapter or a library is about, as the encoder has it.
+fn original_place(
+    alloc: Global,
+    input: &AdapterInput<'_, '_>,
+    fault: &ValidateFault,
+) -> Result<Option<ModulePlace>, AllocError>
+    requires { IsNeeded input.now }
+    ensures { IfOk result (IsValidationAnswer (input_of input.now)
+        input.now.adapter.now.wasm.items fault.now) }
+{
+    let adapter = input.adapter;
+    place_in(
+        alloc,
+        input,
+        &adapter.wasm,
+        adapter.library_info.as_ref(),
+        fault,
+    )
+}
+
+/// What a fault of an adapter is about, as it is trimmed.
+fn minimized_place(
+    alloc: Global,
+    input: &AdapterInput<'_, '_>,
+    fault: &ValidateFault,
+) -> Result<Option<ModulePlace>, AllocError>
+    requires { IsNeeded input.now }
+    ensures { IfOk result (IsMinimizedAnswer fault.now input.now) }
+{
+    match trimmed_found(alloc, input)? {
+        Some(bytes) => place_in(alloc, input, &bytes, None, fault),
+        None => Ok(None),
+    }
+}
+
+/// What a fault of trimming is about, by what is recorded of an adapter.
+fn trim_place_by(
+    alloc: Global,
+    input: &AdapterInput<'_, '_>,
+    first: &ValidatedModule,
+    fault: &GcFault,
+) -> Result<Option<ModulePlace>, AllocError>
+    requires needed { IsNeeded input.now }
+    requires trims { input.now.adapter.now.library_info ≡ None }
+    requires original { IsInputRecord input.now input.now.adapter.now.wasm.items
+        (module_record first.now) }
+    ensures { IfOk result (IsTrimAnswer fault.now input.now) }
+{
+    let names = required_names(alloc, input.required, &first.exports)?;
+    match wc_gc::explain(alloc, &input.adapter.wasm, &names, fault)? {
+        Some(place) => Ok(Some(ModulePlace::Trim(place))),
+        None => Ok(None),
+    }
+}
+
+/// What a fault of trimming is about.
+fn trim_place(
+    alloc: Global,
+    input: &AdapterInput<'_, '_>,
+    fault: &GcFault,
+) -> Result<Option<ModulePlace>, AllocError>
+    requires { IsNeeded input.now }
+    ensures { IfOk result (IsTrimAnswer fault.now input.now) }
+{
+    match first_found(alloc, input)? {
+        Some(first) => trim_place_by(alloc, input, &first, fault),
+        None => Ok(None),
+    }
+}
+
+/// What a fault of an adapter or a library is about.
+fn input_place(
+    alloc: Global,
+    input: &AdapterInput<'_, '_>,
+    fault: AdapterFault<'_>,
+) -> Result<Option<ModulePlace>, AllocError>
+    requires { IsNeeded input.now }
+    ensures { IfOk result (IsInputAnswer fault.entry input.now.encoder.now (main_of input.now)
+        (named_adapter input.now)) }
+{
+    match fault {
+        AdapterFault::Original(fault) => original_place(alloc, input, fault),
+        AdapterFault::Trim(fault) => trim_place(alloc, input, fault),
+        AdapterFault::Minimized(fault) => minimized_place(alloc, input, fault),
+    }
+}
+
+/// The same, if a component needs it.
+fn place_if_needed(
+    alloc: Global,
+    input: &AdapterInput<'_, '_>,
+    fault: AdapterFault<'_>,
+) -> Result<Option<ModulePlace>, AllocError>
+    requires { required_of input.now ≡ required_in input.now.main.now.imports input.now.name.now }
+    ensures { IfOk result (IsUnderAnswer fault.entry input.now.encoder.now (main_of input.now)
+        (named_adapter input.now)) }
+{
+    if is_input_needed(input) {
+        input_place(alloc, input, fault)
+    } else {
+        Ok(None)
+    }
+}
+
+/// What a fault of this adapter or library is about, by what its main module imports.
+fn place_by_main(
+    alloc: Global,
+    encoder: &ComponentEncoder,
+    main: &ValidatedModule,
+    name: &str,
+    adapter: &Adapter,
+    fault: AdapterFault<'_>,
+) -> Result<Option<ModulePlace>, AllocError>
+    requires main { IsMainRecord encoder.now (module_record main.now) }
+    requires there { lookup (bytes_eq name.now) encoder.now.adapters
+        ≡ Some (adapter_view adapter.now) }
+    ensures { IfOk result (IsAdapterAnswer fault.entry encoder.now name.now) }
+{
+    let required = main.imports.required_from_adapter(alloc, name)?;
+    let input = AdapterInput {
+        encoder,
+        main,
+        required: &required,
+        name,
+        adapter,
+    };
+    place_if_needed(alloc, &input, fault)
+}
+
+/// What a fault of the adapter or the library of a name is about.
+fn adapter_place(
+    alloc: Global,
+    encoder: &ComponentEncoder,
+    name: &str,
+    fault: AdapterFault<'_>,
+) -> Result<Option<ModulePlace>, AllocError>
+    ensures { IfOk result (IsAdapterAnswer fault.entry encoder.now name.now) }
+{
+    let Some(main) = main_found(alloc, encoder)? else {
+        return Ok(None);
+    };
+    match encoder.adapters().get(name) {
+        Some(adapter) => place_by_main(alloc, encoder, &main, name, adapter, fault),
+        None => Ok(None),
+    }
+}
+
+/// A place in the adapter or the library of a name.
+fn in_adapter(
+    alloc: Global,
+    name: &str,
+    place: Option<ModulePlace>,
+) -> Result<Option<WorldPlace>, AllocError>
+    ensures { IfOk result (IsIn name.now place) }
+{
+    let Some(place) = place else {
+        return Ok(None);
+    };
+    let adapter = Some(String::from_str(alloc, name)?);
+    Ok(Some(WorldPlace { adapter, place }))
+}
+
+/// What a fault of the adapter or the library of a name is about, with its name.
+fn explain_adapter(
+    alloc: Global,
+    encoder: &ComponentEncoder,
+    name: &str,
+    fault: AdapterFault<'_>,
+) -> Result<Option<WorldPlace>, AllocError>
+    ensures { IfOk result (IsNamedAnswer fault.entry encoder.now name.now) }
+{
+    let place = adapter_place(alloc, encoder, name, fault)?;
+    in_adapter(alloc, name, place)
+}
+
+/// What a fault of the main module is about.
+fn explain_main(
+    alloc: Global,
+    encoder: &ComponentEncoder,
+    fault: &ValidateFault,
+) -> Result<Option<WorldPlace>, AllocError>
+    ensures { IfOk result (IsWorldExplained encoder.now (WorldFault.Main fault.now)) }
+{
+    let bytes = encoder.module();
+    let import_map = encoder.module_import_map();
+    match explain_module(alloc, encoder, bytes, import_map, fault)? {
+        Some(place) => Ok(Some(WorldPlace {
+            adapter: None,
+            place: ModulePlace::Validation(place),
+        })),
+        None => Ok(None),
+    }
+}
+
+/// What a fault is about that [`ComponentWorld::new`](crate::ComponentWorld::new) answered for the same encoder; its
+/// options decide no fault. What is done with the module that the fault names is repeated, for the same as before:
+///
+/// - `Main`: the main module is validated (`wc_validate::explain_module`).
+/// - `Adapter`: the adapter, or the library, of the name is validated, as the encoder has it
+///   (`wc_validate::explain_adapter_module`). The main module is validated before, for what it imports of it; other
+///   adapters are not read.
+/// - `Trim`: after that the adapter is trimmed (`wc_gc::explain`).
+/// - `Minimized`: after that the bytes that it is trimmed to are validated.
+///
+/// `None` for `PageSize` and `Memory`; where that step has no place of the fault; and where it is not reached: the main
+/// module is not valid; the encoder has no adapter of the name, or needs none; and for `Trim` and `Minimized` where the
+/// adapter is a library, or is not valid, and for `Minimized` where it can't be trimmed.
+///
+/// # Errors
+///
+/// `AllocError`: an allocation failed.
+pub fn explain(
+    alloc: Global,
+    encoder: &ComponentEncoder,
+    fault: &WorldFault,
+) -> Result<Option<WorldPlace>, AllocError>
+    ensures { IfOk result (IsWorldExplained encoder.now fault.now) }
+{
+    match fault {
+        WorldFault::Main(fault) => explain_main(alloc, encoder, fault),
+        WorldFault::Adapter(name, fault) => {
+            explain_adapter(alloc, encoder, name, AdapterFault::Original(fault))
+        }
+        WorldFault::Trim(name, fault) => {
+            explain_adapter(alloc, encoder, name, AdapterFault::Trim(fault))
+        }
+        WorldFault::Minimized(name, fault) => {
+            explain_adapter(alloc, encoder, name, AdapterFault::Minimized(fault))
+        }
+        WorldFault::PageSize(_, _, _) => Ok(None),
+        WorldFault::Memory => Ok(None),
+    }
+}

@@ -1,0 +1,53 @@
+//! Types of component functions.
+
+use crate::ids::TypeId;
+use crate::json::Value;
+use crate::read::{Read, Unread};
+
+/// A type of the resolved worlds.
+#[derive(Clone, Copy, Debug, PartialEq, Eq, Hash)]
+#[allow(missing_docs)]
+#[non_exhaustive]
+pub enum Type {
+    Bool,
+    U8,
+    U16,
+    U32,
+    U64,
+    S8,
+    S16,
+    S32,
+    S64,
+    F32,
+    F64,
+    Char,
+    String,
+    ErrorContext,
+    /// One that the worlds define.
+    Id(TypeId),
+}
+
+impl Read for Type {
+    fn read(value: &Value<'_>) -> Result<Self, Unread> {
+        let Ok(name) = value.as_str() else {
+            return Ok(Type::Id(TypeId::read(value)?));
+        };
+        Ok(match name {
+            "bool" => Type::Bool,
+            "u8" => Type::U8,
+            "u16" => Type::U16,
+            "u32" => Type::U32,
+            "u64" => Type::U64,
+            "s8" => Type::S8,
+            "s16" => Type::S16,
+            "s32" => Type::S32,
+            "s64" => Type::S64,
+            "f32" => Type::F32,
+            "f64" => Type::F64,
+            "char" => Type::Char,
+            "string" => Type::String,
+            "error-context" => Type::ErrorContext,
+            _ => return Err(Unread::Unknown),
+        })
+    }
+}
