@@ -1,5 +1,5 @@
 #!/usr/bin/env python3
-"""Checks README.md, docs/*.md and the READMEs of bench/ and examples/ against the repository.
+"""Checks README.md, CONTRIBUTING.md, docs/*.md and the READMEs of bench/ and examples/ against the repository.
 
     bench/check-docs.py
 
@@ -50,7 +50,7 @@ def files(*pattern):
 
 
 def documents():
-    readmes = [os.path.join(TOP, part, "README.md") for part in ("", "bench", "examples")]
+    readmes = [os.path.join(TOP, part, "README.md") for part in ("", "bench", "examples")] + [os.path.join(TOP, "CONTRIBUTING.md")]
     return [path for path in readmes if os.path.exists(path)] + files("docs", "*.md")
 
 

@@ -1,13 +1,15 @@
 #!/usr/bin/env python3
-"""Prints, for each fault of each library, a row of tests that reaches it, as the table of docs/ROWS.md.
+"""Prints, for each fault of each library, a row of tests that reaches it, and for each fault that has a place a row that
+shows it, as the tables of docs/ROWS.md.
 
-    fault-rows.py            prints the table
-    fault-rows.py --write    writes it into docs/ROWS.md
-    fault-rows.py --check    compares it with that of docs/ROWS.md; status 1 where they differ
+    fault-rows.py            prints the tables
+    fault-rows.py --write    writes them into docs/ROWS.md
+    fault-rows.py --check    compares them with those of docs/ROWS.md; status 1 where they differ
 
 The faults and their texts are those of the enums in the sources. A row reaches a fault where it wants the fault's text of
 a call that answers faults of this enum (CALLS), or that of another fault which carries it. No row can reach those of BARRED,
-and Memory is reached where an allocation fails (failing-allocations.py). The status is 1 where any other fault has no row.
+and Memory is reached where an allocation fails (failing-allocations.py). The faults of the enums of PLACED have places, but
+for those of UNPLACED; a row shows one where it wants it after the fault. The status is 1 where any other fault has no row.
 """
 import pathlib
 import re
@@ -15,7 +17,8 @@ import sys
 
 TOP = pathlib.Path(__file__).resolve().parent.parent
 PAGE = TOP / "docs" / "ROWS.md"
-BEGIN, END = "<!-- fault-rows.py: begin -->\n", "<!-- fault-rows.py: end -->\n"
+MARKS = {name: ("<!-- fault-rows.py: %s begin -->\n" % name, "<!-- fault-rows.py: %s end -->\n" % name)
+         for name in ("faults", "places")}
 
 # The enum of the faults that a call answers.
 CALLS = {
@@ -26,7 +29,7 @@ CALLS = {
     "classify": "ValidateFault", "classify_export": "ValidateFault", "validate_module": "ValidateFault",
     "validate_adapter_module": "ValidateFault", "validated_exports": "ValidateFault",
     "example imported_memory": "ValidateFault",
-    "liveness_counted": "GcFault", "trim": "GcFault", "trim_for": "GcFault", "unfolding_trimmed": "GcFault",
+    "explain_trim": "GcFault", "liveness_counted": "GcFault", "trim": "GcFault", "trim_for": "GcFault", "unfolding_trimmed": "GcFault",
     "call_chain": "GcFault", "example reaches_memory": "GcFault", "example trim_both": "GcFault",
     "component_world": "WorldFault", "example can_use_slot_1": "WorldFault", "example summary": "WorldFault",
     "plan": "PlanFault", "plan_failing": "PlanFault", "plan_without_lowerings": "PlanFault",
@@ -34,7 +37,7 @@ CALLS = {
     "execute": "ToolFault", "execute_failing": "ToolFault", "each_put_failing": "ToolFault",
     "writer_sink": "PutFailed", "run_program": "RunFault", "parse": "Usage",
     "wcplan": "ProgramFault", "wcplan_failing": "ProgramFault", "parse_wcplan": "NoCommand", "plan_into": "MessageFault",
-    "world_into": "MessageFault",
+    "world_into": "MessageFault", "validate_into": "MessageFault",
 }
 # What no row of any input can reach, and why.
 BARRED = {
@@ -46,6 +49,32 @@ BARRED = {
     ("MessageFault", "NotText"): "a row is text",
 }
 FAILED = "where an allocation fails"
+# The enums whose faults have places.
+PLACED = ("ResolveFault", "ValidateFault", "GcFault", "WorldFault", "PlanFault")
+# Which of their faults have none, and why.
+UNPLACED = {
+    ("ResolveFault", "Memory"): "an allocation failed",
+    ("ValidateFault", "Memory"): "an allocation failed",
+    ("ValidateFault", "Read"): "it is about the module as a whole",
+    ("ValidateFault", "NotAModule"): "it is about the module as a whole",
+    ("ValidateFault", "WholeDiffers"): "it is answered for no module",
+    ("ValidateFault", "Mixed"): "it is answered for no module",
+    ("GcFault", "Memory"): "an allocation failed",
+    ("GcFault", "Read"): "it is about the adapter as a whole",
+    ("GcFault", "MissingExport"): "it has the export's name",
+    ("GcFault", "SeveralNamed"): "it is about all that is live",
+    ("GcFault", "LiveTable"): "it is about all that is live",
+    ("GcFault", "SeveralMemories"): "it is about all that is live",
+    ("GcFault", "LocalMemory"): "it is about all that is live",
+    ("GcFault", "ReallocType"): "it is about all that is live",
+    ("GcFault", "ReallocMemory"): "it is about all that is live",
+    ("GcFault", "TooLarge"): "it is about the adapter as a whole",
+    ("WorldFault", "Memory"): "an allocation failed",
+    ("WorldFault", "PageSize"): "it has the adapter's name and both sizes",
+    ("PlanFault", "Memory"): "an allocation failed",
+    ("PlanFault", "World"): "it has that of the world's fault",
+    ("PlanFault", "Output"): "it is about the sink",
+}
 
 
 def sources():
@@ -94,7 +123,7 @@ def program_fault(text):
     body = re.search(r"pub enum ProgramFault.*?\{(.*?)\n\}", text, re.S).group(1)
     fields = {name: [field] for name, field in re.findall(r"^ +(\w+)\((?:&'a )?(\w+)", body, re.M)}
     shown = re.findall(r'ProgramFault::(\w+)(?:\(\w+\))? => (?:String::from_str|format!)\((?:in )?alloc[;,] "(.*?)"\)', text)
-    carried = re.findall(r'ProgramFault::(\w+)\(fault\) => carried_text\(alloc, "(\w+)", fault\)', text)
+    carried = re.findall(r'ProgramFault::(\w+)\(fault(?:, _)?\) => carried_text\(alloc, "(\w+)", fault\)', text)
     texts = {name: re.sub(r"\{\w+\}", "{0}", words) for name, words in shown}
     texts.update({name: words + ": {0}" for name, words in carried})
     texts.update({name: words + "{0}" for name, words in re.findall(r'ProgramFault::(\w+)\(path\) => path_text\(alloc, "(.*?)", path\)', text)})
@@ -173,23 +202,23 @@ def rows():
 
 
 def texts_in_buffer(lines):
-    """The text of a fault in the front of a buffer that has room for it."""
+    """The text of a fault in the front of a buffer that has room for it, and for what is after it."""
     numbers = re.match(r"status 1 fault \d+ length (\d+) ", lines[0])
     buffer = bytes.fromhex("".join(line[len("buffer "):] for line in lines if line.startswith("buffer ")))
     if numbers and int(numbers.group(1)) <= len(buffer):
-        yield buffer[:int(numbers.group(1))].decode()
+        yield buffer[:int(lines[1][len("position "):])].decode()
 
 
 def texts(call, lines):
     """The texts of faults among a row's lines of answer."""
-    if call in ("world_into", "plan_into"):
+    if call in ("world_into", "plan_into", "validate_into"):
         yield from texts_in_buffer(lines)
         return
     for line in lines:
         if call == "run_program" and line.startswith("printed wctrim: "):
             yield line[len("printed wctrim: "):]
         elif call in ("wcplan", "wcplan_failing") and line.startswith("error wcplan: ") and "status 2" not in lines:
-            yield line[len("error wcplan: "):]
+            yield re.sub(r"(PageSize) `.*`: page size \d+, main module's \d+$", r"\1", line[len("error wcplan: "):])
         elif call == "parse_wcplan" and line in ("help", "version"):
             yield line
         elif call == "parse" and line == "usage":
@@ -202,10 +231,19 @@ def texts(call, lines):
                 yield match.group(1)
 
 
+def has_place(words, lines):
+    """Whether a row's answer has a place after the fault."""
+    if words[0] in ("wcplan", "wcplan_failing"):
+        return any(line.startswith("error   ") for line in lines)
+    if words[0] in ("plan", "plan_failing", "plan_without_lowerings"):
+        return lines[1:2] != [] and lines[1].startswith("of ")
+    return (words[0] == "explain_trim" or "explain" in words[1:]) and len(lines) > 1 and lines[-1] != "none"
+
+
 def reached(known):
     """Of each fault the row that reaches it: the first whose call answers it, else the first that answers one that carries
-    it. And lines on texts that are those of no fault of the call."""
-    found, unread = {}, []
+    it; and likewise the row that shows its place. And lines on texts that are those of no fault of the call."""
+    found, places, unread = {}, {}, []
     for file, name, words, lines in rows():
         call = " ".join(words[:2]) if words[0] == "example" else words[0]
         if call not in CALLS:
@@ -215,48 +253,81 @@ def reached(known):
             if not faults_shown:
                 unread.append("%s: %s: no fault of `%s`: %s" % (file, name, call, text))
             for depth, fault in enumerate(faults_shown or []):
-                if fault not in found or depth < found[fault][0]:
-                    found[fault] = (depth, file, name)
-    return found, unread
+                for rows_of in [found] + ([places] if has_place(words, lines) else []):
+                    if fault not in rows_of or depth < rows_of[fault][0]:
+                        rows_of[fault] = (depth, file, name)
+    return found, places, unread
 
 
-def table():
-    """The lines of the table, and lines on what is wrong: faults that have no row, and texts that are those of no fault."""
-    known = faults()
-    found, wrong = reached(known)
-    lines = ["| Fault | Row |\n", "|---|---|\n"]
+def shown(enum, crate, variants, name):
+    """How a fault is named."""
+    return "%s of `%s`" % ("`%s`" % enum if len(variants) == 1 and name == enum else "`%s::%s`" % (enum, name), crate)
+
+
+def fault_table(known, found):
+    """The lines of the table of faults, and lines on those that have no row."""
+    lines, wrong = ["| Fault | Row |\n", "|---|---|\n"], []
     for enum, (crate, variants) in known.items():
         for name, _, _ in variants:
             if name == "Memory":
                 where = FAILED
             elif (enum, name) in found:
-                _, file, row = found[enum, name]
-                where = "%s: %s" % (file, row)
+                where = "%s: %s" % found[enum, name][1:]
             elif (enum, name) in BARRED:
                 where = "none: " + BARRED[enum, name]
             else:
                 wrong.append("no row reaches `%s::%s`" % (enum, name))
                 where = "none"
-            fault = "`%s`" % enum if len(variants) == 1 and name == enum else "`%s::%s`" % (enum, name)
-            lines.append("| %s of `%s` | %s |\n" % (fault, crate, where))
+            lines.append("| %s | %s |\n" % (shown(enum, crate, variants, name), where))
     return "".join(lines), wrong
 
 
+def place_table(known, places):
+    """The lines of the table of places, and lines on faults of which no row shows one, or one that there is not."""
+    lines, wrong = ["| Fault | Row that shows its place |\n", "|---|---|\n"], []
+    for enum in PLACED:
+        crate, variants = known[enum]
+        for name, _, _ in variants:
+            if (enum, name) in UNPLACED:
+                where = "none: " + UNPLACED[enum, name]
+                if (enum, name) in places and (enum, name) != ("PlanFault", "World"):
+                    wrong.append("%s: %s shows a place of `%s::%s`" % (places[enum, name][1:] + (enum, name)))
+            elif (enum, name) in places:
+                where = "%s: %s" % places[enum, name][1:]
+            else:
+                wrong.append("no row shows a place of `%s::%s`" % (enum, name))
+                where = "none"
+            lines.append("| %s | %s |\n" % (shown(enum, crate, variants, name), where))
+    return "".join(lines), wrong
+
+
+def tables():
+    """The tables by their names, and lines on what is wrong: faults that have no row, and texts that are those of no
+    fault."""
+    known = faults()
+    found, places, wrong = reached(known)
+    made = {"faults": fault_table(known, found), "places": place_table(known, places)}
+    return {name: text for name, (text, _) in made.items()}, wrong + [line for _, lines in made.values() for line in lines]
+
+
 def main():
-    text, wrong = table()
+    made, wrong = tables()
     page = PAGE.read_text()
-    front, begin, rest = page.partition(BEGIN)
-    old, end, back = rest.partition(END)
-    if "--write" in sys.argv or "--check" in sys.argv:
-        if not begin or not end:
-            sys.exit("docs/ROWS.md has no place for the table: the lines\n" + BEGIN + END)
+    for name, text in made.items():
+        begin, end = MARKS[name]
+        front, found, rest = page.partition(begin)
+        old, ended, back = rest.partition(end)
+        if ("--write" in sys.argv or "--check" in sys.argv) and not (found and ended):
+            sys.exit("docs/ROWS.md has no place for the table: the lines\n" + begin + end)
+        if "--write" in sys.argv:
+            page = front + begin + text + end + back
+        elif "--check" in sys.argv:
+            if old != text:
+                wrong.append("docs/ROWS.md has another table: bench/fault-rows.py --write")
+        else:
+            print(text, end="\n")
     if "--write" in sys.argv:
-        PAGE.write_text(front + BEGIN + text + END + back)
-    elif "--check" in sys.argv:
-        if old != text:
-            wrong.append("docs/ROWS.md has another table: bench/fault-rows.py --write")
-    else:
-        print(text, end="")
+        PAGE.write_text(page)
     for line in wrong:
         print(line)
     sys.exit(1 if wrong else 0)

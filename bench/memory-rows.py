@@ -19,13 +19,13 @@ REACHED = {
     "wc_calls::dedupe": "dedupe_into",
     "wc_calls::plan": "plan_into",
     "wc_calls::trim": "trim_into",
+    "wc_calls::validate": "validate_into",
     "wc_calls::world": "world_into",
     "wc_dedupe::ModuleImportMap::new": "dedupe",
     "wc_encoder::ComponentEncoder::build": "encoder_build",
     "wc_encoder::Item::clone": "item_clone",
     "wc_encoder::MainOrAdapter::clone": "which_clone",
     "wc_gc::LiveSet::insert": "bit_vec",
-    "wc_gc::LiveSet::insert_sorted": "liveness_counted",
     "wc_gc::LiveSet::ranks": "trim",
     "wc_gc::LiveSets::insert": "liveness_counted",
     "wc_gc::allocate_stack_via_realloc": "allocate_stack_via_realloc",
@@ -91,6 +91,7 @@ REACHED = {
     "wc_resolve::Resolve::name_world_key": "name_world_key",
     "wc_resolve::Resolve::wasm_signature": "wasm_signature",
     "wc_resolve::WorldKey::clone": "key_clone",
+    "wc_resolve::explain_parts": "wcplan",
     "wc_selection::check_keys": "wcplan",
     "wc_selection::export_keys": "wcplan",
     "wc_selection::first_repeated": "wcplan",
@@ -123,7 +124,8 @@ REACHED = {
 
 
 # Functions whose status says that memory ran out.
-OTHERS = {("wc_tool", "run"), ("wc_calls", "dedupe"), ("wc_calls", "plan"), ("wc_calls", "trim"), ("wc_calls", "world")}
+OTHERS = {("wc_tool", "run"), ("wc_calls", "dedupe"), ("wc_calls", "plan"), ("wc_calls", "trim"), ("wc_calls", "validate"),
+          ("wc_calls", "world")}
 
 
 def functions():

@@ -27,11 +27,14 @@ made = f"{bench}/data/real"
 libraries = "/usr/lib/wasm32-wasi"
 # the features of the format that is read here, beyond those that wasm-validate has on by itself
 FEATURES = [f"--enable-{it}" for it in "threads tail-call memory64 multi-memory extended-const relaxed-simd".split()]
-# what is left out of that format by design
+# What is refused here, and the feature by which wasm-validate accepts it: exceptions and tags, which that format does not
+# have; and wabt's old encoding of typed function references. wabt 1.0.32 writes `6b` for `(ref $t)` and `6c` for
+# `(ref null $t)`, as a draft of the proposal did. Here they are read by the proposal's final codes, `64` and `63`, and `6b`
+# and `6c` are no types. A wabt that writes the final codes makes a mismatch of references.wat: then it is left out no more.
 LEFT_OUT = {
     "text/exceptions.wasm": ("--enable-exceptions", "exceptions and tags"),
     "clang/thrown.o": ("--enable-exceptions", "exceptions and tags"),
-    "text/references.wasm": ("--enable-function-references", "typed function references"),
+    "text/references.wasm": ("--enable-function-references", "wabt's old encoding of typed function references"),
 }
 LEVELS = "-O0 -O1 -O2 -O3 -Os".split()
 MORE = {
@@ -176,7 +179,7 @@ for file, words in zip(files, said):
         feature, reason = LEFT_OUT[name]
         left_out += 1
         why = validated(file, feature) or "accepts"
-        print(f"left out by design: {name}: {reason}; wasm-validate {feature} {why}, read_module {words[0]}")
+        print(f"left out: {name}: {reason}; wasm-validate {feature} {why}, read_module {words[0]}")
         differ += words[0] == "ok" and words[4] == "0"
         continue
     refused = validated(file)
@@ -198,6 +201,6 @@ print(f"{'from':<10} {'modules':>8} {'accepted':>9} {'bodies':>8} {'bytes of bod
 total = [sum(it) for it in zip(*parts.values())]
 for name, it in [*parts.items(), ("all", total)]:
     print(f"{name:<10} {it[0]:8} {it[1]:9} {it[2]:8} {it[3]:16} {it[4]:10}")
-print(f"{total[0]} modules that wasm-validate accepts, {total[1]} accepted here, {total[2]} bodies; {left_out} left out by design, {invalid} not judged; {differ} mismatches")
+print(f"{total[0]} modules that wasm-validate accepts, {total[1]} accepted here, {total[2]} bodies; {left_out} left out, {invalid} not judged; {differ} mismatches")
 sys.exit(differ > 0)
 END_OF_PYTHON

@@ -268,8 +268,8 @@ def check_faults_of_plans(folder, words):
         (*plain, *adapter, "--export", "nothing"): "no export `nothing`; exports: `print` `is-ready`",
         (*plain, *adapter, "--export", "is-ready", *exported): "export `is-ready` twice",
         ("notes.json", "app", "text", *words[3:]): "Dedupe: Read: NotWasm",
-        (*plain, *adapter): "World: Main: MissingWorldExport",
-        tuple(plain): "World: Main: UnknownInterface",
+        (*plain, *adapter): 'World: Main: MissingWorldExport\n  missing export "is-ready"',
+        tuple(plain): 'World: Main: UnknownInterface\n  import "old-notes" "length_of"',
     }.items():
         check_streams(folder, list(given), 1, "", f"wcplan: {fault}\n")
     for name, shown in {"": "", ".": ".", "..": "..", "../evil": "../evil", "./main": "./main", "a\\b": "a\\\\b"}.items():

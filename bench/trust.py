@@ -5,6 +5,7 @@
     bench/trust.py --write    writes them into docs/TRUST.md
     bench/trust.py --check    compares them with those of docs/TRUST.md; status 1 where they differ
     bench/trust.py --names    prints each definition with its file and its lines, in the order to read them
+    bench/trust.py --first    prints how many lines a first reading has: what each of its cuts leaves out, and what is left
 
 It begins with the names in the clauses of `new`, and follows what each definition cites: names of its own file, and
 those that its file takes from another one by `use`. Definitions of the kit are not followed. A file counts with the
@@ -87,8 +88,9 @@ class Specs:
 
 
 class Walk:
-    def __init__(self):
+    def __init__(self, is_left_out=lambda crate, file, name: False):
         self.specs, self.reached, self.order, self.declared = {}, set(), [], set()
+        self.is_left_out = is_left_out
 
     def file(self, crate, file):
         key = crate, file
@@ -97,7 +99,12 @@ class Walk:
             self.specs[key] = Specs(crate, file) if there else None
         return self.specs[key]
 
+    def lines(self):
+        return sum(len(self.specs[crate, file].lines[name]) for crate, file, name in self.order)
+
     def visit(self, crate, file, name):
+        if self.is_left_out(crate, file, name):
+            return
         if file.startswith("declared.") and (CRATES / crate).exists():
             self.declared.add((crate, file.split(".")[1]))
             return
@@ -138,8 +145,24 @@ def headline():
     return [target for name, target in scope.items() if name in words]
 
 
-def walked():
-    walk = Walk()
+# What a first reading leaves out: words for it, and whether a definition is of it.
+CUTS = {
+    "the writer's text": lambda crate, file, name: crate == "wc_write",
+    "the reading functions": lambda crate, file, name: crate == "wc_read" and file.split(".")[0] == "Reading",
+    "the older scheme of names": lambda crate, file, name: crate == "wc_names" and "legacy" in name.lower(),
+}
+
+
+def first_reading():
+    """A line for each cut by itself, with the lines that it leaves out, and one for what all of them leave."""
+    whole = walked().lines()
+    for words, cut in CUTS.items():
+        yield f"{words}: {whole - walked(cut).lines()} lines"
+    yield f"left: {walked(lambda *it: any(cut(*it) for cut in CUTS.values())).lines():,} of {whole:,} lines"
+
+
+def walked(*left_out):
+    walk = Walk(*left_out)
     for target in headline():
         walk.visit(*target)
     return walk
@@ -189,6 +212,9 @@ def main():
     if sys.argv[1:] == ["--names"]:
         for crate, file, name in walk.order:
             print(f"{crate} {file} {name} {len(walk.specs[crate, file].lines[name])}")
+        return 0
+    if sys.argv[1:] == ["--first"]:
+        print("\n".join(first_reading()))
         return 0
     text = tables(walk)
     if not sys.argv[1:]:

@@ -10,6 +10,9 @@ const ARCHIVE: &str = "libnuigatre.a";
 /// A symbol that only a library has that was compiled without its proof.
 const UNPROVED: &[u8] = b"nuigatre_unproved";
 
+/// A symbol that a library has, unless it is from before its form had a number, which the crate compares at each call.
+const NUMBERED: &[u8] = b"nuigatre_abi";
+
 fn main() {
     println!("cargo::rerun-if-env-changed=NUIGATRE_LIB_DIR");
     if !is_supported() {
@@ -23,11 +26,7 @@ fn main() {
     let archive = folder.join(ARCHIVE);
     println!("cargo::rerun-if-changed={}", archive.display());
     match fs::read(&archive) {
-        Ok(bytes) if bytes.windows(UNPROVED.len()).any(|at| at == UNPROVED) => println!(
-            "cargo::warning={} is compiled without its proof, and slower: `rust/check` proves it",
-            archive.display()
-        ),
-        Ok(_) => {}
+        Ok(bytes) => warn_of(&archive, &bytes),
         Err(_) => println!(
             "cargo::warning={} is missing, so nothing can be linked: `rust/check --unproved` makes it in some \
              minutes without its proof, `rt lib` in crates/nuigatre with it",
@@ -36,6 +35,22 @@ fn main() {
     }
     println!("cargo::rustc-link-search=native={}", folder.display());
     println!("cargo::rustc-link-lib=static=nuigatre");
+}
+
+/// Says what is to be known of this library.
+fn warn_of(archive: &Path, bytes: &[u8]) {
+    let has = |symbol: &[u8]| bytes.windows(symbol.len()).any(|at| at == symbol);
+    let archive = archive.display();
+    if !has(NUMBERED) {
+        println!(
+            "cargo::warning={archive} is of an older version than this crate, so nothing can be linked: make it anew"
+        );
+    }
+    if has(UNPROVED) {
+        println!(
+            "cargo::warning={archive} is compiled without its proof, and slower: `rust/check` proves it"
+        );
+    }
 }
 
 /// Whether the library can be linked for the target.

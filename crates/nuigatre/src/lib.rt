@@ -16,16 +16,17 @@ ghost use Rattle.std.specs.Prelude.{◌≡◌, ◌≢◌, ◌≤◌, []};
 ghost use Rattle.std.specs.Option.{option_map};
 ghost use Rattle.wc_read.specs.Sections.{IsComponent};
 ghost use Rattle.wc_dedupe.specs.Dedupe.{IsDeduped};
-ghost use Rattle.wc_calls.specs.Answers.{AreOthersOfTextZero, AreOthersZero, IsPut, IsTooLong, done, failed, too_small, same, bad_argument};
+ghost use Rattle.wc_calls.specs.Answers.{AreOthersOfFaultZero, AreOthersOfTextZero, AreOthersZero, IsPut, IsTooLong, done, failed, too_small, same, bad_argument};
 ghost use Rattle.wc_calls.specs.ComponentPlans.{IsPlanAnswer};
 ghost use Rattle.wc_calls.specs.ComponentWorlds.{IsFaultOf, IsWorldAnswer};
 ghost use Rattle.wc_calls.specs.Renaming.{IsRenamed, IsRenamingFault};
 ghost use Rattle.wc_calls.specs.Required.{texts, trim_input_of};
 ghost use Rattle.wc_calls.specs.Trimming.{AreArguments, IsRun, IsTrimmingFault};
+ghost use Rattle.wc_calls.specs.Validation.{IsNoModuleOf, IsValidOf, IsValidationFaultOf};
 ghost use Rattle.nuigatre.specs.Arguments.{optional_name, settings_of};
 
 use std::alloc::Global;
-use wc_calls::{Answer, dedupe, plan, trim, world};
+use wc_calls::{Answer, dedupe, plan, trim, validate, world};
 use wc_maps::Seed;
 
 /// Renames the imports of a module so that no two share a module and a name: `wc_calls::dedupe`.
@@ -68,17 +69,17 @@ pub extern "C" fn nuigatre_trim(
         (trim_input_of wasm.now (texts required.now))) result.length out.old }
     ensures fault { result.status ≡ failed
         → IsTrimmingFault (settings_of has_realloc realloc.now page_size_log2) wasm.now
-        (texts required.now) result.fault result.position }
-    ensures module_length { result.module_length ≡ result.length }
+        (texts required.now) result out.old out.new }
+    ensures module_length { result.status ≢ failed → result.module_length ≡ result.length }
     ensures bad_argument { result.status ≡ bad_argument
         → ¬ (AreArguments (settings_of has_realloc realloc.now page_size_log2)
         (texts required.now)) }
     ensures arguments { result.status ≢ bad_argument
         → AreArguments (settings_of has_realloc realloc.now page_size_log2)
         (texts required.now) }
-    ensures unchanged { result.status ≢ done → out.new ≡ out.old }
+    ensures unchanged { result.status ≢ done → result.status ≢ failed → out.new ≡ out.old }
     ensures statuses { (result.status ≤ 5) × (result.status ≢ same) }
-    ensures others { AreOthersZero result }
+    ensures others { AreOthersOfTextZero result }
 {
     let seed = Seed::new(seed0, seed1);
     let realloc = optional_name(has_realloc, realloc);
@@ -134,6 +135,46 @@ pub extern "C" fn nuigatre_plan(
 {
     let seed = Seed::new(seed0, seed1);
     plan(alloc, seed, message, modules, out)
+}
+
+/// Validates one module of a component, which the message describes in JSON: `wc_calls::validate`. It is the adapter or the
+/// library of the name `adapter`, where `has_adapter`; else the main module, and `adapter` is not looked at.
+#[unsafe(no_mangle)]
+pub extern "C" fn nuigatre_validate(
+    alloc: Global,
+    seed0: u64,
+    seed1: u64,
+    message: &[u8],
+    modules: &[u8],
+    has_adapter: bool,
+    adapter: &[u8],
+    out: &mut [u8],
+) -> Answer
+    ensures done { result.status ≡ done → IsValidOf message.now modules.now
+        (optional_name has_adapter adapter.now) }
+    ensures bad_argument { result.status ≡ bad_argument → IsNoModuleOf message.now modules.now
+        (optional_name has_adapter adapter.now) }
+    ensures fault { result.status ≡ failed → IsValidationFaultOf message.now modules.now
+        (optional_name has_adapter adapter.now) result out.old out.new }
+    ensures unchanged { result.status ≢ failed → out.new ≡ out.old }
+    ensures statuses { (result.status ≤ 5) × (result.status ≢ same)
+        × (result.status ≢ too_small) }
+    ensures others { AreOthersOfFaultZero result }
+{
+    let seed = Seed::new(seed0, seed1);
+    let adapter = optional_name(has_adapter, adapter);
+    validate(alloc, seed, message, modules, adapter, out)
+}
+
+/// The form of the calls, messages and answers.
+const ABI: u32 = 2;
+
+/// The number of the form of these calls, their messages and answers. It goes up with each change that a caller can see.
+#[unsafe(no_mangle)]
+pub extern "C" fn nuigatre_abi() -> u32
+    ensures { result ≡ 2 }
+{
+    ABI
 }
 
 /// The name, where there is one.

@@ -7,7 +7,7 @@ use Rattle.wc_resolve.specs.Views.{WorldView, key_view}
 use Rattle.wc_resolve.specs.World.{ResolveView}
 use Rattle.wc_selection.specs.KeyNames.{count_unversioned, keys_as_given, request_keys}
 use Rattle.wc_selection.specs.Keys.{NamedKey, export_keys, named_key, named_keys, texts_of}
-use Rattle.wc_selection.specs.RequiredExports.{IsKeysCause}
+use Rattle.wc_selection.specs.RequiredExports.{AreKeysThere, IsKeysCause}
 use Rattle.wc_selection.specs.Requests.{RequestValue, given_keys}
 use Rattle.wc_selection.specs.Texts.{IsFirstMissing, IsFirstRepeated}
 use Rattle.wc_selection.specs.declared.fault.RequestFault.{RequestFault}
@@ -69,12 +69,14 @@ keys_cause r world exports ms bytes (SeveralKeys key) h = h
 keys_cause r world exports ms bytes (RepeatedKey key) h = h
 keys_cause r world exports ms bytes f h = absurd h
 
-pub bytes_cause : (r : ResolveView) (world : ℕ) (exports : Option (List KeyMessageView)) (ms : List AdapterMessageView) (bytes : List ℕ) (f : MessageFault)
-    → IsAdaptersCause ms bytes f → IsExportersCause r world exports ms bytes f
-bytes_cause r world exports ms bytes (UnknownKey key) h = absurd h
-bytes_cause r world exports ms bytes (SeveralKeys key) h = absurd h
-bytes_cause r world exports ms bytes (RepeatedKey key) h = absurd h
-bytes_cause r world exports ms bytes f h = h
+bytes_cause : (r : ResolveView) (world : ℕ) (exports : Option (List KeyMessageView)) (ms : List AdapterMessageView) (bytes : List ℕ) (f : MessageFault)
+    → AreKeysThere (given_keys (request_in r world exports ms)) (texts_of (keys_in r world exports ms)) → IsAdaptersCause ms bytes f
+    → IsExportersCause r world exports ms bytes f
+bytes_cause r world exports ms bytes Memory there h = tt
+bytes_cause r world exports ms bytes (UnknownKey key) there h = absurd h
+bytes_cause r world exports ms bytes (SeveralKeys key) there h = absurd h
+bytes_cause r world exports ms bytes (RepeatedKey key) there h = absurd h
+bytes_cause r world exports ms bytes f there h = (there, h)
 
 -- what is asked, as it is found
 
@@ -94,14 +96,25 @@ exporters_failed named messages ms r world exports bytes f names same h =
     keys_cause r world exports ms bytes f (subst (λ (n : List NamedKey). IsAskedCauseFor n exports ms r world f) names
     (subst (λ (l : List AdapterMessageView). IsAskedCauseFor named exports l r world f) same h))
 
+asked_in : (named : List NamedKey) (messages ms : List AdapterMessageView) (r : ResolveView) (world : ℕ) (exports : Option (List KeyMessageView)) (a : AskedKeys)
+    → named ≡ export_keys r world → messages ≡ ms → IsAskedFor named exports messages r world a
+    → IsAsked (request_in r world exports ms) (gives_none exports) (keys_in r world exports ms) a
+asked_in named messages ms r world exports a names same asked =
+    subst (λ (n : List NamedKey). IsAskedFor n exports ms r world a) names
+    (subst (λ (l : List AdapterMessageView). IsAskedFor named exports l r world a) same asked)
+
+pub adapters_failed : (named : List NamedKey) (messages ms : List AdapterMessageView) (r : ResolveView) (world : ℕ) (exports : Option (List KeyMessageView))
+    (bytes : List ℕ) (a : AskedKeys) (f : MessageFault) → named ≡ export_keys r world → messages ≡ ms → IsAskedFor named exports messages r world a
+    → IsAdaptersCause ms bytes f → IsExportersCause r world exports ms bytes f
+adapters_failed named messages ms r world exports bytes a f names same asked h =
+    bytes_cause r world exports ms bytes f (asked_in named messages ms r world exports a names same asked).there h
+
 pub exporters_made : (named again keys : List NamedKey) (messages ms : List AdapterMessageView) (r : ResolveView) (world : ℕ)
     (exports : Option (List KeyMessageView)) (bytes : List ℕ) (a : AskedKeys) (adapters : List (List ℕ × AdapterView)) → named ≡ export_keys r world
     → again ≡ export_keys r world → messages ≡ ms → keys ≡ map named_key a.keys.items → IsAskedFor named exports messages r world a
     → AreAdaptersOf again keys ms bytes adapters → AreExporters r world exports ms bytes (map key_view a.main.keys) adapters
 exporters_made named again keys messages ms r world exports bytes a adapters names names2 same listed asked made =
-    let is : IsAsked (request_in r world exports ms) (gives_none exports) (keys_in r world exports ms) a =
-    subst (λ (n : List NamedKey). IsAskedFor n exports ms r world a) names
-    (subst (λ (l : List AdapterMessageView). IsAskedFor named exports l r world a) same asked) in
+    let is = asked_in named messages ms r world exports a names same asked in
     record {
       there = is.there;
       main = is.main;

@@ -1,7 +1,5 @@
 -- Causes of faults, step by step.
-use Rattle.std.proofs.Common.{◌≡◌, ◌≢◌, ℕ, ◌+◌, ◌<◌, Bool, false, List, [], ◌++◌, map, length, sum, ◌∷◌, Option, unwrap_or, Result, Ok, Err, IfErr, ap, refl, subst, sym, ◌∙◌, arith}
-use Rattle.std.proofs.lemmas.List.{length-append}
-use Rattle.std.proofs.lemmas.List.Sums.{sum_by-cons}
+use Rattle.std.proofs.Common.{◌≡◌, ℕ, ◌<◌, Bool, false, List, [], length, Option, unwrap_or, Result, Ok, Err, IfErr, inl, inr, refl, subst, sym}
 use Rattle.json.specs.Json.{document}
 use Rattle.wc_dedupe.specs.Dedupe.{IsCause as IsDedupeCause, IsDeduped, renames_in}
 use Rattle.wc_dedupe.specs.Renaming.{RenameValue}
@@ -16,24 +14,25 @@ use Rattle.wc_json.specs.FromJson.{IsCauseOf}
 use Rattle.wc_json.specs.declared.fault.JsonFault.{JsonFault}
 use Rattle.wc_json.specs.declared.fault.JsonFault.TheVariants.{Memory as json_memory}
 use Rattle.wc_resolve.specs.Views.{KeyView}
+use Rattle.wc_resolve.specs.WellFormed.{IsWellFormed}
 use Rattle.wc_resolve.specs.World.{ResolveView}
 use Rattle.wc_resolve.specs.Faults.{IsCause as IsResolveCause}
 use Rattle.wc_resolve.specs.declared.fault.ResolveFault.{ResolveFault}
 use Rattle.wc_resolve.specs.declared.fault.ResolveFault.TheVariants.{Memory as resolve_memory}
 use Rattle.wc_json.specs.Document.{DocumentView}
+use Rattle.wc_selection.specs.Keys.{texts_of}
+use Rattle.wc_selection.specs.RequiredExports.{AreKeysThere}
+use Rattle.wc_selection.specs.Requests.{given_keys}
 use Rattle.wc_selection.specs.Worlds.{IsWorldCause}
 use Rattle.wc_selection.specs.declared.fault.RequestFault.{RequestFault}
 use Rattle.wc_selection.specs.declared.fault.RequestFault.TheVariants.{Memory as request_memory, PackageRange, UnknownWorld, SeveralWorlds}
 use Rattle.wc_calls.specs.AskedKeys.{keys_in, request_in}
-use Rattle.wc_calls.specs.Encoders.{AreChosen, AreExporters, IsMessage, IsPartsOf}
-use Rattle.wc_calls.specs.MessageFaults.{IsAdaptersCause, IsAskedCause, IsMessageCause, IsNameCause, IsPartsCause, IsRenamingCause, IsWorldNameCause, of_dedupe, of_encoder, of_json, of_request, of_resolve, sizes}
-use Rattle.wc_calls.specs.Messages.{AdapterMessageView, MessageView, WorldNameView, at_index, message, of_name}
+use Rattle.wc_calls.specs.Encoders.{AreChosen, AreExporters, IsMessage, IsPartsOf, IsWorldNamed}
+use Rattle.wc_calls.specs.MessageFaults.{AreKeysKnown, IsAskedCause, IsKeyCause, IsNameCause, IsNoEncoderCause, IsOfChosen, IsPartsCause, IsRenamingCause, IsWorldNameCause, of_dedupe, of_encoder, of_json, of_request, of_resolve}
+use Rattle.wc_calls.specs.Messages.{MessageView, WorldNameView, at_index, message, of_name}
 use Rattle.wc_calls.specs.Private.AskedKeys.{IsExportersCause}
 use Rattle.wc_calls.specs.declared.message_fault.MessageFault.{MessageFault}
 use Rattle.wc_calls.specs.declared.message_fault.MessageFault.TheVariants.{Memory, NotText, Json, UnknownWorld as unknown_world, Lengths, AdapterTwice, Dedupe, Encoder, World, SeveralWorlds as several_worlds, PackageRange as package_range, UnknownKey, SeveralKeys, RepeatedKey, Plan}
-
-sum_cons : (n : ℕ) (ns : List ℕ) → sum (n ∷ ns) ≡ n + sum ns
-sum_cons n ns = sum_by-cons (λ k. k) n ns
 
 -- a fault of renaming
 pub renaming_cause : (bytes : List ℕ) (f : DedupeFault) → IsDedupeCause bytes f → IsRenamingCause bytes (of_dedupe f)
@@ -63,45 +62,66 @@ world_cause m modules f h = name_cause m modules m.world refl f h
 
 -- faults of the parts of an encoder
 
-pub resolve_cause : (m : MessageView) (modules : List ℕ) (f : ResolveFault) → IsResolveCause m.document.parts f → IsPartsCause m modules (of_resolve f)
-resolve_cause m modules resolve_memory h = tt
-resolve_cause m modules f h = h
+pub fewer_bytes : (m : MessageView) (modules : List ℕ) (world : ℕ) → IsWorldNamed m.document m.world world → length modules < m.size → IsPartsCause m modules Lengths
+fewer_bytes m modules world named fewer = inl (world, named, fewer)
 
-pub fewer_bytes : (m : MessageView) (modules : List ℕ) → length modules < m.size → sizes m ≢ length modules
-fewer_bytes m modules fewer same = omega (arith, fewer, same, sum_cons m.size (map (λ (a : AdapterMessageView). a.size) m.adapters))
+pub resolve_cause : (m : MessageView) (modules main others : List ℕ) (world : ℕ) (f : ResolveFault) → AreChosen m modules world main others
+    → IsResolveCause m.document.parts f → IsPartsCause m modules (of_resolve f)
+resolve_cause m modules main others world resolve_memory chosen h = tt
+resolve_cause m modules main others world f chosen h = (world, main, others, chosen, h)
 
-pub adapters_cause : (m : MessageView) (modules main others : List ℕ) (f : MessageFault) → modules ≡ main ++ others → length main ≡ m.size
-    → IsAdaptersCause m.adapters others f → IsPartsCause m modules f
-adapters_cause m modules main others Memory cut size h = tt
-adapters_cause m modules main others Lengths cut size h = λ same.
-    let whole : length modules ≡ length main + length others = ap length cut ∙ length-append main others in
-    h (omega (arith, whole, sum_cons m.size (map (λ (a : AdapterMessageView). a.size) m.adapters), size, same))
-adapters_cause m modules main others (AdapterTwice name) cut size h = h
-adapters_cause m modules main others f cut size h = absurd h
+-- in parts that are well-formed
+module _ (m : MessageView) (modules main others : List ℕ) (world : ℕ) (chosen : AreChosen m modules world main others) (r : ResolveView) (is : r ≡ m.document.parts)
+    (formed : IsWellFormed r) where
+  parts_formed : IsWellFormed m.document.parts
+  parts_formed = subst IsWellFormed is formed
 
-key_cause : (m : MessageView) (r : ResolveView) (world : ℕ) (f : MessageFault) → r ≡ m.document.parts
-    → IsAskedCause (request_in r world m.exports m.adapters) (keys_in r world m.exports m.adapters) f
-    → IsAskedCause (request_in m.document.parts world m.exports m.adapters) (keys_in m.document.parts world m.exports m.adapters) f
-key_cause m r world f is h =
-    subst (λ (p : ResolveView). IsAskedCause (request_in p world m.exports m.adapters) (keys_in p world m.exports m.adapters) f) is h
+  key_cause : (f : MessageFault) → IsAskedCause (request_in r world m.exports m.adapters) (keys_in r world m.exports m.adapters) f
+      → IsOfChosen m modules (IsKeyCause m f)
+  key_cause f h = (
+    world,
+    main,
+    others,
+    chosen,
+    (
+      parts_formed,
+      subst (λ (p : ResolveView). IsAskedCause (request_in p world m.exports m.adapters) (keys_in p world m.exports m.adapters) f) is h,
+    ),
+  )
 
-pub exporters_cause : (m : MessageView) (modules main others : List ℕ) (world : ℕ) (r : ResolveView) (f : MessageFault) → AreChosen m modules world main others
-    → r ≡ m.document.parts → IsExportersCause r world m.exports m.adapters others f → IsPartsCause m modules f
-exporters_cause m modules main others world r (UnknownKey key) chosen is h = (world, chosen.named, key_cause m r world (UnknownKey key) is h)
-exporters_cause m modules main others world r (SeveralKeys key) chosen is h = (world, chosen.named, key_cause m r world (SeveralKeys key) is h)
-exporters_cause m modules main others world r (RepeatedKey key) chosen is h = (world, chosen.named, key_cause m r world (RepeatedKey key) is h)
-exporters_cause m modules main others world r f chosen is h = adapters_cause m modules main others f chosen.cut chosen.size h
+  known : AreKeysThere (given_keys (request_in r world m.exports m.adapters)) (texts_of (keys_in r world m.exports m.adapters)) → AreKeysKnown m world
+  known h = subst (λ (p : ResolveView). AreKeysThere (given_keys (request_in p world m.exports m.adapters)) (texts_of (keys_in p world m.exports m.adapters))) is h
 
-pub main_cause : (m : MessageView) (modules main others : List ℕ) (f : MessageFault) → modules ≡ main ++ others → length main ≡ m.size → IsRenamingCause main f
-    → IsPartsCause m modules f
-main_cause m modules main others Memory cut size h = tt
-main_cause m modules main others (Dedupe f) cut size h = (main, others, cut, size, h)
-main_cause m modules main others f cut size h = absurd h
+  pub exporters_cause : (f : MessageFault) → IsExportersCause r world m.exports m.adapters others f → IsPartsCause m modules f
+  exporters_cause Memory h = tt
+  exporters_cause (UnknownKey key) h = key_cause (UnknownKey key) h
+  exporters_cause (SeveralKeys key) h = key_cause (SeveralKeys key) h
+  exporters_cause (RepeatedKey key) h = key_cause (RepeatedKey key) h
+  exporters_cause Lengths h = inr (world, main, others, chosen, (parts_formed, known h.0, h.1))
+  exporters_cause (AdapterTwice name) h = (world, main, others, chosen, (parts_formed, known h.0, h.1))
+  exporters_cause f h = absurd h.1
 
-pub encoder_cause : (m : MessageView) (modules : List ℕ) (e : EncoderView) (f : EncoderFault) → IsPartsOf m modules e → IsEncoderCause e f
-    → IsPartsCause m modules (of_encoder f)
-encoder_cause m modules e encoder_memory is h = tt
-encoder_cause m modules e f is h = (e, is, h)
+  pub main_cause : (required : List KeyView) (adapters : List (List ℕ × AdapterView)) (f : MessageFault)
+      → AreExporters r world m.exports m.adapters others required adapters → IsRenamingCause main f → IsPartsCause m modules f
+  main_cause required adapters Memory made h = tt
+  main_cause required adapters (Dedupe f) made h = (
+    world,
+    main,
+    others,
+    chosen,
+    (
+      parts_formed,
+      required,
+      adapters,
+      subst (λ (p : ResolveView). AreExporters p world m.exports m.adapters others required adapters) is made,
+      h,
+    ),
+  )
+  main_cause required adapters f made h = absurd h
+
+  pub encoder_cause : (e : EncoderView) (f : EncoderFault) → IsPartsOf m modules e → IsEncoderCause e f → IsPartsCause m modules (of_encoder f)
+  encoder_cause e encoder_memory made h = tt
+  encoder_cause e f made h = (e, made, parts_formed, h)
 
 -- the parts of an encoder
 pub parts_of : (m : MessageView) (modules main others : List ℕ) (world : ℕ) (wasm : List ℕ) (renames : Option (List RenameValue)) (resolve : ResolveView)
@@ -135,21 +155,19 @@ parts_of m modules main others world wasm renames resolve keys adapters rejects 
 
 -- faults of a message
 
-pub json_cause : (text modules : List ℕ) (f : JsonFault) → IsCauseOf message (document text) f → IsMessageCause text modules (of_json f)
+pub json_cause : (text modules : List ℕ) (f : JsonFault) → IsCauseOf message (document text) f → IsNoEncoderCause text modules (of_json f)
 json_cause text modules json_memory h = tt
 json_cause text modules f h = h
 
-pub parts_cause : (text modules : List ℕ) (m : MessageView) (f : MessageFault) → IsMessage text m → IsPartsCause m modules f → IsMessageCause text modules f
+pub parts_cause : (text modules : List ℕ) (m : MessageView) (f : MessageFault) → IsMessage text m → IsPartsCause m modules f → IsNoEncoderCause text modules f
 parts_cause text modules m Memory is h = tt
 parts_cause text modules m NotText is h = absurd h
 parts_cause text modules m (Json f) is h = absurd h
 parts_cause text modules m (World f) is h = absurd h
 parts_cause text modules m (Plan f) is h = absurd h
-parts_cause text modules m (Dedupe f) is h = (m, is, h.0, h.1, h.2, h.3, h.4)
-parts_cause text modules m (Encoder f) is h = (m, is, h.0, h.1, h.2)
 parts_cause text modules m f is h = (m, is, h)
 
 pub message_causes : {X : Type 0} (text modules : List ℕ) (m : MessageView) (r : Result X MessageFault) → IsMessage text m → IfErr r (IsPartsCause m modules)
-    → IfErr r (IsMessageCause text modules)
+    → IfErr r (IsNoEncoderCause text modules)
 message_causes text modules m (Ok x) is h = tt
 message_causes text modules m (Err f) is h = parts_cause text modules m f is h

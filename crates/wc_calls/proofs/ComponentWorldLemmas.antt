@@ -11,11 +11,11 @@ use Rattle.wc_world.specs.declared.fault.WorldFault.TheVariants.{Memory as world
 use Rattle.wc_calls.specs.Answers.{IsFront, IsPut, IsTooLong, done, too_small}
 use Rattle.wc_calls.specs.ComponentWorlds.{IsWorldAnswer, modules_text}
 use Rattle.wc_calls.specs.Encoders.{IsEncoderOf}
-use Rattle.wc_calls.specs.MessageFaults.{IsMessageCause, of_world}
+use Rattle.wc_calls.specs.MessageFaults.{of_world}
 use Rattle.wc_calls.specs.Private.EncoderAnswers.{IsAnswerFor, IsFaultFor}
 use Rattle.wc_calls.specs.declared.component_worlds.WorldAnswer.{WorldAnswer}
 use Rattle.wc_calls.specs.declared.message_fault.MessageFault.{MessageFault}
-use Rattle.wc_calls.specs.declared.message_fault.MessageFault.TheVariants.{Memory, World}
+use Rattle.wc_calls.specs.declared.message_fault.MessageFault.TheVariants.{Memory}
 
 -- what is answered for an encoder, of which this is the component's world
 
@@ -40,24 +40,10 @@ world_fault_for e world_memory h = tt
 world_fault_for e f h = ((λ same. cc), h)
 
 -- the same for a message
-
-pub answered_to : (message modules : List ℕ) (e : EncoderView) (r : Result WorldAnswer MessageFault) → IsEncoderOf message modules e
-    → IfOk r (λ a. IsAnswerFor e (length a.modules.items) (a.modules.items ++ a.json.items))
-    → IfOk r (λ a. IsWorldAnswer message modules (length a.modules.items) (a.modules.items ++ a.json.items))
-answered_to message modules e (Ok a) encodes is =
+pub answered_to : (message modules : List ℕ) (e : EncoderView) (module_length : ℕ) → IsEncoderOf message modules e
+    → (text : List ℕ) → IsAnswerFor e module_length text → IsWorldAnswer message modules module_length text
+answered_to message modules e module_length encodes text is =
     record { encoder = e; encodes = encodes; world = is.world; made = is.made; size = is.size; whole = is.whole }
-answered_to message modules e (Err f) encodes is = tt
-
-fault_cause : (message modules : List ℕ) (e : EncoderView) (f : MessageFault) → IsEncoderOf message modules e → IsFaultFor e f
-    → IsMessageCause message modules f
-fault_cause message modules e Memory encodes is = tt
-fault_cause message modules e (World f) encodes is = (e, encodes, is)
-fault_cause message modules e f encodes is = absurd is
-
-pub faults_to : (message modules : List ℕ) (e : EncoderView) (r : Result WorldAnswer MessageFault) → IsEncoderOf message modules e
-    → IfErr r (IsFaultFor e) → IfErr r (IsMessageCause message modules)
-faults_to message modules e (Ok a) encodes is = tt
-faults_to message modules e (Err f) encodes is = fault_cause message modules e f encodes is
 
 -- what holds of the bytes of modules and a text, with the length of the modules, as they were written
 

@@ -6,3 +6,6 @@ mod RequiredLemmas
 mod MissingLemmas
 mod TrimmingLemmas
 mod AskedKeyLemmas
+mod FaultAnswerLemmas
+mod ModuleLemmas
+mod PlaceLemmas

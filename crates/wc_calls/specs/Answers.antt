@@ -39,6 +39,17 @@ IsTooLong P n old = (text : List ℕ) × P text × (n ≡ length text) × (lengt
 abbrev pub IsBytesStatus : ℕ → Type 0
 IsBytesStatus status = (status ≡ done) ⊎ (status ≡ too_small) ⊎ (status ≡ out_of_memory)
 
+-- the status of a call that has bytes to answer, or a fault with a text
+abbrev pub IsTextStatus : ℕ → Type 0
+IsTextStatus status = IsBytesStatus status ⊎ (status ≡ failed)
+
+-- the status of a call that says whether a module is valid; and that of a module that is there
+abbrev pub IsCheckStatus : ℕ → Type 0
+IsCheckStatus status = (status ≡ done) ⊎ (status ≡ failed) ⊎ (status ≡ out_of_memory)
+
+abbrev pub IsModuleStatus : ℕ → Type 0
+IsModuleStatus status = IsCheckStatus status ⊎ (status ≡ bad_argument)
+
 -- no fault, and no bytes, in the numbers of an answer
 abbrev pub HasNoFault : Answer → Type 0
 HasNoFault a = (a.fault ≡ 0) × (a.position ≡ 0)
@@ -56,3 +67,7 @@ AreOthersOfTextZero a =
     (a.status ≢ failed → HasNoFault a)
     × (a.status ≢ done → a.status ≢ too_small → a.module_length ≡ 0)
     × (a.status ≢ done → a.status ≢ too_small → a.status ≢ failed → a.length ≡ 0)
+
+-- the same, of a call whose faults alone have bytes, which are no modules
+abbrev pub AreOthersOfFaultZero : Answer → Type 0
+AreOthersOfFaultZero a = (a.module_length ≡ 0) × (a.status ≢ failed → HasNoFault a × HasNoBytes a)

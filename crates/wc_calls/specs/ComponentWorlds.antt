@@ -1,17 +1,15 @@
 -- What the call that makes a component's world answers.
-use Rattle.std.specs.Prelude.{◌≡◌, ◌≢◌, ◌++◌, ◌<◌, ◌≤◌, ℕ, List, length, flat_map}
+use Rattle.std.specs.Prelude.{◌≡◌, ◌++◌, ℕ, List, length, flat_map}
 use Rattle.wc_encoder.specs.EncoderParts.{EncoderView}
 use Rattle.wc_record.specs.Texts.{world_text}
 use Rattle.wc_world.specs.Options.{plain_options}
 use Rattle.wc_world.specs.Views.{ComponentWorldView, NamedWorldAdapter}
 use Rattle.wc_world.specs.World.{IsWorldOf}
-use Rattle.wc_calls.specs.Answers.{IsFront, failed}
 use Rattle.wc_calls.specs.Encoders.{IsEncoderOf}
-use Rattle.wc_calls.specs.FaultNumbers.{message_fault_number}
+use Rattle.wc_calls.specs.FaultAnswers.{IsFaultAnswered}
 use Rattle.wc_calls.specs.MessageFaults.{IsMessageCause}
+use Rattle.wc_calls.specs.Places.{IsPlaceOf}
 use Rattle.wc_calls.specs.declared.answers.Answer.{Answer}
-use Rattle.wc_calls.specs.declared.message_fault.MessageFault.{MessageFault}
-use Rattle.wc_calls.specs.declared.message_fault.MessageFault.TheVariants.{Memory}
 
 -- the main module and the adapters, one after another
 abbrev pub modules_text : ComponentWorldView → List ℕ
@@ -27,17 +25,6 @@ pub record IsWorldAnswer (message modules : List ℕ) (module_length : ℕ) (tex
   pub size : module_length ≡ length (modules_text world)
   pub whole : text ≡ modules_text world ++ world_text world
 
--- a fault by its number; its text is in the front of the buffer, or longer than it
-pub record IsFaultAnswer (f : MessageFault) (text : List ℕ) (answer : Answer) (old new : List ℕ) : Type 0 where
-  pub status : answer.status ≡ failed
-  pub number : answer.fault ≡ message_fault_number f
-  pub size : answer.length ≡ length text
-  pub no_module : answer.module_length ≡ 0
-  pub no_position : answer.position ≡ 0
-  pub put : length text ≤ length old → IsFront text old new
-  pub longer : length old < length text → new ≡ old
-
--- the fault has its cause, and is not Memory
+-- the fault has its cause, and is not Memory; after its text is what it is about
 abbrev pub IsFaultOf : List ℕ → List ℕ → Answer → List ℕ → List ℕ → Type 0
-IsFaultOf message modules answer old new =
-    (f : MessageFault) × IsMessageCause message modules f × (f ≢ Memory) × (text : List ℕ) × IsFaultAnswer f text answer old new
+IsFaultOf message modules = IsFaultAnswered (IsMessageCause message modules) (IsPlaceOf message modules)

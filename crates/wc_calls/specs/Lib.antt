@@ -3,12 +3,16 @@ pub mod AskedKeys
 pub mod ComponentPlans
 pub mod ComponentWorlds
 pub mod Encoders
+pub mod FaultAnswers
 pub mod FaultNumbers
+pub mod FaultTexts
 pub mod Libraries
 pub mod MessageFaults
 pub mod Messages
+pub mod Places
 pub mod Private
 pub mod Renames
 pub mod Renaming
 pub mod Required
 pub mod Trimming
+pub mod Validation

@@ -5,6 +5,7 @@ use Rattle.json.specs.Json.{document}
 use Rattle.wc_dedupe.specs.Dedupe.{IsCause as IsDedupeCause}
 use Rattle.wc_dedupe.specs.declared.fault.DedupeFault.{DedupeFault}
 use Rattle.wc_dedupe.specs.declared.fault.DedupeFault.TheVariants.{Memory as dedupe_memory}
+use Rattle.wc_encoder.specs.Adapters.{AdapterView}
 use Rattle.wc_encoder.specs.EncoderParts.{EncoderView}
 use Rattle.wc_encoder.specs.Fault.{IsCause as IsEncoderCause}
 use Rattle.wc_encoder.specs.declared.fault.EncoderFault.{EncoderFault}
@@ -15,6 +16,8 @@ use Rattle.wc_json.specs.declared.fault.JsonFault.TheVariants.{Memory as json_me
 use Rattle.wc_resolve.specs.Faults.{IsCause as IsResolveCause}
 use Rattle.wc_resolve.specs.declared.fault.ResolveFault.{ResolveFault}
 use Rattle.wc_resolve.specs.declared.fault.ResolveFault.TheVariants.{Memory as resolve_memory}
+use Rattle.wc_resolve.specs.Views.{KeyView}
+use Rattle.wc_resolve.specs.WellFormed.{IsWellFormed}
 use Rattle.wc_plan.specs.EncoderFaults.{IsWorldCause}
 use Rattle.wc_plan.specs.Faults.{IsFirstFault}
 use Rattle.wc_plan.specs.declared.fault.PlanFault.{PlanFault}
@@ -27,13 +30,14 @@ use Rattle.wc_world.specs.declared.fault.WorldFault.TheVariants.{Memory as world
 use Rattle.wc_json.specs.Document.{DocumentView}
 use Rattle.wc_selection.specs.KeyNames.{count_unversioned}
 use Rattle.wc_selection.specs.Keys.{NamedKey, texts_of}
+use Rattle.wc_selection.specs.RequiredExports.{AreKeysThere}
 use Rattle.wc_selection.specs.Requests.{RequestValue, given_keys}
 use Rattle.wc_selection.specs.Texts.{IsFirstMissing, IsFirstRepeated}
 use Rattle.wc_selection.specs.Worlds.{ArePackagesIn, AreSeveralWorlds, IsNoWorld}
 use Rattle.wc_selection.specs.declared.fault.RequestFault.{RequestFault}
 use Rattle.wc_selection.specs.declared.fault.RequestFault.TheVariants as request
 use Rattle.wc_calls.specs.AskedKeys.{keys_in, request_in}
-use Rattle.wc_calls.specs.Encoders.{IsEncoderOf, IsMessage, IsPartsOf, IsWorldNamed}
+use Rattle.wc_calls.specs.Encoders.{AreChosen, AreExporters, IsEncoderOf, IsMessage, IsPartsOf, IsWorldNamed}
 use Rattle.wc_calls.specs.Messages.{AdapterMessageView, MessageView, WorldNameView, at_index, message, of_name}
 use Rattle.wc_calls.specs.declared.message_fault.MessageFault.{MessageFault}
 use Rattle.wc_calls.specs.declared.message_fault.MessageFault.TheVariants.{Memory, NotText, Json, UnknownWorld, Lengths, Resolve, AdapterTwice, Dedupe, Encoder, World, SeveralWorlds, PackageRange, UnknownKey, SeveralKeys, RepeatedKey, Plan}
@@ -97,14 +101,19 @@ IsAskedCause q keys (RepeatedKey key) =
     ⊎ (All (Contains (texts_of keys)) (given_keys q) × IsFirstRepeated (given_keys q) (string_bytes key))
 IsAskedCause q keys f = ⊥
 
--- those of a message, for the world that it names
-abbrev pub AreKeysCause : MessageView → MessageFault → Type 0
-AreKeysCause m f = (world : ℕ) × IsWorldNamed m.document m.world world × IsAskedCause (request_in m.document.parts world m.exports m.adapters)
-    (keys_in m.document.parts world m.exports m.adapters) f
+-- the keys that a message gives are those of the exports of a world, each given once
+abbrev pub AreKeysKnown : MessageView → ℕ → Type 0
+AreKeysKnown m world =
+    AreKeysThere (given_keys (request_in m.document.parts world m.exports m.adapters)) (texts_of (keys_in m.document.parts world m.exports m.adapters))
 
--- how many bytes the modules of a message have
-abbrev pub sizes : MessageView → ℕ
-sizes m = sum (m.size ∷ map (λ (a : AdapterMessageView). a.size) m.adapters)
+-- why they are none
+abbrev pub AreKeysCause : MessageView → ℕ → MessageFault → Type 0
+AreKeysCause m world f =
+    IsAskedCause (request_in m.document.parts world m.exports m.adapters) (keys_in m.document.parts world m.exports m.adapters) f
+
+-- how many bytes adapters of a message have
+abbrev pub sizes : List AdapterMessageView → ℕ
+sizes ms = sum (map (λ (a : AdapterMessageView). a.size) ms)
 
 -- an adapter has the name, and one before it has
 pub record IsNamedTwice (ms : List AdapterMessageView) (name : List ℕ) : Type 0 where
@@ -115,47 +124,66 @@ pub record IsNamedTwice (ms : List AdapterMessageView) (name : List ℕ) : Type 
   pub named : again.name ≡ name
   pub before : Contains (map (λ (a : AdapterMessageView). a.name) front) name
 
--- the cause of each fault, for the bytes of a message and of modules
-abbrev pub IsMessageCause : List ℕ → List ℕ → MessageFault → Type 0
-IsMessageCause text modules Memory = ⊤
-IsMessageCause text modules NotText = ¬ IsUtf8 text
-IsMessageCause text modules (Json f) = IsCauseOf message (document text) f
-IsMessageCause text modules UnknownWorld = (m : MessageView) × IsMessage text m × IsWorldNameCause m.document m.world UnknownWorld
-IsMessageCause text modules SeveralWorlds = (m : MessageView) × IsMessage text m × IsWorldNameCause m.document m.world SeveralWorlds
-IsMessageCause text modules PackageRange = (m : MessageView) × IsMessage text m × IsWorldNameCause m.document m.world PackageRange
-IsMessageCause text modules (UnknownKey key) = (m : MessageView) × IsMessage text m × AreKeysCause m (UnknownKey key)
-IsMessageCause text modules (SeveralKeys key) = (m : MessageView) × IsMessage text m × AreKeysCause m (SeveralKeys key)
-IsMessageCause text modules (RepeatedKey key) = (m : MessageView) × IsMessage text m × AreKeysCause m (RepeatedKey key)
-IsMessageCause text modules Lengths = (m : MessageView) × IsMessage text m × (sizes m ≢ length modules)
-IsMessageCause text modules (Resolve f) = (m : MessageView) × IsMessage text m × IsResolveCause m.document.parts f
-IsMessageCause text modules (AdapterTwice name) = (m : MessageView) × IsMessage text m × IsNamedTwice m.adapters (string_bytes name)
-IsMessageCause text modules (Dedupe f) =
-    (m : MessageView) × IsMessage text m × (main : List ℕ) × (rest : List ℕ) × (modules ≡ main ++ rest) × (length main ≡ m.size) × IsDedupeCause main f
-IsMessageCause text modules (Encoder f) = (m : MessageView) × IsMessage text m × (e : EncoderView) × IsPartsOf m modules e × IsEncoderCause e f
-IsMessageCause text modules (World f) = (e : EncoderView) × IsEncoderOf text modules e × IsWorldCause e f
-IsMessageCause text modules (Plan f) =
-    (e : EncoderView) × IsEncoderOf text modules e × (w : ComponentWorldView) × IsWorldOf plain_options e w × IsFirstFault w f
+-- the main module's bytes and the others, and the world that is named: a fact of these
+abbrev pub IsOfChosen : MessageView → List ℕ → (ℕ → List ℕ → List ℕ → Type 0) → Type 0
+IsOfChosen m modules P = (world : ℕ) × (main : List ℕ) × (others : List ℕ) × AreChosen m modules world main others × P world main others
 
--- why a step of the encoder's making fails, for a message that is read
+-- a key is none, or is given twice, in a well-formed message
+abbrev pub IsKeyCause : MessageView → MessageFault → ℕ → List ℕ → List ℕ → Type 0
+IsKeyCause m f world main others = IsWellFormed m.document.parts × AreKeysCause m world f
+
+-- the adapters have other bytes than the message says; one has the name of another; keys are there
+abbrev pub AreLengthsOther : MessageView → ℕ → List ℕ → List ℕ → Type 0
+AreLengthsOther m world main others = IsWellFormed m.document.parts × AreKeysKnown m world × (sizes m.adapters ≢ length others)
+
+abbrev pub IsAdapterTwice : MessageView → List ℕ → ℕ → List ℕ → List ℕ → Type 0
+IsAdapterTwice m name world main others = IsWellFormed m.document.parts × AreKeysKnown m world × IsNamedTwice m.adapters name
+
+-- the main module's imports can't be renamed, where all adapters are there
+abbrev pub IsMainCause : MessageView → DedupeFault → ℕ → List ℕ → List ℕ → Type 0
+IsMainCause m f world main others =
+    IsWellFormed m.document.parts × (required : List KeyView) × (adapters : List (List ℕ × AdapterView))
+    × AreExporters m.document.parts world m.exports m.adapters others required adapters × IsDedupeCause main f
+
+-- why a step of the encoder's making fails, for a message that is read; the steps before it do not fail. They are: the world is
+-- named; the main module's bytes are there; the parts are well-formed; keys are there; adapters are there; the main module's
+-- imports are renamed; and the encoder is made
 abbrev pub IsPartsCause : MessageView → List ℕ → MessageFault → Type 0
 IsPartsCause m modules Memory = ⊤
 IsPartsCause m modules UnknownWorld = IsWorldNameCause m.document m.world UnknownWorld
 IsPartsCause m modules SeveralWorlds = IsWorldNameCause m.document m.world SeveralWorlds
 IsPartsCause m modules PackageRange = IsWorldNameCause m.document m.world PackageRange
-IsPartsCause m modules (UnknownKey key) = AreKeysCause m (UnknownKey key)
-IsPartsCause m modules (SeveralKeys key) = AreKeysCause m (SeveralKeys key)
-IsPartsCause m modules (RepeatedKey key) = AreKeysCause m (RepeatedKey key)
-IsPartsCause m modules Lengths = sizes m ≢ length modules
-IsPartsCause m modules (Resolve f) = IsResolveCause m.document.parts f
-IsPartsCause m modules (AdapterTwice name) = IsNamedTwice m.adapters (string_bytes name)
-IsPartsCause m modules (Dedupe f) = (main : List ℕ) × (rest : List ℕ) × (modules ≡ main ++ rest) × (length main ≡ m.size) × IsDedupeCause main f
-IsPartsCause m modules (Encoder f) = (e : EncoderView) × IsPartsOf m modules e × IsEncoderCause e f
+IsPartsCause m modules Lengths =
+    ((world : ℕ) × IsWorldNamed m.document m.world world × (length modules < m.size)) ⊎ IsOfChosen m modules (AreLengthsOther m)
+IsPartsCause m modules (Resolve f) = IsOfChosen m modules (λ world main others. IsResolveCause m.document.parts f)
+IsPartsCause m modules (UnknownKey key) = IsOfChosen m modules (IsKeyCause m (UnknownKey key))
+IsPartsCause m modules (SeveralKeys key) = IsOfChosen m modules (IsKeyCause m (SeveralKeys key))
+IsPartsCause m modules (RepeatedKey key) = IsOfChosen m modules (IsKeyCause m (RepeatedKey key))
+IsPartsCause m modules (AdapterTwice name) = IsOfChosen m modules (IsAdapterTwice m (string_bytes name))
+IsPartsCause m modules (Dedupe f) = IsOfChosen m modules (IsMainCause m f)
+IsPartsCause m modules (Encoder f) = (e : EncoderView) × IsPartsOf m modules e × IsWellFormed m.document.parts × IsEncoderCause e f
 IsPartsCause m modules f = ⊥
+
+-- the cause of each fault, for the bytes of a message and of modules
+abbrev pub IsMessageCause : List ℕ → List ℕ → MessageFault → Type 0
+IsMessageCause text modules Memory = ⊤
+IsMessageCause text modules NotText = ¬ IsUtf8 text
+IsMessageCause text modules (Json f) = IsCauseOf message (document text) f
+IsMessageCause text modules (World f) = (e : EncoderView) × IsEncoderOf text modules e × IsWorldCause e f
+IsMessageCause text modules (Plan f) =
+    (e : EncoderView) × IsEncoderOf text modules e × (w : ComponentWorldView) × IsWorldOf plain_options e w × IsFirstFault w f
+IsMessageCause text modules f = (m : MessageView) × IsMessage text m × IsPartsCause m modules f
+
+-- why a message and modules are no encoder: a fault of these, and none of its component
+abbrev pub IsNoEncoderCause : List ℕ → List ℕ → MessageFault → Type 0
+IsNoEncoderCause text modules (World f) = ⊥
+IsNoEncoderCause text modules (Plan f) = ⊥
+IsNoEncoderCause text modules f = IsMessageCause text modules f
 
 -- the adapters' bytes have other lengths, or two adapters have one name
 abbrev pub IsAdaptersCause : List AdapterMessageView → List ℕ → MessageFault → Type 0
 IsAdaptersCause ms bytes Memory = ⊤
-IsAdaptersCause ms bytes Lengths = sum (map (λ (a : AdapterMessageView). a.size) ms) ≢ length bytes
+IsAdaptersCause ms bytes Lengths = sizes ms ≢ length bytes
 IsAdaptersCause ms bytes (AdapterTwice name) = IsNamedTwice ms (string_bytes name)
 IsAdaptersCause ms bytes f = ⊥
 

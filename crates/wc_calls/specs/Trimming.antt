@@ -1,5 +1,5 @@
 -- What the call that trims an adapter answers.
-use Rattle.std.specs.Prelude.{◌≡◌, ◌≢◌, ◌≤◌, ℕ, List, [], IfSome, Some, string_bytes}
+use Rattle.std.specs.Prelude.{◌≡◌, ◌≢◌, ◌≤◌, ◌<◌, length, ℕ, List, [], IfSome, Some, string_bytes}
 use Rattle.std.specs.List.{All, slice_get}
 use Rattle.std.specs.Str.{IsUtf8}
 use Rattle.wc_gc.specs.Liveness.{TrimInput}
@@ -8,8 +8,11 @@ use Rattle.wc_gc.specs.Trimming.{IsTrimmed, IsTrimCause, IsTrimFault}
 use Rattle.wc_gc.specs.TrimmedText.{IsTrimmedRead}
 use Rattle.wc_gc.specs.declared.fault.GcFault.{GcFault}
 use Rattle.wc_gc.specs.declared.fault.GcFault.TheVariants.{Memory, MissingExport}
+use Rattle.wc_calls.specs.Answers.{IsFront, failed}
 use Rattle.wc_calls.specs.FaultNumbers.{gc_fault_number}
+use Rattle.wc_calls.specs.Places.{IsTrimPlaceText}
 use Rattle.wc_calls.specs.Required.{position_of, trim_input_of}
+use Rattle.wc_calls.specs.declared.answers.Answer.{Answer}
 
 -- how an adapter is trimmed for a main module that exports a realloc of this name, and has pages of 2^16 bytes
 abbrev pub with_realloc : List ℕ → SettingsValue
@@ -40,8 +43,23 @@ IsPosition names (MissingExport name) position =
     (position ≡ position_of names (string_bytes name)) × (slice_get names position ≡ Some (string_bytes name))
 IsPosition names f position = position ≡ 0
 
--- the numbers are those of a fault that has its cause, and is not Memory
-abbrev pub IsTrimmingFault : SettingsValue → List ℕ → List (List ℕ) → ℕ → ℕ → Type 0
-IsTrimmingFault s wasm names number position =
-    (f : GcFault) × IsTrimFault s (trim_input_of wasm names) f × (f ≢ Memory)
-    × (number ≡ gc_fault_number f) × IsPosition names f position
+-- a fault by its number, and the position of the name that it carries; what it is about is in the front of the buffer, or
+-- longer than it
+pub record IsTrimFaultAnswer (names : List (List ℕ)) (f : GcFault) (place : List ℕ) (answer : Answer) (old new : List ℕ) : Type 0 where
+  pub status : answer.status ≡ failed
+  pub number : answer.fault ≡ gc_fault_number f
+  pub position : answer.position ≡ position_in names f
+  pub size : answer.length ≡ length place
+  pub no_module : answer.module_length ≡ 0
+  pub put : length place ≤ length old → IsFront place old new
+  pub longer : length old < length place → new ≡ old
+
+-- the answer is this fault, with what it is about
+abbrev pub IsTrimRefused : TrimInput → List (List ℕ) → GcFault → Answer → List ℕ → List ℕ → Type 0
+IsTrimRefused w names f answer old new = (place : List ℕ) × IsTrimPlaceText w f place × IsTrimFaultAnswer names f place answer old new
+
+-- the answer is a fault that has its cause, and is not Memory; the position is that of its name
+abbrev pub IsTrimmingFault : SettingsValue → List ℕ → List (List ℕ) → Answer → List ℕ → List ℕ → Type 0
+IsTrimmingFault s wasm names answer old new =
+    (f : GcFault) × IsTrimFault s (trim_input_of wasm names) f × (f ≢ Memory) × IsPosition names f answer.position
+    × IsTrimRefused (trim_input_of wasm names) names f answer old new

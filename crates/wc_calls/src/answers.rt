@@ -7,7 +7,7 @@ ghost use Rattle.wc_calls.specs.Answers.{HasNoBytes, HasNoFault, IsFront, done, 
 pub const DONE: u32 = 0;
 
 /// There is no answer, for the reason whose number the answer has. The buffer is as it was, or begins with the text of
-/// the reason (`world`).
+/// the reason and what it is about (`world`).
 pub const FAULT: u32 = 1;
 
 /// The buffer is too small for the answer, and is as it was.
@@ -30,12 +30,13 @@ pub struct Answer {
     pub status: u32,
     /// With `FAULT` the number of the fault; else 0.
     pub fault: u32,
-    /// With `DONE` and `TOO_SMALL` how many bytes the answer has; with `FAULT` of `world` how many the fault's text has;
-    /// else 0.
+    /// With `DONE` and `TOO_SMALL` how many bytes the answer has; with `FAULT` of `trim` how many the fault's place has, of
+    /// a call on a message how many its text and place have; else 0.
     pub length: usize,
     /// How many of these bytes are modules; they are the first ones.
     pub module_length: usize,
-    /// With `FAULT`, where an export is missing, the position of its name among those that were passed; else 0.
+    /// With `FAULT` of `trim`, where an export is missing, the position of its name among those that were passed; with
+    /// `FAULT` of a call on a message how many bytes the fault's text has, after which is its place; else 0.
     pub position: usize,
 }
 

@@ -1,16 +1,16 @@
 //! The call that makes a component's world.
 
-ghost use Rattle.std.specs.Prelude.{◌≡◌, ◌≢◌, ◌++◌, ◌≤◌, ◌⊎◌, IfErr, IfOk, List, length, ℕ};
+ghost use Rattle.std.specs.Prelude.{◌≡◌, ◌≢◌, ◌++◌, ◌≤◌, IfErr, IfOk, length};
 ghost use Rattle.wc_world.specs.WorldViews.{world_view};
-ghost use Rattle.wc_calls.specs.Answers.{AreOthersOfTextZero, IsPut, IsTooLong, bad_argument, done, failed, out_of_memory, same, too_small};
+ghost use Rattle.wc_calls.specs.Answers.{AreOthersOfTextZero, IsPut, IsTextStatus, IsTooLong, bad_argument, done, failed, same, too_small};
 ghost use Rattle.wc_record.specs.Texts.{world_text};
-ghost use Rattle.wc_calls.specs.ComponentWorlds.{IsFaultAnswer, IsFaultOf, IsWorldAnswer, modules_text};
-ghost use Rattle.wc_calls.specs.Private.EncoderAnswers.{IsAnswerFor, IsFaultFor};
-ghost use Rattle.wc_calls.specs.MessageFaults.{IsMessageCause};
+ghost use Rattle.wc_calls.specs.ComponentWorlds.{IsFaultOf, IsWorldAnswer, modules_text};
+ghost use Rattle.wc_calls.specs.FaultAnswers.{IsFaultAnswered};
+ghost use Rattle.wc_calls.specs.Private.EncoderAnswers.{IsAnswerFor, IsFaultFor, IsPlaceFor};
 
-use crate::answers::{Answer, FAULT, MEMORY, answer_without_bytes, put};
+use crate::answers::{Answer, put};
 use crate::encoders::encoder_from;
-use crate::fault_numbers::message_fault_number;
+use crate::explained::{answer_encoder_fault, answer_message_fault};
 use crate::message_fault::MessageFault;
 use std::alloc::{AllocError, Global};
 use wc_encoder::ComponentEncoder;
@@ -34,21 +34,6 @@ fn modules_of(alloc: Global, world: &ComponentWorld<'_>) -> Result<Vec<u8>, Allo
         modules.extend_from_slice(adapter.wasm.as_slice())?;
     }
     Ok(modules)
-}
-
-/// What a message is answered.
-fn answer_to(
-    alloc: Global,
-    seed: Seed,
-    message: &[u8],
-    modules: &[u8],
-) -> Result<WorldAnswer, MessageFault>
-    ensures answer { IfOk result (λ a. IsWorldAnswer message.now modules.now
-        (length a.modules.items) (a.modules.items ++ a.json.items)) }
-    ensures fault { IfErr result (IsMessageCause message.now modules.now) }
-{
-    let encoder = encoder_from(alloc, seed, message, modules)?;
-    answer_of_encoder(alloc, &encoder)
 }
 
 /// What is answered for an encoder.
@@ -75,40 +60,21 @@ fn answer_of_world(alloc: Global, world: &ComponentWorld<'_>) -> Result<WorldAns
     })
 }
 
-/// The text of a fault, as it is printed.
-fn fault_text(alloc: Global, fault: &MessageFault) -> Result<String, AllocError> {
-    format!(in alloc; "{fault}")
-}
-
-/// Writes the text of a fault to the front of the buffer, if it has room.
-fn put_fault(fault: &MessageFault, text: &str, out: &mut [u8]) -> Answer
-    ensures { IsFaultAnswer fault.now text.now result out.old out.new }
-{
-    let answer = put(&[], text.as_bytes(), out);
-    Answer {
-        status: FAULT,
-        fault: message_fault_number(fault),
-        length: answer.length,
-        module_length: 0,
-        position: 0,
-    }
-}
-
-/// Answers a fault.
-pub(crate) fn answer_fault(alloc: Global, fault: &MessageFault, out: &mut [u8]) -> Answer
-    ensures fault { result.status ≡ failed → (text : List ℕ)
-        × IsFaultAnswer fault.now text result out.old out.new }
-    ensures memory { fault.now ≡ MessageFault.Memory → result.status ≢ failed }
-    ensures unchanged { result.status ≢ failed → out.new ≡ out.old }
-    ensures statuses { (result.status ≡ failed) ⊎ (result.status ≡ out_of_memory) }
+/// Makes the world of an encoder's component: `world`.
+fn world_for(alloc: Global, encoder: &ComponentEncoder, out: &mut [u8]) -> Answer
+    ensures done { result.status ≡ done
+        → IsPut (IsAnswerFor encoder.now result.module_length) result.length out.old out.new }
+    ensures too_small { result.status ≡ too_small
+        → IsTooLong (IsAnswerFor encoder.now result.module_length) result.length out.old }
+    ensures fault { result.status ≡ failed → IsFaultAnswered (IsFaultFor encoder.now)
+        (IsPlaceFor encoder.now) result out.old out.new }
+    ensures unchanged { result.status ≢ done → result.status ≢ failed → out.new ≡ out.old }
+    ensures statuses { IsTextStatus result.status }
     ensures others { AreOthersOfTextZero result }
 {
-    if let MessageFault::Memory = fault {
-        return answer_without_bytes(MEMORY);
-    }
-    match fault_text(alloc, fault) {
-        Ok(text) => put_fault(fault, &text, out),
-        Err(_) => answer_without_bytes(MEMORY),
+    match answer_of_encoder(alloc, encoder) {
+        Ok(answer) => put(&answer.modules, &answer.json, out),
+        Err(fault) => answer_encoder_fault(alloc, encoder, &fault, out),
     }
 }
 
@@ -134,8 +100,11 @@ pub(crate) fn answer_fault(alloc: Global, fault: &MessageFault, out: &mut [u8]) 
 ///   JSON, as `wc_record::world_to_json` writes it, with the length of each adapter. `length` is how many bytes both have.
 /// - `TOO_SMALL`: the same would have `length` bytes, and `out` has fewer.
 /// - `FAULT`: why there is no component's world, by its number (`message_fault_number`), never `Memory`. Its text, as it
-///   is printed, has `length` bytes; it is in the front of `out`, if `out` has so many. Of a message that is not what it
-///   has to be, it has the path to what is wrong, as `Json: adapters[0].length: not an index`.
+///   is printed, has `position` bytes. Of a message that is not what it has to be, it has the path to what is wrong, as
+///   `Json: adapters[0].length: not an index`. After the text is a JSON object that says what the fault is about, if it is
+///   one of an import, an export, a section or a body (`wc_world::explain`), or of a world, an interface, a type or a
+///   package (`wc_resolve::explain_parts`); else nothing. Both have `length` bytes, and are in the front of `out`, if
+///   `out` has so many. The members of these objects are listed in `places.rt`.
 /// - `MEMORY`: an allocation failed.
 ///
 /// It is never `SAME` or `BAD_ARGUMENT`. `out` is as it was but for what is said here, and then after the first `length`
@@ -152,8 +121,8 @@ pub fn world(alloc: Global, seed: Seed, message: &[u8], modules: &[u8], out: &mu
         × (result.status ≢ bad_argument) }
     ensures others { AreOthersOfTextZero result }
 {
-    match answer_to(alloc, seed, message, modules) {
-        Ok(answer) => put(&answer.modules, &answer.json, out),
-        Err(fault) => answer_fault(alloc, &fault, out),
+    match encoder_from(alloc, seed, message, modules) {
+        Ok(encoder) => world_for(alloc, &encoder, out),
+        Err(fault) => answer_message_fault(alloc, seed, message, &fault, out),
     }
 }

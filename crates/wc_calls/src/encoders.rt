@@ -12,7 +12,7 @@ ghost use Rattle.wc_selection.specs.Keys.{AreKeysApart, named_key};
 ghost use Rattle.wc_selection.specs.Worlds.{IsSelected};
 ghost use Rattle.wc_calls.specs.Encoders.{AreAdaptersOf, AreChosen, AreExporters, IsEncoderOf, IsPartsOf, IsWorldNamed};
 ghost use Rattle.wc_calls.specs.Libraries.{library_message_view};
-ghost use Rattle.wc_calls.specs.MessageFaults.{IsAdaptersCause, IsMessageCause, IsNameCause, IsPartsCause, IsRenamingCause, IsWorldNameCause, of_request};
+ghost use Rattle.wc_calls.specs.MessageFaults.{IsAdaptersCause, IsNameCause, IsNoEncoderCause, IsPartsCause, IsRenamingCause, IsWorldNameCause, of_request};
 ghost use Rattle.wc_calls.specs.Messages.{adapter_message_view, exports_view, message_view, world_name_view};
 ghost use Rattle.wc_calls.specs.Private.AskedKeys.{IsExportersCause};
 
@@ -122,7 +122,8 @@ fn adapters_of(
 ) -> Result<Map<String, Adapter>, MessageFault>
     requires { AreKeysApart (map named_key keys.now) }
     ensures adapters { IfOk result (λ m. AreAdaptersOf (map named_key named.now)
-        (map named_key keys.now) (map adapter_message_view messages.items) bytes.now (map adapter_entry m.entries)) }
+        (map named_key keys.now) (map adapter_message_view messages.items) bytes.now
+        (map adapter_entry m.entries)) }
     ensures fault { IfErr result (IsAdaptersCause
         (map adapter_message_view messages.items) bytes.now) }
 {
@@ -281,7 +282,7 @@ pub(crate) fn encoder_from(
     modules: &[u8],
 ) -> Result<ComponentEncoder, MessageFault>
     ensures encoder { IfOk result (IsEncoderOf message.now modules.now) }
-    ensures fault { IfErr result (IsMessageCause message.now modules.now) }
+    ensures fault { IfErr result (IsNoEncoderCause message.now modules.now) }
 {
     let Ok(text) = str::from_utf8(message) else {
         return Err(MessageFault::NotText);

@@ -1,6 +1,6 @@
 //! The calls on modules as calls on slices, for a caller that shares no other types: `dedupe` renames the repeated
 //! imports of a module, `trim` cuts an adapter to what its exports reach, and `world` makes the world of a component, which
-//! is described in JSON. Each writes its answer to the front of a buffer of the caller's, and returns an `Answer`, which
+//! is described in JSON; `plan` makes its plan, and `validate` validates one of its modules. Each writes its answer to the front of a buffer of the caller's, and returns an `Answer`, which
 //! is numbers alone. No call requires anything of its arguments. The maps of `trim` and `world` hash under a seed that is
 //! passed: whoever chooses names shouldn't know it.
 //!
@@ -14,7 +14,7 @@
 //! pub fn trim_to_write(alloc: Global, seed: Seed, adapter: &[u8], out: &mut [u8]) -> Answer
 //!     ensures done { result.status ≡ done → IsPut (IsRun (with_realloc (codes "realloc"))
 //!         (trim_input_of adapter.now (codes "write" ∷ []))) result.length out.old out.new }
-//!     ensures unchanged { result.status ≢ done → out.new ≡ out.old }
+//!     ensures unchanged { result.status ≢ done → result.status ≢ failed → out.new ≡ out.old }
 //! {
 //!     trim(alloc, seed, adapter, &[b"write"], Some(b"realloc"), 16, out)
 //! }
@@ -28,14 +28,19 @@ mod asked_keys;
 mod component_plans;
 mod component_worlds;
 mod encoders;
+mod explained;
+mod fault_answers;
 mod fault_numbers;
+mod json_members;
 mod libraries;
 mod message_fault;
 mod messages;
+mod places;
 mod renames;
 mod renaming;
 mod required;
 mod trimming;
+mod validation;
 
 pub use answers::{Answer, BAD_ARGUMENT, DONE, FAULT, MEMORY, SAME, TOO_SMALL};
 pub use component_plans::plan;
@@ -48,3 +53,4 @@ pub use fault_numbers::{
 pub use message_fault::MessageFault;
 pub use renaming::dedupe;
 pub use trimming::trim;
+pub use validation::validate;

@@ -1,20 +1,22 @@
 //! The call that trims an adapter.
 
-ghost use Rattle.std.specs.Prelude.{◌≡◌, ◌≢◌, ◌<◌, ◌≤◌, [], length, IfOk, IfErr};
+ghost use Rattle.std.specs.Prelude.{◌≡◌, ◌≢◌, ◌<◌, ◌≤◌, ◌⊎◌, [], length, IfOk, IfErr};
 ghost use Rattle.std.specs.List.{All};
 ghost use Rattle.std.specs.Str.{IsUtf8};
+ghost use Rattle.wc_gc.specs.Liveness.{trim_input};
 ghost use Rattle.wc_gc.specs.Parts.{settings};
-ghost use Rattle.wc_calls.specs.Answers.{AreOthersZero, IsBytesStatus, IsFront, IsPut, IsTooLong, done, failed, too_small, same, bad_argument, out_of_memory};
-ghost use Rattle.wc_calls.specs.FaultNumbers.{gc_fault_number};
+ghost use Rattle.wc_calls.specs.Answers.{AreOthersOfTextZero, IsBytesStatus, IsFront, IsPut, IsTooLong, done, failed, too_small, same, bad_argument, out_of_memory};
+ghost use Rattle.wc_calls.specs.Places.{IsTrimPlaceText};
 ghost use Rattle.wc_calls.specs.Required.{texts, trim_input_of};
-ghost use Rattle.wc_calls.specs.Trimming.{AreArguments, IsRun, IsTrimmingFault, position_in};
+ghost use Rattle.wc_calls.specs.Trimming.{AreArguments, IsRun, IsTrimFaultAnswer, IsTrimRefused, IsTrimmingFault, position_in};
 
-use crate::answers::{Answer, BAD_ARGUMENT, MEMORY, answer_without_bytes, fault_answer, put};
+use crate::answers::{Answer, BAD_ARGUMENT, FAULT, MEMORY, answer_without_bytes, put};
 use crate::fault_numbers::gc_fault_number;
+use crate::places::trim_place_text;
 use crate::required::{are_texts, name_set, optional_text, position_of};
-use std::alloc::Global;
-use wc_gc::{GcFault, run};
-use wc_maps::Seed;
+use std::alloc::{AllocError, Global};
+use wc_gc::{GcFault, explain, run};
+use wc_maps::{Seed, Set};
 
 /// The largest exponent of a page size: a page has 2^16 bytes at most.
 const MAX_PAGE_SIZE_LOG2: u32 = 16;
@@ -27,11 +29,13 @@ const MAX_PAGE_SIZE_LOG2: u32 = 16;
 /// - `TOO_SMALL`: the trimmed adapter has `length` bytes, and `out` has fewer.
 /// - `BAD_ARGUMENT`: exactly where `required` is empty, a name is no text (UTF-8), or `page_size_log2` is more than 16.
 /// - `FAULT`: the fault of `run`, by its number (`gc_fault_number`), never `Memory`. Of a missing export `position` is
-///   where its name is first in `required`.
+///   where its name is first in `required`. `length` is how many bytes the JSON object has that says what the fault is
+///   about (`wc_gc::explain`), as that of `world` without an adapter; it is in the front of `out`, if `out` has so many.
+///   It is 0 where there is none.
 /// - `MEMORY`: an allocation failed.
 ///
-/// It is never `SAME`. `out` is as it was but for `DONE`, and then after the first `length` bytes. `module_length` is
-/// `length`. Numbers of the answer that nothing is said of are 0.
+/// It is never `SAME`. `out` is as it was but for `DONE` and `FAULT`, and then after the first `length` bytes.
+/// `module_length` is `length` but for `FAULT`. Numbers of the answer that nothing is said of are 0.
 pub fn trim(
     alloc: Global,
     seed: Seed,
@@ -48,15 +52,15 @@ pub fn trim(
         (trim_input_of wasm.now (texts required.now))) result.length out.old }
     ensures fault { result.status ≡ failed
         → IsTrimmingFault (settings realloc.entry page_size_log2) wasm.now (texts required.now)
-        result.fault result.position }
-    ensures module_length { result.module_length ≡ result.length }
+        result out.old out.new }
+    ensures module_length { result.status ≢ failed → result.module_length ≡ result.length }
     ensures bad_argument { result.status ≡ bad_argument
         → ¬ (AreArguments (settings realloc.entry page_size_log2) (texts required.now)) }
     ensures arguments { result.status ≢ bad_argument
         → AreArguments (settings realloc.entry page_size_log2) (texts required.now) }
-    ensures unchanged { result.status ≢ done → out.new ≡ out.old }
+    ensures unchanged { result.status ≢ done → result.status ≢ failed → out.new ≡ out.old }
     ensures statuses { (result.status ≤ 5) × (result.status ≢ same) }
-    ensures others { AreOthersZero result }
+    ensures others { AreOthersOfTextZero result }
 {
     if page_size_log2 > MAX_PAGE_SIZE_LOG2 || required.is_empty() || !are_texts(required) {
         return answer_without_bytes(BAD_ARGUMENT);
@@ -87,23 +91,44 @@ fn trim_for_names(
         (trim_input_of wasm.now (texts required.now))) result.length out.old }
     ensures fault { result.status ≡ failed
         → IsTrimmingFault (settings realloc.entry page_size_log2) wasm.now (texts required.now)
-        result.fault result.position }
-    ensures module_length { result.module_length ≡ result.length }
-    ensures unchanged { result.status ≢ done → out.new ≡ out.old }
+        result out.old out.new }
+    ensures module_length { result.status ≢ failed → result.module_length ≡ result.length }
+    ensures unchanged { result.status ≢ done → result.status ≢ failed → out.new ≡ out.old }
     ensures statuses { (result.status ≤ 5) × (result.status ≢ same)
         × (result.status ≢ bad_argument) }
-    ensures others { AreOthersZero result }
+    ensures others { AreOthersOfTextZero result }
 {
     let Ok(names) = name_set(alloc, seed, required) else {
         return answer_without_bytes(MEMORY);
     };
     let trimmed = run(alloc, wasm, &names, realloc, page_size_log2);
-    put_trimmed(&trimmed, required, out)
+    put_trimmed(alloc, wasm, &names, &trimmed, required, out)
 }
 
-/// Writes what trimming answered.
-fn put_trimmed(trimmed: &Result<Vec<u8>, GcFault>, required: &[&[u8]], out: &mut [u8]) -> Answer
-    ensures module_length { result.module_length ≡ result.length }
+/// What a fault of trimming is about, as JSON; no bytes where there is no place.
+fn fault_place(
+    alloc: Global,
+    wasm: &[u8],
+    names: &Set<String>,
+    fault: &GcFault,
+) -> Result<Vec<u8>, AllocError>
+    ensures { IfOk result
+        (λ v. IsTrimPlaceText (trim_input wasm.now names.now.keys) fault.now v.items) }
+{
+    let place = explain(alloc, wasm, names, fault)?;
+    trim_place_text(alloc, place)
+}
+
+/// Writes what trimming answered for an adapter and names; of a fault what it is about.
+fn put_trimmed(
+    alloc: Global,
+    wasm: &[u8],
+    names: &Set<String>,
+    trimmed: &Result<Vec<u8>, GcFault>,
+    required: &[&[u8]],
+    out: &mut [u8],
+) -> Answer
+    ensures module_length { result.status ≢ failed → result.module_length ≡ result.length }
     ensures length { IfOk trimmed.now (λ v. result.length ≡ length v.items) }
     ensures done { IfOk trimmed.now (λ v. result.status ≡ done
         → IsFront v.items out.old out.new) }
@@ -112,18 +137,56 @@ fn put_trimmed(trimmed: &Result<Vec<u8>, GcFault>, required: &[&[u8]], out: &mut
     ensures ok { IfOk trimmed.now (λ v. IsBytesStatus result.status) }
     ensures refused { IfErr trimmed.now (λ _. (result.status ≢ done)
         × (result.status ≢ too_small)) }
+    ensures fault_or_memory { IfErr trimmed.now (λ _. (result.status ≡ failed)
+        ⊎ (result.status ≡ out_of_memory)) }
     ensures memory { IfErr trimmed.now (λ f. f ≡ GcFault.Memory
         → result.status ≡ out_of_memory) }
-    ensures fault { IfErr trimmed.now (λ f. f ≢ GcFault.Memory → (result.status ≡ failed)
-        × (result.fault ≡ gc_fault_number f)
-        × (result.position ≡ position_in (texts required.now) f)) }
-    ensures unchanged { result.status ≢ done → out.new ≡ out.old }
-    ensures others { AreOthersZero result }
+    ensures fault { IfErr trimmed.now (λ f. f ≢ GcFault.Memory → result.status ≡ failed
+        → IsTrimRefused (trim_input wasm.now names.now.keys) (texts required.now) f result
+        out.old out.new) }
+    ensures unchanged { result.status ≢ done → result.status ≢ failed → out.new ≡ out.old }
+    ensures others { AreOthersOfTextZero result }
 {
     match trimmed {
         Ok(bytes) => put(bytes.as_slice(), &[], out),
         Err(GcFault::Memory) => answer_without_bytes(MEMORY),
-        Err(fault) => fault_answer(gc_fault_number(fault), missing_position(fault, required)),
+        Err(fault) => answer_trim_fault(alloc, wasm, names, fault, required, out),
+    }
+}
+
+/// Answers a fault of trimming with what it is about.
+fn answer_trim_fault(
+    alloc: Global,
+    wasm: &[u8],
+    names: &Set<String>,
+    fault: &GcFault,
+    required: &[&[u8]],
+    out: &mut [u8],
+) -> Answer
+    ensures fault { result.status ≡ failed
+        → IsTrimRefused (trim_input wasm.now names.now.keys) (texts required.now) fault.now
+        result out.old out.new }
+    ensures unchanged { result.status ≢ failed → out.new ≡ out.old }
+    ensures statuses { (result.status ≡ failed) ⊎ (result.status ≡ out_of_memory) }
+    ensures others { AreOthersOfTextZero result }
+{
+    match fault_place(alloc, wasm, names, fault) {
+        Ok(place) => put_trim_fault(fault, &place, required, out),
+        Err(_) => answer_without_bytes(MEMORY),
+    }
+}
+
+/// Answers a fault of trimming, and writes what it is about to the front of the buffer, if it has room for that.
+fn put_trim_fault(fault: &GcFault, place: &[u8], required: &[&[u8]], out: &mut [u8]) -> Answer
+    ensures { IsTrimFaultAnswer (texts required.now) fault.now place.now result out.old out.new }
+{
+    let answer = put(&[], place, out);
+    Answer {
+        status: FAULT,
+        fault: gc_fault_number(fault),
+        length: answer.length,
+        module_length: 0,
+        position: missing_position(fault, required),
     }
 }
 

@@ -174,12 +174,10 @@ fn append_funcs<'a, 'n, L: LiveSet>(
     ensures { OnOk result (written_funcs items.new.items ≡ written_funcs items.old.items
         ++ live_funcs edit.entry (L.has kept.now) (L.has exported.now) funcs.now) }
 {
-    let mut position: usize = 0;
-    let mut exported_position: usize = 0;
     for index in 0..funcs.len() {
-        if kept.contains_from(index as u32, &mut position) {
+        if kept.contains(index as u32) {
             let func = func_at(funcs, index);
-            let exported = exported.contains_from(index as u32, &mut exported_position);
+            let exported = exported.contains(index as u32);
             items.push(edit.edited_func(&func, exported))?;
         }
     }
@@ -206,9 +204,8 @@ fn kept_items<T: Copy, L: LiveSet>(
         ≡ kept_items (L.has live.now) (length items.now) items.now) }
 {
     let mut kept = Vec::new(alloc);
-    let mut position: usize = 0;
     for index in 0..items.len() {
-        if live.contains_from(index as u32, &mut position) {
+        if live.contains(index as u32) {
             kept.push(items[index])?;
         }
     }
@@ -228,9 +225,8 @@ fn kept_types<L: LiveSet>(
         (kept_items (L.has live.now) (length types.now) (map func_type_value types.now))) }
 {
     let mut kept = Vec::new(alloc);
-    let mut position: usize = 0;
     for index in 0..types.len() {
-        if live.contains_from(index as u32, &mut position) {
+        if live.contains(index as u32) {
             kept.push(new.func_type(alloc, &types[index])?)?;
         }
     }

@@ -58,9 +58,8 @@ fn group<L: LiveSet>(
         && has_func (is_in_group (settings_value settings.entry) imported) funcs.now n)) }
 {
     let mut set = L::new(alloc);
-    let mut position: usize = 0;
     for index in 0..funcs.len() {
-        let member = is_live_in_group(live, &mut position, funcs, index as u32, settings, imported);
+        let member = is_live_in_group(live, funcs, index as u32, settings, imported);
         insert_if(&mut set, index as u32, member)?;
     }
     Ok(set)
@@ -69,7 +68,6 @@ fn group<L: LiveSet>(
 /// Whether a function is live, and imported after the edit or not.
 fn is_live_in_group<L: LiveSet>(
     live: &L,
-    position: &mut usize,
     funcs: &[Func<'_>],
     index: u32,
     settings: Settings<'_>,
@@ -78,7 +76,7 @@ fn is_live_in_group<L: LiveSet>(
     ensures { result ≡ (L.has live.now index
         && has_func (is_in_group (settings_value settings.entry) imported) funcs.now index) }
 {
-    has_func_in_group(funcs, index, settings, imported) && live.contains_from(index, position)
+    has_func_in_group(funcs, index, settings, imported) && live.contains(index)
 }
 
 /// Whether the function of an index is imported after the edit, or whether it is not.

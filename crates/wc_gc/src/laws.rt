@@ -14,7 +14,9 @@ pub use crate::machine_laws::{
 pub use crate::restriction_laws::trimmed_restricts;
 pub use crate::trace_laws::{image_is_of_cut, no_trace, trim_twice};
 pub use crate::trim_place::places_are_of_faults;
-pub use crate::untouched_laws::{calls_keep_code, kept_items_have_chains, untouched};
+pub use crate::untouched_laws::{
+    calls_keep_code, kept_items_have_chains, nothing_is_edited, untouched,
+};
 
 /// A body that can be spelled, as `wc_write::laws::body_text_read` asks, can be spelled under new indices that have 32
 /// bits where the old ones have; so can an initialiser (WebAssembly core specification, 5.4).

@@ -1,12 +1,10 @@
 //! Sets of live items.
 
-ghost use Rattle.std.specs.Prelude.{◌≡◌, ◌≤◌, ◌<◌, ◌&&◌, ◌||◌, nat_eq, nat_lt, All, ◌/◌, ◌^◌, ℕ, Bool, not, false, true, length, slice_index, IfOk, IsOk, OnOk, OnErr};
-ghost use Rattle.std.specs.List.Sorted.{IsSortedBy};
+ghost use Rattle.std.specs.Prelude.{◌≡◌, ◌≤◌, ◌<◌, ◌&&◌, ◌||◌, nat_eq, ◌/◌, ◌^◌, ℕ, Bool, not, false, true, length, slice_index, IfOk, IsOk, OnOk, OnErr};
 ghost use Rattle.wc_gc.specs.Decoded.{ItemIndex};
 ghost use Rattle.wc_gc.specs.Bits.{bit_of};
 ghost use Rattle.wc_gc.specs.Counts.{count_below};
 ghost use Rattle.wc_gc.specs.LiveSets.{Inserts, has_item};
-ghost use Rattle.wc_gc.specs.Ranges.{holds};
 ghost use Rattle.wc_gc.specs.Ranks.{has_number, rank_of};
 
 use crate::range_set::RangeSet;
@@ -34,25 +32,8 @@ pub trait LiveSet: Sized + Drop {
         ensures there { has self.old x ≡ true → IsOk result }
         ensures err { OnErr result ((y : ℕ) → has self.new y ≡ has self.old y) };
 
-    /// Puts in numbers that are in ascending order.
-    ///
-    /// # Errors
-    ///
-    /// `AllocError`: an allocation failed. The set is as before.
-    fn insert_sorted(&mut self, alloc: Global, numbers: &[u32]) -> Result<(), AllocError>
-        requires { IsSortedBy nat_lt numbers.now }
-        ensures has { OnOk result ((y : ℕ) →
-            has self.new y ≡ (has self.old y || holds numbers.now y)) }
-        ensures refused { OnErr result ((y : ℕ) → has self.new y ≡ has self.old y) };
-
     /// Whether a number is in the set.
     fn contains(&self, x: u32) -> bool
-        ensures { result ≡ has self.now x };
-
-    /// Whether a number is in the set, for one number after another in ascending order. `position` is 0 at first, and
-    /// what the call before left in it. With any other position and in any other order the answer is the same, but
-    /// takes longer.
-    fn contains_from(&self, x: u32, position: &mut usize) -> bool
         ensures { result ≡ has self.now x };
 
     /// How many numbers of the set are below each number.
@@ -87,20 +68,7 @@ impl LiveSet for BitVec {
         Ok(set_bit(&mut self.words, x))
     }
 
-    fn insert_sorted(&mut self, _alloc: Global, numbers: &[u32]) -> Result<(), AllocError> {
-        let Some(last) = numbers.last() else {
-            return Ok(());
-        };
-        self.make_room((*last / 64) as usize)?;
-        set_bits(&mut self.words, numbers);
-        Ok(())
-    }
-
     fn contains(&self, x: u32) -> bool {
-        has_bit(&self.words, x)
-    }
-
-    fn contains_from(&self, x: u32, _position: &mut usize) -> bool {
         has_bit(&self.words, x)
     }
 
@@ -148,16 +116,6 @@ fn set_bit(words: &mut [u64], x: u32) -> bool
     let word = words[index];
     words[index] = word | mask;
     word & mask == 0
-}
-
-/// Sets the bits of numbers.
-fn set_bits(words: &mut [u64], numbers: &[u32])
-    requires { All (λ x. x / 64 < length words.old) numbers.now }
-    ensures { (y : ℕ) → bit_of words.new y ≡ (bit_of words.old y || holds numbers.now y) }
-{
-    for number in numbers {
-        set_bit(words, *number);
-    }
 }
 
 /// A set for each space.

@@ -7,7 +7,7 @@ ghost use Rattle.wc_gc.specs.LiveSets.{Inserts};
 ghost use Rattle.wc_gc.specs.Private.Positions.{IsCut, joined_at};
 
 use crate::live::LiveSet;
-use crate::merging::{merged, ranges_of_bits};
+use crate::merging::ranges_of_bits;
 use crate::ranks::Ranks;
 use std::alloc::{AllocError, Global};
 
@@ -28,7 +28,7 @@ impl LiveSet for RangeSet {
     }
 
     fn insert(&mut self, x: u32) -> Result<bool, AllocError> {
-        let index = range_near(&self.ranges, self.ranges.len(), x);
+        let index = range_near(&self.ranges, x);
         if has_at(&self.ranges, index, x) {
             return Ok(false);
         }
@@ -36,19 +36,8 @@ impl LiveSet for RangeSet {
         Ok(true)
     }
 
-    fn insert_sorted(&mut self, alloc: Global, numbers: &[u32]) -> Result<(), AllocError> {
-        self.ranges = merged(alloc, &self.ranges, numbers)?;
-        Ok(())
-    }
-
     fn contains(&self, x: u32) -> bool {
-        let index = range_near(&self.ranges, self.ranges.len(), x);
-        has_at(&self.ranges, index, x)
-    }
-
-    fn contains_from(&self, x: u32, position: &mut usize) -> bool {
-        let index = range_near(&self.ranges, *position, x);
-        *position = index;
+        let index = range_near(&self.ranges, x);
         has_at(&self.ranges, index, x)
     }
 
@@ -77,50 +66,26 @@ impl RangeSet {
     }
 }
 
-/// The index of the first range that does not end before a number; sooner where that is at a position or the next.
-fn range_near(ranges: &[(u32, u32)], position: usize, x: u32) -> usize
+/// The index of the first range that does not end before a number; at once where all end before it.
+fn range_near(ranges: &[(u32, u32)], x: u32) -> usize
     requires { AreRanges ranges.now }
     ensures cut { IsCut x ranges.now result }
     ensures within { result ≤ length ranges.now }
 {
-    if is_cut(ranges, position, x) {
-        return position;
+    if all_end_before(ranges, x) {
+        ranges.len()
+    } else {
+        range_from(ranges, x)
     }
-    if position < ranges.len() && is_cut(ranges, position + 1, x) {
-        return position + 1;
-    }
-    range_from(ranges, x)
 }
 
-/// Whether an index is that of the first range that does not end before a number.
-fn is_cut(ranges: &[(u32, u32)], index: usize, x: u32) -> bool
+/// Whether all ranges end before a number.
+fn all_end_before(ranges: &[(u32, u32)], x: u32) -> bool
     requires { AreRanges ranges.now }
-    ensures { IsTrue result → IsCut x ranges.now index × (index ≤ length ranges.now) }
+    ensures { IsTrue result → IsCut x ranges.now (length ranges.now) }
 {
-    if index > ranges.len() {
-        return false;
-    }
-    ends_below(ranges, index, x) && ends_after(ranges, index, x)
-}
-
-/// Whether the ranges before an index end before a number.
-fn ends_below(ranges: &[(u32, u32)], index: usize, x: u32) -> bool
-    requires sorted { AreRanges ranges.now }
-    requires within { index ≤ length ranges.now }
-    ensures { IsTrue result → (k : ℕ) (d : ℕ × ℕ) → k < index
-        → (slice_index_or ranges.now k d).1 < x }
-{
-    index == 0 || ranges[index - 1].1 < x
-}
-
-/// Whether the ranges from an index on do not end before a number.
-fn ends_after(ranges: &[(u32, u32)], index: usize, x: u32) -> bool
-    requires sorted { AreRanges ranges.now }
-    requires within { index ≤ length ranges.now }
-    ensures { IsTrue result → (k : ℕ) (d : ℕ × ℕ) → index ≤ k → k < length ranges.now
-        → x ≤ (slice_index_or ranges.now k d).1 }
-{
-    index == ranges.len() || x <= ranges[index].1
+    let count = ranges.len();
+    count == 0 || ranges[count - 1].1 < x
 }
 
 /// The index of the first range that does not end before a number.

@@ -32,7 +32,7 @@ pub fn append_old_body(out: &mut Vec<u8>, body: &OldBody<'_, '_>) -> Result<(), 
         ≡ out.old.items ++ body_text (old_body_written body.now)) }
 {
     let alloc = *out.allocator();
-    let mut operators = operators_of(alloc, body.bytes)?;
+    let mut operators = operators_of(alloc, body.bytes);
     append_old_locals(out, &operators, body.new)?;
     append_call(out, body.call)?;
     append_operators(out, alloc, &mut operators, body.new)
@@ -165,15 +165,14 @@ fn call_of<'a>(func: u32) -> Instr<'a>
 
 /// The operators of a body that is code.
 #[inline(always)]
-fn operators_of(alloc: Global, bytes: &[u8]) -> Result<Operators<'_>, AllocError>
+fn operators_of(alloc: Global, bytes: &[u8]) -> Operators<'_>
     requires { is_some (body_in bytes.now) ≡ true }
-    ensures body { IfOk result (λ o. body_in bytes.now
-        ≡ option_map (body_of (locals_read o)) (operators_left o)) }
-    ensures keeps_locals { IfOk result KeepsLocals }
+    ensures body { body_in bytes.now
+        ≡ option_map (body_of (locals_read result)) (operators_left result) }
+    ensures keeps_locals { KeepsLocals result }
 {
     match Operators::new(alloc, bytes) {
-        Ok(operators) => Ok(operators),
-        Err(ReadFault::Memory) => Err(AllocError),
+        Ok(operators) => operators,
         Err(_) => unreachable!(),
     }
 }

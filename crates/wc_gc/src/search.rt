@@ -426,12 +426,10 @@ fn operators_of(alloc: Global, bytes: &[u8]) -> Result<Operators<'_>, GcFault>
     ensures body { IfOk result (λ o. body_in bytes.now
         ≡ option_map (body_of (locals_read o)) (operators_left o)) }
     ensures keeps_locals { IfOk result KeepsLocals }
-    ensures fault { IfErr result (λ f. (f ≡ GcFault.Memory)
-        ⊎ ((f ≡ GcFault.LiveBody) × (body_in bytes.now ≡ None))) }
+    ensures fault { IfErr result (λ f. (f ≡ GcFault.LiveBody) × (body_in bytes.now ≡ None)) }
 {
     match Operators::new(alloc, bytes) {
         Ok(operators) => Ok(operators),
-        Err(ReadFault::Memory) => Err(GcFault::Memory),
         Err(_) => Err(GcFault::LiveBody),
     }
 }

@@ -1,5 +1,6 @@
 pub mod FaultLemmas
 pub mod PathLemmas
+pub mod MemoryLemmas
 pub mod ListLemmas
 pub mod IdLemmas
 pub mod MemberLemmas

@@ -1,5 +1,5 @@
 -- Faults: what a value is read as, or the first fault in it, and how a function's result agrees with that; texts.
-use Rattle.std.specs.Prelude.{◌≡◌, ℕ, List, [], ◌∷◌, ◌++◌, ⊤, Result, Ok, Err, codes, string_bytes}
+use Rattle.std.specs.Prelude.{◌≡◌, ◌≢◌, ℕ, List, [], ◌∷◌, ◌++◌, ⊤, Result, Ok, Err, IfErr, codes, string_bytes}
 use Rattle.json.specs.declared.error.Error.{Error}
 use Rattle.json.specs.declared.error.Error.TheVariants.{Invalid, OutOfMemory, TooLong, DuplicateKey}
 use Rattle.wc_json.specs.declared.fault.Problem.{Problem}
@@ -53,6 +53,19 @@ IsFaultOf (Wrong path problem) reading = HasFault (Wrong path problem) reading
 abbrev pub Reads : {A B : Type 0} → (A → B) → Result A JsonFault → Reading B → Type 0
 Reads view (Ok a) reading = reading ≡ Ok (view a)
 Reads view (Err e) reading = IsFaultOf e reading
+
+-- memory did not run out
+abbrev pub NeedsNoMemory : {A : Type 0} → Result A JsonFault → Type 0
+NeedsNoMemory result = IfErr result (λ f. f ≢ Memory)
+
+-- a reading has a fault below the value itself: one whose path has a step
+abbrev pub IsFaultBelow : {A : Type 0} → Reading A → Type 0
+IsFaultBelow (Ok a) = ⊥
+IsFaultBelow (Err fault) = fault.path ≢ []
+
+-- memory ran out only while the path of a fault was made
+abbrev pub NeedsMemoryForPaths : {A B : Type 0} → Result A JsonFault → Reading B → Type 0
+NeedsMemoryForPaths result reading = IfErr result (λ f. f ≡ Memory → IsFaultBelow reading)
 
 -- the fault of a text that is no JSON value without repeated members
 abbrev pub of_json : Error → JsonFault

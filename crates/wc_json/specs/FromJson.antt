@@ -1,6 +1,6 @@
 -- How truth values, texts, values that may be null, and lists are read, and values from texts.
 use Rattle.std.specs.Prelude.{◌≡◌, ℕ, ◌+◌, Bool, List, [], ◌∷◌, Option, Some, None, Ok, ⊤, IsSomeAnd}
-use Rattle.json.specs.Json.{Json, null, boolean, string, array, Items, no_items, item}
+use Rattle.json.specs.Json.{Json, null, boolean, string, array, object, Items, no_items, item}
 use Rattle.json.specs.Strict.{HasUniqueKeys}
 use Rattle.wc_json.specs.Faults.{HasFault, Reading, refusal, ◌>>=◌}
 use Rattle.wc_json.specs.Paths.{at_step, index_step}
@@ -35,6 +35,18 @@ items_from read n (item j js) = do
 abbrev pub list : {A : Type 0} → (Json → Reading A) → Json → Reading (List A)
 list read (array js) = items_from read 0 js
 list read j = refusal NotAList
+
+abbrev pub IsText : Json → Type 0
+IsText (string s) = ⊤
+IsText j = ⊥
+
+abbrev pub IsList : Json → Type 0
+IsList (array js) = ⊤
+IsList j = ⊥
+
+abbrev pub IsObject : Json → Type 0
+IsObject (object ms) = ⊤
+IsObject j = ⊥
 
 -- the text's value has no object that repeats a member, and is read as this
 abbrev pub IsReadFrom : {A B : Type 0} → (A → B) → (Json → Reading B) → Option Json → A → Type 0

@@ -1,11 +1,12 @@
 //! The trait of what is read from JSON values, and its impls for truth values, texts, values that may
 //! be null, and lists; and a value read from a text.
 
-ghost use Rattle.std.specs.Prelude.{◌≡◌, IfErr, IfOk};
-ghost use Rattle.json.specs.Json.{Json, document};
+ghost use Rattle.std.specs.Prelude.{◌≡◌, IfErr, IfOk, None, Ok};
+ghost use Rattle.json.specs.Json.{Json, document, null};
 ghost use Rattle.json.specs.Value.{value_view};
-ghost use Rattle.wc_json.specs.Faults.{Reading, Reads};
-ghost use Rattle.wc_json.specs.FromJson.{IsCauseOf, IsReadFrom};
+ghost use Rattle.wc_json.specs.Faults.{NeedsNoMemory, Reading, Reads};
+ghost use Rattle.wc_json.specs.FromJson.{IsCauseOf, IsList, IsReadFrom, IsText, list, nullable, text, truth};
+ghost use Rattle.wc_json.specs.declared.fault.JsonFault.TheVariants.{Memory};
 
 use crate::paths::{at_index, fault_here};
 use crate::{JsonFault, Problem};
@@ -30,7 +31,7 @@ pub trait FromJson: Drop {
     /// - `Wrong`: the first fault, by its path from this value.
     /// - `Memory`: an allocation failed.
     fn from_json(alloc: Global, seed: Seed, value: &Value<'_>) -> Result<Self, JsonFault>
-        ensures { Reads view result (reading (value_view value.now)) };
+        ensures reads { Reads view result (reading (value_view value.now)) };
 }
 
 impl FromJson for bool {
@@ -43,7 +44,10 @@ impl FromJson for bool {
 
     ghost reading = { truth };
 
-    fn from_json(alloc: Global, _seed: Seed, value: &Value<'_>) -> Result<bool, JsonFault> {
+    fn from_json(alloc: Global, _seed: Seed, value: &Value<'_>) -> Result<bool, JsonFault>
+        ensures reads { Reads (λ b. b) result (truth (value_view value.now)) }
+        ensures no_memory { NeedsNoMemory result }
+    {
         match value.as_bool() {
             Some(truth) => Ok(truth),
             None => Err(fault_here(alloc, Problem::NotABool)),
@@ -61,7 +65,10 @@ impl FromJson for String {
 
     ghost reading = { text };
 
-    fn from_json(alloc: Global, _seed: Seed, value: &Value<'_>) -> Result<String, JsonFault> {
+    fn from_json(alloc: Global, _seed: Seed, value: &Value<'_>) -> Result<String, JsonFault>
+        ensures reads { Reads string_bytes result (text (value_view value.now)) }
+        ensures memory { IfErr result (λ f. f ≡ Memory → IsText (value_view value.now)) }
+    {
         match value.as_str() {
             Some(text) => Ok(String::from_str(alloc, text)?),
             None => Err(fault_here(alloc, Problem::NotAText)),
@@ -81,7 +88,11 @@ impl<T: FromJson> FromJson for Option<T> {
 
     ghost reading = { nullable T.reading };
 
-    fn from_json(alloc: Global, seed: Seed, value: &Value<'_>) -> Result<Option<T>, JsonFault> {
+    fn from_json(alloc: Global, seed: Seed, value: &Value<'_>) -> Result<Option<T>, JsonFault>
+        ensures reads { Reads (option_map T.view) result
+            (nullable T.reading (value_view value.now)) }
+        ensures of_null { value_view value.now ≡ null → result ≡ Ok None }
+    {
         if value.is_null() {
             return Ok(None);
         }
@@ -100,7 +111,11 @@ impl<T: FromJson> FromJson for Vec<T> {
 
     ghost reading = { list T.reading };
 
-    fn from_json(alloc: Global, seed: Seed, value: &Value<'_>) -> Result<Vec<T>, JsonFault> {
+    fn from_json(alloc: Global, seed: Seed, value: &Value<'_>) -> Result<Vec<T>, JsonFault>
+        ensures reads { Reads (λ v. map T.view v.items) result
+            (list T.reading (value_view value.now)) }
+        ensures memory { IfErr result (λ f. f ≡ Memory → IsList (value_view value.now)) }
+    {
         let Value::Array(items) = value else {
             return Err(fault_here(alloc, Problem::NotAList));
         };

@@ -1,8 +1,9 @@
 //! Functions and their kinds.
 
 ghost use Rattle.std.specs.Prelude.{◌≡◌};
-ghost use Rattle.wc_json.specs.Faults.{Reads};
-ghost use Rattle.wc_json.specs.Functions.{kind_of_resource, kind_without_resource};
+ghost use Rattle.json.specs.Value.{value_view};
+ghost use Rattle.wc_json.specs.Faults.{NeedsMemoryForPaths, NeedsNoMemory, Reads};
+ghost use Rattle.wc_json.specs.Functions.{function_kind, kind_of_resource, kind_without_resource};
 
 use crate::from_json::FromJson;
 use crate::members::{only_member, optional_member, refuse_member, required_member};
@@ -15,7 +16,8 @@ use wc_resolve::{Function, FunctionKind, TypeId};
 
 /// The kind of this name of a function that belongs to no resource.
 fn kind_without_resource(alloc: Global, name: &str) -> Result<FunctionKind, JsonFault>
-    ensures { Reads (λ k. k) result (kind_without_resource name.now) }
+    ensures reads { Reads (λ k. k) result (kind_without_resource name.now) }
+    ensures no_memory { NeedsNoMemory result }
 {
     match name {
         "freestanding" => Ok(FunctionKind::Freestanding),
@@ -26,7 +28,8 @@ fn kind_without_resource(alloc: Global, name: &str) -> Result<FunctionKind, Json
 
 /// The kind of this name of a function that belongs to a resource.
 fn kind_of_resource(alloc: Global, name: &str, resource: TypeId) -> Result<FunctionKind, JsonFault>
-    ensures { Reads (λ k. k) result (kind_of_resource name.now resource.0) }
+    ensures reads { Reads (λ k. k) result (kind_of_resource name.now resource.0) }
+    ensures no_memory { NeedsNoMemory result }
 {
     match name {
         "method" => Ok(FunctionKind::Method(resource)),
@@ -48,7 +51,10 @@ impl FromJson for FunctionKind {
 
     ghost reading = { function_kind };
 
-    fn from_json(alloc: Global, seed: Seed, value: &Value<'_>) -> Result<FunctionKind, JsonFault> {
+    fn from_json(alloc: Global, seed: Seed, value: &Value<'_>) -> Result<FunctionKind, JsonFault>
+        ensures reads { Reads (λ k. k) result (function_kind (value_view value.now)) }
+        ensures memory { NeedsMemoryForPaths result (function_kind (value_view value.now)) }
+    {
         if let Some(name) = value.as_str() {
             return kind_without_resource(alloc, name);
         }

@@ -2,7 +2,7 @@
 
 ghost use Rattle.std.specs.Prelude.{◌≡◌, ℕ};
 ghost use Rattle.json.specs.Value.{value_view};
-ghost use Rattle.wc_json.specs.Faults.{Reads};
+ghost use Rattle.wc_json.specs.Faults.{NeedsNoMemory, Reads};
 ghost use Rattle.wc_json.specs.Ids.{index};
 
 use crate::from_json::FromJson;
@@ -15,7 +15,8 @@ use wc_resolve::{InterfaceId, PackageId, TypeId, WorldId};
 
 /// A number of decimal digits alone, below 2^32.
 fn index(alloc: Global, value: &Value<'_>) -> Result<u32, JsonFault>
-    ensures { Reads (λ n. n) result (index (value_view value.now)) }
+    ensures reads { Reads (λ n. n) result (index (value_view value.now)) }
+    ensures no_memory { NeedsNoMemory result }
 {
     let Some(number) = value.as_u64() else {
         return Err(fault_here(alloc, Problem::NotAnIndex));
@@ -36,7 +37,10 @@ impl FromJson for u32 {
 
     ghost reading = { index };
 
-    fn from_json(alloc: Global, _seed: Seed, value: &Value<'_>) -> Result<u32, JsonFault> {
+    fn from_json(alloc: Global, _seed: Seed, value: &Value<'_>) -> Result<u32, JsonFault>
+        ensures reads { Reads (λ n. n) result (index (value_view value.now)) }
+        ensures no_memory { NeedsNoMemory result }
+    {
         index(alloc, value)
     }
 }
@@ -51,7 +55,10 @@ impl FromJson for TypeId {
 
     ghost reading = { index };
 
-    fn from_json(alloc: Global, _seed: Seed, value: &Value<'_>) -> Result<TypeId, JsonFault> {
+    fn from_json(alloc: Global, _seed: Seed, value: &Value<'_>) -> Result<TypeId, JsonFault>
+        ensures reads { Reads (λ id. id.0) result (index (value_view value.now)) }
+        ensures no_memory { NeedsNoMemory result }
+    {
         Ok(TypeId(index(alloc, value)?))
     }
 }
@@ -66,7 +73,10 @@ impl FromJson for InterfaceId {
 
     ghost reading = { index };
 
-    fn from_json(alloc: Global, _seed: Seed, value: &Value<'_>) -> Result<InterfaceId, JsonFault> {
+    fn from_json(alloc: Global, _seed: Seed, value: &Value<'_>) -> Result<InterfaceId, JsonFault>
+        ensures reads { Reads (λ id. id.0) result (index (value_view value.now)) }
+        ensures no_memory { NeedsNoMemory result }
+    {
         Ok(InterfaceId(index(alloc, value)?))
     }
 }
@@ -81,7 +91,10 @@ impl FromJson for WorldId {
 
     ghost reading = { index };
 
-    fn from_json(alloc: Global, _seed: Seed, value: &Value<'_>) -> Result<WorldId, JsonFault> {
+    fn from_json(alloc: Global, _seed: Seed, value: &Value<'_>) -> Result<WorldId, JsonFault>
+        ensures reads { Reads (λ id. id.0) result (index (value_view value.now)) }
+        ensures no_memory { NeedsNoMemory result }
+    {
         Ok(WorldId(index(alloc, value)?))
     }
 }
@@ -96,7 +109,10 @@ impl FromJson for PackageId {
 
     ghost reading = { index };
 
-    fn from_json(alloc: Global, _seed: Seed, value: &Value<'_>) -> Result<PackageId, JsonFault> {
+    fn from_json(alloc: Global, _seed: Seed, value: &Value<'_>) -> Result<PackageId, JsonFault>
+        ensures reads { Reads (λ id. id.0) result (index (value_view value.now)) }
+        ensures no_memory { NeedsNoMemory result }
+    {
         Ok(PackageId(index(alloc, value)?))
     }
 }

@@ -2,9 +2,9 @@
 
 ghost use Rattle.std.specs.Prelude.{◌≡◌, map, string_bytes};
 ghost use Rattle.json.specs.Value.{value_view};
-ghost use Rattle.wc_json.specs.Faults.{Reads};
+ghost use Rattle.wc_json.specs.Faults.{NeedsMemoryForPaths, NeedsNoMemory, Reads};
 ghost use Rattle.wc_json.specs.FromJson.{list};
-ghost use Rattle.wc_json.specs.Kinds.{handle_of, kind_of, label, plain_kind};
+ghost use Rattle.wc_json.specs.Kinds.{handle, handle_of, kind_of, label, plain_kind};
 ghost use Rattle.wc_json.specs.Members.{required_member};
 ghost use Rattle.wc_resolve.specs.Views.{kind_view};
 
@@ -66,7 +66,10 @@ impl FromJson for Handle {
 
     ghost reading = { handle };
 
-    fn from_json(alloc: Global, seed: Seed, value: &Value<'_>) -> Result<Handle, JsonFault> {
+    fn from_json(alloc: Global, seed: Seed, value: &Value<'_>) -> Result<Handle, JsonFault>
+        ensures reads { Reads (λ h. h) result (handle (value_view value.now)) }
+        ensures memory { NeedsMemoryForPaths result (handle (value_view value.now)) }
+    {
         let member = only_member(alloc, value)?;
         at_variant(alloc, member.0, handle_of(alloc, seed, member.0, &member.1))
     }
@@ -79,7 +82,8 @@ fn handle_of(
     kind: &str,
     resource: &Value<'_>,
 ) -> Result<Handle, JsonFault>
-    ensures { Reads (λ h. h) result (handle_of kind.now (value_view resource.now)) }
+    ensures reads { Reads (λ h. h) result (handle_of kind.now (value_view resource.now)) }
+    ensures no_memory { NeedsNoMemory result }
 {
     match kind {
         "own" => Ok(Handle::Own(TypeId::from_json(alloc, seed, resource)?)),
@@ -90,7 +94,8 @@ fn handle_of(
 
 /// The kind that is written as this text alone.
 fn plain_kind(alloc: Global, name: &str) -> Result<TypeDefKind, JsonFault>
-    ensures { Reads kind_view result (plain_kind name.now) }
+    ensures reads { Reads kind_view result (plain_kind name.now) }
+    ensures no_memory { NeedsNoMemory result }
 {
     match name {
         "resource" => Ok(TypeDefKind::Resource),

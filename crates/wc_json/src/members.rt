@@ -1,11 +1,15 @@
 //! The members of objects: those that have to be there, those that may be missing, and the only one
 //! of a variant.
 
-ghost use Rattle.std.specs.Prelude.{◌≡◌};
+ghost use Rattle.std.specs.Prelude.{◌≡◌, ◌≢◌, IfErr, IsErr, IsSomeAnd, OnErr};
 ghost use Rattle.std.specs.Option.{option_map};
+ghost use Rattle.json.specs.Find.{get};
+ghost use Rattle.json.specs.Json.{null};
 ghost use Rattle.json.specs.Value.{value_view};
-ghost use Rattle.wc_json.specs.Faults.{Reads};
+ghost use Rattle.wc_json.specs.Faults.{NeedsNoMemory, Reads};
+ghost use Rattle.wc_json.specs.FromJson.{IsObject};
 ghost use Rattle.wc_json.specs.Members.{absent_member, find_member, only_member, optional_member, required_member};
+ghost use Rattle.wc_json.specs.declared.fault.JsonFault.TheVariants.{Memory};
 
 use crate::from_json::FromJson;
 use crate::paths::{at_member, fault_at_member, fault_here};
@@ -20,8 +24,9 @@ fn find_member<'v, 'a>(
     object: &'v Value<'a>,
     name: &str,
 ) -> Result<Option<&'v Value<'a>>, JsonFault>
-    ensures { Reads (λ found. option_map (λ v. value_view v.now) found) result
+    ensures reads { Reads (λ found. option_map (λ v. value_view v.now) found) result
         (find_member name.now (value_view object.now)) }
+    ensures no_memory { NeedsNoMemory result }
 {
     let Value::Object(_) = object else {
         return Err(fault_here(alloc, Problem::NotAnObject));
@@ -36,7 +41,9 @@ pub fn required_member<T: FromJson>(
     object: &Value<'_>,
     name: &str,
 ) -> Result<T, JsonFault>
-    ensures { Reads T.view result (required_member name.now T.reading (value_view object.now)) }
+    ensures reads { Reads T.view result
+        (required_member name.now T.reading (value_view object.now)) }
+    ensures memory { IfErr result (λ f. f ≡ Memory → IsObject (value_view object.now)) }
 {
     match find_member(alloc, object, name)? {
         Some(value) => at_member(alloc, name, T::from_json(alloc, seed, value)),
@@ -52,8 +59,10 @@ pub fn optional_member<T: FromJson>(
     object: &Value<'_>,
     name: &str,
 ) -> Result<Option<T>, JsonFault>
-    ensures { Reads (option_map T.view) result
+    ensures reads { Reads (option_map T.view) result
         (optional_member name.now T.reading (value_view object.now)) }
+    ensures memory { IfErr result (λ f. f ≡ Memory
+        → IsSomeAnd (get name.now (value_view object.now)) (λ j. j ≢ null)) }
 {
     match find_member(alloc, object, name)? {
         Some(value) => at_member(alloc, name, Option::<T>::from_json(alloc, seed, value)),
@@ -63,8 +72,9 @@ pub fn optional_member<T: FromJson>(
 
 /// Refuses an object that has a member of this name, which is one of an older form of the format.
 pub(crate) fn refuse_member(alloc: Global, object: &Value<'_>, name: &str) -> Result<(), JsonFault>
-    ensures { Reads (λ nothing. nothing) result
+    ensures reads { Reads (λ nothing. nothing) result
         (absent_member name.now (value_view object.now)) }
+    ensures wrong { OnErr result (IsErr (absent_member name.now (value_view object.now))) }
 {
     match find_member(alloc, object, name)? {
         Some(_) => Err(fault_at_member(alloc, name, fault_here(alloc, Problem::Outdated))),
@@ -77,8 +87,9 @@ pub(crate) fn only_member<'v, 'a>(
     alloc: Global,
     value: &'v Value<'a>,
 ) -> Result<&'v (&'a str, Value<'a>), JsonFault>
-    ensures { Reads (λ m. (m.now.0.now, value_view m.now.1)) result
+    ensures reads { Reads (λ m. (m.now.0.now, value_view m.now.1)) result
         (only_member (value_view value.now)) }
+    ensures no_memory { NeedsNoMemory result }
 {
     let Value::Object(members) = value else {
         return Err(fault_here(alloc, Problem::NotAnObject));

@@ -1,19 +1,21 @@
 //! The paths of faults. A value that is wrong answers the empty path, and each value around it puts
 //! one step before it: so reading a text without a fault makes no path.
 
-ghost use Rattle.std.specs.Prelude.{◌≡◌, IfOk, string_bytes};
+ghost use Rattle.std.specs.Prelude.{◌≡◌, ◌≢◌, IfOk, string_bytes};
 ghost use Rattle.std.specs.List.{list_all};
 ghost use Rattle.wc_json.specs.Faults.{IsFault, fault_here};
+ghost use Rattle.wc_json.specs.declared.fault.JsonFault.TheVariants.{Memory};
 ghost use Rattle.wc_json.specs.Paths.{IsFaultAt, IsReadAt, index_step, is_word, is_word_char, join, key_step, variant_step};
 
 use crate::escape::escaped;
 use crate::{JsonFault, Problem};
 use std::alloc::{AllocError, Global};
 
-/// The fault of a value itself, whose path has no step yet.
+/// The fault of a value itself, whose path has no step yet. It needs no memory.
 #[cold]
 pub fn fault_here(alloc: Global, problem: Problem) -> JsonFault
-    ensures { IsFault result (fault_here problem) }
+    ensures fault { IsFault result (fault_here problem) }
+    ensures no_memory { result ≢ Memory }
 {
     JsonFault::Wrong {
         path: String::new(alloc),

@@ -2,8 +2,8 @@
 
 ghost use Rattle.std.specs.Prelude.{◌≡◌};
 ghost use Rattle.json.specs.Value.{value_view};
-ghost use Rattle.wc_json.specs.Faults.{Reads};
-ghost use Rattle.wc_json.specs.Types.{owner_of};
+ghost use Rattle.wc_json.specs.Faults.{NeedsMemoryForPaths, NeedsNoMemory, Reads};
+ghost use Rattle.wc_json.specs.Types.{owner, owner_of};
 
 use crate::from_json::FromJson;
 use crate::members::{only_member, optional_member, required_member};
@@ -24,7 +24,10 @@ impl FromJson for TypeOwner {
 
     ghost reading = { owner };
 
-    fn from_json(alloc: Global, seed: Seed, value: &Value<'_>) -> Result<TypeOwner, JsonFault> {
+    fn from_json(alloc: Global, seed: Seed, value: &Value<'_>) -> Result<TypeOwner, JsonFault>
+        ensures reads { Reads (λ o. o) result (owner (value_view value.now)) }
+        ensures memory { NeedsMemoryForPaths result (owner (value_view value.now)) }
+    {
         let member = only_member(alloc, value)?;
         at_variant(alloc, member.0, owner_of(alloc, seed, member.0, &member.1))
     }
@@ -32,7 +35,8 @@ impl FromJson for TypeOwner {
 
 /// The owner of this kind, whose id the value is.
 fn owner_of(alloc: Global, seed: Seed, kind: &str, id: &Value<'_>) -> Result<TypeOwner, JsonFault>
-    ensures { Reads (λ o. o) result (owner_of kind.now (value_view id.now)) }
+    ensures reads { Reads (λ o. o) result (owner_of kind.now (value_view id.now)) }
+    ensures no_memory { NeedsNoMemory result }
 {
     match kind {
         "world" => Ok(TypeOwner::World(WorldId::from_json(alloc, seed, id)?)),

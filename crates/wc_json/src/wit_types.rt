@@ -2,8 +2,9 @@
 //! types.
 
 ghost use Rattle.std.specs.Prelude.{◌≡◌};
-ghost use Rattle.wc_json.specs.Faults.{Reads};
-ghost use Rattle.wc_json.specs.WitTypes.{primitive};
+ghost use Rattle.json.specs.Value.{value_view};
+ghost use Rattle.wc_json.specs.Faults.{NeedsNoMemory, Reads};
+ghost use Rattle.wc_json.specs.WitTypes.{primitive, wit_type};
 
 use crate::from_json::FromJson;
 use crate::members::{optional_member, required_member};
@@ -16,7 +17,8 @@ use wc_resolve::{TypeId, WitType};
 
 /// The primitive type of this name.
 fn primitive(alloc: Global, name: &str) -> Result<WitType, JsonFault>
-    ensures { Reads (λ t. t) result (primitive name.now) }
+    ensures reads { Reads (λ t. t) result (primitive name.now) }
+    ensures no_memory { NeedsNoMemory result }
 {
     match name {
         "bool" => Ok(WitType::Bool),
@@ -47,7 +49,10 @@ impl FromJson for WitType {
 
     ghost reading = { wit_type };
 
-    fn from_json(alloc: Global, seed: Seed, value: &Value<'_>) -> Result<WitType, JsonFault> {
+    fn from_json(alloc: Global, seed: Seed, value: &Value<'_>) -> Result<WitType, JsonFault>
+        ensures reads { Reads (λ t. t) result (wit_type (value_view value.now)) }
+        ensures no_memory { NeedsNoMemory result }
+    {
         match value.as_str() {
             Some(name) => primitive(alloc, name),
             None => Ok(WitType::Id(TypeId::from_json(alloc, seed, value)?)),

@@ -15,7 +15,6 @@ pub mod PayloadLemmas
 pub mod KeyLemmas
 pub mod InterfaceLemmas
 pub mod InterfaceIndexLemmas
-pub mod ClassificationLemmas
 pub mod ExportNameLemmas
 pub mod ExportIndexLemmas
 pub mod ExportMeaningLemmas

@@ -19,5 +19,4 @@ pub mod ExportNames
 pub mod ExportViews
 pub mod ExportIndex
 pub mod Exports
-pub mod Classifications
 pub mod Laws

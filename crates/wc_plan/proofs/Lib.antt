@@ -6,3 +6,5 @@ pub mod LoweringLemmas
 pub mod MemoryLemmas
 pub mod ModuleLemmas
 pub mod ProgressLemmas
+pub mod SameWorldLemmas
+pub mod UniqueWorldLemmas

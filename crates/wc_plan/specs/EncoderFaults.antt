@@ -26,6 +26,17 @@ IsEncoderFault options e Memory = Unit {0}
 IsEncoderFault options e (World f) = IsWorldCause e f
 IsEncoderFault options e f = (w : ComponentWorldView) × IsWorldOf options e w × IsFirstFault w f
 
+-- the fault of an encoder that has this world: an allocation failed, perhaps while the world was made; or it is that of
+-- the world's plan
+abbrev pub IsFaultWith : EncoderView → ComponentWorldView → PlanFault → Type 0
+IsFaultWith e w Memory = Unit {0}
+IsFaultWith e w (World f) = (f ≢ world_memory) × IsMemory e f
+IsFaultWith e w f = IsFirstFault w f
+
+-- a fact of each world that an encoder and options have
+abbrev pub ForWorlds : OptionsOf → EncoderView → (ComponentWorldView → Type 0) → Type 0
+ForWorlds options e P = (w : ComponentWorldView) → IsWorldOf options e w → P w
+
 -- a fault is not that a lowering is missing
 abbrev pub IsLowered : PlanFault → Type 0
 IsLowered (NoLowering name) = ⊥

@@ -1,7 +1,7 @@
 //! Plans of encoders.
 
 ghost use Rattle.std.specs.Prelude.{◌≡◌, IfErr, IfOk};
-ghost use Rattle.wc_plan.specs.EncoderFaults.{IsEncoderFault, IsLowered};
+ghost use Rattle.wc_plan.specs.EncoderFaults.{ForWorlds, IsEncoderFault, IsFaultWith, IsLowered};
 ghost use Rattle.wc_plan.specs.Faults.{HasNoFault};
 ghost use Rattle.wc_plan.specs.PlanViews.{plan_view};
 ghost use Rattle.wc_plan.specs.Plans.{plan_of};
@@ -9,21 +9,22 @@ ghost use Rattle.wc_world.specs.Views.{ComponentWorldView};
 ghost use Rattle.wc_world.specs.World.{IsWorldOf};
 
 use crate::fault::PlanFault;
-use crate::laws::worlds_nameable;
+use crate::laws::{worlds_nameable, worlds_unique};
 use crate::planner::plan;
 use crate::uses::Plan;
 use std::alloc::Global;
 use wc_encoder::ComponentEncoder;
-use wc_world::laws::recorded_functions_lowered;
+use wc_world::laws::{recorded_functions_lowered, worlds_exclude_faults};
 use wc_world::{ComponentWorld, ImportOptions};
 
-/// The plan of the component's world that an encoder and options make (`ComponentWorld::new`).
+/// The plan of the component's world that an encoder and options make (`ComponentWorld::new`). There is one such world at
+/// most (`laws::worlds_unique`), so the plan is that of each.
 ///
 /// # Errors
 ///
 /// `World` is before all others. `Memory` may come in place of any.
 ///
-/// - `World`: `ComponentWorld::new` answers this fault.
+/// - `World`: `ComponentWorld::new` answers this fault. Where there is such a world, it is that an allocation failed.
 /// - `NoMemory`, `NoRealloc`: as of `plan`. `NoLowering` is never answered.
 /// - `Memory`: an allocation failed.
 pub fn plan_encoder<O: ImportOptions>(
@@ -34,10 +35,16 @@ pub fn plan_encoder<O: ImportOptions>(
     ensures plan { IfOk result (λ p. (w : ComponentWorldView)
         × IsWorldOf (O.options_of options.now) encoder.now w × HasNoFault w
         × (plan_view p ≡ plan_of w)) }
+    ensures each { IfOk result (λ p. ForWorlds (O.options_of options.now) encoder.now
+        (λ w. HasNoFault w × (plan_view p ≡ plan_of w))) }
     ensures fault { IfErr result (IsEncoderFault (O.options_of options.now) encoder.now) }
+    ensures each_fault { IfErr result (λ f. ForWorlds (O.options_of options.now) encoder.now
+        (λ w. IsFaultWith encoder.now w f)) }
     ensures lowered { IfErr result IsLowered }
 {
     worlds_nameable(encoder);
+    worlds_unique(encoder);
+    worlds_exclude_faults(encoder);
     recorded_functions_lowered(encoder);
     let world = ComponentWorld::new(alloc, encoder, options)?;
     plan(alloc, &world)

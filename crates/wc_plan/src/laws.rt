@@ -1,8 +1,10 @@
 //! Laws of plans: contracts of functions that do nothing when they run.
 
-ghost use Rattle.wc_plan.specs.Laws.{PlansExcludeFaults, WorldsNameable};
+ghost use Rattle.wc_plan.specs.Laws.{PlansExcludeFaults, WorldsNameable, WorldsUnique};
 
 use wc_encoder::ComponentEncoder;
+use wc_read::laws::modules_unique;
+use wc_validate::laws::records_unique;
 use wc_world::laws::recorded_functions_lowered;
 
 /// A world that `ComponentWorld::new` makes meets the condition of `plan`: each interface that a function is imported of
@@ -11,6 +13,16 @@ pub fn worlds_nameable(encoder: &ComponentEncoder)
     ensures { WorldsNameable encoder.now }
 {
     recorded_functions_lowered(encoder);
+}
+
+/// Of an encoder and options there is one world at most: two that meet what `ComponentWorld::new` says of its world have
+/// the same main module, adapters, lowerings, live types and exports used. It is left open whether the bytes of a trimmed
+/// adapter are borrowed. It does nothing when it runs.
+pub fn worlds_unique(encoder: &ComponentEncoder)
+    ensures { WorldsUnique encoder.now }
+{
+    records_unique(encoder);
+    modules_unique();
 }
 
 /// `plan` succeeds only where it has no other fault than that memory ran out: where no function has a fault, there is no

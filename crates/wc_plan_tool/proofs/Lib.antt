@@ -1,6 +1,7 @@
 mod TextsLemmas
 mod FileNameLemmas
 mod NamesLemmas
+mod WorldsLemmas
 mod ProgramLemmas
 mod RunLemmas
 mod NearestLemmas

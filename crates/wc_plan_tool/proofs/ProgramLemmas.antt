@@ -7,21 +7,18 @@ use Rattle.wc_encoder.specs.Fault.{IsCause as IsEncoderCause}
 use Rattle.wc_encoder.specs.declared.fault.EncoderFault.{EncoderFault}
 use Rattle.wc_encoder.specs.declared.fault.EncoderFault.TheVariants.{Memory as encoder_memory}
 use Rattle.wc_json.specs.Document.{DocumentView}
-use Rattle.wc_resolve.specs.Faults.{IsCause as IsResolveCause}
 use Rattle.wc_resolve.specs.Views.{key_view}
+use Rattle.wc_resolve.specs.World.{ResolveView}
 use Rattle.wc_resolve.specs.WellFormed.{IsWellFormed as IsResolve}
-use Rattle.wc_resolve.specs.declared.fault.ResolveFault.{ResolveFault}
-use Rattle.wc_resolve.specs.declared.fault.ResolveFault.TheVariants.{Memory as resolve_memory}
 use Rattle.wc_selection.proofs.ListLemmas.{passed_more}
 use Rattle.wc_selection.specs.KeyNames.{count_unversioned, request_keys}
 use Rattle.wc_selection.specs.Keys.{NamedKey}
 use Rattle.wc_selection.specs.RequiredExports.{required_keys}
 use Rattle.wc_selection.specs.Texts.{first_parts, second_parts, text_pair}
-use Rattle.wc_selection.specs.Worlds.{IsSelected, IsWorldCause}
+use Rattle.wc_selection.specs.Worlds.{IsSelected}
 use Rattle.wc_plan_tool.specs.declared.faults.SelectionFault.{SelectionFault}
 use Rattle.wc_plan_tool.specs.declared.faults.SelectionFault.TheVariants.{Request}
-use Rattle.wc_selection.specs.declared.fault.RequestFault.{RequestFault}
-use Rattle.wc_selection.specs.declared.fault.RequestFault.TheVariants.{Memory as request_memory, UnknownKey, SeveralKeys, RepeatedKey}
+use Rattle.wc_selection.specs.declared.fault.RequestFault.TheVariants.{UnknownKey, SeveralKeys, RepeatedKey}
 use Rattle.std.proofs.lemmas.List.{map-append}
 use Rattle.std.specs.List.{AllPairs, AllZip}
 use Rattle.std.proofs.lemmas.Bool.{cases_Bool}
@@ -35,11 +32,11 @@ use Rattle.wc_encoder.specs.declared.adapters.Adapter.{Adapter}
 use Rattle.wc_encoder.proofs.PairLemmas.{pairs_head, pairs_tail}
 use Rattle.wc_resolve.proofs.KeyLemmas.{texts_law}
 use Rattle.wc_resolve.proofs.SearchLemmas.{contains_cons, contains_head, contains_none, contains_tail}
-use Rattle.wc_plan_tool.specs.Faults.{of_dedupe, of_encoder, of_request, of_resolve, of_selection}
-use Rattle.wc_plan_tool.specs.RequiredExports.{IsNamesCause, request_of}
+use Rattle.wc_plan_tool.specs.Faults.{of_dedupe, of_encoder}
+use Rattle.wc_plan_tool.specs.RequiredExports.{AreNamesThere, IsNamesCause, request_of}
 use Rattle.wc_tool.specs.Files.{Held, Holds}
 use Rattle.wc_plan_tool.specs.Arguments.{CommandValue}
-use Rattle.wc_plan_tool.specs.Program.{IsAdapterIn, IsAdaptersCause, IsChosen, IsDocumentIn, IsListed, IsListedCause, IsListedSelection, IsMainCause, IsModulesCause, IsPartsOf, IsPartsWith, IsPlanCause, IsReadFault, IsUnknownKey}
+use Rattle.wc_plan_tool.specs.Program.{AreWorldsIn, IsAdapterIn, IsAdaptersCause, IsChosen, IsDocumentIn, IsListed, IsListedCause, IsListedSelection, IsMainCause, IsModulesCause, IsPartsOf, IsPartsWith, IsPlanCause, IsReadFault, IsUnknownKey}
 use Rattle.wc_plan_tool.specs.declared.faults.ProgramFault.{ProgramFault}
 use Rattle.wc_plan_tool.specs.declared.faults.ProgramFault.TheVariants.{Memory, CannotRead, Selection, NoExport, Dedupe}
 
@@ -135,16 +132,6 @@ adapters_more before c keys pairs k d entries after name adapter lt distinct nam
 
 -- causes of faults that come before there is an encoder
 
-pub world_unnamed : (c : CommandValue) (before : Option Held) (d : DocumentView) (f : RequestFault) → IsDocumentIn before c.worlds d
-    → IsWorldCause d c.world f → IsPlanCause c before (of_selection (of_request f))
-world_unnamed c before d request_memory document cause = tt
-world_unnamed c before d f document cause = inl (d, document, cause)
-
-pub resolve_cause : (c : CommandValue) (before : Option Held) (d : DocumentView) (world : ℕ) (f : ResolveFault) → IsDocumentIn before c.worlds d
-    → IsSelected d c.world world → IsResolveCause d.parts f → IsPlanCause c before (of_resolve f)
-resolve_cause c before d world resolve_memory document selected cause = tt
-resolve_cause c before d world f document selected cause = (d, world, document, selected, (λ e. cc), cause)
-
 pub names_cause : (c : CommandValue) (before : Option Held) (d : DocumentView) (world : ℕ) (f : ProgramFault) → IsDocumentIn before c.worlds d
     → IsSelected d c.world world → IsResolve d.parts → IsListedCause c (request_keys (request_of c) d.parts world) f → IsPlanCause c before f
 names_cause c before d world Memory document selected formed cause = tt
@@ -199,3 +186,25 @@ parts_of c before d world keys e chosen at is keyed parts = record {
   resolve = is;
   parts = subst (λ (k : List NamedKey). IsPartsWith c before k e) (keyed ∙ (λ i. request_keys (request_of c) (sym is i) (sym at i))) parts;
 }
+
+-- the world that is chosen, and what is encoded for it, of the worlds that were read
+
+module _ (c : CommandValue) (before : Option Held) (r : ResolveView) (world : ℕ) (there : AreWorldsIn c before r world) where
+  keys_of : (keys : List NamedKey) → keys ≡ request_keys (request_of c) r world → keys ≡ request_keys (request_of c) there.0.parts world
+  keys_of keys keyed = keyed ∙ ap (λ q. request_keys (request_of c) q world) there.4
+
+  pub listed_worlds : (keys : List NamedKey) (f : ProgramFault) → keys ≡ request_keys (request_of c) r world → IsListedCause c keys f → IsPlanCause c before f
+  listed_worlds keys f keyed cause =
+      names_cause c before there.0 world f there.1 there.2 there.3 (subst (λ (k : List NamedKey). IsListedCause c k f) (keys_of keys keyed) cause)
+
+  pub chosen_worlds : (keys : List NamedKey) → keys ≡ request_keys (request_of c) r world → AreNamesThere c keys → IsChosen c before there.0 world
+  chosen_worlds keys keyed named = record {
+    worlds = there.1;
+    selected = there.2;
+    resolve = there.3;
+    named = subst (AreNamesThere c) (keys_of keys keyed) named;
+  }
+
+  pub parts_with : (keys : List NamedKey) (e : EncoderView) → IsChosen c before there.0 world → keys ≡ request_keys (request_of c) r world → e.world ≡ world
+      → e.resolve ≡ r → IsPartsWith c before keys e → IsPartsOf c before e
+  parts_with keys e chosen keyed at is parts = parts_of c before there.0 world keys e chosen at (is ∙ there.4) (keys_of keys keyed) parts

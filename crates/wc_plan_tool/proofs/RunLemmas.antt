@@ -13,16 +13,20 @@ use Rattle.wc_world.specs.Views.{ComponentWorldView}
 use Rattle.wc_world.specs.World.{IsWorldOf}
 use Rattle.wc_world.specs.declared.fault.WorldFault.{WorldFault}
 use Rattle.wc_world.specs.declared.fault.WorldFault.TheVariants.{Memory as world_memory}
-use Rattle.wc_plan_tool.specs.Arguments.{CommandValue, IsStop, Reading}
-use Rattle.wc_plan_tool.specs.Reading.{read_arguments}
+use Rattle.wc_plan_tool.specs.Arguments.{CommandValue, IsStop, Reading, wrong_value}
+use Rattle.wc_plan_tool.specs.Reading.{AsksMemory, read_arguments}
 use Rattle.wc_plan_tool.specs.Screen.{Printing, nothing, printed}
 use Rattle.wc_plan_tool.specs.declared.arguments.NoCommand.{NoCommand}
 use Rattle.wc_plan_tool.specs.declared.arguments.NoCommand.TheVariants.{Memory, Help, Version, Wrong}
 use Rattle.wc_plan_tool.specs.Faults.{of_plan}
-use Rattle.wc_plan_tool.specs.Program.{CommandEnds, EndsWell, EndsWithoutMemory, IsEncoderOf, IsFileFault, IsPlanCause, IsPlanned, IsRunCause, IsUnwrittenFile, ProgramEnds, ReadingEnds, WritesAll, file_view, files_of, printed_text}
-use Rattle.wc_plan_tool.specs.Private.Runs.{AnswersStop, IsMakingFault, IsOfWorld, IsWritingFault}
+use Rattle.wc_plan_tool.specs.Program.{CommandEnds, EndsWell, EndsWithArguments, IsEncoderOf, IsPlanCause, IsPlanned, IsRunCause, IsUnwrittenFile, ProgramEnds, ReadingEnds, WritesAll, file_view, files_of, printed_text}
+use Rattle.wc_plan_tool.specs.Private.Runs.{AnswersStop, IsOfWorld, IsWritingFault}
 use Rattle.wc_plan_tool.specs.declared.faults.ProgramFault.{ProgramFault}
 use Rattle.wc_plan_tool.specs.declared.faults.ProgramFault.TheVariants.{CannotMake, CannotWrite, Output, World}
+
+-- paths with the bytes of their files
+abbrev Files : Type 0
+Files = List (String Global × Bor (List ℕ))
 
 module _ (c : CommandValue) (before : Option Held) where
   -- before files are written nothing is printed
@@ -58,11 +62,11 @@ module _ (c : CommandValue) (before : Option Held) where
   plan_cause e w f encodes world (inr h) = first_cause e w f encodes world h
 
   module _ (after : Option Held) (makes : List ℕ → Type 0) (out : Printing → Type 0) (w : ComponentWorldView) (planned : IsPlanned c before w)
-      (files : List (List ℕ × List ℕ)) (outputs : files ≡ files_of c.out w)
+      (files : Files) (outputs : map file_view files ≡ files_of c.out w)
     where
       -- all files were written, and the lines printed
       pub all_written : {T : Type 0} (r : Result T ProgramFault)
-          → OnOk r (IfSome c.out makes) → OnOk r (WritesAll before after files) → OnOk r (out (printed (printed_text c.json w)))
+          → OnOk r (IfSome c.out makes) → OnOk r (WritesAll before after (map file_view files)) → OnOk r (out (printed (printed_text c.json w)))
           → OnOk r (EndsWell c before after makes out)
       all_written (Ok x) made written shown =
           (w, record { planned = planned; made = made; written = subst (WritesAll before after) outputs written }, shown)
@@ -82,54 +86,33 @@ module _ (c : CommandValue) (before : Option Held) where
       some_unwritten (Ok x) h = tt
       some_unwritten (Err f) h = unwritten f h
 
--- parts of writing that fail
-
-pub making_fault : (directory : Option (List ℕ)) (before after : Option Held) (makes : List ℕ → Type 0) (files : List (List ℕ × List ℕ))
-    (out : Printing → Type 0) (f : ProgramFault) → IsMakingFault directory f → after ≡ before → out nothing
-    → IsWritingFault directory before after makes files out f
-making_fault directory before after makes files out (CannotMake path) h kept still = (h, kept, still)
-making_fault directory before after makes files out f h kept still = absurd h
-
-pub file_fault : (directory : Option (List ℕ)) (before middle after : Option Held) (makes : List ℕ → Type 0) (files : List (List ℕ × List ℕ))
-    (out : Printing → Type 0) (f : ProgramFault) → IfSome directory makes → middle ≡ before → IsFileFault middle after files f → out nothing
-    → IsWritingFault directory before after makes files out f
-file_fault directory before middle after makes files out (CannotWrite path) made kept h still =
-    (made, subst (λ (m : Option Held). IsUnwrittenFile m after files (string_bytes path)) kept h, still)
-file_fault directory before middle after makes files out f made kept h still = absurd h
-
 -- how the program ends by what its arguments are read as
 
-pub ends_by_reading : (arguments : List (List ℕ)) (before after : Option Held) (makes : List ℕ → Type 0) (out err : Printing → Type 0) (status : ℕ)
-    → arguments ≢ []
-    → ReadingEnds (read_arguments arguments) before after makes out err status ⊎ ((after ≡ before) × EndsWithoutMemory out err status)
+pub ends_by_reading : (arguments : List (String Global)) (before after : Option Held) (makes : List ℕ → Type 0) (out err : Printing → Type 0) (status : ℕ)
+    → arguments ≢ [] → EndsWithArguments (map string_bytes arguments) before after makes out err status
     → ProgramEnds arguments before after makes out err status
 ends_by_reading [] before after makes out err status some ends = absurd (some refl)
 ends_by_reading (x ∷ xs) before after makes out err status some ends = ends
 
-pub ends_by_command : (reading : Reading CommandValue) (c : CommandValue) (before after : Option Held) (makes : List ℕ → Type 0)
-    (out err : Printing → Type 0) (status : ℕ) → reading ≡ Ok c → CommandEnds c before after makes out err status
-    → ReadingEnds reading before after makes out err status ⊎ ((after ≡ before) × EndsWithoutMemory out err status)
-ends_by_command reading c before after makes out err status read ends =
+pub ends_by_command : (arguments : List (List ℕ)) (c : CommandValue) (before after : Option Held) (makes : List ℕ → Type 0)
+    (out err : Printing → Type 0) (status : ℕ) → read_arguments arguments ≡ Ok c → CommandEnds c before after makes out err status
+    → EndsWithArguments arguments before after makes out err status
+ends_by_command arguments c before after makes out err status read ends =
     inl (subst (λ (r : Reading CommandValue). ReadingEnds r before after makes out err status) (sym read) ends)
 
-pub ends_by_stop : (reading : Reading CommandValue) (e : NoCommand) (files : Option Held) (makes : List ℕ → Type 0)
-    (out err : Printing → Type 0) (status : ℕ) → IsStop reading e → AnswersStop e out err status
-    → ReadingEnds reading files files makes out err status ⊎ ((files ≡ files) × EndsWithoutMemory out err status)
-ends_by_stop reading Memory files makes out err status stops answer = inr (refl, answer)
-ends_by_stop reading Help files makes out err status stops answer =
+pub ends_by_stop : (arguments : List (List ℕ)) (e : NoCommand) (files : Option Held) (makes : List ℕ → Type 0)
+    (out err : Printing → Type 0) (status : ℕ) → IsStop (AsksMemory arguments) (read_arguments arguments) e → AnswersStop e out err status
+    → EndsWithArguments arguments files files makes out err status
+ends_by_stop arguments Memory files makes out err status stops answer = inr (inl stops, refl, answer)
+ends_by_stop arguments Help files makes out err status stops answer =
     inl (subst (λ (r : Reading CommandValue). ReadingEnds r files files makes out err status) (sym stops) (refl, answer))
-ends_by_stop reading Version files makes out err status stops answer =
+ends_by_stop arguments Version files makes out err status stops answer =
     inl (subst (λ (r : Reading CommandValue). ReadingEnds r files files makes out err status) (sym stops) (refl, answer))
-ends_by_stop reading (Wrong w) files makes out err status stops (inl answer) =
+ends_by_stop arguments (Wrong w) files makes out err status stops (inl answer) =
     inl (subst (λ (r : Reading CommandValue). ReadingEnds r files files makes out err status) (sym stops) (refl, answer))
-ends_by_stop reading (Wrong w) files makes out err status stops (inr none) = inr (refl, none)
+ends_by_stop arguments (Wrong w) files makes out err status stops (inr none) = inr (inr (wrong_value w, stops), refl, none)
 
--- files that are written one after another
-
-abbrev Files : Type 0
-Files = List (String Global × Bor (List ℕ))
-
--- one more is written
+-- files that are written one after another: one more is
 pub writes_more : (before middle after : Option Held) (files : Files) (file : String Global × Bor (List ℕ)) → WritesAll before middle (map file_view files)
     → Writes middle after (string_bytes file.0) file.1.now → WritesAll before after (map file_view (files ++ file ∷ []))
 writes_more before middle after [] file h w = (after, subst (λ (m : Option Held). Writes m after (string_bytes file.0) file.1.now) h w, refl)

@@ -1,23 +1,23 @@
 -- Arguments as texts, which are read one after another.
-use Rattle.std.proofs.Common.{◌≡◌, ◌≢◌, ◌==◌, ◌+◌, true, false, ◌<◌, ℕ, List, [], ◌∷◌, length, map, drop, get_or, string_bytes, String, Global, Ok, Err, sym, ◌∙◌, ap, arith}
+use Rattle.std.proofs.Common.{◌≡◌, ◌≢◌, ◌==◌, ◌+◌, true, false, ◌<◌, ℕ, List, [], ◌∷◌, length, map, drop, get_or, string_bytes, String, Global, Ok, Err, sym, ◌∙◌, ap, subst, inl, inr, arith}
 use Rattle.std.proofs.lemmas.List.{drop_more, nil_from_length}
 use Rattle.std.proofs.lemmas.Bool.Decides.{nat_tests}
 use Rattle.wc_plan_tool.specs.declared.arguments.NoCommand.{NoCommand}
 use Rattle.wc_plan_tool.specs.declared.arguments.NoCommand.TheVariants.{Memory, Help, Version, Wrong}
-use Rattle.wc_plan_tool.specs.Arguments.{CommandValue, IsStop, Reading, Stop, help, version, wrong, wrong_value}
-use Rattle.wc_plan_tool.specs.Reading.{DraftValue, go_on, read_from, take_up}
+use Rattle.wc_plan_tool.specs.Arguments.{CommandValue, GoesOnTo, IsStop, IsStopOf, Reading, Stop, help, version, wrong, wrong_value}
+use Rattle.wc_plan_tool.specs.Reading.{AsksAt, AsksFrom, DraftValue, KeepsMore, go_on, read_from, take_up}
 
 abbrev pub Arguments : Type 0
 Arguments = List (String Global)
 
-pub some_texts : (arguments : Arguments) → (length arguments == 0) ≡ false → map string_bytes arguments ≢ []
+pub some_texts : (arguments : Arguments) → (length arguments == 0) ≡ false → arguments ≢ []
 some_texts [] some = absurd cc
 some_texts (x ∷ xs) some = λ e. absurd cc
 
-pub no_texts : (arguments : Arguments) → (length arguments == 0) ≡ true → map string_bytes arguments ≡ []
+pub no_texts : (arguments : Arguments) → (length arguments == 0) ≡ true → arguments ≡ []
 no_texts arguments none =
     let empty : length arguments ≡ 0 = grind (arith, nat_tests) in
-    ap (λ xs. map string_bytes xs) (nil_from_length arguments empty)
+    nil_from_length arguments empty
 
 abbrev State : Type 0
 State = CommandValue × DraftValue
@@ -47,10 +47,37 @@ stopped_by : (arguments : Arguments) (k : ℕ) (d : String Global) (text : List 
 stopped_by arguments k d text state all stop lt is stopped before =
     sym before ∙ next_read arguments k d text state lt is ∙ ap (go_on (read_from (map string_bytes (drop (k + 1) arguments)))) stopped
 
-pub stopped_at : (arguments : Arguments) (k : ℕ) (d : String Global) (text : List ℕ) (state : State) (all : Reading CommandValue) (e : NoCommand)
+-- what is asked for memory by what is left
+abbrev pub AsksLeft : Arguments → ℕ → State → Type 0
+AsksLeft arguments k state = AsksFrom (map string_bytes (drop k arguments)) state
+
+asks_next : (arguments : Arguments) (k : ℕ) (d : String Global) (text : List ℕ) (state : State) → k < length arguments
+    → text ≡ string_bytes (get_or arguments k d)
+    → AsksAt state (AsksFrom (map string_bytes (drop (k + 1) arguments))) (take_up state.0 state.1 text) → AsksLeft arguments k state
+asks_next arguments k d text state lt is asks =
+    subst (λ (l : Arguments). AsksFrom (map string_bytes l) state) (sym (drop_more arguments k d lt))
+    (subst (λ (t : List ℕ). AsksAt state (AsksFrom (map string_bytes (drop (k + 1) arguments))) (take_up state.0 state.1 t)) is asks)
+
+-- by one of those after the next, or by the next
+pub asks_later : (arguments : Arguments) (k : ℕ) (d : String Global) (text : List ℕ) (state next : State) → k < length arguments
+    → text ≡ string_bytes (get_or arguments k d) → take_up state.0 state.1 text ≡ Ok next
+    → AsksLeft arguments (k + 1) next → AsksLeft arguments k state
+asks_later arguments k d text state next lt is taken asks =
+    asks_next arguments k d text state lt is
+    (subst (AsksAt state (AsksFrom (map string_bytes (drop (k + 1) arguments)))) (sym taken) (inr asks))
+
+asks_here : (state : State) (later : State → Type 0) (taken : Reading State) → GoesOnTo (KeepsMore state.0 state.1) taken → AsksAt state later taken
+asks_here state later (Ok next) more = inl more
+asks_here state later (Err stop) more = absurd more
+
+pub stopped_at : (arguments : Arguments) (k : ℕ) (d : String Global) (text : List ℕ) (state : State) (asks : Type 0) (all : Reading CommandValue) (e : NoCommand)
     → k < length arguments → text ≡ string_bytes (get_or arguments k d)
-    → IsStop (take_up state.0 state.1 text) e → read_left arguments k state ≡ all → IsStop all e
-stopped_at arguments k d text state all Memory lt is stopped before = tt
-stopped_at arguments k d text state all Help lt is stopped before = stopped_by arguments k d text state all help lt is stopped before
-stopped_at arguments k d text state all Version lt is stopped before = stopped_by arguments k d text state all version lt is stopped before
-stopped_at arguments k d text state all (Wrong w) lt is stopped before = stopped_by arguments k d text state all (wrong (wrong_value w)) lt is stopped before
+    → IsStopOf (KeepsMore state.0 state.1) (take_up state.0 state.1 text) e
+    → read_left arguments k state ≡ all → (AsksLeft arguments k state → asks) → IsStop asks all e
+stopped_at arguments k d text state asks all Memory lt is stopped before asked =
+    asked (asks_next arguments k d text state lt is
+    (asks_here state (AsksFrom (map string_bytes (drop (k + 1) arguments))) (take_up state.0 state.1 text) stopped))
+stopped_at arguments k d text state asks all Help lt is stopped before asked = stopped_by arguments k d text state all help lt is stopped before
+stopped_at arguments k d text state asks all Version lt is stopped before asked = stopped_by arguments k d text state all version lt is stopped before
+stopped_at arguments k d text state asks all (Wrong w) lt is stopped before asked =
+    stopped_by arguments k d text state all (wrong (wrong_value w)) lt is stopped before

@@ -1,5 +1,5 @@
 -- Commands, their options, and why there is no command.
-use Rattle.std.specs.Prelude.{◌≡◌, ℕ, Bool, List, map, Option, Result, Ok, Err, ⊤}
+use Rattle.std.specs.Prelude.{◌≡◌, ℕ, Bool, List, map, Option, Result, Ok, Err}
 use Rattle.std.specs.Option.{option_map}
 use Rattle.wc_selection.specs.Texts.{text_of, text_pair}
 use Rattle.wc_plan_tool.specs.declared.arguments.Command.{Command}
@@ -83,14 +83,27 @@ pub data Stop : Type 0 where
 abbrev pub Reading : Type 0 → Type 0
 Reading A = Result A Stop
 
--- reading stops for this reason; where memory ran out, nothing is known
-abbrev pub IsStop : {A : Type 0} → Reading A → NoCommand → Type 0
-IsStop reading Memory = ⊤
-IsStop reading Help = reading ≡ Err help
-IsStop reading Version = reading ≡ Err version
-IsStop reading (Wrong w) = reading ≡ Err (wrong (wrong_value w))
+-- reading stops for this reason; or memory ran out, where it is asked for
+abbrev pub IsStop : {A : Type 0} → Type 0 → Reading A → NoCommand → Type 0
+IsStop asks reading Memory = asks
+IsStop asks reading Help = reading ≡ Err help
+IsStop asks reading Version = reading ≡ Err version
+IsStop asks reading (Wrong w) = reading ≡ Err (wrong (wrong_value w))
 
--- the result is what is read, unless memory ran out
-abbrev pub IsRead : Result Command NoCommand → Reading CommandValue → Type 0
-IsRead (Ok c) reading = reading ≡ Ok (command_value c)
-IsRead (Err e) reading = IsStop reading e
+-- the result is what is read, unless memory ran out, where it is asked for
+abbrev pub IsRead : Type 0 → Result Command NoCommand → Reading CommandValue → Type 0
+IsRead asks (Ok c) reading = reading ≡ Ok (command_value c)
+IsRead asks (Err e) reading = IsStop asks reading e
+
+-- the same where none is asked for
+abbrev pub IsReadWithoutMemory : Result Command NoCommand → Reading CommandValue → Type 0
+IsReadWithoutMemory result reading = IsRead ⊥ result reading
+
+-- reading goes on, to what keeps more texts
+abbrev pub GoesOnTo : {A : Type 0} → (A → Type 0) → Reading A → Type 0
+GoesOnTo keeps (Ok next) = keeps next
+GoesOnTo keeps (Err stop) = ⊥
+
+-- reading stops for this reason; or memory ran out, where it goes on to what keeps more texts
+abbrev pub IsStopOf : {A : Type 0} → (A → Type 0) → Reading A → NoCommand → Type 0
+IsStopOf keeps reading e = IsStop (GoesOnTo keeps reading) reading e

@@ -14,9 +14,11 @@ use Rattle.wc_world.specs.declared.places.ModulePlace.TheVariants as place
 use Rattle.wc_world.specs.Places.{IsWorldExplained}
 use Rattle.wc_world.specs.declared.fault.WorldFault.{WorldFault}
 use Rattle.wc_plan_tool.specs.Nearest.{near_place}
+use Rattle.wc_plan_tool.specs.Parts.{part_text}
+use Rattle.wc_plan_tool.specs.declared.explained_part.ExplainedPart.{ExplainedPart}
 use Rattle.wc_plan_tool.specs.declared.explained.Explained.{Explained}
 use Rattle.wc_plan_tool.specs.declared.faults.ProgramFault.{ProgramFault}
-use Rattle.wc_plan_tool.specs.declared.faults.ProgramFault.TheVariants.{World, Plan}
+use Rattle.wc_plan_tool.specs.declared.faults.ProgramFault.TheVariants.{Resolve, World, Plan}
 
 -- a fault of a component's world is about a place, and of what is named there this is the nearest that is there
 pub record IsAbout (e : EncoderView) (f : WorldFault) (x : Explained) : Type 0 where
@@ -70,8 +72,17 @@ abbrev pub world_fault_lines : Option Explained → List ℕ
 world_fault_lines None = []
 world_fault_lines (Some x) = module_place_lines x.place.place (option_map string_bytes x.nearest)
 
+-- the line of what a fault of worlds is about
+abbrev pub part_line : ExplainedPart → List ℕ
+part_line x = detail_line (part_text x.part (option_map string_bytes x.name))
+
+abbrev pub part_lines : Option ExplainedPart → List ℕ
+part_lines None = []
+part_lines (Some x) = part_line x
+
 -- the lines under the text of a fault
 abbrev pub fault_lines : ProgramFault → List ℕ
+fault_lines (Resolve f x) = part_lines x
 fault_lines (World f x) = world_fault_lines x
 fault_lines (Plan f) = plan_fault_lines f
 fault_lines f = []

@@ -1,6 +1,6 @@
 -- The fault for the fault of a call inside; and the texts of faults.
-use Rattle.std.specs.Prelude.{◌≡◌, ℕ, List, ◌++◌, codes, decimal, string_bytes}
-use Rattle.wc_tool.specs.FaultTexts.{memory_text}
+use Rattle.std.specs.Prelude.{ℕ, List, ◌++◌, codes, decimal, string_bytes}
+use Rattle.wc_tool.specs.FaultTexts.{carried_text, dedupe_fault_text, memory_text}
 use Rattle.wc_json.specs.Escape.{escaped}
 use Rattle.wc_json.specs.Faults.{json_fault_text}
 use Rattle.wc_dedupe.specs.declared.fault.DedupeFault.{DedupeFault}
@@ -11,13 +11,12 @@ use Rattle.wc_json.specs.declared.fault.JsonFault.{JsonFault}
 use Rattle.wc_json.specs.declared.fault.JsonFault.TheVariants.{Memory as json_memory}
 use Rattle.wc_plan.specs.declared.fault.PlanFault.{PlanFault}
 use Rattle.wc_plan.specs.declared.fault.PlanFault.TheVariants.{Memory as plan_memory, Output as plan_output}
-use Rattle.wc_resolve.specs.declared.fault.ResolveFault.{ResolveFault}
-use Rattle.wc_resolve.specs.declared.fault.ResolveFault.TheVariants.{Memory as resolve_memory}
 use Rattle.wc_selection.specs.Faults.{quoted, request_fault_text}
 use Rattle.wc_selection.specs.declared.fault.RequestFault.{RequestFault}
 use Rattle.wc_selection.specs.declared.fault.RequestFault.TheVariants.{Memory as request_memory}
 use Rattle.wc_world.specs.declared.fault.WorldFault.{WorldFault}
 use Rattle.wc_world.specs.declared.fault.WorldFault.TheVariants.{PageSize}
+use Rattle.wc_plan_tool.specs.FaultTexts.{encoder_fault_text, plan_fault_text, resolve_fault_text, world_fault_text}
 use Rattle.wc_plan_tool.specs.declared.faults.SelectionFault.{SelectionFault}
 use Rattle.wc_plan_tool.specs.declared.faults.SelectionFault.TheVariants.{Memory as selection_memory, Request, RepeatedAdapter, UnknownAdapter, EmptyDirectory, FileName, MainFile}
 use Rattle.wc_plan_tool.specs.declared.faults.ProgramFault.{ProgramFault}
@@ -34,10 +33,6 @@ of_request f = Request f
 abbrev pub of_selection : SelectionFault → ProgramFault
 of_selection selection_memory = Memory
 of_selection f = Selection f
-
-abbrev pub of_resolve : ResolveFault → ProgramFault
-of_resolve resolve_memory = Memory
-of_resolve f = Resolve f
 
 abbrev pub of_dedupe : DedupeFault → ProgramFault
 of_dedupe dedupe_memory = Memory
@@ -65,10 +60,6 @@ selection_fault_text (MainFile name) = quoted (codes "adapter `") name.now (code
 abbrev pub no_export_text : List ℕ → List ℕ → List ℕ
 no_export_text key listing = codes "no export `" ++ (key ++ (codes "`; exports:" ++ listing))
 
--- the name of a fault, and what `Display` writes of the fault that it carries, escaped
-abbrev pub IsCarried : List ℕ → List ℕ → Type 0
-IsCarried name text = (inside : List ℕ) × (text ≡ name ++ (codes ": " ++ escaped inside))
-
 -- a member is there twice: its path, escaped
 abbrev pub repeated_text : List ℕ → List ℕ
 repeated_text path = codes "Json: " ++ (escaped path ++ codes ": repeated member")
@@ -78,26 +69,25 @@ abbrev pub page_size_text : List ℕ → ℕ → ℕ → List ℕ
 page_size_text name own main =
     codes "World: PageSize `" ++ (name ++ (codes "`: page size " ++ (decimal own ++ (codes ", main module's " ++ decimal main))))
 
-abbrev pub IsWorldText : WorldFault → List ℕ → Type 0
-IsWorldText (PageSize name own main) text = text ≡ escaped (page_size_text (string_bytes name) own main)
-IsWorldText f text = IsCarried (codes "World") text
+abbrev pub world_text : WorldFault → List ℕ
+world_text (PageSize name own main) = escaped (page_size_text (string_bytes name) own main)
+world_text f = carried_text (codes "World") (escaped (world_fault_text f))
 
--- the text of a fault. It is open what `Display` writes of the faults of other libraries, but for those of JSON, whose
--- paths are escaped already
-abbrev pub IsTextOf : ProgramFault → List ℕ → Type 0
-IsTextOf Memory text = text ≡ memory_text
-IsTextOf (CannotRead path) text = text ≡ codes "cannot read " ++ escaped path.now
-IsTextOf NotText text = text ≡ codes "Json: not UTF-8"
-IsTextOf (NotJson at) text = text ≡ codes "Json: not JSON at byte " ++ decimal at
-IsTextOf (RepeatedMember path) text = text ≡ repeated_text (string_bytes path)
-IsTextOf (Json f) text = text ≡ codes "Json: " ++ json_fault_text f
-IsTextOf (Selection f) text = text ≡ escaped (selection_fault_text f)
-IsTextOf (NoExport key listing) text = text ≡ escaped (no_export_text key.now (string_bytes listing))
-IsTextOf (Resolve f) text = IsCarried (codes "Resolve") text
-IsTextOf (Dedupe f) text = IsCarried (codes "Dedupe") text
-IsTextOf (Encoder f) text = IsCarried (codes "Encoder") text
-IsTextOf (World f x) text = IsWorldText f text
-IsTextOf (Plan f) text = IsCarried (codes "Plan") text
-IsTextOf (CannotMake path) text = text ≡ codes "cannot make directory " ++ escaped path.now
-IsTextOf (CannotWrite path) text = text ≡ codes "cannot write " ++ escaped (string_bytes path)
-IsTextOf Output text = text ≡ codes "cannot print"
+-- the text of a fault. What comes from outside is escaped; paths in faults of JSON are escaped already
+abbrev pub program_fault_text : ProgramFault → List ℕ
+program_fault_text Memory = memory_text
+program_fault_text (CannotRead path) = codes "cannot read " ++ escaped path.now
+program_fault_text NotText = codes "Json: not UTF-8"
+program_fault_text (NotJson at) = codes "Json: not JSON at byte " ++ decimal at
+program_fault_text (RepeatedMember path) = repeated_text (string_bytes path)
+program_fault_text (Json f) = codes "Json: " ++ json_fault_text f
+program_fault_text (Selection f) = escaped (selection_fault_text f)
+program_fault_text (NoExport key listing) = escaped (no_export_text key.now (string_bytes listing))
+program_fault_text (Resolve f x) = carried_text (codes "Resolve") (escaped (resolve_fault_text f))
+program_fault_text (Dedupe f) = carried_text (codes "Dedupe") (escaped (dedupe_fault_text f))
+program_fault_text (Encoder f) = carried_text (codes "Encoder") (escaped (encoder_fault_text f))
+program_fault_text (World f x) = world_text f
+program_fault_text (Plan f) = carried_text (codes "Plan") (escaped (plan_fault_text f))
+program_fault_text (CannotMake path) = codes "cannot make directory " ++ escaped path.now
+program_fault_text (CannotWrite path) = codes "cannot write " ++ escaped (string_bytes path)
+program_fault_text Output = codes "cannot print"

@@ -1,8 +1,10 @@
 pub mod Arguments
 pub mod Reading
 pub mod Usage
+pub mod FaultTexts
 pub mod Faults
 pub mod Nearest
+pub mod Parts
 pub mod Details
 pub mod FileNames
 pub mod Lines

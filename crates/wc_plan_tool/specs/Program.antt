@@ -4,7 +4,7 @@ use Rattle.std.specs.declared.alloc.Global.{Global}
 use Rattle.std.specs.Borrow.{Bor}
 use Rattle.std.specs.List.{AllZip}
 use Rattle.std.specs.Str.{IsUtf8}
-use Rattle.json.specs.Json.{document}
+use Rattle.json.specs.Json.{Json as JsonValue, document}
 use Rattle.json.specs.Strict.{HasUniqueKeys}
 use Rattle.wc_dedupe.specs.Dedupe.{IsDeduped, IsCause as IsDedupeCause, renames_in}
 use Rattle.wc_dedupe.specs.Renaming.{RenameValue}
@@ -22,6 +22,7 @@ use Rattle.wc_plan.specs.Plans.{plan_of}
 use Rattle.wc_record.specs.Texts.{world_text}
 use Rattle.wc_resolve.specs.Faults.{IsCause as IsResolveCause}
 use Rattle.wc_resolve.specs.WellFormed.{IsWellFormed as IsResolve}
+use Rattle.wc_resolve.specs.World.{ResolveView}
 use Rattle.wc_resolve.specs.declared.fault.ResolveFault.TheVariants.{Memory as resolve_memory}
 use Rattle.wc_tool.specs.FaultTexts.{memory_text}
 use Rattle.wc_tool.specs.Files.{Held, Holds, KeepsOthers, Writes}
@@ -35,12 +36,13 @@ use Rattle.wc_selection.specs.Keys.{NamedKey, texts_of}
 use Rattle.wc_selection.specs.RequiredExports.{required_keys}
 use Rattle.wc_selection.specs.Texts.{second_parts}
 use Rattle.wc_selection.specs.Worlds.{IsSelected}
-use Rattle.wc_plan_tool.specs.Arguments.{CommandValue, Reading, Stop, help, version, wrong}
+use Rattle.wc_plan_tool.specs.Arguments.{CommandValue, Reading, Stop, WrongValue, help, version, wrong}
 use Rattle.wc_plan_tool.specs.Details.{IsAbout, fault_lines}
-use Rattle.wc_plan_tool.specs.Faults.{IsTextOf}
+use Rattle.wc_plan_tool.specs.Faults.{program_fault_text}
 use Rattle.wc_plan_tool.specs.Lines.{lines_text}
 use Rattle.wc_plan_tool.specs.Listing.{listing_text}
-use Rattle.wc_plan_tool.specs.Reading.{read_arguments}
+use Rattle.wc_plan_tool.specs.Parts.{IsAboutPart}
+use Rattle.wc_plan_tool.specs.Reading.{AsksMemory, read_arguments}
 use Rattle.wc_plan_tool.specs.RequiredExports.{AreNamesThere, IsNamesCause, IsSelectionCause, request_of}
 use Rattle.wc_plan_tool.specs.Screen.{Printing, nothing, printed, failed}
 use Rattle.wc_plan_tool.specs.Usage.{fault_and_usage, fault_line, help_text, no_text, usage_text, version_text, wrong_text}
@@ -60,11 +62,15 @@ failure = 1
 abbrev pub wrong_arguments : ℕ
 wrong_arguments = 2
 
--- a file has this text, which is JSON that is read as this document
+-- a text is JSON that is read as this document
+abbrev pub IsDocumentOf : Option JsonValue → DocumentView → Type 0
+IsDocumentOf read d = IsSomeAnd read (λ j. HasUniqueKeys j × (document_of j ≡ Ok d))
+
+-- a file has a text that is read as this document
 pub record IsDocumentIn (before : Option Held) (path : List ℕ) (d : DocumentView) : Type 0 where
   pub text : List ℕ
   pub read : Holds before path text
-  pub document : IsSomeAnd (document text) (λ j. HasUniqueKeys j × (document_of j ≡ Ok d))
+  pub document : IsDocumentOf (document text) d
 
 -- an adapter has its name, the bytes of its file, and the keys that it has to export; it is no library
 pub record IsAdapterIn (before : Option Held) (c : CommandValue) (keys : List NamedKey) (x : List ℕ × List ℕ) (y : List ℕ × AdapterView) : Type 0 where
@@ -72,6 +78,11 @@ pub record IsAdapterIn (before : Option Held) (c : CommandValue) (keys : List Na
   pub wasm : Holds before x.1 y.1.wasm
   pub required : y.1.required_exports ≡ required_keys (request_of c) (Some x.0) keys
   pub library : y.1.library_info ≡ None
+
+-- the worlds in the file of a command, which are well-formed, and the one that it names
+abbrev pub AreWorldsIn : CommandValue → Option Held → ResolveView → ℕ → Type 0
+AreWorldsIn c before r world =
+    (d : DocumentView) × IsDocumentIn before c.worlds d × IsSelected d c.world world × IsResolve d.parts × (r ≡ d.parts)
 
 -- the world that a command names, of the worlds in its file, which are well-formed; and its names and keys are there
 pub record IsChosen (c : CommandValue) (before : Option Held) (d : DocumentView) (world : ℕ) : Type 0 where
@@ -287,8 +298,9 @@ IsPlanCause c before (RepeatedMember path) = IsDocumentCause before c.worlds (Re
 IsPlanCause c before (Json f) = IsDocumentCause before c.worlds (Json f)
 IsPlanCause c before (Selection f) = ((d : DocumentView) × IsDocumentIn before c.worlds d × IsSelectionCause d c.world f) ⊎ IsUnnamed c before (Selection f)
 IsPlanCause c before (NoExport key listing) = IsUnnamed c before (NoExport key listing)
-IsPlanCause c before (Resolve f) =
-    (d : DocumentView) × (world : ℕ) × IsDocumentIn before c.worlds d × IsSelected d c.world world × (f ≢ resolve_memory) × IsResolveCause d.parts f
+IsPlanCause c before (Resolve f x) =
+    (d : DocumentView) × (world : ℕ) × IsDocumentIn before c.worlds d × IsSelected d c.world world
+    × (f ≢ resolve_memory) × IsResolveCause d.parts f × IfSome x (IsAboutPart d.parts f)
 IsPlanCause c before (Dedupe f) = IsAnyChosen c before × IsMainCause before c.main (Dedupe f)
 IsPlanCause c before (Encoder f) = (e : EncoderView) × IsPartsOf c before e × (f ≢ encoder_memory) × IsEncoderCause e f
 IsPlanCause c before (World f x) =
@@ -315,7 +327,7 @@ Prints text wanted out status = (out (printed text) × (status ≡ wanted)) ⊎ 
 
 -- what is printed of a fault: its text, or that there was no memory for it
 abbrev pub IsPrintedOf : ProgramFault → List ℕ → Type 0
-IsPrintedOf fault text = IsTextOf fault text ⊎ (text ≡ memory_text)
+IsPrintedOf fault text = (text ≡ program_fault_text fault) ⊎ (text ≡ memory_text)
 
 -- what is printed under it: the lines of the fault, or none, where there was no memory for them
 abbrev pub ArePrintedUnder : ProgramFault → List ℕ → Type 0
@@ -346,11 +358,20 @@ abbrev pub ReadingEnds : Reading CommandValue → Option Held → Option Held �
 ReadingEnds (Ok c) before after makes out err status = CommandEnds c before after makes out err status
 ReadingEnds (Err stop) before after makes out err status = (after ≡ before) × StopEnds stop out err status
 
--- how the program ends with these arguments; for a fault of memory it may end in any other way
-abbrev pub ProgramEnds : List (List ℕ) → Option Held → Option Held → (List ℕ → Type 0) → (Printing → Type 0) → (Printing → Type 0) → ℕ → Type 0
+-- where there is no command, memory is asked for by arguments, or by the text of what is wrong with them
+abbrev pub NeedsMemory : List (List ℕ) → Type 0
+NeedsMemory arguments = AsksMemory arguments ⊎ ((w : WrongValue) × (read_arguments arguments ≡ Err (wrong w)))
+
+-- how the program ends with some arguments
+abbrev pub EndsWithArguments : List (List ℕ) → Option Held → Option Held → (List ℕ → Type 0) → (Printing → Type 0) → (Printing → Type 0) → ℕ → Type 0
+EndsWithArguments arguments before after makes out err status =
+    ReadingEnds (read_arguments arguments) before after makes out err status
+    ⊎ (NeedsMemory arguments × (after ≡ before) × EndsWithoutMemory out err status)
+
+-- how the program ends with these arguments
+abbrev pub ProgramEnds : List (String Global) → Option Held → Option Held → (List ℕ → Type 0) → (Printing → Type 0) → (Printing → Type 0) → ℕ → Type 0
 ProgramEnds [] before after makes out err status = (after ≡ before) × Prints usage_text success out status × err nothing
-ProgramEnds (x ∷ xs) before after makes out err status =
-    ReadingEnds (read_arguments (x ∷ xs)) before after makes out err status ⊎ ((after ≡ before) × EndsWithoutMemory out err status)
+ProgramEnds (x ∷ xs) before after makes out err status = EndsWithArguments (map string_bytes (x ∷ xs)) before after makes out err status
 
 -- how it ends where its arguments are not known: there was no memory for them, or they are no text
 pub record EndsWithoutArguments (no_memory : Type 0) (out err : Printing → Type 0) (status : ℕ) : Type 0 where

@@ -1,5 +1,5 @@
 -- What arguments are read as, one after another.
-use Rattle.std.specs.Prelude.{ℕ, ◌==◌, ◌&&◌, ◌||◌, Bool, true, false, not, nat_lt, length, cond, List, [], ◌∷◌, ◌++◌, codes, map, Option, Some, None, is_some, Ok, Err}
+use Rattle.std.specs.Prelude.{ℕ, ◌<◌, ◌⊎◌, ◌==◌, ◌&&◌, ◌||◌, Bool, true, false, not, nat_lt, length, cond, List, [], ◌∷◌, ◌++◌, codes, map, Option, Some, None, is_some, Ok, Err}
 use Rattle.std.specs.List.{position_or_len, before_first, after_first}
 use Rattle.std.specs.Option.{option_map}
 use Rattle.std.specs.Str.{bytes_eq}
@@ -247,6 +247,30 @@ go_on next (Err stop) = Err stop
 abbrev pub read_from : List (List ℕ) → CommandValue × DraftValue → Reading CommandValue
 read_from [] state = finish state.0 state.1
 read_from (argument ∷ rest) state = go_on (read_from rest) (take_up state.0 state.1 argument)
+
+-- what keeps more texts in its lists: a command with one more adapter, key or key of an adapter; what was read with one
+-- more argument that is no option; and both of these
+abbrev pub HasMoreOptions : CommandValue → CommandValue → Type 0
+HasMoreOptions c next =
+    (length c.adapters < length next.adapters) ⊎ (length c.exports < length next.exports) ⊎ (length c.adapter_exports < length next.adapter_exports)
+
+abbrev pub HasMorePaths : DraftValue → DraftValue → Type 0
+HasMorePaths d next = length d.paths < length next.paths
+
+abbrev pub KeepsMore : CommandValue → DraftValue → CommandValue × DraftValue → Type 0
+KeepsMore c d next = HasMoreOptions c next.0 ⊎ HasMorePaths d next.1
+
+-- memory is asked for: of some argument that is taken up a text is kept
+abbrev pub AsksAt : CommandValue × DraftValue → (CommandValue × DraftValue → Type 0) → Reading (CommandValue × DraftValue) → Type 0
+AsksAt state later (Ok next) = KeepsMore state.0 state.1 next ⊎ later next
+AsksAt state later (Err stop) = ⊥
+
+abbrev pub AsksFrom : List (List ℕ) → CommandValue × DraftValue → Type 0
+AsksFrom [] state = ⊥
+AsksFrom (argument ∷ rest) state = AsksAt state (AsksFrom rest) (take_up state.0 state.1 argument)
+
+abbrev pub AsksMemory : List (List ℕ) → Type 0
+AsksMemory arguments = AsksFrom arguments (plain_command, none_read)
 
 abbrev pub read_arguments : List (List ℕ) → Reading CommandValue
 read_arguments arguments = read_from arguments (plain_command, none_read)

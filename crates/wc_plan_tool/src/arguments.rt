@@ -2,8 +2,8 @@
 
 ghost use Rattle.std.specs.Prelude.{◌≡◌, IfErr, IfOk, OnOk, None, Some, false, map, string_bytes, true};
 ghost use Rattle.std.specs.Option.{option_map};
-ghost use Rattle.wc_plan_tool.specs.Arguments.{IsRead, IsStop, command_value, option_value};
-ghost use Rattle.wc_plan_tool.specs.Reading.{add_option, add_path, add_value, draft_value, finish, flag_of, none_read, pair_of, plain_command, read_arguments, take_option, take_up, takes_value, valued_of};
+ghost use Rattle.wc_plan_tool.specs.Arguments.{IsRead, IsReadWithoutMemory, IsStopOf, command_value, option_value};
+ghost use Rattle.wc_plan_tool.specs.Reading.{AsksMemory, HasMoreOptions, HasMorePaths, KeepsMore, add_option, add_path, add_value, draft_value, finish, flag_of, none_read, pair_of, plain_command, read_arguments, take_option, take_up, takes_value, valued_of};
 ghost use Rattle.wc_plan_tool.specs.declared.arguments.NoCommand.TheVariants.{Memory};
 
 use std::alloc::{AllocFailed, Global};
@@ -107,9 +107,11 @@ struct Draft<'a> {
 ///
 /// - `Help`, `Version`: an option is `--help` or `-h`, or `--version`.
 /// - `Wrong`: an argument is wrong; or, after the last, the value of an option or one of the three arguments is missing.
-/// - `Memory`: an allocation failed. It may come in place of any other.
+/// - `Memory`: an allocation failed. It may come in place of any other after an argument that is kept: one of the three,
+///   or the value of `--adapt`, `--export` or `--adapter-export`. Without such an argument nothing is allocated.
 pub fn parse(alloc: Global, arguments: &[String]) -> Result<Command<'_>, NoCommand<'_>>
-    ensures { IsRead result (read_arguments (map string_bytes arguments.now)) }
+    ensures { IsRead (AsksMemory (map string_bytes arguments.now)) result
+        (read_arguments (map string_bytes arguments.now)) }
 {
     let mut command = no_options(alloc);
     let mut draft = Draft {
@@ -149,8 +151,8 @@ fn take_up<'a>(
 ) -> Result<(), NoCommand<'a>>
     ensures taken { OnOk result (take_up (command_value command.old) (draft_value draft.old)
         argument.now ≡ Ok (command_value command.new, draft_value draft.new)) }
-    ensures stops { IfErr result (IsStop (take_up (command_value command.old)
-        (draft_value draft.old) argument.now)) }
+    ensures stops { let c = command_value command.old in let d = draft_value draft.old in
+        IfErr result (IsStopOf (KeepsMore c d) (take_up c d argument.now)) }
 {
     if draft.is_ended {
         return add_path(draft, argument);
@@ -174,7 +176,8 @@ fn take_up<'a>(
 fn add_path<'a>(draft: &mut Draft<'a>, argument: &'a str) -> Result<(), NoCommand<'a>>
     ensures added { OnOk result (add_path (draft_value draft.old) argument.now
         ≡ Ok (draft_value draft.new)) }
-    ensures stops { IfErr result (IsStop (add_path (draft_value draft.old) argument.now)) }
+    ensures stops { IfErr result (IsStopOf (HasMorePaths (draft_value draft.old))
+        (add_path (draft_value draft.old) argument.now)) }
 {
     if draft.paths.len() == 3 {
         return Err(NoCommand::Wrong(WrongArgument::Unexpected(argument)));
@@ -191,8 +194,8 @@ fn take_option<'a>(
 ) -> Result<(), NoCommand<'a>>
     ensures taken { OnOk result (take_option (command_value command.old) (draft_value draft.old)
         argument.now ≡ Ok (command_value command.new, draft_value draft.new)) }
-    ensures stops { IfErr result (IsStop (take_option (command_value command.old)
-        (draft_value draft.old) argument.now)) }
+    ensures stops { let c = command_value command.old in let d = draft_value draft.old in
+        IfErr result (IsStopOf (KeepsMore c d) (take_option c d argument.now)) }
 {
     if argument == "--help" || argument == "-h" {
         return Err(NoCommand::Help);
@@ -221,8 +224,8 @@ fn add_value<'a>(
 ) -> Result<(), NoCommand<'a>>
     ensures added { OnOk result (add_value (command_value command.old) option.now value.now
         ≡ Ok (command_value command.new)) }
-    ensures stops { IfErr result (IsStop (add_value (command_value command.old)
-        option.now value.now)) }
+    ensures stops { let c = command_value command.old in
+        IfErr result (IsStopOf (HasMoreOptions c) (add_value c option.now value.now)) }
 {
     match valued(option, value) {
         Some(valued) => add_option(command, option, valued),
@@ -232,7 +235,8 @@ fn add_value<'a>(
 
 /// The command with the paths and the world that were read, if all three were.
 fn finish<'a>(command: Command<'a>, draft: &Draft<'a>) -> Result<Command<'a>, NoCommand<'a>>
-    ensures { IsRead result (finish (command_value command.entry) (draft_value draft.now)) }
+    ensures { IsReadWithoutMemory result
+        (finish (command_value command.entry) (draft_value draft.now)) }
 {
     if let Some(option) = draft.pending {
         return Err(NoCommand::Wrong(WrongArgument::MissingValue(option)));
@@ -307,8 +311,9 @@ fn add_option<'a>(
 ) -> Result<(), NoCommand<'a>>
     ensures added { OnOk result (add_option (command_value command.old) name.now
         (option_value option.entry) ≡ Ok (command_value command.new)) }
-    ensures stops { IfErr result (IsStop (add_option (command_value command.old) name.now
-        (option_value option.entry))) }
+    ensures stops { let c = command_value command.old in
+        IfErr result (IsStopOf (HasMoreOptions c)
+        (add_option c name.now (option_value option.entry))) }
 {
     match option {
         CommandOption::Adapt { name, file } => command.adapters.push((name, file))?,

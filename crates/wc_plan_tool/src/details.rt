@@ -5,9 +5,10 @@ ghost use Rattle.std.specs.Option.{option_map};
 ghost use Rattle.wc_validate.specs.Places.{difference_view, place_view, subject_view};
 ghost use Rattle.wc_gc.specs.TrimPlaces.{place_text as trim_place_text};
 ghost use Rattle.wc_validate.specs.Texts.{difference_text, subject_text};
-ghost use Rattle.wc_plan_tool.specs.Details.{detail_line, fault_lines, function_text, module_place_lines, nearest_line, nearest_text, place_lines, plan_fault_lines, types_line, world_fault_lines};
+ghost use Rattle.wc_plan_tool.specs.Details.{detail_line, fault_lines, function_text, module_place_lines, nearest_line, nearest_text, part_line, part_lines, place_lines, plan_fault_lines, types_line, world_fault_lines};
 
 use crate::explained::Explained;
+use crate::explained_part::ExplainedPart;
 use crate::faults::ProgramFault;
 use std::alloc::{AllocError, Global};
 use wc_gc::TrimPlace;
@@ -18,8 +19,9 @@ use wc_world::ModulePlace;
 
 impl ProgramFault<'_> {
     /// The lines that the program prints under the text of the fault, each after the end of the line before and two
-    /// blanks, and without the last end; the empty text where there are none. For a component without a world, if it is
-    /// known what the fault is about:
+    /// blanks, and without the last end; the empty text where there are none. For worlds that are not well-formed, if it is
+    /// known what the fault is about, it is `PATH "NAME"` or `PATH`: a world, an interface, a type or a package, by its path
+    /// in the JSON text and its name, if it has one. For a component without a world, if this is known:
     ///
     /// - a section of an adapter, or the body of a function, for a fault of trimming;
     /// - else the import or the export, as `import "MODULE" "NAME"`, `export "NAME"`, `missing "INTERFACE" "NAME"` or
@@ -38,6 +40,7 @@ impl ProgramFault<'_> {
         ensures { IfOk result (λ text. string_bytes text ≡ fault_lines self.now) }
     {
         match self {
+            ProgramFault::Resolve(_, explained) => part_lines(alloc, explained),
             ProgramFault::World(_, explained) => world_lines(alloc, explained),
             ProgramFault::Plan(fault) => plan_lines(alloc, fault),
             _ => Ok(String::new(alloc)),
@@ -55,6 +58,24 @@ pub(crate) fn detailed_text(
 {
     let details = fault.details(alloc)?;
     format!(in alloc; "{text}{details}")
+}
+
+/// The lines of a fault of worlds that are not well-formed.
+fn part_lines(alloc: Global, explained: &Option<ExplainedPart>) -> Result<String, AllocError>
+    ensures { IfOk result (λ text. string_bytes text ≡ part_lines explained.now) }
+{
+    match explained {
+        Some(explained) => part_line(alloc, explained),
+        None => Ok(String::new(alloc)),
+    }
+}
+
+/// The line of a world, an interface, a type or a package.
+fn part_line(alloc: Global, explained: &ExplainedPart) -> Result<String, AllocError>
+    ensures { IfOk result (λ text. string_bytes text ≡ part_line explained.now) }
+{
+    let text = format!(in alloc; "{explained}")?;
+    detail_line(alloc, &text)
 }
 
 /// The lines of a fault of a component's world.

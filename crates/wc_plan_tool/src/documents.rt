@@ -2,33 +2,59 @@
 
 ghost use Rattle.std.specs.Prelude.{IfErr, IfOk};
 ghost use Rattle.json.specs.Json.{document};
-ghost use Rattle.wc_json.specs.Document.{IsDocument, document_view};
+ghost use Rattle.wc_json.specs.Document.{IsDocument};
 ghost use Rattle.wc_tool.specs.Files.{Holds};
-ghost use Rattle.wc_plan_tool.specs.Program.{IsDocumentCause, IsDocumentIn, IsNotJson, IsReadFault, IsRepeatedMember, IsTextCause};
+ghost use Rattle.wc_plan_tool.specs.Arguments.{command_value};
+ghost use Rattle.wc_plan_tool.specs.Program.{AreWorldsIn, IsNotJson, IsPlanCause, IsReadFault, IsRepeatedMember, IsTextCause};
+ghost use Rattle.wc_plan_tool.specs.Private.Runs.{AreWorldsOf, IsWorldsCause};
 
+use crate::arguments::Command;
+use crate::explained_part::resolve_fault;
 use crate::faults::ProgramFault;
 use crate::json_place::{json_end, repeated_member};
 use std::alloc::{AllocError, Global};
 use std::io::ErrorKind;
+use wc_encoder::Metadata;
 use wc_json::{Document, JsonFault, document_from_json};
 use wc_maps::Seed;
+use wc_resolve::Resolve;
+use wc_selection::select_world;
 use wc_tool::FileStore;
 
-/// The worlds in the file of this path. `seed`: the seed of their maps.
-pub(crate) fn read_document<'a, F: FileStore>(
+/// The worlds of a command, from their file, and the one that it names. `seed`: the seed of their maps.
+pub(crate) fn read_worlds<'a, F: FileStore>(
     alloc: Global,
     seed: Seed,
-    path: &'a str,
+    command: &Command<'a>,
     files: &F,
-) -> Result<Document, ProgramFault<'a>>
-    ensures document { IfOk result (λ d. IsDocumentIn (F.held files.now) path.now
-        (document_view d)) }
-    ensures fault { IfErr result (IsDocumentCause (F.held files.now) path.now) }
+) -> Result<Metadata, ProgramFault<'a>>
+    ensures worlds { IfOk result (λ m. AreWorldsIn (command_value command.now) (F.held files.now)
+        m.resolve m.world.0) }
+    ensures fault { IfErr result (IsPlanCause (command_value command.now) (F.held files.now)) }
 {
-    let bytes = read_file(path, files)?;
+    let bytes = read_file(command.worlds, files)?;
     match str::from_utf8(&bytes) {
-        Ok(text) => document_in(alloc, seed, text),
+        Ok(text) => worlds_in(alloc, seed, command, text),
         Err(_) => Err(ProgramFault::NotText),
+    }
+}
+
+/// The worlds in a text, and the one that a command names. `seed`: the seed of their maps.
+fn worlds_in<'a>(
+    alloc: Global,
+    seed: Seed,
+    command: &Command<'a>,
+    text: &str,
+) -> Result<Metadata, ProgramFault<'a>>
+    ensures worlds { IfOk result (λ m. AreWorldsOf (command_value command.now)
+        (document text.now) m.resolve m.world.0) }
+    ensures fault { IfErr result (IsWorldsCause (command_value command.now) text.now) }
+{
+    let document = document_in(alloc, seed, text)?;
+    let world = select_world(alloc, &document, command.world)?;
+    match Resolve::build(alloc, document.parts) {
+        Ok(resolve) => Ok(Metadata { resolve, world }),
+        Err(fault) => Err(resolve_fault(alloc, seed, text, fault)),
     }
 }
 

@@ -2,9 +2,12 @@
 
 ghost use Rattle.std.specs.Prelude.{◌≡◌, ◌++◌, IfOk, Some, string_bytes};
 ghost use Rattle.wc_json.specs.Escape.{escaped};
-ghost use Rattle.wc_plan_tool.specs.Faults.{IsCarried, IsTextOf, IsWorldText, no_export_text, page_size_text, repeated_text, selection_fault_text};
+ghost use Rattle.wc_tool.specs.FaultTexts.{carried_text};
+ghost use Rattle.wc_plan_tool.specs.Faults.{no_export_text, page_size_text, program_fault_text, repeated_text, selection_fault_text, world_text};
 
 use crate::explained::Explained;
+use crate::explained_part::ExplainedPart;
+use crate::fault_texts::CarriedFault;
 use std::alloc::{AllocError, AllocFailed, Global};
 use std::error::Error as StdError;
 use std::fmt;
@@ -113,8 +116,9 @@ pub enum ProgramFault<'a> {
     Selection(SelectionFault<'a>),
     /// The world has no export with this key. It carries what exports it has, as a text.
     NoExport(&'a str, String),
-    /// The worlds are not well-formed. It carries why, never `Memory`.
-    Resolve(ResolveFault),
+    /// The worlds are not well-formed. It carries why, never `Memory`, and what that is about; without memory for this
+    /// `None`.
+    Resolve(ResolveFault, Option<ExplainedPart>),
     /// The imports of the main module could not be renamed. It carries why, never `Memory`.
     Dedupe(DedupeFault),
     /// Modules can't be encoded for the world. It carries why, never `Memory`.
@@ -134,14 +138,14 @@ pub enum ProgramFault<'a> {
 
 impl ProgramFault<'_> {
     /// The text of the fault, which the program prints in a line: a path after what could not be done with it, the text of a
-    /// `SelectionFault`, or the name of a fault, `: `, and what `Display` writes of the one that it carries. Texts from
-    /// outside in it are escaped (`wc_json::escaped`).
+    /// `SelectionFault`, or the name of a fault, `: `, and the text of the one that it carries. `Display` of that writes the
+    /// same, as is tested. Texts from outside in it are escaped (`wc_json::escaped`).
     ///
     /// # Errors
     ///
     /// `AllocError`: an allocation failed.
     pub fn text(&self, alloc: Global) -> Result<String, AllocError>
-        ensures { IfOk result (λ text. IsTextOf self.now (string_bytes text)) }
+        ensures { IfOk result (λ text. string_bytes text ≡ program_fault_text self.now) }
     {
         match self {
             ProgramFault::Memory => String::from_str(alloc, "out of memory"),
@@ -152,7 +156,7 @@ impl ProgramFault<'_> {
             ProgramFault::Json(fault) => format!(in alloc; "Json: {fault}"),
             ProgramFault::Selection(fault) => selection_text(alloc, fault),
             ProgramFault::NoExport(key, listing) => no_export_text(alloc, key, listing),
-            ProgramFault::Resolve(fault) => carried_text(alloc, "Resolve", fault),
+            ProgramFault::Resolve(fault, _) => carried_text(alloc, "Resolve", fault),
             ProgramFault::Dedupe(fault) => carried_text(alloc, "Dedupe", fault),
             ProgramFault::Encoder(fault) => carried_text(alloc, "Encoder", fault),
             ProgramFault::World(fault, _) => world_text(alloc, fault),
@@ -182,7 +186,7 @@ fn repeated_text(alloc: Global, place: &str) -> Result<String, AllocError>
 
 /// Why a component has no world: the carried fault; or which adapter has pages of another size, and both sizes.
 fn world_text(alloc: Global, fault: &WorldFault) -> Result<String, AllocError>
-    ensures { IfOk result (λ text. IsWorldText fault.now (string_bytes text)) }
+    ensures { IfOk result (λ text. string_bytes text ≡ world_text fault.now) }
 {
     match fault {
         WorldFault::PageSize(name, own, main) => page_size_text(alloc, name, *own, *main),
@@ -223,11 +227,12 @@ fn no_export_text(alloc: Global, key: &str, listing: &str) -> Result<String, All
     escaped(alloc, &text)
 }
 
-/// The name of a fault, `: `, and what `Display` writes of the fault that it carries, escaped.
-fn carried_text<F: fmt::Display>(alloc: Global, name: &str, fault: &F) -> Result<String, AllocError>
-    ensures { IfOk result (λ text. IsCarried name.now (string_bytes text)) }
+/// The name of a fault, `: `, and the text of the fault that it carries, escaped.
+fn carried_text<F: CarriedFault>(alloc: Global, name: &str, fault: &F) -> Result<String, AllocError>
+    ensures { IfOk result (λ text. string_bytes text
+        ≡ carried_text name.now (escaped (F.text fault.now))) }
 {
-    let text = fault.to_string(alloc)?;
+    let text = fault.to_text(alloc)?;
     let text = escaped(alloc, &text)?;
     format!(in alloc; "{name}: {text}")
 }
@@ -285,19 +290,6 @@ impl<'a> From<RequestFault<'a>> for ProgramFault<'a> {
 
     fn from(e: RequestFault<'a>) -> ProgramFault<'a> {
         ProgramFault::from(SelectionFault::from(e))
-    }
-}
-
-impl From<ResolveFault> for ProgramFault<'_> {
-    ghost use Rattle.wc_plan_tool.specs.Faults.{of_resolve};
-
-    ghost from_gives = { λ f e. e ≡ of_resolve f };
-
-    fn from(e: ResolveFault) -> Self {
-        match e {
-            ResolveFault::Memory => ProgramFault::Memory,
-            _ => ProgramFault::Resolve(e),
-        }
     }
 }
 

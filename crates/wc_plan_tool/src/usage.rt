@@ -11,7 +11,8 @@ use wc_json::escaped;
 
 /// The usage text.
 pub(crate) const USAGE: &[u8] =
-    b"usage: wcplan WORLDS.json WORLD MAIN.wasm [--adapt NAME=FILE]... [--export KEY]... [--adapter-export NAME=KEY]...
+    b"usage: wcplan WORLDS.json WORLD MAIN.wasm [--adapt NAME=FILE]... [--export KEY]... \
+      [--adapter-export NAME=KEY]...
               [--reject-legacy-names] [--realloc-via-memory-grow] [--json] [--out DIR]
        wcplan --help | --version
 ";
@@ -37,7 +38,8 @@ pub(crate) const VERSION: &[u8] = b"wcplan 0.262.0\n";
 
 /// The end of the line of a wrong argument, and the usage text.
 pub(crate) const AND_USAGE: &[u8] = b"
-usage: wcplan WORLDS.json WORLD MAIN.wasm [--adapt NAME=FILE]... [--export KEY]... [--adapter-export NAME=KEY]...
+usage: wcplan WORLDS.json WORLD MAIN.wasm [--adapt NAME=FILE]... [--export KEY]... \
+      [--adapter-export NAME=KEY]...
               [--reject-legacy-names] [--realloc-via-memory-grow] [--json] [--out DIR]
        wcplan --help | --version
 ";

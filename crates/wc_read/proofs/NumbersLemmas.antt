@@ -114,6 +114,68 @@ last_below bits value shift b within low fits =
     let k : value + b * 2 ^ shift < 2 ^ bits = rw e at h in
     omega arith
 
+-- numbers of two to five bytes
+
+two_digits : (bits a b : ℕ) (rest : List ℕ) → 14 ≤ bits → 128 ≤ a → b < 128 → number_at bits (a ∷ b ∷ rest) ≡ Some (a - 128 + 128 * b, rest)
+two_digits bits a b rest width more small =
+    number_more bits a (b ∷ rest) more (omega arith)
+    ∙ bind_some (number_at (bits - 7) (b ∷ rest)) _ (b, rest) (number_last (bits - 7) b rest small (fits_left b (bits - 7) small (omega arith)))
+
+three_digits : (bits a b c : ℕ) (rest : List ℕ) → 21 ≤ bits → 128 ≤ a → 128 ≤ b → c < 128 → number_at bits (a ∷ b ∷ c ∷ rest) ≡ Some (a - 128 + 128 * (b - 128 + 128 * c), rest)
+three_digits bits a b c rest width more again small =
+    number_more bits a (b ∷ c ∷ rest) more (omega arith)
+    ∙ bind_some (number_at (bits - 7) (b ∷ c ∷ rest)) _ (b - 128 + 128 * c, rest) (two_digits (bits - 7) b c rest (omega arith) again small)
+
+four_digits : (bits a b c d : ℕ) (rest : List ℕ) → 28 ≤ bits → 128 ≤ a → 128 ≤ b → 128 ≤ c → d < 128
+    → number_at bits (a ∷ b ∷ c ∷ d ∷ rest) ≡ Some (a - 128 + 128 * (b - 128 + 128 * (c - 128 + 128 * d)), rest)
+four_digits bits a b c d rest width more again third small =
+    number_more bits a (b ∷ c ∷ d ∷ rest) more (omega arith)
+    ∙ bind_some (number_at (bits - 7) (b ∷ c ∷ d ∷ rest)) _ (b - 128 + 128 * (c - 128 + 128 * d), rest) (three_digits (bits - 7) b c d rest (omega arith) again third small)
+
+-- a last byte of four bits
+five_digits : (bits a b c d e : ℕ) (rest : List ℕ) → 32 ≤ bits → 128 ≤ a → 128 ≤ b → 128 ≤ c → 128 ≤ d → e < 16
+    → number_at bits (a ∷ b ∷ c ∷ d ∷ e ∷ rest) ≡ Some (a - 128 + 128 * (b - 128 + 128 * (c - 128 + 128 * (d - 128 + 128 * e))), rest)
+five_digits bits a b c d e rest width first second third fourth small =
+    let limit : 2 ^ 4 ≤ 2 ^ (bits - 7 - 7 - 7 - 7) = pow_mono {i = 4} {j = bits - 7 - 7 - 7 - 7} (omega arith) in
+    number_more bits a (b ∷ c ∷ d ∷ e ∷ rest) first (omega arith)
+    ∙ bind_some (number_at (bits - 7) (b ∷ c ∷ d ∷ e ∷ rest)) _ (b - 128 + 128 * (c - 128 + 128 * (d - 128 + 128 * e)), rest)
+    (number_more (bits - 7) b (c ∷ d ∷ e ∷ rest) second (omega arith)
+    ∙ bind_some (number_at (bits - 7 - 7) (c ∷ d ∷ e ∷ rest)) _ (c - 128 + 128 * (d - 128 + 128 * e), rest)
+    (number_more (bits - 7 - 7) c (d ∷ e ∷ rest) third (omega arith)
+    ∙ bind_some (number_at (bits - 7 - 7 - 7) (d ∷ e ∷ rest)) _ (d - 128 + 128 * e, rest)
+    (number_more (bits - 7 - 7 - 7) d (e ∷ rest) fourth (omega arith)
+    ∙ bind_some (number_at (bits - 7 - 7 - 7 - 7) (e ∷ rest)) _ (e, rest) (number_last (bits - 7 - 7 - 7 - 7) e rest (omega arith) (omega arith)))))
+
+-- the same of bytes that are cut off one after another, with the digits shifted to their places
+
+pub two_read : (bits : ℕ) (input : List ℕ) (a b : ℕ) (after_a after_b : List ℕ) → 32 ≤ bits → input ≡ a ∷ after_a → after_a ≡ b ∷ after_b → 128 ≤ a → b < 128
+    → number_at bits input ≡ Some (a - 128 + b * 2 ^ 7 % 18446744073709551616, after_b)
+two_read bits input a b after_a after_b width cut next more small =
+    let value : a - 128 + 128 * b ≡ a - 128 + b * 2 ^ 7 % 18446744073709551616 = omega arith in
+    rw (cut, next) (two_digits bits a b after_b (omega arith) more small ∙ ap (λ (n : ℕ). Some (n, after_b)) value)
+
+pub three_read : (bits : ℕ) (input : List ℕ) (a b c : ℕ) (after_a after_b after_c : List ℕ) → 32 ≤ bits → input ≡ a ∷ after_a → after_a ≡ b ∷ after_b
+    → after_b ≡ c ∷ after_c → 128 ≤ a → 128 ≤ b → b < 256 → c < 128
+    → number_at bits input ≡ Some (a - 128 + (b - 128) * 2 ^ 7 % 18446744073709551616 + c * 2 ^ 14 % 18446744073709551616, after_c)
+three_read bits input a b c after_a after_b after_c width cut next last more again byte small =
+    let value : a - 128 + 128 * (b - 128 + 128 * c) ≡ a - 128 + (b - 128) * 2 ^ 7 % 18446744073709551616 + c * 2 ^ 14 % 18446744073709551616 = omega arith in
+    rw (cut, next, last) (three_digits bits a b c after_c (omega arith) more again small ∙ ap (λ (n : ℕ). Some (n, after_c)) value)
+
+pub four_read : (bits : ℕ) (input : List ℕ) (a b c d : ℕ) (after_a after_b after_c after_d : List ℕ) → 32 ≤ bits → input ≡ a ∷ after_a → after_a ≡ b ∷ after_b
+    → after_b ≡ c ∷ after_c → after_c ≡ d ∷ after_d → 128 ≤ a → 128 ≤ b → b < 256 → 128 ≤ c → c < 256 → d < 128
+    → number_at bits input ≡ Some (a - 128 + (b - 128) * 2 ^ 7 % 18446744073709551616 + (c - 128) * 2 ^ 14 % 18446744073709551616 + d * 2 ^ 21 % 18446744073709551616, after_d)
+four_read bits input a b c d after_a after_b after_c after_d width cut next third last more again byte_b more_c byte_c small =
+    let value : a - 128 + 128 * (b - 128 + 128 * (c - 128 + 128 * d)) ≡ a - 128 + (b - 128) * 2 ^ 7 % 18446744073709551616 + (c - 128) * 2 ^ 14 % 18446744073709551616 + d * 2 ^ 21 % 18446744073709551616 = omega arith in
+    rw (cut, next, third, last) (four_digits bits a b c d after_d (omega arith) more again more_c small ∙ ap (λ (n : ℕ). Some (n, after_d)) value)
+
+pub five_read : (bits : ℕ) (input : List ℕ) (a b c d e : ℕ) (after_a after_b after_c after_d after_e : List ℕ) → 32 ≤ bits → input ≡ a ∷ after_a → after_a ≡ b ∷ after_b
+    → after_b ≡ c ∷ after_c → after_c ≡ d ∷ after_d → after_d ≡ e ∷ after_e → 128 ≤ a → 128 ≤ b → b < 256 → 128 ≤ c → c < 256 → 128 ≤ d → d < 256 → e < 16
+    → number_at bits input ≡ Some (a - 128 + (b - 128) * 2 ^ 7 % 18446744073709551616 + (c - 128) * 2 ^ 14 % 18446744073709551616 + (d - 128) * 2 ^ 21 % 18446744073709551616 + e * 2 ^ 28 % 18446744073709551616, after_e)
+five_read bits input a b c d e after_a after_b after_c after_d after_e width cut next third fourth last more more_b byte_b more_c byte_c more_d byte_d small =
+    let value : a - 128 + 128 * (b - 128 + 128 * (c - 128 + 128 * (d - 128 + 128 * e)))
+    ≡ a - 128 + (b - 128) * 2 ^ 7 % 18446744073709551616 + (c - 128) * 2 ^ 14 % 18446744073709551616 + (d - 128) * 2 ^ 21 % 18446744073709551616 + e * 2 ^ 28 % 18446744073709551616 = omega arith in
+    rw (cut, next, third, fourth, last) (five_digits bits a b c d e after_e width more more_b more_c more_d small ∙ ap (λ (n : ℕ). Some (n, after_e)) value)
+
 -- a byte that is a digit fits seven bits and more
 pub seven_bits : (bits b : ℕ) → b < 128 → 7 ≤ bits → b < 2 ^ bits
 seven_bits bits b small some = let p : 2 ^ 7 ≤ 2 ^ bits = pow_mono {j = bits} some in omega (arith, small, p)

@@ -1,12 +1,12 @@
 -- What the kinds of operators that are passed over say of their forms.
-use Rattle.std.proofs.Common.{◌≡◌, ℕ, ◌<◌, List, map, Bool, true, false, Option, Some, None, refl, sym, ap, arith, subst, eqb-true}
+use Rattle.std.proofs.Common.{◌≡◌, ◌≢◌, ◌⊎◌, inl, inr, ℕ, ◌<◌, List, map, Bool, true, false, Option, Some, None, refl, sym, ap, arith, subst, eqb-true}
 use Rattle.std.specs.Prelude.{◌==◌, if◌then◌else◌, slice_index_or}
 use Rattle.std.specs.List.{range_with_len}
 use Rattle.std.proofs.lemmas.List.FromFn.{get_or-map-range_with_len}
 use Rattle.wc_read.specs.Operators.{byte_form, index_of}
 use Rattle.wc_read.specs.Refs.{reference, is_segment}
 use Rattle.wc_read.specs.Nesting.{byte_token}
-use Rattle.wc_read.specs.PassKinds.{item_pass_kind, plain_pass_kind, form_pass_kind, pass_kind}
+use Rattle.wc_read.specs.PassKinds.{item_pass_kind, plain_pass_kind, form_pass_kind, pass_kind, short_size_of, short_size}
 use Rattle.wc_read.specs.declared.operators.Space.{Space}
 use Rattle.wc_read.specs.declared.operators.Space.TheVariants.{Types, Funcs, Tables, Memories, Globals}
 use Rattle.wc_read.specs.declared.operators.IndexKind.{IndexKind}
@@ -21,6 +21,30 @@ use Rattle.wc_read.specs.declared.pass_kinds.PassKind.TheVariants.{Never, CodeOn
 -- a table with an entry for each byte
 pub by_table : (kinds : List PassKind) → kinds ≡ map pass_kind (range_with_len 0 256) → (code : ℕ) → code < 256 → (d : PassKind) → slice_index_or kinds code d ≡ pass_kind code
 by_table kinds e code byte d = rw e (get_or-map-range_with_len pass_kind 0 256 code code d byte (omega arith))
+
+pub by_sizes : (sizes : List ℕ) → sizes ≡ map short_size (range_with_len 0 256) → (code : ℕ) → code < 256 → (d : ℕ) → slice_index_or sizes code d ≡ short_size code
+by_sizes sizes e code byte d = rw e (get_or-map-range_with_len short_size 0 256 code code d byte (omega arith))
+
+-- what a size says of the kind
+
+-- an operator's code alone, or a number besides
+abbrev pub IsShortKind : ℕ → PassKind → Type 0
+IsShortKind size k = ((size ≡ 1) × (CodeOnly ≡ k)) ⊎ ((size ≡ 2) × ((Index ≡ k) ⊎ ((ConstI32 ≡ k) ⊎ (ConstI64 ≡ k))))
+
+pub is_short_kind : (k : PassKind) (size : ℕ) → size ≡ short_size_of k → size ≢ 0 → IsShortKind size k
+is_short_kind Never size e some = absurd (some e)
+is_short_kind CodeOnly size e some = inl (e, refl)
+is_short_kind Index size e some = inr (e, inl refl)
+is_short_kind ConstI32 size e some = inr (e, inr (inl refl))
+is_short_kind ConstI64 size e some = inr (e, inr (inr refl))
+is_short_kind FourBytes size e some = absurd (some e)
+is_short_kind EightBytes size e some = absurd (some e)
+is_short_kind MemArg size e some = absurd (some e)
+is_short_kind Memory size e some = absurd (some e)
+is_short_kind OpensBlock size e some = absurd (some e)
+is_short_kind OpensIf size e some = absurd (some e)
+is_short_kind MeetsElse size e some = absurd (some e)
+is_short_kind MeetsEnd size e some = absurd (some e)
 
 -- what each kind says of the form and the token
 

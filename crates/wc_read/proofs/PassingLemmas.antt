@@ -16,9 +16,9 @@ use Rattle.wc_read.specs.Reading.Bytes.{number_at, bytes_at}
 use Rattle.wc_read.specs.Reading.Signed.{signed_at}
 use Rattle.wc_read.specs.Reading.Operators.{immediates_at, instr_of, instr_at}
 use Rattle.wc_read.specs.Reading.Nesting.{step}
-use Rattle.wc_read.specs.PassKinds.{pass_kind}
+use Rattle.wc_read.specs.PassKinds.{pass_kind, short_size}
 use Rattle.wc_read.specs.Private.TextSizes.{IsTextSize, SizesMemArg, SizesMemoryIndex}
-use Rattle.wc_read.specs.Passing.{ArePassable, IsPassable, IsPassableCode, run_and_left, PassesBlockStart, IsOperatorPassed, PassesOperator, AreOperatorsPassed}
+use Rattle.wc_read.specs.Passing.{ArePassable, IsPassable, IsPassableCode, run_and_left, PassesBlockStart, IsOperatorPassed, PassesOperator, AreOperatorsPassed, SizesShort}
 use Rattle.wc_read.specs.Blocks.{BeginsElse, Closes, Pops}
 use Rattle.wc_read.specs.declared.operators.Opcode.TheVariants.{Byte}
 use Rattle.wc_read.specs.declared.operators.Space.TheVariants.{Memories}
@@ -27,9 +27,9 @@ use Rattle.wc_read.specs.declared.operators.Form.{Form}
 use Rattle.wc_read.specs.declared.operators.Form.TheVariants.{None as form_none, Block as form_block, Index as form_index, MemArg as form_mem_arg, I32 as form_i32, I64 as form_i64, Bytes as form_bytes}
 use Rattle.wc_read.specs.declared.nesting.Token.TheVariants.{Plain, Block, If, Else, End}
 use Rattle.wc_read.specs.declared.pass_kinds.PassKind.TheVariants.{CodeOnly, Index, I32 as ConstI32, I64 as ConstI64, FourBytes, EightBytes, MemArg, Memory, Block as OpensBlock, If as OpensIf, Else as MeetsElse, End as MeetsEnd}
-use Rattle.wc_read.proofs.PassKindsLemmas.{kind_at}
+use Rattle.wc_read.proofs.PassKindsLemmas.{kind_at, is_short_kind}
 use Rattle.wc_read.proofs.FrequentLemmas.{frequent_read}
-use Rattle.wc_read.proofs.ShortestTextLemmas.{memory_index_sized}
+use Rattle.wc_read.proofs.ShortestTextLemmas.{memory_index_sized, number_short, signed_short}
 use Rattle.wc_read.proofs.OptionsLemmas.{bind_some}
 use Rattle.wc_read.proofs.OperatorsLemmas.{instr_meets, instr_some}
 use Rattle.wc_read.proofs.ToEndLemmas.{to_shorter}
@@ -203,6 +203,41 @@ size_within memory old new rest size o =
     let parts : length rest ≡ length (instr_text o.operator) + length o.left = ap length o.cut ∙ length-append (instr_text o.operator) o.left in
     let e = o.size_is in omega arith
 
+-- an operator that is its code alone, or has one number of one byte
+
+pub short_over : (input : List ℕ) (b : ℕ) (rest : List ℕ) (n : ℕ) (left : List ℕ) (size : ℕ) → input ≡ b ∷ rest → rest ≡ n ∷ left → n < 128 → size ≡ short_size b → size ≢ 0 → SizesShort input (Some size)
+short_over input b rest n left size e cut small is some = λ memory blocks inside.
+    elim (is_short_kind (pass_kind b) size is some) [
+      | inl (one, only) ↦ rw one (code_only_over memory input b rest blocks e only inside)
+      | inr (two, inl index) ↦ rw two (index_over memory input b rest blocks 1 e index inside (number_short 32 rest n left (omega arith) cut small))
+      | inr (two, inr (inl i32)) ↦ rw two (i32_over memory input b rest blocks 1 e i32 inside (signed_short 32 rest n left (omega arith) cut small))
+      | inr (two, inr (inr i64)) ↦ rw two (i64_over memory input b rest blocks 1 e i64 inside (signed_short 64 rest n left (omega arith) cut small))
+    ]
+
+-- operators, and then others
+
+append_passable : (memory : Bool) (is js : List InstrValue) → IsPassableCode memory is → IsPassableCode memory js → IsPassableCode memory (is ++ js)
+append_passable memory [] js a b = b
+append_passable memory (i ∷ is) js a b = (a.0, append_passable memory is js a.1 b)
+
+append_left : (is js : List InstrValue) (o : Option (List InstrValue)) → run_and_left is (run_and_left js o) ≡ run_and_left (is ++ js) o
+append_left is js None = refl
+append_left is js (Some others) = ap Some (sym (append_assoc is js others))
+
+append_text : (is js : List InstrValue) (left : List ℕ) → flat_map instr_text is ++ (flat_map instr_text js ++ left) ≡ flat_map instr_text (is ++ js) ++ left
+append_text [] js left = refl
+append_text (x ∷ is) js left =
+    append_assoc (instr_text x) (flat_map instr_text is) (flat_map instr_text js ++ left)
+    ∙ (ap (λ (z : List ℕ). instr_text x ++ z) (append_text is js left) ∙ sym (append_assoc (instr_text x) (flat_map instr_text (is ++ js)) left))
+
+pub passed_then : (memory : Bool) (old mid new : List Bool) (input rest left : List ℕ) → AreOperatorsPassed memory old input mid rest → AreOperatorsPassed memory mid rest new left → AreOperatorsPassed memory old input new left
+passed_then memory old mid new input rest left s t = record {
+  operators = s.operators ++ t.operators;
+  cut = s.cut ∙ (ap (λ (z : List ℕ). flat_map instr_text s.operators ++ z) t.cut ∙ append_text s.operators t.operators left);
+  passable = append_passable memory s.operators t.operators s.passable t.passable;
+  same = s.same ∙ (ap (run_and_left s.operators) t.same ∙ append_left s.operators t.operators (operators_in new left));
+}
+
 -- what was passed over, or nothing
 
 pub block_passes : (memory : Bool) (input : List ℕ) (b : ℕ) (rest : List ℕ) (old new : List Bool) (result : Option ℕ) → input ≡ b ∷ rest → OpensBlock ≡ pass_kind b → old ≢ [] → PassesBlockStart false old rest new result → PassesOperator memory old input new result
@@ -223,7 +258,7 @@ end_passes memory input b rest old new false result e kind is t = rw is t
 
 -- a block is open still
 
-some_open : (b : Bool) (blocks : List Bool) → b ∷ blocks ≢ []
+pub some_open : (b : Bool) (blocks : List Bool) → b ∷ blocks ≢ []
 some_open b blocks e = absurd cc
 
 pub block_start_inside : (is_if : Bool) (old : List Bool) (rest : List ℕ) (new : List Bool) (result : Option ℕ) → old ≢ [] → PassesBlockStart is_if old rest new result → new ≢ []

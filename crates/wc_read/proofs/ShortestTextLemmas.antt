@@ -1,5 +1,5 @@
 -- A number that no fewer bytes spell is spelled by its text.
-use Rattle.std.proofs.Common.{◌≡◌, ℕ, zero, suc, ◌+◌, ◌-◌, ◌*◌, ◌/◌, ◌%◌, ◌^◌, ◌<◌, ◌≤◌, List, [], ◌∷◌, ◌++◌, length, take, drop, All, Some, ℤ, pos, negsuc, Bool, true, false, not, nat_eq, refl, sym, ◌∙◌, ap, arith, inl, inr}
+use Rattle.std.proofs.Common.{◌≡◌, ℕ, zero, suc, ◌+◌, ◌-◌, ◌*◌, ◌/◌, ◌%◌, ◌^◌, ◌<◌, ◌≤◌, List, [], ◌∷◌, ◌++◌, length, take, drop, All, Some, ℤ, pos, negsuc, Bool, true, false, not, nat_eq, eqb-true, refl, sym, ◌∙◌, ap, arith, inl, inr}
 use Rattle.std.proofs.Math.Nat.{div-eq_of_lt}
 use Rattle.std.proofs.Math.Pow.{pow_mono}
 use Rattle.std.proofs.lemmas.Nat.{pow-add}
@@ -13,11 +13,11 @@ use Rattle.wc_read.specs.Text.{digits, number_text, signed_digit, signed_digits,
 use Rattle.wc_read.specs.Reading.Bytes.{number_at, bytes_at}
 use Rattle.wc_read.specs.Reading.Signed.{last_of, signed_at}
 use Rattle.std.specs.Prelude.{nat_lt, nat_le}
-use Rattle.wc_read.specs.Private.TextSizes.{IsTextSize, SizesMemArg, IsShortest, IsShortestSigned, without_sign}
+use Rattle.wc_read.specs.Private.TextSizes.{IsTextSize, SizesMemArg, IsLonger, IsShortest, IsShortestSigned, without_sign}
 use Rattle.wc_read.specs.Reading.Bytes.{where_at}
 use Rattle.wc_read.specs.Reading.Operators.{are_flags, mem_arg_at}
 use Rattle.wc_read.proofs.MeetsLemmas.{number_meets}
-use Rattle.wc_read.proofs.NumbersLemmas.{number_last}
+use Rattle.wc_read.proofs.NumbersLemmas.{fits_if_shifted_out, number_last}
 use Rattle.wc_read.proofs.SignedLemmas.{signed_meets}
 use Rattle.wc_read.proofs.SignedLoopLemmas.{signed_last}
 use Rattle.wc_read.proofs.OptionsLemmas.{bind_some}
@@ -31,7 +31,7 @@ front_bytes (x ∷ a) b all = All-cons (λ (x : ℕ). x < 256) x a (All-head (λ
 
 -- digits
 
-digits_last : (left n : ℕ) → n < 128 → digits left n ≡ n ∷ []
+pub digits_last : (left n : ℕ) → n < 128 → digits left n ≡ n ∷ []
 unfolding digits
 digits_last zero n small = refl
 digits_last (suc left) n small = grind (arith, nat_tests)
@@ -86,6 +86,42 @@ shortest_text (suc left) (more {b = b} {high = high} {bytes = bytes} seven large
     let cut : 2 ^ (7 * length bytes) ≡ 2 ^ (7 * (length bytes - 1)) * 128 = seven_less (length bytes) some in
     let rest : bytes ≡ digits left high = shortest_text left s (All-tail (λ (b : ℕ). b < 256) b bytes all) (omega arith) (λ _. omega arith) in
     rw (digits_more left (b - 128 + 128 * high) big, up, down) (ap (λ (z : List ℕ). b ∷ z) rest)
+
+-- the text has no more bytes than any others that spell the number
+
+digits_most : (left n : ℕ) → length (digits left n) ≤ suc left
+unfolding digits
+digits_most zero n = omega arith
+digits_most (suc left) n = elim (cases_lt n 128) [
+  | inl small ↦ rw (digits_last (suc left) n small) (omega arith)
+  | inr large ↦ rw (digits_more left n large) (let h = digits_most left (n / 128) in omega arith)
+]
+
+digits_within : (left k n : ℕ) → 0 < k → n < 2 ^ (7 * k) → length (digits left n) ≤ k
+digits_within zero k n some fits = let h = digits_most zero n in omega arith
+digits_within (suc left) zero n some fits = absurd (omega arith)
+digits_within (suc left) (suc zero) n some fits = let small : n < 128 = omega (arith, fits) in rw (digits_last (suc left) n small) (omega arith)
+digits_within (suc left) (suc (suc k)) n some fits = elim (cases_lt n 128) [
+  | inl small ↦ rw (digits_last (suc left) n small) (omega arith)
+  | inr large ↦
+      let e : suc (suc k) - 1 ≡ suc k = omega arith in
+      let cut : 2 ^ (7 * suc (suc k)) ≡ 2 ^ (7 * suc k) * 128 = rw e at (seven_less (suc (suc k)) (omega arith)) in
+      let up : n / 128 < 2 ^ (7 * suc k) = omega arith in
+      let h = digits_within left (suc k) (n / 128) (omega arith) up in
+      rw (digits_more left n large) (omega arith)
+]
+
+pub text_shorter : (n size : ℕ) → IsLonger n size → length (number_text n) < size
+text_shorter n size (two, inl many) = let h = digits_most 9 n in omega arith
+text_shorter n size (two, inr low) = let h = digits_within 9 (size - 1) n (omega arith) low in omega arith
+
+-- bits above are all lost
+pub all_out : (n k : ℕ) → not (nat_eq (n / 2 ^ k) 0) ≡ false → n < 2 ^ k
+all_out n k h = fits_if_shifted_out n k (eqb-true (n / 2 ^ k) 0 (is_so (nat_eq (n / 2 ^ k) 0) h))
+  where
+    is_so : (b : Bool) → not b ≡ false → b ≡ true
+    is_so true e = refl
+    is_so false e = absurd cc
 
 abbrev signed_with : ℕ → ℤ → List ℕ
 signed_with left (pos n) = signed_digits false left n

@@ -54,6 +54,26 @@ form_pass_kind form End = MeetsEnd
 abbrev pub pass_kind : ℕ → PassKind
 pass_kind code = form_pass_kind (byte_form code) (byte_token code)
 
+-- how many bytes an operator of a kind has, where it is its code alone, or its code and a number of one byte; 0 for all
+-- others
+abbrev pub short_size_of : PassKind → ℕ
+short_size_of Never = 0
+short_size_of CodeOnly = 1
+short_size_of Index = 2
+short_size_of ConstI32 = 2
+short_size_of ConstI64 = 2
+short_size_of FourBytes = 0
+short_size_of EightBytes = 0
+short_size_of MemArg = 0
+short_size_of Memory = 0
+short_size_of OpensBlock = 0
+short_size_of OpensIf = 0
+short_size_of MeetsElse = 0
+short_size_of MeetsEnd = 0
+
+abbrev pub short_size : ℕ → ℕ
+short_size code = short_size_of (pass_kind code)
+
 abbrev pub is_ever : PassKind → Bool
 is_ever Never = false
 is_ever kind = true

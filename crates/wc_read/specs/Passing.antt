@@ -1,6 +1,6 @@
 -- Operators that are passed over: they name no segment and no item but memory 0, and the bytes that spell them are their
 -- text.
-use Rattle.std.specs.Prelude.{◌≡◌, ◌⊎◌, ℕ, List, [], ◌∷◌, ◌++◌, length, Bool, true, false, Option, Some, None}
+use Rattle.std.specs.Prelude.{◌≡◌, ◌≢◌, ◌⊎◌, ℕ, List, [], ◌∷◌, ◌++◌, length, Bool, true, false, Option, Some, None}
 use Rattle.std.specs.List.{flat_map}
 use Rattle.std.specs.Option.{option_map}
 use Rattle.wc_read.specs.Operators.{InstrValue, WithBlock}
@@ -65,6 +65,11 @@ pub record IsOperatorPassed (memory : Bool) (old : List Bool) (bytes : List ℕ)
 abbrev pub PassesOperator : Bool → List Bool → List ℕ → List Bool → Option ℕ → Type 0
 PassesOperator memory old bytes new None = new ≡ old
 PassesOperator memory old bytes new (Some size) = IsOperatorPassed memory old bytes new size
+
+-- the size of an operator that is passed over in any block, whatever its memory
+abbrev pub SizesShort : List ℕ → Option ℕ → Type 0
+SizesShort bytes None = Unit {0}
+SizesShort bytes (Some size) = (memory : Bool) (blocks : List Bool) → blocks ≢ [] → IsOperatorPassed memory blocks bytes blocks size
 
 -- operators are passed over, and the blocks go past them
 pub record AreOperatorsPassed (memory : Bool) (old : List Bool) (bytes : List ℕ) (new : List Bool) (left : List ℕ) : Type 0 where

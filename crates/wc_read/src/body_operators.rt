@@ -1,6 +1,6 @@
 //! The operators of a body, one after another.
 
-ghost use Rattle.std.specs.Prelude.{◌≡◌, ◌≢◌, ◌<◌, ◌≤◌, ◌↔◌, List, [], Some, None, IsTrue, IfOk, IfErr, IfSome};
+ghost use Rattle.std.specs.Prelude.{◌≡◌, ◌≢◌, ◌<◌, ◌≤◌, ◌↔◌, ◌++◌, ℕ, List, [], Some, None, is_some, false, IsTrue, IfOk, IfErr, IfSome};
 ghost use Rattle.std.specs.Option.{option_map};
 ghost use Rattle.wc_read.specs.Faults.{IfRefused};
 ghost use Rattle.wc_read.specs.Operators.{InstrValue, instr_value};
@@ -8,7 +8,7 @@ ghost use Rattle.wc_read.specs.Bodies.{local_types};
 ghost use Rattle.wc_read.specs.Types.{type_indices};
 ghost use Rattle.wc_read.specs.Text.{vector_text, locals_text};
 ghost use Rattle.wc_read.specs.Passing.{IsRunText, may_pass, run_and_left};
-ghost use Rattle.wc_read.specs.Decoding.{body_in, body_of, body_operators, bytes_left, KeepsLocals, locals_read, next_and_left, operators_left};
+ghost use Rattle.wc_read.specs.Decoding.{body_in, body_of, body_operators, bytes_left, KeepsLocals, locals_bytes, locals_read, next_and_left, operators_left};
 
 use crate::blocks::Blocks;
 use crate::bodies::Locals;
@@ -46,9 +46,12 @@ impl<'a> Operators<'a> {
         ensures body { IfOk result
             (λ o. body_in slice.now ≡ option_map (body_of (locals_read o)) (operators_left o)) }
         ensures keeps_locals { IfOk result KeepsLocals }
+        // The bytes of the locals are the first.
+        ensures front { IfOk result (λ o. (left : List ℕ) × (slice.now ≡ locals_bytes o ++ left)) }
         // The locals of a body are read.
         ensures refused { IfRefused result (body_in slice.now ≡ None) }
         ensures no_component { IfErr result (λ f. f ≢ ReadFault.Component) }
+        ensures no_memory { IfErr result (λ f. f ≢ ReadFault.Memory) }
     {
         let mut reader = Reader::new(slice);
         let is_shortest = reader.pass_locals()?;
@@ -69,14 +72,18 @@ impl<'a> Operators<'a> {
         self.reader.rest.is_empty() && self.blocks.is_empty()
     }
 
-    /// The bytes of the body's locals, where no fewer bytes spell them and none of their types is an index of a type;
-    /// asked before its operators are read.
+    /// The bytes of the body's locals, exactly where no fewer bytes spell them and none of their types is an index of a
+    /// type; asked before its operators are read.
     pub fn shortest_locals(&self) -> Option<&'a [u8]>
         requires { KeepsLocals self.now }
         ensures text { IfSome result (λ b.
             b.now ≡ vector_text locals_text (locals_read self.now)) }
         ensures no_types { IfSome result (λ _.
             type_indices (local_types (locals_read self.now)) ≡ []) }
+        ensures bytes { IfSome result (λ b. b.now ≡ locals_bytes self.now) }
+        ensures none { is_some result ≡ false →
+            type_indices (local_types (locals_read self.now)) ≡ [] →
+            locals_bytes self.now ≢ vector_text locals_text (locals_read self.now) }
     {
         if self.is_shortest {
             Some(self.locals)

@@ -41,7 +41,8 @@ use std::alloc::{AllocError, Global};
 /// - `BadLimits`: limits are those that `read_imports` refuses.
 /// - `CountMismatch`: there are not as many bodies as defined functions.
 /// - `TooLarge`: an index space has 2^32 items or more.
-/// - `BadIndex`: the type of a function, the item of an export or the start function is out of range.
+/// - `BadIndex`: the type of a function, the type that a reference names, the item of an export or the start function is
+///   out of range.
 /// - `DuplicateExport`: two exports have one name.
 /// - `UnknownOperator`: an opcode of an initialiser is not assigned, or the byte of a fence there is not 0.
 /// - `BadInitialiser`: an operator of an initialiser is not constant, or it does not leave one value of the type of its

@@ -1,7 +1,7 @@
 //! How operators are passed over, by their codes: one table.
 
 ghost use Rattle.std.specs.Prelude.{◌≡◌};
-ghost use Rattle.wc_read.specs.PassKinds.{begins_run, is_ever, pass_kind};
+ghost use Rattle.wc_read.specs.PassKinds.{begins_run, is_ever, pass_kind, short_size};
 
 /// How an operator is passed over. Each kind has one shape of immediates (WebAssembly core specification, 5.4), and one
 /// effect on the blocks that are open.
@@ -315,6 +315,35 @@ static PASS_KINDS: [PassKind; 256] = [
     PassKind::Never,
     PassKind::Never,
     PassKind::Never,
+];
+
+/// How many bytes an operator of this code has, where it is its code alone, or its code and a number of one byte; 0 for
+/// all others.
+#[inline(always)]
+pub fn short_size(code: u8) -> u8
+    ensures { result ≡ short_size code }
+{
+    SHORT_SIZES[code as usize]
+}
+
+/// One entry for each code.
+static SHORT_SIZES: [u8; 256] = [
+    1, 1, 0, 0, 0, 0, 0, 0, 0, 0, 0, 0, 2, 2, 0, 1, // 00
+    0, 0, 0, 0, 0, 0, 0, 0, 0, 0, 1, 1, 0, 0, 0, 0, // 10
+    2, 2, 2, 0, 0, 0, 0, 0, 0, 0, 0, 0, 0, 0, 0, 0, // 20
+    0, 0, 0, 0, 0, 0, 0, 0, 0, 0, 0, 0, 0, 0, 0, 0, // 30
+    0, 2, 2, 0, 0, 1, 1, 1, 1, 1, 1, 1, 1, 1, 1, 1, // 40
+    1, 1, 1, 1, 1, 1, 1, 1, 1, 1, 1, 1, 1, 1, 1, 1, // 50
+    1, 1, 1, 1, 1, 1, 1, 1, 1, 1, 1, 1, 1, 1, 1, 1, // 60
+    1, 1, 1, 1, 1, 1, 1, 1, 1, 1, 1, 1, 1, 1, 1, 1, // 70
+    1, 1, 1, 1, 1, 1, 1, 1, 1, 1, 1, 1, 1, 1, 1, 1, // 80
+    1, 1, 1, 1, 1, 1, 1, 1, 1, 1, 1, 1, 1, 1, 1, 1, // 90
+    1, 1, 1, 1, 1, 1, 1, 1, 1, 1, 1, 1, 1, 1, 1, 1, // a0
+    1, 1, 1, 1, 1, 1, 1, 1, 1, 1, 1, 1, 1, 1, 1, 1, // b0
+    1, 1, 1, 1, 1, 0, 0, 0, 0, 0, 0, 0, 0, 0, 0, 0, // c0
+    0, 1, 0, 0, 1, 2, 2, 0, 0, 0, 0, 0, 0, 0, 0, 0, // d0
+    0, 0, 0, 0, 0, 0, 0, 0, 0, 0, 0, 0, 0, 0, 0, 0, // e0
+    0, 0, 0, 0, 0, 0, 0, 0, 0, 0, 0, 0, 0, 0, 0, 0, // f0
 ];
 
 /// Whether bytes begin with the code of an operator that is ever passed over.

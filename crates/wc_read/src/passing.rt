@@ -1,20 +1,35 @@
 //! Operators that are passed over: they name no segment and no item but memory 0, and the bytes that spell them are
 //! their text.
 
-ghost use Rattle.std.specs.Prelude.{◌≡◌, ◌≢◌, [], true, Some, None, if◌then◌else◌};
+ghost use Rattle.std.specs.Prelude.{◌≡◌, ◌≢◌, Bool, List, [], true, Some, None, if◌then◌else◌};
 ghost use Rattle.wc_read.specs.Blocks.{open_blocks};
-ghost use Rattle.wc_read.specs.Passing.{IsPlainType, PassesBlockStart, PassesOperator, AreOperatorsPassed};
+ghost use Rattle.wc_read.specs.Passing.{IsPlainType, PassesBlockStart, PassesOperator, AreOperatorsPassed, SizesShort};
 
 use crate::blocks::Blocks;
-use crate::codes::EMPTY_BLOCK;
+use crate::codes::{EMPTY_BLOCK, MORE_BYTES};
 use crate::operators::END;
-use crate::pass_kinds::{PassKind, pass_kind};
+use crate::pass_kinds::{PassKind, pass_kind, short_size};
 use crate::text_sizes::{bytes_size, mem_arg_size, memory_index_size, number_size, signed_size};
 
 /// Goes past operators, as far as it can, and answers the bytes that are left. Operators that name memory 0 are passed
-/// over where `memory` is true.
-#[inline(never)]
+/// over where `memory` is true. A body's last `end` by itself is passed here.
+#[inline(always)]
 pub fn pass_operators<'a>(blocks: &mut Blocks, input: &'a [u8], memory: bool) -> &'a [u8]
+    ensures { AreOperatorsPassed memory
+        (open_blocks blocks.old) input.now (open_blocks blocks.new) result.now }
+{
+    match input.split_first() {
+        Some((first, left)) if left.is_empty() && *first == END && !blocks.is_empty() => {
+            blocks.close();
+            left
+        }
+        _ => pass_run(blocks, input, memory),
+    }
+}
+
+/// The same for any operators.
+#[inline(never)]
+fn pass_run<'a>(blocks: &mut Blocks, input: &'a [u8], memory: bool) -> &'a [u8]
     ensures { AreOperatorsPassed memory
         (open_blocks blocks.old) input.now (open_blocks blocks.new) result.now }
 {
@@ -39,12 +54,45 @@ fn pass_inside<'a>(blocks: &mut Blocks, input: &'a [u8], memory: bool) -> &'a [u
         (open_blocks blocks.old) input.now (open_blocks blocks.new) result.now }
     ensures inside { open_blocks blocks.new ≢ [] }
 {
-    let mut rest = input;
+    let mut rest = pass_short(input);
     while let Some(size) = pass_operator(blocks, rest, memory) {
+        let (_, left) = rest.split_at(size);
+        rest = pass_short(left);
+    }
+    rest
+}
+
+/// Goes past operators that are their code alone, or have one number of one byte, as far as it can; but not past the
+/// last byte.
+#[inline(always)]
+fn pass_short<'a>(input: &'a [u8]) -> &'a [u8]
+    ensures { (memory : Bool) (blocks : List Bool) → blocks ≢ [] →
+        AreOperatorsPassed memory blocks input.now blocks result.now }
+{
+    let mut rest = input;
+    while let Some(size) = short_operator_size(rest) {
         let (_, left) = rest.split_at(size);
         rest = left;
     }
     rest
+}
+
+/// The size of an operator that is its code alone, or has one number of one byte, where another byte follows its code.
+#[inline(always)]
+fn short_operator_size(input: &[u8]) -> Option<usize>
+    ensures { SizesShort input.now result }
+{
+    let (code, rest) = input.split_first()?;
+    let (number, _) = rest.split_first()?;
+    if *number >= MORE_BYTES {
+        return None;
+    }
+    let size = short_size(*code);
+    // No size is above 2. Where this is said, the compiler needs no test to split the bytes there.
+    if size == 0 || size > 2 {
+        return None;
+    }
+    Some(usize::from(size))
 }
 
 /// Goes past an operator that leaves a block open, and answers how many bytes it has; `None`, and the same blocks,

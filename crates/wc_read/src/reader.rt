@@ -1,12 +1,52 @@
 //! A reader that moves along the bytes: bytes, unsigned numbers, names, vectors.
 
-ghost use Rattle.std.specs.Prelude.{◌≡◌, ◌<◌, ◌≤◌, ◌^◌, ℕ, List, Option, map, IfOk};
+ghost use Rattle.std.specs.Prelude.{◌≡◌, ◌<◌, ◌≤◌, ◌^◌, ℕ, List, Option, Some, map, IfOk, IfSome};
 ghost use Rattle.wc_read.specs.Reading.Bytes.{Gives, GivesWithoutMemory, ReadsOption, byte_at, bytes_at, number_at, name_at, vector_at};
 
 use crate::codes::{GROUP_BITS, MORE_BYTES};
 use crate::fault::ReadFault;
 use std::alloc::Global;
 use std::str;
+
+/// How many numbers have four bits. The last of five bytes of a number of 32 bits has as many.
+const FOUR_BITS: u8 = 16;
+
+/// A number of two to five bytes, below 2^32, and the bytes after it.
+#[inline(always)]
+fn few_digits(input: &[u8]) -> Option<(u64, &[u8])>
+    ensures read { IfSome result (λ x. (bits : ℕ) → 32 ≤ bits →
+        number_at bits input.now ≡ Some (x.0, x.1.now)) }
+    ensures bound { IfSome result (λ x. x.0 < 2 ^ 32) }
+{
+    let (first, after_first) = input.split_first()?;
+    let (second, after_second) = after_first.split_first()?;
+    if *first < MORE_BYTES {
+        return None;
+    }
+    let one = u64::from(*first - MORE_BYTES);
+    if *second < MORE_BYTES {
+        return Some((one + (u64::from(*second) << GROUP_BITS), after_second));
+    }
+    let (third, after_third) = after_second.split_first()?;
+    let two = one + (u64::from(*second - MORE_BYTES) << GROUP_BITS);
+    if *third < MORE_BYTES {
+        return Some((two + (u64::from(*third) << (2 * GROUP_BITS)), after_third));
+    }
+    let (fourth, after_fourth) = after_third.split_first()?;
+    let three = two + (u64::from(*third - MORE_BYTES) << (2 * GROUP_BITS));
+    if *fourth < MORE_BYTES {
+        return Some((
+            three + (u64::from(*fourth) << (3 * GROUP_BITS)),
+            after_fourth,
+        ));
+    }
+    let (fifth, after_fifth) = after_fourth.split_first()?;
+    if *fifth >= FOUR_BITS {
+        return None;
+    }
+    let four = three + (u64::from(*fourth - MORE_BYTES) << (3 * GROUP_BITS));
+    Some((four + (u64::from(*fifth) << (4 * GROUP_BITS)), after_fifth))
+}
 
 /// What is left to be read. After a fault, what is left is not said.
 #[derive(Drop)]
@@ -73,6 +113,24 @@ impl<'a> Reader<'a> {
         {
             self.rest = rest;
             return Ok(u64::from(*first));
+        }
+        self.long_number(bits)
+    }
+
+    /// An unsigned number of so many bits. Most of those that have more bytes than one have two to five.
+    #[inline(never)]
+    fn long_number(&mut self, bits: u32) -> Result<u64, ReadFault>
+        requires some { 0 < bits }
+        requires limit { bits ≤ 64 }
+        ensures read { GivesWithoutMemory (λ x. x) result self.new.rest.now
+            (number_at bits self.old.rest.now) }
+        ensures bound { IfOk result (λ x. x < 2 ^ bits) }
+    {
+        if bits >= u32::BITS
+            && let Some((number, rest)) = few_digits(self.rest)
+        {
+            self.rest = rest;
+            return Ok(number);
         }
         self.digits(bits)
     }

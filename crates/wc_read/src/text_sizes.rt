@@ -1,10 +1,10 @@
 //! How many bytes numbers and other immediates have, where these bytes are their text: where no fewer spell them.
 
-ghost use Rattle.std.specs.Prelude.{◌≡◌, ◌<◌, ◌≤◌, true, All};
+ghost use Rattle.std.specs.Prelude.{◌≡◌, ◌<◌, ◌≤◌, true, false, All};
 ghost use Rattle.wc_read.specs.Reading.Bytes.{number_at, bytes_at};
 ghost use Rattle.wc_read.specs.Reading.Signed.{signed_at};
 ghost use Rattle.wc_read.specs.Text.{number_text, signed_text};
-ghost use Rattle.wc_read.specs.Private.TextSizes.{SizesText, SizesMemArg, SizesMemoryIndex, IsShortest, IsShortestSigned, without_sign};
+ghost use Rattle.wc_read.specs.Private.TextSizes.{SizesText, SizesMemArg, SizesMemoryIndex, IsLonger, IsShortest, IsShortestSigned, without_sign};
 
 use crate::codes::{GROUP_BITS, MORE_BYTES};
 use crate::reader::Reader;
@@ -52,7 +52,8 @@ fn long_number_size(input: &[u8], bits: u32) -> Option<usize>
 /// Whether no fewer bytes than so many spell a number.
 #[inline(always)]
 pub fn is_shortest(number: u64, size: usize) -> bool
-    ensures { result ≡ true → IsShortest number size }
+    ensures shortest { result ≡ true → IsShortest number size }
+    ensures longer { result ≡ false → IsLonger number size }
 {
     if size <= 1 {
         return true;

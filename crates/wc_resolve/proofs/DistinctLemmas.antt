@@ -4,11 +4,13 @@ use Rattle.std.proofs.Common.{ap, ◌∙◌, subst, inl, inr, arith, length-appe
 use Rattle.std.specs.List.{AllPairs, Contains, list_any}
 use Rattle.std.proofs.Math.Seq.{get_or-append_seam}
 use Rattle.std.proofs.lemmas.Bool.{not-true, not-false, or_cases, or_left, or_right}
-use Rattle.std.proofs.lemmas.List.{get_or_append_left, get_or_default, map-append, take_more}
+use Rattle.std.proofs.lemmas.List.{get_or_append_left, get_or_default, length-map, map-append, take-map, take_more}
 use Rattle.std.proofs.lemmas.List.Quantifiers.{all_pairs_push}
 use Rattle.wc_resolve.specs.declared.packages.Package.{Package}
 use Rattle.wc_resolve.specs.declared.packages.PackageName.{PackageName}
 use Rattle.wc_resolve.specs.contracts.packages.PackageNamePartialEq.TheImpl.{eq-value}
+use Rattle.wc_resolve.specs.Places.{IsRepeatAt}
+use Rattle.wc_resolve.specs.WellFormed.{HaveDistinctNames}
 use Rattle.wc_resolve.proofs.PackageNameLemmas.{names_law}
 use Rattle.wc_resolve.specs.Views.{PackageNameView, PackageView, package_name_view, package_view}
 use Rattle.wc_resolve.proofs.SearchLemmas.{contains_cons, contains_head, contains_none, contains_tail}
@@ -97,3 +99,16 @@ names_split (q ∷ ps) zero p small read = (names_of ps, ap (λ z. package_name_
 names_split (q ∷ ps) (suc i) p small read =
     let later = names_split ps i p (omega (arith, small)) read in
     (later.0, ap (λ z. package_name_view q.name ∷ z) later.1)
+
+-- the package at an index has a name that was seen
+pub repeat_found : (ps : List Package) (i : ℕ) (keys : List PackageName) (copy : PackageName) (p : Package) (new : Bool) → i < length ps → p ≡ get_or ps i p
+    → package_name_view copy ≡ package_name_view p.name → AreSeen package_name_view keys (names_of (take i ps))
+    → new ≡ not (list_any (eq-value.it copy) keys) → new ≡ false → IsRepeatAt (map package_view ps) i
+repeat_found ps i keys copy p new small read same seen e f = (
+  subst (λ n. i < n) (sym (length-map ps package_view)) small,
+  subst HaveDistinctNames (sym (take-map package_view i ps)) seen.distinct,
+  λ distinct.
+      let here : HaveDistinctNames (map package_view (take (i + 1) ps)) = subst HaveDistinctNames (take-map package_view (i + 1) ps) distinct in
+      seen_again package_name_view (eq-value.it copy) keys (package_name_view p.name) (names_of (take i ps)) [] new (copies_law copy p.name same) seen e f
+      (subst AreDistinct (names_more ps i p small read) here),
+)

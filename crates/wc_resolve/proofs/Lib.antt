@@ -22,6 +22,7 @@ pub mod ResourceFlagLemmas
 pub mod NamedListLemmas
 pub mod PackageNameLemmas
 pub mod PackagePositionLemmas
+pub mod PlaceLemmas
 pub mod PushedLemmas
 pub mod RootsInLemmas
 pub mod SearchLemmas

@@ -106,3 +106,24 @@ function_free types resource_flags f m = (
   signature_weaker (IsNotResource resource_flags) (IsFree types) (not_resource_free types resource_flags m) f,
   signature_weaker (IsFree types) (IsNotResource resource_flags) (free_not_resource types resource_flags m) f,
 )
+
+pub world_free : (types : List TypeView) (resource_flags : List Bool) (w : WorldView) → AreResourceFlags types resource_flags
+    → DoesWorldPass (IsNotResource resource_flags) w ↔ DoesWorldPass (IsFree types) w
+world_free types resource_flags w m = (
+  world_weaker (IsNotResource resource_flags) (IsFree types) (not_resource_free types resource_flags m) w,
+  world_weaker (IsFree types) (IsNotResource resource_flags) (free_not_resource types resource_flags m) w,
+)
+
+pub interface_free : (types : List TypeView) (resource_flags : List Bool) (i : InterfaceView) → AreResourceFlags types resource_flags
+    → DoesInterfacePass (IsNotResource resource_flags) i ↔ DoesInterfacePass (IsFree types) i
+interface_free types resource_flags i m = (
+  interface_weaker (IsNotResource resource_flags) (IsFree types) (not_resource_free types resource_flags m) i,
+  interface_weaker (IsFree types) (IsNotResource resource_flags) (free_not_resource types resource_flags m) i,
+)
+
+pub type_free : (types : List TypeView) (resource_flags : List Bool) (t : TypeView) → AreResourceFlags types resource_flags
+    → DoesTypePass (IsNotResource resource_flags) t ↔ DoesTypePass (IsFree types) t
+type_free types resource_flags t m = (
+  type_weaker (IsNotResource resource_flags) (IsFree types) (not_resource_free types resource_flags m) t,
+  type_weaker (IsFree types) (IsNotResource resource_flags) (free_not_resource types resource_flags m) t,
+)

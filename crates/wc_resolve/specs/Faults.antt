@@ -1,10 +1,12 @@
 -- The cause of each fault: its rule is broken, and no earlier one is.
-use Rattle.std.specs.Prelude.{◌≡◌, ◌⊎◌, List}
+use Rattle.std.specs.Prelude.{◌≡◌, List}
 use Rattle.wc_resolve.specs.declared.fault.ResolveFault.{ResolveFault}
 use Rattle.wc_resolve.specs.declared.fault.ResolveFault.TheVariants.{Memory, IdRange, Cycle, Unnamed, KeyMismatch, NameClash, BadCharacter, ByValueResource, Empty}
+use Rattle.wc_resolve.specs.declared.validate.order.OrderFault.{OrderFault}
+use Rattle.wc_resolve.specs.declared.validate.order.OrderFault.TheVariants.{Memory as NoMemory, Cycle as OnCycle}
 use Rattle.wc_resolve.specs.Ranges.{AreIdsInRange}
 use Rattle.wc_resolve.specs.Views.{TypeView}
-use Rattle.wc_resolve.specs.World.{ResolveView, HasCycle}
+use Rattle.wc_resolve.specs.World.{ResolveView, HasCycle, Leads, children}
 use Rattle.wc_resolve.specs.WellFormed.{AreNamed, KeysMatch, ArePackagesDistinct, AreNamesSpelled, HasNoResourceByValue, HasNoEmptyType}
 
 abbrev pub IsCause : ResolveView → ResolveFault → Type 0
@@ -21,5 +23,11 @@ IsCause r Empty =
     AreIdsInRange r × (¬ HasCycle r.types) × AreNamed r × KeysMatch r × ArePackagesDistinct r × AreNamesSpelled r × HasNoResourceByValue r × ¬ HasNoEmptyType r
 
 -- why there is no order of the types
-abbrev pub IsOrderCause : List TypeView → ResolveFault → Type 0
-IsOrderCause types e = (e ≡ Memory) ⊎ ((e ≡ Cycle) × HasCycle types)
+abbrev pub IsOrderCause : List TypeView → OrderFault → Type 0
+IsOrderCause types NoMemory = Unit {0}
+IsOrderCause types (OnCycle index) = Leads (children types) index index
+
+-- the fault of parts that have no order of their types
+abbrev pub IsFaultOf : OrderFault → ResolveFault → Type 0
+IsFaultOf NoMemory e = e ≡ Memory
+IsFaultOf (OnCycle index) e = e ≡ Cycle

@@ -9,6 +9,7 @@ pub mod Tables
 pub mod Laws
 pub mod Live
 pub mod Names
+pub mod Places
 pub mod ResolveParts
 pub mod Queries
 pub mod Ranges

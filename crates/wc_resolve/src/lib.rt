@@ -57,6 +57,7 @@
 
 mod canonical_ids;
 mod contents;
+mod explain;
 mod fault;
 mod flat;
 mod flattening;
@@ -77,6 +78,7 @@ mod validate;
 mod walk;
 mod worlds;
 
+pub use explain::{Part, explain_parts};
 pub use fault::ResolveFault;
 pub use flat::WasmType;
 pub use functions::{AbiVariant, Function, FunctionKind};

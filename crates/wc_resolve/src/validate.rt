@@ -10,14 +10,14 @@ ghost use Rattle.wc_resolve.specs.Tables.{AreTables, IsOrder};
 ghost use Rattle.wc_resolve.specs.Ranges.{AreIdsInRange};
 ghost use Rattle.wc_resolve.specs.Resources.{AreResourceFlags};
 
-mod cases;
-mod keys;
-mod naming;
-mod order;
-mod package_names;
-mod ranges;
+pub(crate) mod cases;
+pub(crate) mod keys;
+pub(crate) mod naming;
+pub(crate) mod order;
+pub(crate) mod package_names;
+pub(crate) mod ranges;
 pub(crate) mod resources;
-mod spelling;
+pub(crate) mod spelling;
 mod type_test;
 
 use crate::contents::find_texts;
@@ -27,7 +27,7 @@ use crate::{PackageName, Parts, ResolveFault, WasmType};
 use cases::has_no_empty_type;
 use keys::keys_match;
 use naming::are_named;
-use order::children_first;
+use order::{OrderFault, children_first};
 use package_names::distinct_package_names;
 use ranges::are_ids_in_range;
 use resources::{find_resources, has_no_resource_by_value};
@@ -55,7 +55,7 @@ pub(crate) struct Tables {
 }
 
 /// The indices of all types, each after those that it refers to.
-fn order_of(alloc: Global, parts: &Parts) -> Result<Vec<usize>, ResolveFault>
+pub(crate) fn order_of(alloc: Global, parts: &Parts) -> Result<Vec<usize>, OrderFault>
     requires { AreIdsInRange (parts_view parts.now) }
     ensures order { IfOk result (λ order. IsOrder (parts_view parts.now).types order.items) }
     ensures fault { IfErr result (IsOrderCause (parts_view parts.now).types) }
@@ -64,7 +64,11 @@ fn order_of(alloc: Global, parts: &Parts) -> Result<Vec<usize>, ResolveFault>
 }
 
 /// For each type whether it is a resource, or an alias of one.
-fn resource_flags_of(alloc: Global, parts: &Parts, order: &[usize]) -> Result<Vec<bool>, AllocError>
+pub(crate) fn resource_flags_of(
+    alloc: Global,
+    parts: &Parts,
+    order: &[usize],
+) -> Result<Vec<bool>, AllocError>
     requires { IsOrder (parts_view parts.now).types order.now }
     ensures { IfOk result (λ resource_flags. AreResourceFlags (parts_view parts.now).types
         resource_flags.items) }

@@ -8,9 +8,9 @@ use crate::rows::Row;
 use crate::seeds::row_seed;
 use crate::set_calls::answer_set;
 use crate::table::named;
-use crate::values::{put_bytes_lines, put_fault};
+use crate::values::{put_bytes_lines, put_fault, put_place};
 use std::alloc::{AllocError, Global};
-use wc_gc::{GcFault, LiveSet, Liveness, RangeSet, liveness_counted, run};
+use wc_gc::{GcFault, LiveSet, Liveness, RangeSet, explain, liveness_counted, run};
 use wc_maps::Set;
 
 /// The calls on bytes and names.
@@ -23,12 +23,15 @@ enum Call {
     /// `trim_for REALLOC PAGE NAME..`: the same for a main module that exports a realloc of this name, none by `-`, with
     /// an exponent of the page size.
     TrimFor,
+    /// `explain_trim NAME..`: why the same adapter is refused as by `trim`, and what that is about.
+    Explain,
 }
 
-const CALLS: [(&str, Call); 3] = [
+const CALLS: [(&str, Call); 4] = [
     ("liveness_counted", Call::Liveness),
     ("trim", Call::Trim),
     ("trim_for", Call::TrimFor),
+    ("explain_trim", Call::Explain),
 ];
 
 /// Appends the answer of a call of `wc_gc`, and says whether the row's is one.
@@ -92,6 +95,7 @@ fn answer_on_names(
         Call::TrimFor => {
             answer_trim(alloc, bytes, names, realloc_of(row), exponent_of(row), out);
         }
+        Call::Explain => answer_explain(alloc, bytes, names, out),
     }
 }
 
@@ -133,6 +137,29 @@ fn exponent_of(row: &Row<'_>) -> Option<u32>
 {
     let page = row.arguments.get(1)?.parse::<u32>().ok()?;
     if page > 16 { None } else { Some(page) }
+}
+
+fn answer_explain(alloc: Global, bytes: &[u8], names: &Set<String>, out: &mut Lines) {
+    if names.is_empty() {
+        let _ = bad_row(out, "no names", "");
+        return;
+    }
+    match run(alloc, bytes, names, None, 16) {
+        Ok(_) => out.push_str("ok\n"),
+        Err(fault) => put_explained(alloc, bytes, names, fault, out),
+    }
+}
+
+fn put_explained(
+    alloc: Global,
+    bytes: &[u8],
+    names: &Set<String>,
+    fault: GcFault,
+    out: &mut Lines,
+) {
+    let place = explain(alloc, bytes, names, &fault);
+    put_fault(out, fault);
+    put_place(out, place);
 }
 
 fn put_trimmed(trimmed: Result<Vec<u8>, GcFault>, out: &mut Lines) {

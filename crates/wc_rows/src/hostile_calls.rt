@@ -189,19 +189,28 @@ fn put_number(out: &mut Vec<u8>, number: u64) -> Result<(), AllocError> {
 /// Numbers from here on are in no set of a row.
 const NUMBERS: u32 = 1024;
 
-/// `inserted NUMBER..`: what `insert` answers for each number, in a set that has those before it. Where memory runs out
-/// the answer ends with that, if the set has the numbers that it had.
+/// `inserted SET NUMBER..`: what `insert` answers for each number, in a set that has those before it. Where memory runs
+/// out the answer ends with that, if the set has the numbers that it had. SET is `bits` or `ranges`.
 fn answer_inserted(alloc: Global, row: &Row<'_>, out: &mut Lines) {
     let mut had = BitVec::new(alloc);
     // So all of its room is there.
     match had.insert(NUMBERS) {
-        Ok(_) => put_inserted(alloc, &row.arguments, &mut had, out),
+        Ok(_) => put_inserted_into(alloc, &row.arguments, &mut had, out),
         Err(_) => out.lack_memory(),
     }
 }
 
-fn put_inserted(alloc: Global, words: &[&str], had: &mut BitVec, out: &mut Lines) {
-    let mut set = RangeSet::new(alloc);
+fn put_inserted_into(alloc: Global, words: &[&str], had: &mut BitVec, out: &mut Lines) {
+    match words.split_first() {
+        Some((word, numbers)) if *word == "bits" => {
+            put_inserted(BitVec::new(alloc), numbers, had, out);
+        }
+        Some((_, numbers)) => put_inserted(RangeSet::new(alloc), numbers, had, out),
+        None => {}
+    }
+}
+
+fn put_inserted<L: LiveSet + Drop>(mut set: L, words: &[&str], had: &mut BitVec, out: &mut Lines) {
     for word in words {
         let number = word.parse::<u32>().unwrap_or(0);
         if !put_insert(&mut set, had, number, out) {
@@ -211,7 +220,7 @@ fn put_inserted(alloc: Global, words: &[&str], had: &mut BitVec, out: &mut Lines
 }
 
 /// False where memory runs out for an insert.
-fn put_insert(set: &mut RangeSet, had: &mut BitVec, number: u32, out: &mut Lines) -> bool {
+fn put_insert<L: LiveSet>(set: &mut L, had: &mut BitVec, number: u32, out: &mut Lines) -> bool {
     match set.insert(number) {
         Ok(is_new) => {
             put_flag(is_new, out);
@@ -222,7 +231,7 @@ fn put_insert(set: &mut RangeSet, had: &mut BitVec, number: u32, out: &mut Lines
 }
 
 /// That memory ran out, or the first number that is in one of two sets alone.
-fn put_kept(set: &RangeSet, had: &BitVec, out: &mut Lines) {
+fn put_kept<L: LiveSet>(set: &L, had: &BitVec, out: &mut Lines) {
     for number in 0..NUMBERS {
         if set.contains(number) != had.contains(number) {
             out.number("", number as u64);

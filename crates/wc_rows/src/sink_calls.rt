@@ -123,12 +123,12 @@ fn put_steps(row: &Row<'_>, taken: Vec<u8>, out: &mut Lines) {
 
 /// A sink that takes some puts, and fails at the next.
 #[derive(Drop)]
-struct FailingSink {
+struct FailAt {
     puts: u32,
     failed: bool,
 }
 
-impl Sink for FailingSink {
+impl Sink for FailAt {
     ghost use Rattle.std.specs.Prelude.{None};
 
     ghost written = { λ _. None };
@@ -170,7 +170,7 @@ fn answer_on_bytes(alloc: Global, call: Call, row: &Row<'_>, input: &[u8], out: 
 fn put_failing(alloc: Global, command: &Command<'_>, input: &[u8], puts: u32, out: &mut Lines)
     requires { IsExecutable (command_value command.now) }
 {
-    let mut sink = FailingSink {
+    let mut sink = FailAt {
         puts,
         failed: false,
     };
@@ -193,7 +193,7 @@ fn put_each_failing(alloc: Global, command: &Command<'_>, input: &[u8], out: &mu
 fn put_fails(alloc: Global, command: &Command<'_>, input: &[u8], puts: u32, out: &mut Lines) -> bool
     requires { IsExecutable (command_value command.now) }
 {
-    let mut sink = FailingSink {
+    let mut sink = FailAt {
         puts,
         failed: false,
     };

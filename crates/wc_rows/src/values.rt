@@ -1,6 +1,7 @@
 //! Lines for types, imports and the items of modules.
 
 use crate::lines::Lines;
+use std::alloc::AllocError;
 use std::fmt::Display;
 use wc_read::{
     Def, Export, ExportKind, FuncType, GlobalType, Import, ImportType, MemoryType, TableType,
@@ -11,6 +12,15 @@ use wc_read::{
 pub fn put_fault(out: &mut Lines, fault: impl Display + Drop) {
     out.push_str("fault ");
     writeln!(out, "{fault}");
+}
+
+/// What a fault is about, or `none`.
+pub fn put_place<P: Display + Drop>(out: &mut Lines, place: Result<Option<P>, AllocError>) {
+    match place {
+        Ok(Some(place)) => writeln!(out, "{place}"),
+        Ok(None) => out.push_str("none\n"),
+        Err(_) => out.lack_memory(),
+    }
 }
 
 /// Bytes in hex, each with a space at the front.

@@ -1,2 +1,3 @@
 -- What the examples' contracts cite.
 pub mod Summary
+pub mod Unedited

@@ -49,13 +49,14 @@ enum Example {
     PrintedLines,
     ReachesMemory,
     TrimBoth,
+    TrimUnedited,
     Summary,
     PrintedPlan,
     ImportedMemory,
     CanUseSlot1,
 }
 
-const EXAMPLES: [(&str, Example); 13] = [
+const EXAMPLES: [(&str, Example); 14] = [
     ("exports_memory", Example::ExportsMemory),
     ("import_section", Example::ImportSection),
     ("original_name", Example::OriginalName),
@@ -65,6 +66,7 @@ const EXAMPLES: [(&str, Example); 13] = [
     ("printed_lines", Example::PrintedLines),
     ("reaches_memory", Example::ReachesMemory),
     ("trim_both", Example::TrimBoth),
+    ("trim_unedited", Example::TrimUnedited),
     ("summary", Example::Summary),
     ("printed_plan", Example::PrintedPlan),
     ("imported_memory", Example::ImportedMemory),
@@ -98,6 +100,7 @@ fn answer_example(
         Example::PrintedLines => answer_printed_lines(alloc, row, out),
         Example::ReachesMemory => answer_reaches_memory(alloc, row, out),
         Example::TrimBoth => answer_trim_both(alloc, row, out),
+        Example::TrimUnedited => answer_trim_unedited(alloc, row, out),
         Example::Summary => answer_summary(alloc, row, out),
         Example::PrintedPlan => answer_printed_plan(alloc, row, out),
         Example::ImportedMemory => answer_imported_memory(alloc, row, out),
@@ -271,6 +274,20 @@ fn put_both(trimmed: Result<(Vec<u8>, Vec<u8>), GcFault>, out: &mut Lines) {
         }
         Err(fault) => writeln!(out, "fault {fault}"),
     }
+}
+
+/// `example trim_unedited NAME..`.
+fn answer_trim_unedited(alloc: Global, row: &Row<'_>, out: &mut Lines) -> Result<(), Stop> {
+    let bytes = bytes_of(alloc, &row.input, out)?;
+    let required = names_from(alloc, row, 1)?;
+    if required.is_empty() {
+        return Err(bad_row(out, "no names", row.call));
+    }
+    match gc::trim_unedited(alloc, &bytes, &required) {
+        Ok(trimmed) => put_bytes_lines(out, "bytes", &trimmed),
+        Err(fault) => writeln!(out, "fault {fault}"),
+    }
+    Ok(())
 }
 
 /// `example imported_memory`: of the module, as the main module of a world that imports and exports nothing.

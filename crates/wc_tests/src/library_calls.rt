@@ -2,7 +2,7 @@
 
 use crate::examples::calls::trim_to_write;
 use std::alloc::{AllocError, Global};
-use wc_calls::{Answer, MEMORY, dedupe, plan, trim, world};
+use wc_calls::{Answer, MEMORY, dedupe, plan, trim, validate, world};
 use wc_rows::input::{Stop, answered, bad_row, bytes_of};
 use wc_rows::lines::Lines;
 use wc_rows::rows::Row;
@@ -24,12 +24,17 @@ fn answer_call(alloc: Global, row: &Row<'_>, out: &mut Lines) -> Result<bool, St
         answer_trim(alloc, row, out)?;
     } else if row.call == "trim_to_write" {
         answer_trim_to_write(alloc, row, out)?;
-    } else if row.call == "world_into" || row.call == "plan_into" {
+    } else if is_on_message(row.call) {
         answer_message(alloc, row, out)?;
     } else {
         return Ok(false);
     }
     Ok(true)
+}
+
+/// Whether a call takes a message.
+fn is_on_message(call: &str) -> bool {
+    call == "world_into" || call == "plan_into" || call == "validate_into"
 }
 
 /// `dedupe_into ROOM`: a module, its repeated imports renamed, in a buffer of so many bytes.
@@ -88,21 +93,48 @@ fn answer_trim_to_write(alloc: Global, row: &Row<'_>, out: &mut Lines) -> Result
 }
 
 /// `world_into ROOM LINES`, `plan_into ROOM LINES`: the world of a component, or its plan, in a buffer of so many bytes. So
-/// many lines of input are the message, and the others the bytes of modules.
+/// many lines of input are the message, and the others the bytes of modules. `validate_into ROOM LINES [NAME]`: whether its
+/// main module is valid, or the adapter or the library of a name.
 fn answer_message(alloc: Global, row: &Row<'_>, out: &mut Lines) -> Result<(), Stop> {
     let Some((message, bytes)) = parts_of(row) else {
         return Err(bad_row(out, "no message", row.call));
     };
     let message = text_of(alloc, message)?;
     let modules = bytes_of(alloc, bytes, out)?;
+    let names = names_of(alloc, row, out)?;
     let mut buffer = buffer_of(alloc, row, out)?;
-    let answer = if row.call == "plan_into" {
-        plan(alloc, row_seed(), message.as_bytes(), &modules, &mut buffer)
-    } else {
-        world(alloc, row_seed(), message.as_bytes(), &modules, &mut buffer)
-    };
+    let answer = answer_to(
+        alloc,
+        row.call,
+        message.as_bytes(),
+        &modules,
+        &names,
+        &mut buffer,
+    );
     put_answer(&answer, &buffer, out);
     Ok(())
+}
+
+/// What a call answers to a message.
+fn answer_to(
+    alloc: Global,
+    call: &str,
+    message: &[u8],
+    modules: &[u8],
+    names: &[Vec<u8>],
+    buffer: &mut [u8],
+) -> Answer {
+    let seed = row_seed();
+    if call == "plan_into" {
+        return plan(alloc, seed, message, modules, buffer);
+    }
+    if call == "world_into" {
+        return world(alloc, seed, message, modules, buffer);
+    }
+    match names.first() {
+        Some(name) => validate(alloc, seed, message, modules, Some(name.as_slice()), buffer),
+        None => validate(alloc, seed, message, modules, None, buffer),
+    }
 }
 
 /// The lines of a message, whose number is the second argument, and those after them.

@@ -40,7 +40,7 @@ impl FaultText for ReadFault {
     ghost text = { read_fault_text };
 
     fn put_text<S: Sink>(&self, out: &mut S) -> Result<(), PutFailed> {
-        out.put(read_fault_text(*self))
+        out.put(read_fault_text(*self).as_bytes())
     }
 }
 
@@ -102,30 +102,30 @@ impl FaultText for ToolFault {
     }
 }
 
-/// The text of a reader's fault.
-fn read_fault_text(fault: ReadFault) -> &'static [u8]
+/// The text of a reader's fault, which `put_text` puts.
+pub fn read_fault_text(fault: ReadFault) -> &'static str
     ensures { result.now ≡ read_fault_text fault }
 {
     match fault {
-        ReadFault::Memory => MEMORY,
-        ReadFault::NotWasm => b"NotWasm",
-        ReadFault::Component => b"Component",
-        ReadFault::Truncated => b"Truncated",
-        ReadFault::BadNumber => b"BadNumber",
-        ReadFault::BadName => b"BadName",
-        ReadFault::SectionOrder => b"SectionOrder",
-        ReadFault::SectionSize => b"SectionSize",
-        ReadFault::UnknownSection => b"UnknownSection",
-        ReadFault::BadType => b"BadType",
-        ReadFault::BadLimits => b"BadLimits",
-        ReadFault::BadIndex => b"BadIndex",
-        ReadFault::DuplicateExport => b"DuplicateExport",
-        ReadFault::BadInitialiser => b"BadInitialiser",
-        ReadFault::CountMismatch => b"CountMismatch",
-        ReadFault::UnknownOperator => b"UnknownOperator",
-        ReadFault::BadNesting => b"BadNesting",
-        ReadFault::BadStart => b"BadStart",
-        ReadFault::TooLarge => b"TooLarge",
+        ReadFault::Memory => "out of memory",
+        ReadFault::NotWasm => "NotWasm",
+        ReadFault::Component => "Component",
+        ReadFault::Truncated => "Truncated",
+        ReadFault::BadNumber => "BadNumber",
+        ReadFault::BadName => "BadName",
+        ReadFault::SectionOrder => "SectionOrder",
+        ReadFault::SectionSize => "SectionSize",
+        ReadFault::UnknownSection => "UnknownSection",
+        ReadFault::BadType => "BadType",
+        ReadFault::BadLimits => "BadLimits",
+        ReadFault::BadIndex => "BadIndex",
+        ReadFault::DuplicateExport => "DuplicateExport",
+        ReadFault::BadInitialiser => "BadInitialiser",
+        ReadFault::CountMismatch => "CountMismatch",
+        ReadFault::UnknownOperator => "UnknownOperator",
+        ReadFault::BadNesting => "BadNesting",
+        ReadFault::BadStart => "BadStart",
+        ReadFault::TooLarge => "TooLarge",
     }
 }
 

@@ -1,6 +1,6 @@
 //! The files that a program reads and writes.
 
-ghost use Rattle.std.specs.Prelude.{ℕ, List, Option, IfOk, OnOk, OnErr};
+ghost use Rattle.std.specs.Prelude.{⊤, ℕ, List, Option, IfOk, OnOk, OnErr};
 ghost use Rattle.wc_tool.specs.Files.{Holds, Writes, KeepsOthers};
 
 use std::io;
@@ -9,6 +9,10 @@ use std::io;
 pub trait FileStore {
     // The bytes of the file of each path, where they are known: `None` where there is no file.
     ghost held: { Self → Option (List ℕ → Option (List ℕ)) };
+
+    // What is known of a write that failed: of the files before it and after it, the path, and the
+    // bytes.
+    ghost write_fails: { Self → Self → List ℕ → List ℕ → Type 0 } = { λ _ _ _ _. ⊤ };
 
     /// All bytes of the file of this path.
     ///
@@ -23,8 +27,10 @@ pub trait FileStore {
     ///
     /// # Errors
     ///
-    /// The file could not be written. What bytes it has then is left open; every other file stays the same.
+    /// The file could not be written. What bytes it has then is left open, and only the implementation's `write_fails` says
+    /// why; every other file stays the same.
     fn write(&mut self, path: &str, bytes: &[u8]) -> io::Result<()>
         ensures written { OnOk result (Writes (held self.old) (held self.new) path.now bytes.now) }
-        ensures others { OnErr result (KeepsOthers (held self.old) (held self.new) path.now) };
+        ensures others { OnErr result (KeepsOthers (held self.old) (held self.new) path.now) }
+        ensures cause { OnErr result (write_fails self.old self.new path.now bytes.now) };
 }

@@ -50,7 +50,7 @@ mod trim_arguments;
 pub use command::{Command, Usage, parse};
 pub use execution::execute;
 pub use fault::ToolFault;
-pub use fault_text::FaultText;
+pub use fault_text::{FaultText, read_fault_text};
 pub use files::FileStore;
 pub use output::{Output, Printer};
 pub use program::{RunFault, run, run_command};

@@ -1,12 +1,12 @@
 //! The program: its arguments, its files, what it prints, and its exit status.
 
-ghost use Rattle.std.specs.Prelude.{◌≡◌, ◌≢◌, ◌++◌, false, true, List, ℕ, map, string_bytes, IfOk, IfErr, IsErr, IsErrOf, OnOk, OnErr};
+ghost use Rattle.std.specs.Prelude.{◌≡◌, ◌≢◌, ◌++◌, false, true, List, ℕ, IfOk, IfErr, IsErr, IsErrOf, OnOk, OnErr};
 ghost use Rattle.std.specs.Option.{option_map};
-ghost use Rattle.std.specs.Io.KnownBytes.{Appends};
 ghost use Rattle.std.specs.IoError.{error_kind};
 ghost use Rattle.wc_tool.specs.Command.{command_value, IsExecutable};
 ghost use Rattle.wc_tool.specs.Execution.{Runs, IsCause};
-ghost use Rattle.wc_tool.specs.Program.{HandsOn, EndsWell, IsRunFault, Prints, CommandEnds, ProgramEnds, EndsWithoutArguments, fault_line, run_fault_text, usage_text, failure};
+ghost use Rattle.wc_tool.specs.Files.{file_change};
+ghost use Rattle.wc_tool.specs.Program.{hands_on, EndsWell, IsRunFault, LeavesOutput, Prints, CommandEnds, ProgramEnds, EndsWithoutArguments, fault_line, run_fault_text, usage_text, failure};
 
 use crate::command::{Command, Usage, parse};
 use crate::execution::execute;
@@ -79,14 +79,12 @@ pub fn run<F: FileStore, O: Output>(
     files: &mut F,
     out: &mut O,
 ) -> u8
-    ensures known { IfOk arguments.now (λ v. ProgramEnds (map string_bytes v.items)
-        (F.held files.old) (F.held files.new)
-        (HandsOn (O.written out.old) (O.written out.new) (O.sent out.new)) (O.is_failed out.new)
-        result) }
+    ensures known { IfOk arguments.now (λ v. ProgramEnds v.items
+        (file_change F.held F.write_fails files.old files.new)
+        (hands_on O.written O.sent out.old out.new) (O.is_failed out.new) result) }
     ensures unknown { IfErr arguments.now (λ e. EndsWithoutArguments
         (error_kind e ≡ ErrorKind.OutOfMemory)
-        (HandsOn (O.written out.old) (O.written out.new) (O.sent out.new)) (O.is_failed out.new)
-        result) }
+        (hands_on O.written O.sent out.old out.new) (O.is_failed out.new) result) }
     ensures kept { IsErr arguments.now → F.held files.new ≡ F.held files.old }
 {
     match arguments {
@@ -106,9 +104,8 @@ fn run_with<F: FileStore, O: Output>(
     files: &mut F,
     out: &mut O,
 ) -> u8
-    ensures { ProgramEnds (map string_bytes arguments.now) (F.held files.old) (F.held files.new)
-        (HandsOn (O.written out.old) (O.written out.new) (O.sent out.new)) (O.is_failed out.new)
-        result }
+    ensures { ProgramEnds arguments.now (file_change F.held F.write_fails files.old files.new)
+        (hands_on O.written O.sent out.old out.new) (O.is_failed out.new) result }
 {
     if arguments.is_empty() {
         return print_usage(out, SUCCESS);
@@ -128,9 +125,9 @@ fn run_and_report<F: FileStore, O: Output>(
     out: &mut O,
 ) -> u8
     requires { IsExecutable (command_value command.now) }
-    ensures { CommandEnds (command_value command.now) (F.held files.old) (F.held files.new)
-        (HandsOn (O.written out.old) (O.written out.new) (O.sent out.new)) (O.is_failed out.new)
-        result }
+    ensures { CommandEnds (command_value command.now)
+        (file_change F.held F.write_fails files.old files.new)
+        (hands_on O.written O.sent out.old out.new) (O.is_failed out.new) result }
 {
     match run_command(alloc, seed, command, files, out) {
         Ok(()) => SUCCESS,
@@ -146,10 +143,10 @@ fn run_and_report<F: FileStore, O: Output>(
 /// - `CannotRead`: the input file could not be read. Nothing is put.
 /// - `Tool`: the fault of `execute`. Nothing is put; with `Tool(Output)` `out` is failed instead, and how much was
 ///   written is left open.
-/// - `CannotWrite`: the output file could not be written. The lines were put before. What bytes that file has is left
-///   open.
+/// - `CannotWrite`: the write of the output file failed. The lines were put and handed on before, and `out` is not failed.
+///   What bytes that file has is left open.
 ///
-/// With `CannotRead` and `Tool` no file is created or changed.
+/// With `CannotRead` and `Tool` no file is created or changed: so where `out` fails, none is.
 pub fn run_command<'a, F: FileStore, O: Output>(
     alloc: Global,
     seed: Seed,
@@ -160,10 +157,12 @@ pub fn run_command<'a, F: FileStore, O: Output>(
     requires { IsExecutable (command_value command.now) }
     ensures done { OnOk result (EndsWell
         (command_value command.now) (F.held files.old) (F.held files.new)
-        (HandsOn (O.written out.old) (O.written out.new) (O.sent out.new)) (O.is_failed out.new)) }
-    ensures fault { IfErr result (IsRunFault
-        (command_value command.now) (F.held files.old) (F.held files.new)
-        (Appends (O.written out.old) (O.written out.new)) (O.is_failed out.new)) }
+        (hands_on O.written O.sent out.old out.new) (O.is_failed out.new)) }
+    ensures fault { IfErr result (IsRunFault (command_value command.now)
+        (file_change F.held F.write_fails files.old files.new)
+        (hands_on O.written O.sent out.old out.new)) }
+    ensures output { IfErr result (λ f.
+        LeavesOutput f (out.new ≡ out.old) (O.is_failed out.new)) }
 {
     let source = command.source();
     let Ok(input) = files.read(source) else {
@@ -193,7 +192,7 @@ fn execute_and_flush<O: Output>(
     requires { IsExecutable (command_value command.now) }
     ensures done { IfOk result (λ r. (lines : List ℕ)
         × Runs (command_value command.now) input.now lines (option_map (λ v. v.items) r)
-        × HandsOn (O.written out.old) (O.written out.new) (O.sent out.new) lines) }
+        × hands_on O.written O.sent out.old out.new lines) }
     ensures works { OnOk result (O.is_failed out.new ≡ false) }
     ensures fault { IfErr result (IsCause (command_value command.now) input.now) }
     ensures output { IsErrOf result ToolFault.Output → O.is_failed out.new ≡ true }
@@ -207,8 +206,7 @@ fn execute_and_flush<O: Output>(
 /// Prints the usage text. The answer is `status`, or the status of a failure where `out` fails.
 fn print_usage<O: Output>(out: &mut O, status: u8) -> u8
     ensures { Prints usage_text status
-        (HandsOn (O.written out.old) (O.written out.new) (O.sent out.new))
-        (O.is_failed out.new) result }
+        (hands_on O.written O.sent out.old out.new) (O.is_failed out.new) result }
 {
     match put_usage(out) {
         Ok(()) => status,
@@ -218,8 +216,7 @@ fn print_usage<O: Output>(out: &mut O, status: u8) -> u8
 
 /// Puts the usage text, and flushes.
 fn put_usage<O: Output>(out: &mut O) -> Result<(), PutFailed>
-    ensures printed { OnOk result
-        (HandsOn (O.written out.old) (O.written out.new) (O.sent out.new) usage_text) }
+    ensures printed { OnOk result (hands_on O.written O.sent out.old out.new usage_text) }
     ensures works { OnOk result (O.is_failed out.new ≡ false) }
     ensures fails { OnErr result (O.is_failed out.new ≡ true) }
 {
@@ -231,8 +228,7 @@ fn put_usage<O: Output>(out: &mut O) -> Result<(), PutFailed>
 fn report<O: Output>(out: &mut O, fault: &RunFault<'_>) -> u8
     ensures status { result ≡ failure }
     ensures printed { O.is_failed out.new ≡ false
-        → HandsOn (O.written out.old) (O.written out.new) (O.sent out.new)
-        (fault_line (run_fault_text fault.now)) }
+        → hands_on O.written O.sent out.old out.new (fault_line (run_fault_text fault.now)) }
     ensures refuses { O.is_failed out.new ≡ false → O.is_failed out.old ≡ false }
 {
     let _ = put_fault(out, fault);
@@ -242,8 +238,7 @@ fn report<O: Output>(out: &mut O, fault: &RunFault<'_>) -> u8
 /// Puts the line that says why the program failed, and flushes.
 fn put_fault<O: Output>(out: &mut O, fault: &RunFault<'_>) -> Result<(), PutFailed>
     ensures printed { OnOk result
-        (HandsOn (O.written out.old) (O.written out.new) (O.sent out.new)
-        (fault_line (run_fault_text fault.now))) }
+        (hands_on O.written O.sent out.old out.new (fault_line (run_fault_text fault.now))) }
     ensures refuses { OnOk result (O.is_failed out.old ≡ false) }
     ensures works { OnOk result (O.is_failed out.new ≡ false) }
     ensures fails { OnErr result (O.is_failed out.new ≡ true) }

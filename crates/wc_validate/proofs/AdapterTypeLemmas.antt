@@ -86,6 +86,12 @@ noted_is es key adapter function o is first second =
     sym (ap (option_map func_type_value) is ∙ (types_viewed key es
     ∙ (ap (λ z. noted_type (map type_entry es) z (string_bytes key.1)) first ∙ ap (noted_type (map type_entry es) adapter) second)))
 
+-- a test of parameters and results is one of the type
+pub type_test : (b : Bool) (v t : FuncTypeValue) (ps rs : List ValType) → ps ≡ t.params → rs ≡ t.results → IsTrue b ↔ (v ≡ signature ps rs)
+    → IsTrue b ↔ (v ≡ t)
+type_test b v t ps rs first second test =
+    subst (λ z. IsTrue b ↔ (v ≡ signature t.params z)) second (subst (λ z. IsTrue b ↔ (v ≡ signature z rs)) first test)
+
 pub agrees_first : (b : Bool) (v t : FuncTypeValue) (ps rs : List ValType) (n : Option FuncTypeValue) → n ≡ Some t → ps ≡ t.params → rs ≡ t.results → IsTrue b
     ↔ (v ≡ signature ps rs) → IsTrue b ↔ Agrees n v
 agrees_first b v t ps rs n noted first second test =

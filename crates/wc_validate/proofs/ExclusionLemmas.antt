@@ -16,11 +16,11 @@ use Rattle.wc_names.specs.First.{FirstOf}
 use Rattle.wc_names.specs.Imports.{CoreImport, NameScope, Classified}
 use Rattle.wc_names.specs.Laws.{ExportsUnique, MeaningsUnique}
 use Rattle.wc_names.specs.Meanings.{means, refuses}
-use Rattle.wc_names.specs.Classifications.{FaultKind, out_of_memory, wrong_signature, refused_name, other_fault}
+use Rattle.wc_validate.specs.Classifications.{FaultKind, out_of_memory, wrong_signature, refused_name, other_fault}
 use Rattle.wc_names.specs.Views.{ImportView}
 use Rattle.wc_validate.specs.Imports.Entries.{Entry, Records}
 use Rattle.wc_validate.specs.Exports.Map.{ExportRecord}
-use Rattle.wc_validate.specs.Faults.{fault_kind}
+use Rattle.wc_validate.specs.Faults.{import_fault_kind}
 use Rattle.wc_validate.specs.Imports.Record.{ImportScope, AreEntries, IsEntry, IsEntryCause, IsEntryFault, IsFaultOfImport, IsImportFault, IsValidAfter, entry_faults, library_entry}
 use Rattle.wc_validate.specs.Laws.{RecordsExcludeFaults}
 use Rattle.wc_validate.specs.Exports.Record.{AreExports, HasMismatch, IsExportEntry, IsExportsFault, IsMismatched, core_exports}
@@ -46,7 +46,9 @@ module _ (r : ResolveView) (unique : MeaningsUnique r) where
       → Classified e a (means v required_type) → HasSignature a.ty required_type → ¬ IsNameFault e a k
   no_name_fault e a v required_type (refused_name why) at c h f =
       let same : means v required_type ≡ refuses why = unique e a (means v required_type) (refuses why) at c f in let bad : ⊥ = cc same in bad
-  no_name_fault e a v required_type wrong_signature at c h f =
+  no_name_fault e a v required_type (wrong_signature (Some wanted)) at c h f =
+      f.2 (subst (HasSignature a.ty) (same_signature (unique e a (means v required_type) (means f.0 (Some wanted)) at c f.1)) h)
+  no_name_fault e a v required_type (wrong_signature None) at c h f =
       f.3 (subst (HasSignature a.ty) (same_signature (unique e a (means v required_type) (means f.0 (Some f.1)) at c f.2)) h)
   no_name_fault e a v required_type out_of_memory at c h f = f
   no_name_fault e a v required_type other_fault at c h f = f
@@ -58,7 +60,7 @@ module _ (r : ResolveView) (unique : MeaningsUnique r) where
   no_fault_of s before i x f at (inl e) valid (inl q) = none_some (library_entry s.library i.module_name i.name) x q.0 e
   no_fault_of s before i x f at (inr e) valid (inl q) =
       let core = one_core s i e.1 q.1 e.4 q.2 in
-      no_name_fault s.name_scope q.1 e.2 e.3 (fault_kind f) at (subst (λ z. Classified s.name_scope z (means e.2 e.3)) core e.5)
+      no_name_fault s.name_scope q.1 e.2 e.3 (import_fault_kind f) at (subst (λ z. Classified s.name_scope z (means e.2 e.3)) core e.5)
       (subst (λ (z : CoreImport). HasSignature z.ty e.3) core e.6) q.3
 
   no_import_fault : (s : ImportScope) (before : List Entry) (is : List ImportValue) (xs : List Entry) (f : ValidateFault) → s.name_scope.resolve ≡ r

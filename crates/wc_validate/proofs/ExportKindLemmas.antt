@@ -20,14 +20,14 @@ use Rattle.wc_names.specs.Schemes.{Scheme, NamesCallback, NamesPostReturn, funct
 use Rattle.wc_names.proofs.RangeLemmas.{function_usable}
 use Rattle.wc_names.specs.First.{FirstOf}
 use Rattle.wc_names.proofs.SearchLemmas.{NoneOf, first_kind, not_first}
-use Rattle.wc_validate.specs.declared.fault.ValidateFault.{ValidateFault}
+use Rattle.wc_validate.specs.declared.name_fault.NameFault.{NameFault}
 use Rattle.wc_validate.specs.Exports.Contexts.{core_export}
 use Rattle.wc_validate.specs.Private.Exports.Classify.{AreNamesBy, MeansExport, named_kinds, fixed_kinds, IsExportClassified}
 use Rattle.wc_validate.specs.NameScopes.{HasItsWorld}
 use Rattle.wc_read.specs.declared.types.ValType.TheVariants.{I32}
 use Rattle.wc_validate.proofs.ImportRootLemmas.{first_mapped, first_unmapped, none_mapped}
-use Rattle.wc_names.proofs.ClassificationLemmas.{classified_as, classified_nothing, classified_unchecked, group_skipped}
-use Rattle.wc_names.specs.Classifications.{of_exports}
+use Rattle.wc_validate.proofs.ClassificationLemmas.{classified_as, classified_nothing, classified_unchecked, group_skipped}
+use Rattle.wc_validate.specs.Classifications.{of_exports}
 use Rattle.wc_validate.specs.Faults.{fault_kind}
 use Rattle.wc_names.proofs.ExportMeaningLemmas.{lifted_unique, returned_unique, called_back_unique as called_unique}
 
@@ -171,7 +171,7 @@ module _ (e : NameScope) (keys : List KeyView) (text : List ℕ) (ty : ExternTyp
     no_any_type : (m : ExportMeaning) → ¬ RuleHere any_type m
     no_any_type m h = none h.0 h.1
 
-    pub by_scheme_read : (s : Scheme) (name : List ℕ) (r : Result (Option Export) ValidateFault) → IsExportReadBy e text s name
+    pub by_scheme_read : (s : Scheme) (name : List ℕ) (r : Result (Option Export) NameFault) → IsExportReadBy e text s name
         → IsExportClassified (MeansExport s e keys export_kinds name ty) ty r
         → IsExportClassified (ClassifiedExport e keys (core_export text ty)) ty r
     by_scheme_read s name r read v =

@@ -29,8 +29,11 @@ use Rattle.wc_validate.specs.Exports.Map.{ExportRecord, export_entry}
 use Rattle.wc_validate.specs.Exports.Record.{AreExports, HasMismatch, IsExportEntry, IsExportFault, IsExportRecorded, IsExportsFault, IsMismatched, core_exports, entry_of, item_type, typed_export}
 use Rattle.wc_validate.proofs.IndexLemmas.{lookup_push}
 use Rattle.wc_validate.proofs.PutLemmas.{insert_new, is_called}
-use Rattle.wc_names.specs.Classifications.{IsClassification, IsReason, of_exports}
-use Rattle.wc_validate.specs.Faults.{fault_kind}
+use Rattle.wc_validate.specs.Classifications.{IsClassification, IsReason, of_exports}
+use Rattle.wc_read.specs.Types.{func_type_value}
+use Rattle.wc_validate.specs.declared.name_fault.NameFault.{NameFault}
+use Rattle.wc_validate.specs.declared.name_fault.NameFault.TheVariants as naming
+use Rattle.wc_validate.specs.Faults.{fault_kind, of_name}
 use Rattle.wc_validate.specs.Private.Exports.Classify.{IsExportClassified}
 
 -- what the classification of an export says of its record
@@ -44,15 +47,23 @@ pub entry_some : (e : NameScope) (keys : List KeyView) (x : CoreExport) (y : Exp
 unfolding IsClassification IsExportEntry
 entry_some e keys x y v = v
 
-fault_by : (e : NameScope) (keys : List KeyView) (x : CoreExport) (f : ValidateFault) → IsReason of_exports (ClassifiedExport e keys x) x.ty (fault_kind f)
-    → IsExportFault e keys x f
+fault_by : (e : NameScope) (keys : List KeyView) (x : CoreExport) (f : NameFault) → IsReason of_exports (ClassifiedExport e keys x) x.ty (fault_kind f)
+    → IsExportFault e keys x (of_name f)
 unfolding IsMismatched
-fault_by e keys x fault.Memory h = tt
-fault_by e keys x fault.SignatureMismatch h = h
-fault_by e keys x f h = h
+fault_by e keys x naming.Memory h = tt
+fault_by e keys x (naming.SignatureMismatch wanted) h = (h.0, func_type_value wanted, h.1, h.2)
+fault_by e keys x naming.NotAFunction h = absurd h
+fault_by e keys x naming.NoRootImport h = absurd h
+fault_by e keys x naming.RootNotFunction h = absurd h
+fault_by e keys x naming.BadSyntax h = absurd h
+fault_by e keys x naming.UnknownInterface h = absurd h
+fault_by e keys x naming.UnknownIntrinsic h = absurd h
+fault_by e keys x naming.MissingFunction h = absurd h
+fault_by e keys x naming.NoSuchExport h = absurd h
+fault_by e keys x naming.TypedReference h = absurd h
 
-pub entry_fault : (e : NameScope) (keys : List KeyView) (x : CoreExport) (f : ValidateFault) → IsExportClassified (ClassifiedExport e keys x) x.ty (Err f)
-    → IsExportFault e keys x f
+pub entry_fault : (e : NameScope) (keys : List KeyView) (x : CoreExport) (f : NameFault) → IsExportClassified (ClassifiedExport e keys x) x.ty (Err f)
+    → IsExportFault e keys x (of_name f)
 unfolding IsClassification
 entry_fault e keys x f v = fault_by e keys x f v
 

@@ -16,12 +16,12 @@ use Rattle.wc_names.specs.First.{FirstOf}
 use Rattle.wc_names.specs.Imports.{Classified, NameScope, ExternType, adapter_meaning, func_type, memory_type, extern_kind, kinds, IsReadBy, main_memory, main_item, not_function, adapter_function, by_scheme, rules, IsFunction, IsRule}
 use Rattle.wc_names.specs.Meanings.{Meaning, means}
 use Rattle.wc_names.specs.Schemes.{Scheme}
-use Rattle.wc_names.specs.Classifications.{FaultKind, out_of_memory, wrong_signature, refused_name, other_fault, IsReason, IsClassification, of_imports}
+use Rattle.wc_validate.specs.Classifications.{FaultKind, out_of_memory, wrong_signature, refused_name, other_fault, IsReason, IsClassification, of_imports}
 use Rattle.wc_names.specs.Views.{import_view, main_module_memory, main_module_export, adapter_export}
 use Rattle.wc_names.proofs.SearchLemmas.{NoneOf, first_after}
-use Rattle.wc_names.proofs.ClassificationLemmas.{classified_fault, classified_unchecked}
-use Rattle.wc_validate.specs.declared.fault.ValidateFault.{ValidateFault}
-use Rattle.wc_validate.specs.declared.fault.ValidateFault.TheVariants.{Memory, NotAFunction, TypedReference}
+use Rattle.wc_validate.proofs.ClassificationLemmas.{classified_fault, classified_unchecked}
+use Rattle.wc_validate.specs.declared.name_fault.NameFault.{NameFault}
+use Rattle.wc_validate.specs.declared.name_fault.NameFault.TheVariants.{Memory, NotAFunction, TypedReference}
 use Rattle.wc_validate.specs.Faults.{fault_kind}
 use Rattle.wc_validate.specs.Private.Imports.Kinds.{MeansAmong, MeansByScheme}
 use Rattle.wc_validate.specs.Imports.Classify.{answer_of, core_import, HasSignature, IsClassified, IsSomeClassification, IsNameReason}
@@ -29,7 +29,7 @@ use Rattle.wc_validate.specs.NameScopes.{adapter_name}
 use Rattle.wc_validate.proofs.ImportSchemeLemmas.{of_scheme}
 
 -- a classification by the scheme that reads the module's name
-pub decided_by : (e : NameScope) (from name : List ℕ) (ty : FuncTypeValue) (s : Scheme) (rest : List ℕ) (r : Result Import ValidateFault)
+pub decided_by : (e : NameScope) (from name : List ℕ) (ty : FuncTypeValue) (s : Scheme) (rest : List ℕ) (r : Result Import NameFault)
     → IsReadBy e from s rest
     → IsSomeClassification (MeansAmong s e kinds rest name ty) ty r → IsSomeClassification (MeansByScheme e from name ty) ty r
 decided_by e from name ty s rest r read v = of_scheme fault_kind e from name ty s rest (answer_of r) read v
@@ -37,7 +37,7 @@ decided_by e from name ty s rest r read v = of_scheme fault_kind e from name ty 
 pub not_both : (from : List ℕ) → from ≡ environment_module → ¬ (from ≡ codes "__main_module__")
 not_both from env main = let e : 3 ≡ 15 = ap length (sym env ∙ main) in let bad : ⊥ = omega (arith, e) in bad
 
-pub failed_import : (e : NameScope) (from name : List ℕ) (ty : ExternType) (r : Result Import ValidateFault) → IsErrAnd r (λ f. f ≡ Memory)
+pub failed_import : (e : NameScope) (from name : List ℕ) (ty : ExternType) (r : Result Import NameFault) → IsErrAnd r (λ f. f ≡ Memory)
     → IsClassified e (core_import from name ty) r
 unfolding IsClassified
 failed_import e from name ty (Ok i) h = absurd h
@@ -89,22 +89,23 @@ module _ (e : NameScope) (from name : List ℕ) where
     module _ (Means : Meaning → Type 0) (meant : (m : Meaning) → Means m → Classified e (core_import from name (func_type ty)) m) where
       reason_of : (k : FaultKind) → IsReason of_imports Means ty k → IsNameReason e (core_import from name (func_type ty)) k
       reason_of out_of_memory h = tt
-      reason_of wrong_signature h = (h.0, h.1, meant _ h.2, λ same. h.3 (let one : ty ≡ h.1 = cc same in one))
+      reason_of (wrong_signature (Some wanted)) h = (h.0, meant _ h.1, λ same. h.2 (let one : ty ≡ wanted = cc same in one))
+      reason_of (wrong_signature None) h = (h.0, h.1, meant _ h.2, λ same. h.3 (let one : ty ≡ h.1 = cc same in one))
       reason_of (refused_name why) h = meant _ h
       reason_of other_fault h = h
 
-      decided : (r : Result Import ValidateFault) → IsSomeClassification Means ty r → IsClassified e (core_import from name (func_type ty)) r
+      decided : (r : Result Import NameFault) → IsSomeClassification Means ty r → IsClassified e (core_import from name (func_type ty)) r
       unfolding IsClassified IsClassification
       decided (Ok i) v = (v.0, meant _ v.1, signature_of v.0 v.2)
       decided (Err f) v = reason_of (fault_kind f) v
 
     -- a function of an adapter
-    pub of_adapter : (r : Result Import ValidateFault) → Contains e.adapters from → IsSomeClassification (λ m. m ≡ adapter_meaning from name ty) ty r
+    pub of_adapter : (r : Result Import NameFault) → Contains e.adapters from → IsSomeClassification (λ m. m ≡ adapter_meaning from name ty) ty r
         → IsClassified e (core_import from name (func_type ty)) r
     of_adapter r there v = decided (λ m. m ≡ adapter_meaning from name ty) (at_adapter there) r v
 
     -- a function by its name
-    pub of_function : (r : Result Import ValidateFault) → ¬ Contains e.adapters from → IsSomeClassification (MeansByScheme e from name ty) ty r
+    pub of_function : (r : Result Import NameFault) → ¬ Contains e.adapters from → IsSomeClassification (MeansByScheme e from name ty) ty r
         → IsClassified e (core_import from name (func_type ty)) r
     of_function r no_adapter v = decided (MeansByScheme e from name ty) (after_rules no_adapter) r v
 
@@ -118,7 +119,7 @@ module _ (from name : List ℕ) (ty : FuncTypeValue) where
   pub typed_function : names_types ty ≡ true → IsSomeClassification (λ m. m ≡ adapter_meaning from name ty) ty (Err TypedReference)
   typed_function typed = classified_fault of_imports fault_kind (λ m. m ≡ adapter_meaning from name ty) ty TypedReference (rw typed refl)
 
-  pub no_memory : (r : Result Import ValidateFault) → IsErrAnd r (λ f. f ≡ Memory) → IsSomeClassification (λ m. m ≡ adapter_meaning from name ty) ty r
+  pub no_memory : (r : Result Import NameFault) → IsErrAnd r (λ f. f ≡ Memory) → IsSomeClassification (λ m. m ≡ adapter_meaning from name ty) ty r
   no_memory (Ok i) h = absurd h
   no_memory (Err f) h =
       classified_fault of_imports fault_kind (λ m. m ≡ adapter_meaning from name ty) ty f

@@ -9,6 +9,10 @@ use Rattle.wc_names.specs.Imports.{CoreImport}
 use Rattle.wc_names.specs.Views.{import_view}
 use Rattle.wc_validate.specs.declared.fault.ValidateFault.{ValidateFault}
 use Rattle.wc_validate.specs.declared.fault.ValidateFault.TheVariants.{Memory}
+use Rattle.wc_validate.specs.declared.name_fault.NameFault.{NameFault}
+use Rattle.wc_validate.specs.declared.name_fault.NameFault.TheVariants as naming
+use Rattle.wc_read.specs.Types.{func_type_value}
+use Rattle.wc_validate.specs.Faults.{of_name}
 use Rattle.wc_validate.specs.declared.imports.recorder.Recorder.{Recorder}
 use Rattle.wc_validate.specs.Private.Imports.Contexts.{AreRecorded, IsImportRecorded, IsImportRefusal, IsImportsRefusal}
 use Rattle.wc_validate.specs.Imports.Entries.{Entry, single}
@@ -27,12 +31,21 @@ unfolding IsClassified
 by_name s i v o is same a core h = inr (sym (is ∙ same), a, import_view v, h.0, core, h.1, h.2, refl)
 
 -- why the name of an import is refused
-pub refused_name : (s : ImportScope) (before : List Entry) (i : ImportValue) (f : ValidateFault) (o : Option Entry) → None ≡ o
+pub refused_name : (s : ImportScope) (before : List Entry) (i : ImportValue) (f : NameFault) (o : Option Entry) → None ≡ o
     → o ≡ library_entry s.library i.module_name i.name → (a : CoreImport) → IsCoreImport s i a → IsClassified s.name_scope a (Err f)
-    → IsImportRefusal s before i f
+    → IsImportRefusal s before i (of_name f)
 unfolding IsClassified
-refused_name s before i Memory o is same a core h = tt
-refused_name s before i f o is same a core h = inl (sym (is ∙ same), a, core, h)
+refused_name s before i naming.Memory o is same a core h = tt
+refused_name s before i (naming.SignatureMismatch wanted) o is same a core h = inl (sym (is ∙ same), a, core, (h.0, func_type_value wanted, h.1, h.2))
+refused_name s before i naming.NotAFunction o is same a core h = inl (sym (is ∙ same), a, core, h)
+refused_name s before i naming.NoRootImport o is same a core h = inl (sym (is ∙ same), a, core, h)
+refused_name s before i naming.RootNotFunction o is same a core h = inl (sym (is ∙ same), a, core, h)
+refused_name s before i naming.BadSyntax o is same a core h = inl (sym (is ∙ same), a, core, h)
+refused_name s before i naming.UnknownInterface o is same a core h = inl (sym (is ∙ same), a, core, h)
+refused_name s before i naming.UnknownIntrinsic o is same a core h = inl (sym (is ∙ same), a, core, h)
+refused_name s before i naming.MissingFunction o is same a core h = inl (sym (is ∙ same), a, core, h)
+refused_name s before i naming.NoSuchExport o is same a core h = inl (sym (is ∙ same), a, core, h)
+refused_name s before i naming.TypedReference o is same a core h = inl (sym (is ∙ same), a, core, h)
 
 -- an import that was recorded as its entry, or was not
 pub recorded_as : {T F : Type 0} (r : Result T F) (s : ImportScope) (before : List Entry) (i : ImportValue) (x : Entry) (recorder : Recorder) → IsEntry s i x

@@ -10,10 +10,10 @@ use Rattle.wc_names.specs.Imports.{NameScope, root_builtin, root_function, root_
 use Rattle.wc_names.specs.Keys.{world_scope, item_under}
 use Rattle.wc_names.specs.Meanings.{Meaning, means, refuses, root_not_function}
 use Rattle.wc_names.specs.Schemes.{Scheme, standard, legacy, root_module, NamesFunction}
-use Rattle.wc_names.specs.Classifications.{FaultKind, IsClassification, IsImportClassification, of_imports}
+use Rattle.wc_validate.specs.Classifications.{FaultKind, IsClassification, IsImportClassification, of_imports}
 use Rattle.wc_names.specs.WitIntrinsics.{wit_intrinsics, IsWitIntrinsic}
 use Rattle.wc_names.proofs.SearchLemmas.{NoneOf, none_of}
-use Rattle.wc_names.proofs.ClassificationLemmas.{classified_as, group_err, group_some}
+use Rattle.wc_validate.proofs.ClassificationLemmas.{classified_as, group_err, group_some}
 use Rattle.wc_validate.specs.Private.Imports.Builtins.{IsAnyBuiltin, MeansBuiltin}
 use Rattle.wc_validate.specs.Private.Imports.Lookups.{lookup_scope_in}
 use Rattle.wc_validate.specs.Private.Imports.Kinds.{MeansFunction, MeansIntrinsic, function_import}

@@ -9,10 +9,10 @@ use Rattle.wc_names.specs.Imports.{NameScope, Kind, root_intrinsic, root_other_i
 use Rattle.wc_names.specs.Meanings.{Meaning, refuses, no_root_import, typed_reference, unknown_intrinsic}
 use Rattle.wc_names.specs.Schemes.{Scheme, standard, legacy, marker, root_module, interface_prefix, export_prefix}
 use Rattle.wc_names.specs.Keys.{world_scope}
-use Rattle.wc_names.specs.Classifications.{FaultKind, IsReason, refused_name, IsImportClassification, of_imports}
+use Rattle.wc_validate.specs.Classifications.{FaultKind, IsReason, refused_name, IsImportClassification, of_imports}
 use Rattle.wc_names.specs.WitIntrinsics.{wit_intrinsics, IsWitIntrinsic}
 use Rattle.wc_names.proofs.SearchLemmas.{NoneOf, not_first}
-use Rattle.wc_names.proofs.ClassificationLemmas.{group_next, classified_fault, classified_next, classified_nothing, classified_unchecked}
+use Rattle.wc_validate.proofs.ClassificationLemmas.{group_next, classified_fault, classified_next, classified_nothing, classified_unchecked}
 use Rattle.wc_validate.specs.Private.Imports.Lookups.{lookup_scope_in}
 use Rattle.wc_validate.specs.Private.Imports.Kinds.{MeansAmong, MeansByScheme, MeansEnvironment, MeansIntrinsic, export_kinds, export_root_kinds, interface_kinds, other_kinds, root_kinds}
 use Rattle.wc_validate.specs.NameScopes.{imported_function}

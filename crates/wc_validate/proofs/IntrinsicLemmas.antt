@@ -9,10 +9,10 @@ use Rattle.wc_names.specs.Builtins.{signature}
 use Rattle.wc_names.specs.Keys.{scope_key}
 use Rattle.wc_names.specs.Meanings.{Meaning, means, refuses, no_such_export}
 use Rattle.wc_names.specs.Schemes.{Scheme, standard, legacy, ResourceOperation, resource_drop, resource_new, resource_rep, NamesResource, NamesTaskReturn}
-use Rattle.wc_names.specs.Classifications.{FaultKind, IsImportClassification, of_imports}
+use Rattle.wc_validate.specs.Classifications.{FaultKind, IsImportClassification, of_imports}
 use Rattle.wc_names.specs.Views.{ImportView, exported_task_return}
 use Rattle.wc_names.specs.WitIntrinsics.{of_resource, task_return, no_task_return, resource_row}
-use Rattle.wc_names.proofs.ClassificationLemmas.{classified_as}
+use Rattle.wc_validate.proofs.ClassificationLemmas.{classified_as}
 use Rattle.wc_validate.specs.Private.Imports.Kinds.{IsIntrinsic, MeansIntrinsic, MeansOnResource}
 use Rattle.wc_validate.specs.Private.Imports.Lookups.{LookupScope, function_in}
 use Rattle.wc_validate.specs.Private.Imports.Intrinsics.{has_result}

@@ -63,7 +63,7 @@ module _ (r : ResolveView) (unique : MeaningsUnique r) where
       let fixed : p.3 ≡ Some ty = same_signature (meant s i p.1 a (means p.2 p.3) (means v (Some ty)) at p.4 core p.5 h) in
       ap (λ z. z.ty) (one_core s i a p.1 core p.4) ∙ subst (HasSignature (p.1).ty) fixed p.6
 
-  entries_same : (s : ImportScope) (before : List Entry) (is : List ImportValue) (xs ys : List Entry) → s.name_scope.resolve ≡ r → AreEntries s before is xs
+  pub entries_same : (s : ImportScope) (before : List Entry) (is : List ImportValue) (xs ys : List Entry) → s.name_scope.resolve ≡ r → AreEntries s before is xs
       → AreEntries s before is ys → xs ≡ ys
   entries_same s before [] xs ys at p q = p ∙ sym q
   entries_same s before (i ∷ is) [] ys at p q = absurd p

@@ -21,6 +21,7 @@ pub mod LawLemmas
 pub mod ExclusionLemmas
 pub mod RecordLawLemmas
 pub mod SignatureLemmas
+pub mod ClassificationLemmas
 pub mod StageLemmas
 pub mod BuiltinLemmas
 pub mod ExportKindLemmas
@@ -43,3 +44,4 @@ pub mod FirstExportLemmas
 pub mod FirstFunctionLemmas
 pub mod PlaceLemmas
 pub mod MissingLemmas
+pub mod PlaceLawLemmas

@@ -1,27 +1,38 @@
 -- What is missing among the exports of a module: the first that something does not hold of.
-use Rattle.std.proofs.Common.{◌≡◌, ◌≢◌, ◌≤◌, ◌+◌, ℕ, Bool, true, false, cond, arith, List, [], ◌∷◌, ◌++◌, map, All, Contains, Option, Some, None, IfOk, Result, Ok, Err, String, refl, sym, ap, subst, ◌∙◌, append_assoc, append-nil, inl, inr}
+use Rattle.std.proofs.Common.{◌≡◌, ◌≢◌, ◌↔◌, ◌≤◌, ◌+◌, ℕ, Bool, true, false, cond, is_some, arith, List, [], ◌∷◌, ◌++◌, map, All, Contains, IsTrue, MatchOption, Option, Some, None, IfOk, Result, Ok, Err, String, refl, sym, ap, subst, ◌∙◌, append_assoc, append-nil, inl, inr}
 use Rattle.std.specs.Borrow.{Bor}
-use Rattle.std.specs.Option.{IfSome, option_to_list}
+use Rattle.std.specs.Map.{lookup}
+use Rattle.std.specs.Option.{IsSome, option_and_then, option_to_list}
+use Rattle.wc_resolve.proofs.KeyLemmas.{nat_from}
+use Rattle.std.specs.Str.{bytes_eq}
+use Rattle.std.proofs.lemmas.Slice.Eq.{bytes_eq-Decides}
+use Rattle.semver.specs.Identifiers.{parts_text}
 use Rattle.std.specs.declared.alloc.Global.{Global}
 use Rattle.std.proofs.lemmas.List.{map-append}
-use Rattle.std.proofs.lemmas.List.Elements.{All-append, All-cons, All-nil, filter_map-append}
+use Rattle.std.proofs.lemmas.List.Elements.{All-append, All-cons, All-head, All-nil, All-tail, filter_map-append}
 use Rattle.wc_read.specs.declared.core_module.Module.{Module}
 use Rattle.wc_read.specs.declared.exports.Export.{Export as RawExport}
 use Rattle.wc_read.specs.declared.types.FuncType.{FuncType}
 use Rattle.wc_read.specs.Modules.{module_value}
-use Rattle.wc_read.specs.Types.{FuncTypeValue, func_type_value}
+use Rattle.wc_read.specs.Types.{FuncTypeValue, func_type_value, names_types}
 use Rattle.wc_resolve.specs.declared.ids.InterfaceId.{InterfaceId}
 use Rattle.wc_resolve.specs.declared.worlds.WorldItem.{WorldItem}
 use Rattle.wc_resolve.specs.declared.worlds.WorldKey.{WorldKey}
-use Rattle.wc_resolve.specs.Views.{FunctionView, KeyView, key_view, world_entry}
+use Rattle.wc_resolve.specs.Queries.{key_text}
+use Rattle.wc_resolve.specs.Views.{FunctionView, ItemView, KeyView, function_item, interface_item, interface_key, key_view, plain_key, world_entry}
+use Rattle.wc_resolve.specs.WellFormed.{IsWellFormed}
+use Rattle.wc_resolve.proofs.WellFormedLemmas.{export_keys_have_texts, export_keys_in}
 use Rattle.wc_resolve.specs.World.{ResolveView}
 use Rattle.wc_encoder.specs.Entries.{Entries}
 use Rattle.wc_names.specs.declared.exports.Export.{Export}
 use Rattle.wc_names.specs.Exports.{CoreExport}
+use Rattle.wc_names.specs.Imports.{NameScope}
+use Rattle.wc_names.specs.Keys.{item_under, key_eq}
 use Rattle.wc_names.specs.ExportViews.{ExportView}
 use Rattle.wc_validate.specs.declared.exports.classify.ExportContext.{ExportContext}
 use Rattle.wc_validate.specs.declared.fault.ValidateFault.{ValidateFault}
-use Rattle.wc_validate.specs.declared.fault.ValidateFault.TheVariants.{AdapterExportType, Memory}
+use Rattle.wc_validate.specs.declared.fault.AdapterModuleDidNotExport.{AdapterModuleDidNotExport as NotExported}
+use Rattle.wc_validate.specs.declared.fault.ValidateFault.TheVariants.{AdapterExportType, AdapterModuleDidNotExport, Memory, MissingCallback, MissingInterfaceExport, MissingWorldExport, SeveralMemoryExports, TypedReference}
 use Rattle.wc_validate.specs.declared.name_scope.Names.{Names}
 use Rattle.wc_validate.specs.declared.place.Place.{Place}
 use Rattle.wc_validate.specs.declared.place.Subject.{Subject}
@@ -30,12 +41,14 @@ use Rattle.wc_validate.specs.declared.validate.ValidationInput.{ValidationInput 
 use Rattle.wc_validate.specs.Exports.Map.{ExportRecord, export_entry, is_memory}
 use Rattle.wc_validate.specs.Exports.Record.{AreExports, AreExportsAdded, AreRecordedBy, exports_in}
 use Rattle.wc_validate.specs.Imports.Map.{required_entry}
-use Rattle.wc_validate.specs.Places.{IsFirstFailing, IsFirstLacking, IsFirstUnexported, IsFunctionLack, IsFunctionPlace, IsKeyPlace, IsLack, IsSecondMemory, PlaceView, an_export, SubjectView, difference_of, interface_text, missing_export, missing_function, place_view}
-use Rattle.wc_validate.specs.Private.Explained.{HasRecordedImports, IsCallbackExplained, IsFunctionLackAt, IsLackAt, IsLackNamed, IsLackOf, IsMemoryExplained, IsMissingExplained, IsMissingFrom, IsModuleExplained, IsRetyped, IsSaidAs, IsSecondNamed, IsUncalled}
-use Rattle.wc_validate.specs.NameScopes.{name_scope_of}
+use Rattle.wc_validate.specs.Places.{IsFirstFailing, IsFirstLacking, IsFirstUnexported, IsFunctionLack, IsFunctionPlace, IsKeyPlace, IsLack, IsSecondMemory, PlaceView, an_export, SubjectView, difference_of, missing_export, missing_function, place_view}
+use Rattle.wc_validate.specs.Private.Explained.{HasRecordedImports, IsNotExported, IsOfKey, IsSaidApart, IsCallbackExplained, IsFunctionLackAt, IsLackAt, IsLackNamed, IsLackOf, IsMemoryExplained, IsMissingExplained, IsMissingFrom, IsModuleExplained, IsRetyped, IsSaidAs, IsSecondNamed, IsUncalled}
+use Rattle.wc_validate.specs.NameScopes.{HasItsWorld, name_scope_of}
+use Rattle.wc_validate.specs.Private.RequiredExports.{HasKeysNamed, required_of}
+use Rattle.wc_validate.specs.Texts.{name_not_exported}
 use Rattle.wc_validate.specs.Private.ExportedFunctions.{IsExportIndexOf}
 use Rattle.wc_validate.specs.Private.ValidationInputs.{validation_input_of}
-use Rattle.wc_validate.specs.Requirements.{AreMet, IsFirstUnmet, IsMet, IsUnmetFault, Requirement, callback_name, callbacks, function_names, functions_of, interface_functions, key_requirement, key_requirements, memory_count, one_memory, type_requirement, typed_function, world_function}
+use Rattle.wc_validate.specs.Requirements.{AreMet, IsFirstUnmet, IsMet, IsShortfall, IsUnmetFault, Requirement, callback_name, callbacks, exported_type, function_names, functions_of, interface_functions, is_called_back, item_requirement, key_requirement, key_requirements, memory_count, one_memory, type_requirement, typed_function, world_function}
 use Rattle.wc_validate.specs.Validated.{IsNameScopeOf}
 use Rattle.wc_validate.proofs.RequirementLemmas.{keys_next, met_append}
 
@@ -68,6 +81,31 @@ pub passed_end : {X : Type 0} (P : X → Type 0) (all left : List X) → Passed 
 passed_end P all left p is =
     let whole : all ≡ p.before = p.cut ∙ (ap (λ z. p.before ++ z) is ∙ append-nil p.before) in
     subst (All P) (sym whole) p.hold
+
+-- something of a list that does not hold
+all_rest : {X : Type 0} (P : X → Type 0) (xs ys : List X) → All P (xs ++ ys) → All P ys
+all_rest P [] ys h = h
+all_rest P (a ∷ xs) ys h = all_rest P xs ys (All-tail P a (xs ++ ys) h)
+
+pub not_all : {X : Type 0} (P : X → Type 0) (xs : List X) (x : X) → IsFirstFailing P xs x → All P xs → ⊥
+not_all P xs x p h = p.fails (All-head P x p.after (all_rest P p.before (x ∷ p.after) (subst (All P) p.cut h)))
+
+-- the fault of the first requirement that is not met
+module _ (r : ResolveView) (xs : List CoreExport) (recorded : ExportRecord) (f : ValidateFault) where
+  skip_met : (ms ns : List Requirement) → AreMet r xs recorded ms → IsFirstUnmet r xs recorded (ms ++ ns) f → IsFirstUnmet r xs recorded ns f
+  skip_met [] ns met h = h
+  skip_met (m ∷ ms) ns met (inl h) = absurd (h.0 met.0)
+  skip_met (m ∷ ms) ns met (inr h) = skip_met ms ns met.1 h.1
+
+  no_unmet : (ms : List Requirement) → AreMet r xs recorded ms → ¬ IsFirstUnmet r xs recorded ms f
+  no_unmet [] met h = h
+  no_unmet (m ∷ ms) met (inl h) = h.0 met.0
+  no_unmet (m ∷ ms) met (inr h) = no_unmet ms met.1 h.1
+
+  short_of_first : (need : Requirement) (ns : List Requirement) → ¬ IsMet r xs recorded need → IsFirstUnmet r xs recorded (need ∷ ns) f
+      → IsShortfall xs need f
+  short_of_first need ns unmet (inl h) = h.1
+  short_of_first need ns unmet (inr h) = absurd (unmet h.0)
 
 -- keys that are gone through as long as their requirements are met
 pub record KeysPassed (r : ResolveView) (xs : List CoreExport) (recorded : ExportRecord) (exports : Entries) (all rest : List KeyView) : Type 0 where
@@ -125,8 +163,90 @@ module _ (r : ResolveView) (xs : List CoreExport) (recorded : ExportRecord) (exp
 some_same : {X : Type 0} {x y : X} → Some x ≡ Some y → x ≡ y
 some_same e = cc e
 
+pub keys_cut : (exports : Entries) (keys before after : List KeyView) (key : KeyView) (need : Requirement) → keys ≡ before ++ key ∷ after
+    → key_requirement exports key ≡ Some need
+    → key_requirements exports keys ≡ key_requirements exports before ++ need ∷ key_requirements exports after
+keys_cut exports keys before after key need cut required =
+    ap (key_requirements exports) cut
+    ∙ (filter_map-append (key_requirement exports) before (key ∷ after)
+    ∙ ap (λ z. key_requirements exports before ++ z)
+    (keys_next exports (key ∷ after) after key refl ∙ ap (λ o. option_to_list o ++ key_requirements exports after) required))
+
+-- which faults a key can have: one for each kind of what it requires
+interface_short : (xs : List CoreExport) (i : ℕ) (f : ValidateFault) → IsShortfall xs (interface_functions i) f → f ≡ MissingInterfaceExport
+interface_short xs i MissingInterfaceExport h = refl
+interface_short xs i f h = absurd h
+
+world_short : (xs : List CoreExport) (name : List ℕ) (f : ValidateFault) → IsShortfall xs (world_function name) f → f ≡ MissingWorldExport
+world_short xs name MissingWorldExport h = refl
+world_short xs name f h = absurd h
+
+short_alike : (o : Option ItemView) (need : Requirement) (xs : List CoreExport) (f g : ValidateFault) → option_and_then item_requirement o ≡ Some need
+    → IsShortfall xs need f → IsShortfall xs need g → (f ≡ g) × IsOfKey g
+short_alike None need xs f g is h k = absurd (let bad : ⊥ = cc is in bad)
+short_alike (Some (interface_item i external)) need xs f g is h k =
+    let same = some_same (sym is) in
+    let own = interface_short xs i f (subst (λ z. IsShortfall xs z f) same h) in
+    let other = interface_short xs i g (subst (λ z. IsShortfall xs z g) same k) in
+    (own ∙ sym other, subst IsOfKey (sym other) tt)
+short_alike (Some (function_item v)) need xs f g is h k =
+    let same = some_same (sym is) in
+    let own = world_short xs v.name f (subst (λ z. IsShortfall xs z f) same h) in
+    let other = world_short xs v.name g (subst (λ z. IsShortfall xs z g) same k) in
+    (own ∙ sym other, subst IsOfKey (sym other) tt)
+short_alike (Some item) need xs f g is h k = absurd (let bad : ⊥ = cc is in bad)
+
+module _ (r : ResolveView) (xs : List CoreExport) (recorded : ExportRecord) (exports : Entries) (keys : List KeyView) (key : KeyView) where
+  other_lacking : (f g : ValidateFault) → IsFirstLacking r xs recorded exports keys key g → (IsOfKey g → f ≢ g) → (rest : List Requirement)
+      → ¬ IsFirstUnmet r xs recorded (key_requirements exports keys ++ rest) f
+  other_lacking f g h other rest unmet =
+      let tail = key_requirements exports h.after ++ rest in
+      let cut = ap (λ z. z ++ rest) (keys_cut exports keys h.before h.after key h.need h.cut h.required)
+      ∙ append_assoc (key_requirements exports h.before) (h.need ∷ key_requirements exports h.after) rest in
+      let here = skip_met r xs recorded f (key_requirements exports h.before) (h.need ∷ tail) h.met (subst (λ z. IsFirstUnmet r xs recorded z f) cut unmet) in
+      let alike = short_alike (item_under exports key) h.need xs f g h.required (short_of_first r xs recorded f h.need tail h.unmet here) h.short in
+      other alike.1 alike.0
+
+  pub key_other : (f g : ValidateFault) → IsLackAt r xs recorded exports keys key g → g ≢ Memory → (IsOfKey g → f ≢ g) → (rest : List Requirement)
+      → ¬ IsFirstUnmet r xs recorded (key_requirements exports keys ++ rest) f
+  key_other f Memory h real other = absurd (real refl)
+  key_other f g h real other = other_lacking f g h other
+
+  pub key_reached : (g : ValidateFault) → IsLackAt r xs recorded exports keys key g → g ≢ Memory
+      → ((need : Requirement) → key_requirement exports key ≡ Some need → IsMet r xs recorded need) → ⊥
+  key_reached Memory h real met = real refl
+  key_reached g h real met = h.unmet (met h.need h.required)
+
+-- keys that are equal by the test are equal, so what holds of the keys of entries holds of one that is found
+same_key : (a b : KeyView) → key_eq a b ≡ true → a ≡ b
+same_key (plain_key n) (plain_key m) h = ap plain_key ((bytes_eq-Decides n m).0 h)
+same_key (plain_key n) (interface_key j) h = absurd (let bad : ⊥ = cc h in bad)
+same_key (interface_key i) (plain_key m) h = absurd (let bad : ⊥ = cc h in bad)
+same_key (interface_key i) (interface_key j) h = ap interface_key (nat_from i j h)
+
+key_step : (P : KeyView → Type 0) (key : KeyView) (e : KeyView × ItemView) (es : Entries) (item : ItemView) (b : Bool) → key_eq key e.0 ≡ b → P e.0
+    → (lookup (key_eq key) es ≡ Some item → P key) → cond b (Some e.1) (lookup (key_eq key) es) ≡ Some item → P key
+key_step P key e es item true test here rest is = subst P (sym (same_key key e.0 test)) here
+key_step P key e es item false test here rest is = rest is
+
+pub holds_of_key : (P : KeyView → Type 0) (key : KeyView) (es : Entries) (item : ItemView) → All (λ (x : KeyView × ItemView). P x.0) es
+    → Some item ≡ item_under es key → P key
+holds_of_key P key es item all is = found es all (sym is) where
+  found : (es : Entries) → All (λ (x : KeyView × ItemView). P x.0) es → lookup (key_eq key) es ≡ Some item → P key
+  found [] all is = absurd (let bad : ⊥ = cc is in bad)
+  found (e ∷ es) all is =
+      key_step P key e es item (key_eq key e.0) refl (All-head (λ (x : KeyView × ItemView). P x.0) e es all)
+      (found es (All-tail (λ (x : KeyView × ItemView). P x.0) e es all)) is
+
+-- what the world of a scope exports has keys with texts
+pub world_keys : (s : NameScope) → IsWellFormed s.resolve → HasItsWorld s → HasKeysNamed s
+world_keys s formed world = λ k d small. (
+  export_keys_in s.resolve formed world.0 s.world world.1 k d small,
+  export_keys_have_texts s.resolve formed world.0 s.world world.1 parts_text k d small,
+)
+
 pub lack_in_interface : (r : ResolveView) (recorded : ExportRecord) (key : KeyView) (i : ℕ) (module_name name own : List ℕ)
-    → interface_text r key i ≡ Some module_name → name ≡ own
+    → key_text parts_text r key ≡ Some module_name → name ≡ own
     → (f : List ℕ × FunctionView) × (f.0 ≡ own)
     × IsFirstFailing (λ (g : List ℕ × FunctionView). Contains (function_names recorded) (Some i, g.0)) (functions_of r i) f
     → IsLack r recorded key (interface_functions i) (missing_function module_name name)
@@ -160,6 +280,56 @@ pub difference_is : (a b : FuncType) (wanted found : FuncTypeValue) → func_typ
     → Some (difference_of (func_type_value a) (func_type_value b)) ≡ Some (difference_of wanted found)
 difference_is a b wanted found p q = λ i. Some (difference_of (p i) (q i))
 
+-- what two faults say of a required function
+clash : {A : Type 0} (b : Bool) → b ≡ true → b ≡ false → A
+clash b there none = let bad : true ≡ false = sym there ∙ none in absurd (let never : ⊥ = cc bad in never)
+
+none_there : {X : Type 0} (o : Option X) → o ≡ None → IsSome o → ⊥
+none_there o none there = clash (is_some o) there (ap is_some none)
+
+apart_retyped : (f : ValidateFault) → f ≢ AdapterExportType → (xs : List CoreExport) (name : List ℕ) (ty : FuncTypeValue)
+    → IsShortfall xs (typed_function name ty) AdapterExportType → ¬ IsShortfall xs (typed_function name ty) f
+apart_retyped AdapterExportType other xs name ty h k = other refl
+apart_retyped TypedReference other xs name ty h k = clash (names_types ty) k h.0
+apart_retyped (AdapterModuleDidNotExport e) other xs name ty h k = none_there (exported_type xs name) k.1 h.1
+apart_retyped f other xs name ty h k = k
+
+apart_typed : (f : ValidateFault) → f ≢ TypedReference → (xs : List CoreExport) (name : List ℕ) (ty : FuncTypeValue)
+    → IsShortfall xs (typed_function name ty) TypedReference → ¬ IsShortfall xs (typed_function name ty) f
+apart_typed AdapterExportType other xs name ty h k = clash (names_types ty) h k.0
+apart_typed TypedReference other xs name ty h k = other refl
+apart_typed (AdapterModuleDidNotExport e) other xs name ty h k = clash (names_types ty) h k.0
+apart_typed f other xs name ty h k = k
+
+apart_missing : (e : NotExported) (f : ValidateFault) → ¬ IsNotExported f (name_not_exported e) → (xs : List CoreExport) (name : List ℕ) (ty : FuncTypeValue)
+    → IsShortfall xs (typed_function name ty) (AdapterModuleDidNotExport e) → ¬ IsShortfall xs (typed_function name ty) f
+apart_missing e AdapterExportType other xs name ty h k = none_there (exported_type xs name) h.1 k.1
+apart_missing e TypedReference other xs name ty h k = clash (names_types ty) k h.0
+apart_missing e (AdapterModuleDidNotExport d) other xs name ty h k = other (d, refl, k.2 ∙ sym h.2)
+apart_missing e f other xs name ty h k = k
+
+pub said_apart : (g f : ValidateFault) → IsSaidApart g f → (xs : List CoreExport) (name : List ℕ) (ty : FuncTypeValue)
+    → IsShortfall xs (typed_function name ty) g → ¬ IsShortfall xs (typed_function name ty) f
+said_apart AdapterExportType f apart = apart_retyped f apart
+said_apart TypedReference f apart = apart_typed f apart
+said_apart (AdapterModuleDidNotExport e) f apart = apart_missing e f apart
+said_apart g f apart = λ xs name ty h k. h
+
+same_name : (d e : NotExported) → AdapterModuleDidNotExport d ≡ AdapterModuleDidNotExport e → name_not_exported d ≡ name_not_exported e
+same_name d e same = let one : d ≡ e = cc same in ap name_not_exported one
+
+pub not_exported_test : (f : ValidateFault) (e : NotExported) (name own : List ℕ) (b : Bool) → f ≡ AdapterModuleDidNotExport e → own ≡ name_not_exported e
+    → b ≡ bytes_eq own name → IsTrue b ↔ IsNotExported f name
+not_exported_test f e name own b is called test = (
+  (λ t. (e, is, sym called ∙ (bytes_eq-Decides own name).0 (sym test ∙ t))),
+  (λ h. test ∙ (bytes_eq-Decides own name).1 (called ∙ (same_name e h.0 (sym is ∙ h.1) ∙ h.2))),
+)
+
+pub missing_apart : (g f : ValidateFault) (e : NotExported) (own : List ℕ) (b : Bool) → g ≡ AdapterModuleDidNotExport e → own ≡ name_not_exported e
+    → IsTrue b ↔ IsNotExported f own → b ≡ false → IsSaidApart g f
+missing_apart g f e own b is called law differs =
+    subst (λ z. IsSaidApart z f) (sym is) (λ h. clash b (law.1 (subst (IsNotExported f) (sym called) h)) differs)
+
 -- functions that are gone through as long as they are exported as they are required
 pub record FunctionsPassed (r : ResolveView) (xs : List CoreExport) (recorded : ExportRecord) (all rest : List (List ℕ × FuncTypeValue)) : Type 0 where
   pub before : List (List ℕ × FuncTypeValue)
@@ -179,6 +349,30 @@ module _ (r : ResolveView) (xs : List CoreExport) (recorded : ExportRecord) (all
         (met_append r xs recorded (map type_requirement p.before) (typed_function own ty ∷ []) p.met
         (subst (λ z. IsMet r xs recorded (typed_function z ty)) called here, tt));
   }
+
+  pub functions_end : (left : List (List ℕ × FuncTypeValue)) → FunctionsPassed r xs recorded all left → left ≡ []
+      → AreMet r xs recorded (map type_requirement all)
+  functions_end left p is =
+      let whole : all ≡ p.before = p.cut ∙ (ap (λ z. p.before ++ z) is ∙ append-nil p.before) in
+      subst (λ z. AreMet r xs recorded (map type_requirement z)) (sym whole) p.met
+
+  -- of a required function that is refused, another fault says something else
+  functions_cut : (before after : List (List ℕ × FuncTypeValue)) (x : List ℕ × FuncTypeValue) → all ≡ before ++ x ∷ after
+      → map type_requirement all ≡ map type_requirement before ++ type_requirement x ∷ map type_requirement after
+  functions_cut before after x cut = ap (map type_requirement) cut ∙ map-append type_requirement before (x ∷ after)
+
+  unexported_short : (x : List ℕ × FuncTypeValue) (f g : ValidateFault) → IsFirstUnexported r xs recorded all x g
+      → IsFirstUnmet r xs recorded (map type_requirement all) f → IsShortfall xs (type_requirement x) f
+  unexported_short x f g h unmet =
+      let rest = map type_requirement h.after in
+      short_of_first r xs recorded f (type_requirement x) rest h.unmet
+      (skip_met r xs recorded f (map type_requirement h.before) (type_requirement x ∷ rest) h.met
+      (subst (λ z. IsFirstUnmet r xs recorded z f) (functions_cut h.before h.after x h.cut) unmet))
+
+  pub function_other : (x : List ℕ × FuncTypeValue) (f g : ValidateFault) → IsFunctionLackAt r xs recorded all x g → g ≢ Memory → IsSaidApart g f
+      → ¬ IsFirstUnmet r xs recorded (map type_requirement all) f
+  function_other x f Memory h real apart = absurd (real refl)
+  function_other x f g h real apart = λ unmet. said_apart g f apart xs x.0 x.1 h.short (unexported_short x f g h unmet)
 
   lack_here : (left rest : List (List ℕ × FuncTypeValue)) (name : List ℕ) (ty : FuncTypeValue) (f : ValidateFault) → FunctionsPassed r xs recorded all left
       → left ≡ (name, ty) ∷ rest → IsFirstUnmet r xs recorded (typed_function name ty ∷ []) f → IsFirstUnexported r xs recorded all (name, ty) f
@@ -211,8 +405,10 @@ module _ (r : ResolveView) (xs : List CoreExport) (recorded : ExportRecord) (all
   pub function_retyped : {F : Type 0} (index : List (Bor (List ℕ) × Bor FuncType)) (name : List ℕ) (ty : FuncType) (f : ValidateFault)
       (result : Result (Option Place) F) → IsExportIndexOf index xs → IsFirstUnexported r xs recorded all (name, func_type_value ty) f
       → f ≡ AdapterExportType → IfOk result (IsRetyped index name ty)
-      → IfOk result (λ answer. IfSome answer (λ (p : Place). IsFunctionPlace r xs recorded all f (place_view p)))
-  function_retyped index name ty f (Ok None) same first is h = tt
+      → IfOk result (λ answer. MatchOption answer (¬ IsFirstUnmet r xs recorded (map type_requirement all) f)
+      (λ (p : Place). IsFunctionPlace r xs recorded all f (place_view p)))
+  function_retyped index name ty f (Ok None) same first is h =
+      absurd (none_there (exported_type xs name) (h xs same) (subst (IsShortfall xs (typed_function name (func_type_value ty))) is first.short).1)
   function_retyped index name ty f (Ok (Some p)) same first is h = record {
     required = (name, func_type_value ty);
     first = first;
@@ -285,18 +481,53 @@ second_end found all left p is =
       at_most true n e = omega (arith, e)
       at_most false n e = omega (arith, e)
 
+-- two memories
+count_past : (b : Bool) (n k l : ℕ) → n ≡ k + l → cond b (n + 1) n ≡ cond b (k + 1) k + l
+count_past true n k l e = omega (arith, e)
+count_past false n k l e = e
+
+count_sum : (xs ys : ExportRecord) → memory_count (xs ++ ys) ≡ memory_count xs + memory_count ys
+count_sum [] ys = omega arith
+count_sum (a ∷ xs) ys = count_past (is_memory a.1) (memory_count (xs ++ ys)) (memory_count xs) (memory_count ys) (count_sum xs ys)
+
+pub two_memories : (recorded : ExportRecord) (x : List ℕ × ExportView) → IsSecondMemory recorded x → memory_count recorded ≤ 1 → ⊥
+two_memories recorded x p few =
+    let more : memory_count (x ∷ p.after) ≡ memory_count p.after + 1 = ap (λ b. cond b (memory_count p.after + 1) (memory_count p.after)) p.memory in
+    let sum : memory_count recorded ≡ memory_count p.before + memory_count (x ∷ p.after) = ap memory_count p.cut ∙ count_sum p.before (x ∷ p.after) in
+    absurd (omega (arith, few, sum, p.one, more))
+
+-- which faults are of memories and callbacks
+memory_short : (xs : List CoreExport) (f : ValidateFault) → IsShortfall xs one_memory f → f ≡ SeveralMemoryExports
+memory_short xs SeveralMemoryExports h = refl
+memory_short xs f h = absurd h
+
+callback_short : (xs : List CoreExport) (f : ValidateFault) → IsShortfall xs callbacks f → f ≡ MissingCallback
+callback_short xs MissingCallback h = refl
+callback_short xs f h = absurd h
+
 -- what is missing of all that is required
 module _ (n : Names) (q : RequiredExports) (xs : List CoreExport) (es : List (String Global × Export)) (f : ValidateFault) where
+  abbrev of_keys : List Requirement
+  of_keys = key_requirements (map world_entry n.world.now.exports.entries) (map key_view q.keys.now.keys)
+
+  abbrev of_functions : List Requirement
+  of_functions = map type_requirement (map required_entry q.functions.now.entries)
+
   pub memory_missing : {F : Type 0} (name : Bor (List ℕ)) (result : Result (Option Place) F) → IsSecondNamed es name
       → IfOk result (IsMemoryExplained name.now f) → IfOk result (IsMissingExplained n q xs es f)
-  memory_missing name (Ok None) h k = tt
+  memory_missing name (Ok None) h k = λ unmet.
+      k (memory_short xs f (short_of_first n.resolve.now xs (map export_entry es) f one_memory (callbacks ∷ (of_keys ++ of_functions))
+      (two_memories (map export_entry es) h.0 h.2) unmet))
   memory_missing name (Ok (Some p)) h k =
       inl (record { is_several = k.0; export = h.0; second = h.2; subject = k.1 ∙ ap an_export (sym h.1); types = k.2 })
   memory_missing name (Err e) h k = tt
 
   pub callback_missing : {F : Type 0} (name : Bor (List ℕ)) (result : Result (Option Place) F) → memory_count (map export_entry es) ≤ 1 → IsUncalled es name
       → IfOk result (IsCallbackExplained name.now f) → IfOk result (IsMissingExplained n q xs es f)
-  callback_missing name (Ok None) one h k = tt
+  callback_missing name (Ok None) one h k = λ unmet.
+      k (callback_short xs f (short_of_first n.resolve.now xs (map export_entry es) f callbacks (of_keys ++ of_functions)
+      (not_all (λ (y : List ℕ × ExportView). IsTrue (is_called_back (map export_entry es) y)) (map export_entry es) h.0 h.2)
+      (skip_met n.resolve.now xs (map export_entry es) f (one_memory ∷ []) (callbacks ∷ (of_keys ++ of_functions)) (one, tt) unmet)))
   callback_missing name (Ok (Some p)) one h k =
       inr (inl (record {
         is_callback = k.0;
@@ -310,29 +541,44 @@ module _ (n : Names) (q : RequiredExports) (xs : List CoreExport) (es : List (St
 
   pub key_missing : {F : Type 0} (result : Result (Option Place) F)
       → AreMet n.resolve.now xs (map export_entry es) (one_memory ∷ callbacks ∷ [])
-      → IfOk result (λ answer. IfSome answer (λ (p : Place). IsKeyPlace n.resolve.now xs (map export_entry es) (map world_entry n.world.now.exports.entries)
+      → IfOk result (λ answer. MatchOption answer
+      ((rest : List Requirement) → ¬ IsFirstUnmet n.resolve.now xs (map export_entry es)
+      (key_requirements (map world_entry n.world.now.exports.entries) (map key_view q.keys.now.keys) ++ rest) f)
+      (λ (p : Place). IsKeyPlace n.resolve.now xs (map export_entry es) (map world_entry n.world.now.exports.entries)
       (map key_view q.keys.now.keys) f (place_view p)))
       → IfOk result (IsMissingExplained n q xs es f)
-  key_missing (Ok None) alone h = tt
+  key_missing (Ok None) alone h = λ unmet.
+      h of_functions (skip_met n.resolve.now xs (map export_entry es) f (one_memory ∷ callbacks ∷ []) (of_keys ++ of_functions) alone unmet)
   key_missing (Ok (Some p)) alone h = inr (inr (alone, inl h))
   key_missing (Err e) alone h = tt
 
   pub function_lacking : {F : Type 0} (result : Result (Option Place) F)
       → AreMet n.resolve.now xs (map export_entry es) (one_memory ∷ callbacks ∷ [])
       → AreMet n.resolve.now xs (map export_entry es) (key_requirements (map world_entry n.world.now.exports.entries) (map key_view q.keys.now.keys))
-      → IfOk result (λ answer. IfSome answer (λ (p : Place). IsFunctionPlace n.resolve.now xs (map export_entry es)
-      (map required_entry q.functions.now.entries) f (place_view p)))
+      → IfOk result (λ answer. MatchOption answer
+      (¬ IsFirstUnmet n.resolve.now xs (map export_entry es) (map type_requirement (map required_entry q.functions.now.entries)) f)
+      (λ (p : Place). IsFunctionPlace n.resolve.now xs (map export_entry es) (map required_entry q.functions.now.entries) f (place_view p)))
       → IfOk result (IsMissingExplained n q xs es f)
-  function_lacking (Ok None) alone keys h = tt
+  function_lacking (Ok None) alone keys h = λ unmet.
+      h (skip_met n.resolve.now xs (map export_entry es) f of_keys of_functions keys
+      (skip_met n.resolve.now xs (map export_entry es) f (one_memory ∷ callbacks ∷ []) (of_keys ++ of_functions) alone unmet))
   function_lacking (Ok (Some p)) alone keys h = inr (inr (alone, inr (keys, h)))
   function_lacking (Err e) alone keys h = tt
+
+  pub nothing_missing : AreMet n.resolve.now xs (map export_entry es) (one_memory ∷ callbacks ∷ [])
+      → AreMet n.resolve.now xs (map export_entry es) of_keys → AreMet n.resolve.now xs (map export_entry es) of_functions
+      → ¬ IsFirstUnmet n.resolve.now xs (map export_entry es) (required_of n q) f
+  nothing_missing alone keys functions =
+      no_unmet n.resolve.now xs (map export_entry es) f (one_memory ∷ callbacks ∷ (of_keys ++ of_functions))
+      (met_append n.resolve.now xs (map export_entry es) (one_memory ∷ callbacks ∷ []) (of_keys ++ of_functions) alone
+      (met_append n.resolve.now xs (map export_entry es) of_keys of_functions keys functions))
 
 -- by the context that the exports are recorded by
 pub missing_from : {F : Type 0} (c : ExportContext) (q : RequiredExports) (m : Module) (es : List (String Global × Export)) (passed : List RawExport)
     (f : ValidateFault) (result : Result (Option Place) F) → passed ≡ m.exports.items → AreExportsAdded c m passed es
     → IfOk result (IsMissingExplained c.names q (exports_in m m.exports.items) es f) → IfOk result (IsMissingFrom c q m f)
 missing_from c q m es passed f (Ok None) same recorded h =
-    (map export_entry es, subst (λ z. AreRecordedBy c (exports_in m z) (map export_entry es)) same recorded)
+    (map export_entry es, subst (λ z. AreRecordedBy c (exports_in m z) (map export_entry es)) same recorded, h)
 missing_from c q m es passed f (Ok (Some p)) same recorded h =
     (map export_entry es, subst (λ z. AreRecordedBy c (exports_in m z) (map export_entry es)) same recorded, h)
 missing_from c q m es passed f (Err e) same recorded h = tt
@@ -347,7 +593,7 @@ missing_explained i m c f imports names keys (Ok None) h =
       imports.1,
       name_scope_of c.names,
       names,
-      inl (h.0, subst (λ z. AreExports (name_scope_of c.names) z (exports_in m m.exports.items) h.0) keys h.1),
+      inl (h.0, subst (λ z. AreExports (name_scope_of c.names) z (exports_in m m.exports.items) h.0) keys h.1, h.2),
     )
 missing_explained i m c f imports names keys (Ok (Some p)) h =
     inr (inr (

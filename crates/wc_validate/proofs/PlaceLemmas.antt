@@ -1,5 +1,5 @@
 -- Where validation stops: the first import or export that is refused, and what is recorded before it.
-use Rattle.std.proofs.Common.{◌≡◌, ◌≢◌, ℕ, ◌<◌, ◌≤◌, ◌+◌, List, [], ◌∷◌, ◌++◌, length, map, take, get_or, Option, Some, None, option_copied, IfOk, MatchOption, Result, Ok, Err, String, string_bytes, refl, sym, ap, subst, ◌∙◌, append_assoc, append-nil, inl, inr}
+use Rattle.std.proofs.Common.{◌≡◌, ◌≢◌, ◌↔◌, ℕ, Bool, false, IsTrue, ◌<◌, ◌≤◌, ◌+◌, List, [], ◌∷◌, ◌++◌, length, map, take, get_or, Option, Some, None, option_copied, IfOk, MatchOption, Result, Ok, Err, String, string_bytes, refl, sym, ap, subst, ◌∙◌, append_assoc, append-nil, inl, inr}
 use Rattle.std.specs.List.{cons_option, filter_map, slice_get}
 use Rattle.std.specs.Option.{option_map}
 use Rattle.std.specs.declared.alloc.Global.{Global}
@@ -13,36 +13,47 @@ use Rattle.wc_read.specs.declared.types.Import.{Import}
 use Rattle.wc_read.specs.Exports.{ExportValue, export_value}
 use Rattle.wc_read.specs.Imports.{ImportValue, import_value, import_values}
 use Rattle.wc_read.specs.Modules.{ModuleValue, SpellsModule, module_value}
-use Rattle.wc_read.specs.Types.{func_type_value}
+use Rattle.wc_read.specs.declared.types.FuncType.{FuncType}
+use Rattle.wc_read.specs.declared.types.ImportType.TheVariants as imported
+use Rattle.wc_read.specs.Types.{FuncTypeValue, func_type_value}
 use Rattle.wc_resolve.specs.Views.{KeyView}
 use Rattle.wc_names.specs.declared.exports.Export.{Export as ClassifiedAs}
 use Rattle.wc_names.specs.Exports.{ClassifiedExport, CoreExport}
 use Rattle.wc_names.specs.ExportViews.{export_view}
-use Rattle.wc_names.specs.Imports.{CoreImport, ExternType, NameScope}
+use Rattle.wc_encoder.specs.Adapters.{LibraryView}
+use Rattle.wc_names.specs.Imports.{Classified, CoreImport, ExternType, NameScope, func_type}
+use Rattle.wc_names.specs.Laws.{MeaningsUnique}
+use Rattle.wc_names.specs.Meanings.{means}
+use Rattle.wc_names.specs.Views.{ImportView}
 use Rattle.wc_validate.specs.declared.exports.classify.ExportContext.{ExportContext}
-use Rattle.wc_validate.specs.declared.explain.refused.Refused.{Refused}
+use Rattle.wc_validate.specs.declared.explain.refused.RefusedExport.{RefusedExport}
 use Rattle.wc_validate.specs.declared.fault.ValidateFault.{ValidateFault}
 use Rattle.wc_validate.specs.declared.fault.ValidateFault.TheVariants.{Memory, NotAFunction, SignatureMismatch, NoRootImport, RootNotFunction, BadSyntax, UnknownInterface, UnknownIntrinsic, MissingFunction, NoSuchExport, TypedReference, WholeDiffers, Mixed, SeveralMemoryImports, DuplicateImport, AdapterTypesDiffer}
 use Rattle.wc_validate.specs.declared.imports.record.ImportContext.{ImportContext}
 use Rattle.wc_validate.specs.declared.imports.recorder.Recorder.{Recorder}
+use Rattle.wc_validate.specs.declared.name_fault.NameFault.{NameFault}
+use Rattle.wc_validate.specs.declared.name_fault.NameFault.TheVariants as naming
 use Rattle.wc_validate.specs.declared.place.Place.{Place}
 use Rattle.wc_validate.specs.declared.place.Subject.{Subject}
 use Rattle.wc_validate.specs.Exports.Contexts.{core_export}
 use Rattle.wc_validate.specs.Exports.Map.{ExportRecord}
-use Rattle.wc_validate.specs.Exports.Record.{AreExports, IsExportFault, IsExportRecorded, core_exports, entry_of, item_type, typed_export}
-use Rattle.wc_validate.specs.Faults.{fault_kind}
-use Rattle.wc_validate.specs.Imports.Classify.{IsNameFault}
-use Rattle.wc_validate.specs.Imports.Entries.{Entry, by_modules, single, whole}
-use Rattle.wc_validate.specs.Imports.Record.{ImportScope, AreEntries, IsEntry, IsEntryCause, IsFaultOfImport, IsValidAfter, entry_faults}
+use Rattle.wc_validate.specs.Exports.Record.{AreExports, IsExportRecorded, IsMismatched, core_exports, entry_of, item_type, typed_export}
+use Rattle.wc_validate.specs.Faults.{import_fault_kind}
+use Rattle.wc_validate.specs.Classifications.{IsClassification}
+use Rattle.wc_validate.specs.Imports.Classify.{IsClassified, IsNameFault}
+use Rattle.wc_validate.specs.Imports.Entries.{Entry, adapter_type_of, by_modules, first_by, single, whole}
+use Rattle.wc_validate.specs.Imports.Record.{ImportScope, AreEntries, IsEntry, IsEntryCause, IsFaultOfImport, IsValidAfter, entry_faults, extern_type}
 use Rattle.wc_validate.specs.NameScopes.{name_scope_of}
-use Rattle.wc_validate.specs.Places.{IsExplained, IsExportPlace, IsFirstRefused, IsImportPlace, IsOfImport, IsOtherMismatch, IsOtherRefused, an_export, an_import, place_view, subject_view}
-use Rattle.wc_validate.specs.Private.Explained.{HasRecordedImports, IsExportStopAt, IsExportStopIn, IsImportExplained, IsMismatchExplained, IsModuleExplained, IsStopAt}
+use Rattle.wc_validate.specs.Places.{IsExplained, IsExportPlace, IsFirstRefused, IsImportPlace, IsOfImport, IsOtherMismatch, IsOtherRefused, IsTypedAt, DifferenceView, difference_of, an_export, an_import, place_view, subject_view}
+use Rattle.wc_validate.specs.Private.Explained.{AreDifferingTypes, AreMismatchedTypes, AreTypesIn, HasRecordedImports, IsAdapterFunction, IsExportStopAt, IsExportStopIn, IsImportExplained, IsMismatchExplained, IsModuleExplained, IsStopAt}
 use Rattle.wc_validate.specs.Private.Exports.Classify.{IsExportClassified}
-use Rattle.wc_validate.specs.Private.Imports.Contexts.{AreRecorded, AreRecordedIn, HasLibrary, IsImportRecorded, IsImportRefusal, import_scope}
-use Rattle.wc_validate.specs.Private.Imports.Recorder.{IsRecorderOf}
+use Rattle.wc_validate.specs.Private.Imports.Contexts.{AreRecorded, AreRecordedIn, HasLibrary, IsClassifiedIn, IsImportRecorded, IsImportRefusal, import_scope}
+use Rattle.wc_validate.specs.Private.Imports.Recorder.{IsRecorderOf, types_in}
 use Rattle.wc_validate.specs.Validated.{IsImportScopeFor, IsNameScopeOf, ValidationInput}
+use Rattle.wc_validate.proofs.BuiltinLemmas.{not_so}
 use Rattle.wc_validate.proofs.ExclusionLemmas.{kind_of}
-use Rattle.wc_validate.proofs.ExportRecordLemmas.{entry_fault, entry_none, entry_some, recorded_nothing}
+use Rattle.wc_validate.proofs.LawLemmas.{entries_same}
+use Rattle.wc_validate.proofs.ExportRecordLemmas.{entry_none, entry_some, recorded_nothing}
 
 some_same : {X : Type 0} {x y : X} → Some x ≡ Some y → x ≡ y
 some_same e = cc e
@@ -103,7 +114,7 @@ cause_of_import before (single m name i) DuplicateImport h = tt
 cause_of_import before (single m name i) AdapterTypesDiffer h = tt
 cause_of_import before (single m name i) f h = absurd h
 
-name_of_import : (e : NameScope) (a : CoreImport) (f : ValidateFault) → IsNameFault e a (fault_kind f) → IsOfImport f
+name_of_import : (e : NameScope) (a : CoreImport) (f : ValidateFault) → IsNameFault e a (import_fault_kind f) → IsOfImport f
 name_of_import e a NotAFunction h = tt
 name_of_import e a SignatureMismatch h = tt
 name_of_import e a NoRootImport h = tt
@@ -116,7 +127,7 @@ name_of_import e a NoSuchExport h = tt
 name_of_import e a TypedReference h = tt
 name_of_import e a f h = absurd h
 
-fault_of_import : (s : ImportScope) (before : List Entry) (i : ImportValue) (f : ValidateFault) → IsFaultOfImport s before i f → IsOfImport f
+pub fault_of_import : (s : ImportScope) (before : List Entry) (i : ImportValue) (f : ValidateFault) → IsFaultOfImport s before i f → IsOfImport f
 fault_of_import s before i f (inl h) = name_of_import s.name_scope h.1 f h.3
 fault_of_import s before i f (inr h) =
     let kind = kind_of (λ k (g : ValidateFault). IsEntryCause before h.0 k × (g ≡ k)) entry_faults f h.2 in
@@ -128,13 +139,20 @@ pub other_at : (s : ImportScope) (imports : List ImportValue) (index : ℕ) (f g
 other_at s imports index f Memory h real other = absurd (real refl)
 other_at s imports index f g h real other = (index, h.0, h.1, g, h.2, other (fault_of_import s h.1 h.0 g h.2.refused))
 
+-- the types of an import, by another name of the fault and of the import
+typed_as : (s : ImportScope) (before : List Entry) (x y : ImportValue) (f g : ValidateFault) (types : Option DifferenceView) → x ≡ y → f ≡ g
+    → IsTypedAt s before y g types → IsTypedAt s before x f types
+typed_as s before x y f g types is same h =
+    subst (λ z. IsTypedAt s before z f types) (sym is) (subst (λ z. IsTypedAt s before y z types) (sym same) h)
+
 -- an import as the place of a fault
-placed : (s : ImportScope) (imports : List ImportValue) (index : ℕ) (x : ImportValue) (subject : Subject) (f g : ValidateFault)
+placed : (s : ImportScope) (imports : List ImportValue) (index : ℕ) (x : ImportValue) (subject : Subject) (types : Option DifferenceView) (f g : ValidateFault)
     → slice_get imports index ≡ Some x → IsStopAt s imports index g → g ≢ Memory → f ≡ g
     → subject_view subject ≡ an_import x.module_name x.name index
-    → IsImportPlace s imports f (record { subject = subject_view subject; types = None })
-placed s imports index x subject f Memory there h real same is = absurd (real refl)
-placed s imports index x subject f g there h real same is =
+    → ((before : List Entry) → AreEntries s [] (take index imports) before → IsTypedAt s before x g types)
+    → IsImportPlace s imports f (record { subject = subject_view subject; types = types })
+placed s imports index x subject types f Memory there h real same is typed = absurd (real refl)
+placed s imports index x subject types f g there h real same is typed =
     let value : h.0 ≡ x = some_same (sym h.2.there ∙ there) in
     record {
       index = index;
@@ -142,15 +160,69 @@ placed s imports index x subject f g there h real same is =
       before = h.1;
       first = subst (IsFirstRefused s imports index h.0 h.1) (sym same) h.2;
       subject = is ∙ ap (λ (z : ImportValue). an_import z.module_name z.name index) (sym value);
-      types = tt;
+      types = typed_as s h.1 h.0 x f g types value same (typed h.1 h.2.recorded);
     }
 
-pub place_at : (s : ImportScope) (imports : List Import) (index : ℕ) (d : Import) (subject : Subject) (f g : ValidateFault) → index < length imports
-    → IsStopAt s (import_values imports) index g → g ≢ Memory → f ≡ g
+pub place_at : (s : ImportScope) (imports : List Import) (index : ℕ) (d : Import) (subject : Subject) (types : Option DifferenceView) (f g : ValidateFault)
+    → index < length imports → IsStopAt s (import_values imports) index g → g ≢ Memory → f ≡ g
     → subject_view subject ≡ an_import (get_or imports index d).module.now (get_or imports index d).name.now index
-    → IsImportPlace s (import_values imports) f (record { subject = subject_view subject; types = None })
-place_at s imports index d subject f g below h real same is =
-    placed s (import_values imports) index (import_value (get_or imports index d)) subject f g (value_there imports index d below) h real same is
+    → ((before : List Entry) → AreEntries s [] (import_values (take index imports)) before → IsTypedAt s before (import_value (get_or imports index d)) g types)
+    → IsImportPlace s (import_values imports) f (record { subject = subject_view subject; types = types })
+place_at s imports index d subject types f g below h real same is typed =
+    placed s (import_values imports) index (import_value (get_or imports index d)) subject types f g (value_there imports index d below) h real same is
+    (λ before entries. typed before (subst (λ z. AreEntries s [] z before) (take-map import_value index imports) entries))
+
+-- the types of an import that is refused for its type
+type_at : (types : List FuncType) (index : ℕ) (d : FuncType) (ty : ExternType) → index < length types
+    → option_map func_type (slice_get (map func_type_value types) index) ≡ Some ty → ty ≡ func_type (func_type_value (get_or types index d))
+type_at types index d ty below is =
+    sym (some_same (sym (ap (option_map func_type) (slice_get-map func_type_value types index ∙ ap (option_map func_type_value) (slice_get-get_or types index d below)))
+    ∙ is))
+
+differ_as : (ty : ExternType) (wanted found : FuncTypeValue) → ty ≡ func_type found → ty ≢ func_type wanted → found ≢ wanted
+differ_as ty wanted found is differ same = differ (is ∙ ap func_type same)
+
+mismatch_of : (e : NameScope) (a : CoreImport) (wanted : FuncType) → IsClassified e a (Err (naming.SignatureMismatch wanted))
+    → (v : ImportView) × Classified e a (means v (Some (func_type_value wanted))) × (a.ty ≢ func_type (func_type_value wanted))
+unfolding IsClassified
+mismatch_of e a wanted h = h
+
+pub mismatched_at : (c : ImportContext) (i : Import) (index : ℕ) (d wanted found : FuncType) → i.ty ≡ imported.Func index → index < length c.types.now
+    → func_type_value found ≡ func_type_value (get_or c.types.now index d)
+    → ((library : Option LibraryView) → IsClassifiedIn c library i (Err (naming.SignatureMismatch wanted)))
+    → AreMismatchedTypes c i (record { wanted = wanted; found = found })
+mismatched_at c i index d wanted found is below same h = λ library before.
+    let m = h library in
+    let typed : option_map func_type (slice_get (map func_type_value c.types.now) index) ≡ Some (m.0).ty
+    = subst (λ z. extern_type (map func_type_value c.types.now) z ≡ Some (m.0).ty) is m.1.2 in
+    let found_is : (m.0).ty ≡ func_type (func_type_value found) = type_at c.types.now index d (m.0).ty below typed ∙ ap func_type (sym same) in
+    let n = mismatch_of (name_scope_of c.names) m.0 wanted m.2 in
+    (m.0, n.0, m.1, n.1, found_is, differ_as (m.0).ty (func_type_value wanted) (func_type_value found) found_is n.2)
+
+-- the types of an import of a function of an adapter that was imported with another type
+pub differing_at : (c : ImportContext) (is : List Import) (i : Import) (recorder : Recorder) (key : String Global × String Global) (first wanted found : FuncType)
+    (b : Bool) → MeaningsUnique (name_scope_of c.names).resolve
+    → ((library : Option LibraryView) → HasLibrary c library → AreRecordedIn c library is recorder) → IsAdapterFunction c i (key, found)
+    → Some (func_type_value first) ≡ types_in recorder (string_bytes key.0) (string_bytes key.1) → func_type_value wanted ≡ func_type_value first
+    → IsTrue b ↔ (func_type_value found ≡ func_type_value first) → b ≡ false → AreDifferingTypes c is i (record { wanted = wanted; found = found })
+differing_at c is i recorder key first wanted found b unique recorded function noted same law differ = λ library before has entries.
+    let r = recorded library has in
+    let before_is : r.0 ≡ before =
+    entries_same (name_scope_of c.names).resolve unique (import_scope c library) [] (import_values is) r.0 before refl r.1 entries in (
+      string_bytes key.0,
+      string_bytes key.1,
+      function library has,
+      subst (λ z. first_by (adapter_type_of (string_bytes key.0) (string_bytes key.1)) z ≡ Some (func_type_value wanted)) before_is
+          (sym (r.2.types (string_bytes key.0) (string_bytes key.1)) ∙ (sym noted ∙ ap (λ z. Some z) (sym same))),
+      λ e. not_so b _ law differ (e ∙ same),
+    )
+
+-- the types that the fault of an import compares
+pub types_none : (c : ImportContext) (is : List Import) (i : Import) (f : ValidateFault) → f ≢ SignatureMismatch → f ≢ AdapterTypesDiffer
+    → AreTypesIn c is i f None
+types_none c is i SignatureMismatch no_mismatch no_difference = absurd (no_mismatch refl)
+types_none c is i AdapterTypesDiffer no_mismatch no_difference = absurd (no_difference refl)
+types_none c is i f no_mismatch no_difference = λ library before has entries. refl
 
 module _ (j : ValidationInput) (m : Module) (c : ImportContext) (imports : List Import) (names : IsNameScopeOf j.encoder (name_scope_of c.names))
     (renames : option_copied c.renames ≡ j.renames) (types : c.types.now ≡ m.types.items) (library : HasLibrary c j.library) (same : imports ≡ m.imports.items) where
@@ -222,10 +294,12 @@ module _ (e : NameScope) (keys : List KeyView) (m : ModuleValue) (es : List RawE
             (exports_more e keys (core_exports m (map export_value (take i es))) (core_export x.name ty) p.0 new.0 p.1 new.1),
       )
 
-  export_stopped : (f : ValidateFault) → IsExportFault e keys (core_export (export_value (get_or es i d)).name ty) f
+  pub exports_stop : (f : NameFault)
+      → IsExportClassified (ClassifiedExport e keys (core_export (export_value (get_or es i d)).name ty)) ty (Err f)
       → IsExportStopAt e keys m (map export_value es) i f
-  export_stopped Memory h = tt
-  export_stopped SignatureMismatch h =
+  unfolding IsClassification IsMismatched
+  exports_stop naming.Memory h = tt
+  exports_stop (naming.SignatureMismatch wanted) h =
       let x = export_value (get_or es i d) in (
         core_export x.name ty,
         record {
@@ -234,47 +308,55 @@ module _ (e : NameScope) (keys : List KeyView) (m : ModuleValue) (es : List RawE
           typed = ap (option_map (core_export x.name)) typed;
           before = p.0;
           recorded = subst (λ z. AreExports e keys (core_exports m z) p.0) (sym (take-map export_value i es)) p.1;
-          mismatched = h;
+          mismatched = (h.0, func_type_value wanted, h.1, h.2);
         },
+        h,
       )
-  export_stopped f h = h
-
-  pub exports_stop : (f : ValidateFault)
-      → IsExportClassified (ClassifiedExport e keys (core_export (export_value (get_or es i d)).name ty)) ty (Err f)
-      → IsExportStopAt e keys m (map export_value es) i f
-  exports_stop f h = export_stopped f (entry_fault e keys (core_export (export_value (get_or es i d)).name ty) f h)
+  exports_stop naming.NotAFunction h = absurd h
+  exports_stop naming.NoRootImport h = absurd h
+  exports_stop naming.RootNotFunction h = absurd h
+  exports_stop naming.BadSyntax h = absurd h
+  exports_stop naming.UnknownInterface h = absurd h
+  exports_stop naming.UnknownIntrinsic h = absurd h
+  exports_stop naming.MissingFunction h = absurd h
+  exports_stop naming.NoSuchExport h = absurd h
+  exports_stop naming.TypedReference h = absurd h
 
 -- an export as the place of a fault
+core_of : (m : ModuleValue) (v : ExportValue) (x : CoreExport) (ty : ExternType) → item_type m v.kind v.index ≡ Some ty → typed_export m v ≡ Some x
+    → core_export v.name ty ≡ x
+core_of m v x ty typed is = some_same (sym (ap (option_map (core_export v.name)) typed) ∙ is)
+
 pub export_at : (e : NameScope) (keys : List KeyView) (m : ModuleValue) (es : List RawExport) (i : ℕ) (d : RawExport) (name : String Global)
-    (f g : ValidateFault) → i < length es → IsExportStopAt e keys m (map export_value es) i g → g ≡ SignatureMismatch → f ≡ SignatureMismatch
-    → string_bytes name ≡ (export_value (get_or es i d)).name
-    → IsExportPlace e keys m (map export_value es) f (record { subject = an_export (string_bytes name); types = None })
-export_at e keys m es i d name f g below h is same called =
-    let stop = subst (IsExportStopAt e keys m (map export_value es) i) is h in
+    (wanted found ty : FuncType) (f : ValidateFault) → i < length es → IsExportStopAt e keys m (map export_value es) i (naming.SignatureMismatch wanted)
+    → f ≡ SignatureMismatch → string_bytes name ≡ (export_value (get_or es i d)).name
+    → item_type m (export_value (get_or es i d)).kind (export_value (get_or es i d)).index ≡ Some (func_type (func_type_value ty))
+    → func_type_value found ≡ func_type_value ty
+    → IsExportPlace e keys m (map export_value es) f
+    (record { subject = an_export (string_bytes name); types = Some (difference_of (func_type_value wanted) (func_type_value found)) })
+export_at e keys m es i d name wanted found ty f below stop same called typed copied =
     let there = slice_get-map export_value es i ∙ ap (option_map export_value) (slice_get-get_or es i d below) in
-    let value = some_same (sym stop.1.there ∙ there) in
+    let value : stop.1.value ≡ export_value (get_or es i d) = some_same (sym stop.1.there ∙ there) in
+    let core = core_of m (export_value (get_or es i d)) stop.0 (func_type (func_type_value ty)) typed
+    (subst (λ z. typed_export m z ≡ Some stop.0) value stop.1.typed) in
+    let found_is : (stop.0).ty ≡ func_type (func_type_value found) = ap (λ (z : CoreExport). z.ty) (sym core) ∙ ap func_type (sym copied) in
     record {
       is_mismatch = same;
       index = i;
       core_export = stop.0;
       first = stop.1;
-      subject = ap an_export (called ∙ (ap (λ (z : ExportValue). z.name) (sym value)
-          ∙ name_of m stop.1.value stop.0 (item_type m (stop.1.value).kind (stop.1.value).index) stop.1.typed));
-      types = tt;
-    } where
-      name_of : (m : ModuleValue) (v : ExportValue) (x : CoreExport) (o : Option ExternType) → option_map (core_export v.name) o ≡ Some x → v.name ≡ x.name
-      name_of m v x None h = absurd (let bad : ⊥ = cc h in bad)
-      name_of m v x (Some ty) h = ap (λ (z : CoreExport). z.name) (some_same h)
+      subject = ap an_export (called ∙ ap (λ (z : CoreExport). z.name) core);
+      types = (stop.2.0, stop.2.1, found_is, differ_as (stop.0).ty (func_type_value wanted) (func_type_value found) found_is stop.2.2);
+    }
 
-pub other_mismatch : (e : NameScope) (keys : List KeyView) (m : ModuleValue) (es : List ExportValue) (i : ℕ) (f g : ValidateFault)
-    → IsExportStopAt e keys m es i g → g ≡ SignatureMismatch → f ≢ SignatureMismatch → IsOtherMismatch e keys m es f
-other_mismatch e keys m es i f g h is other =
-    let stop = subst (IsExportStopAt e keys m es i) is h in (i, stop.0, stop.1, other)
+pub other_mismatch : (e : NameScope) (keys : List KeyView) (m : ModuleValue) (es : List ExportValue) (i : ℕ) (f : ValidateFault) (wanted : FuncType)
+    → IsExportStopAt e keys m es i (naming.SignatureMismatch wanted) → f ≢ SignatureMismatch → IsOtherMismatch e keys m es f
+other_mismatch e keys m es i f wanted stop other = (i, stop.0, stop.1, other)
 
 pub export_explained : (j : ValidationInput) (m : Module) (c : ExportContext) (es : List RawExport) → HasRecordedImports j (module_value m)
-    → IsNameScopeOf j.encoder (name_scope_of c.names) → c.standard.keys ≡ j.keys → es ≡ m.exports.items → (x : Refused) (f : ValidateFault)
-    → IsExportStopIn c m es x → (r : Result (Option Place) AllocError) → IsMismatchExplained es x f r → IfOk r (IsModuleExplained j (module_value m) f)
-export_explained j m c es imports names keys same x f stop r h = shown r (h (name_scope_of c.names) c.standard.keys (module_value m) stop) where
+    → IsNameScopeOf j.encoder (name_scope_of c.names) → c.standard.keys ≡ j.keys → es ≡ m.exports.items → (x : RefusedExport) (f : ValidateFault)
+    → IsExportStopIn c m es x → (r : Result (Option Place) AllocError) → IsMismatchExplained m es x.index x.fault f r → IfOk r (IsModuleExplained j (module_value m) f)
+export_explained j m c es imports names keys same x f stop r h = shown r (h (name_scope_of c.names) c.standard.keys stop) where
   shown : (r : Result (Option Place) AllocError)
       → IfOk r (λ answer. MatchOption answer (IsOtherMismatch (name_scope_of c.names) c.standard.keys (module_value m) (map export_value es) f)
       (λ (p : Place). IsExportPlace (name_scope_of c.names) c.standard.keys (module_value m) (map export_value es) f (place_view p)))

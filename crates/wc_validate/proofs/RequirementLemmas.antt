@@ -34,12 +34,12 @@ module _ (r : ResolveView) (xs : List CoreExport) (recorded : ExportRecord) wher
   met_append [] ns h k = k
   met_append (m ∷ ms) ns h k = (h.0, met_append ms ns h.1 k)
 
-  first_left : (ms ns : List Requirement) (f : ValidateFault) → IsFirstUnmet r xs recorded ms f → IsFirstUnmet r xs recorded (ms ++ ns) f
+  pub first_left : (ms ns : List Requirement) (f : ValidateFault) → IsFirstUnmet r xs recorded ms f → IsFirstUnmet r xs recorded (ms ++ ns) f
   first_left [] ns f h = absurd h
   first_left (m ∷ ms) ns f (inl h) = inl h
   first_left (m ∷ ms) ns f (inr h) = inr (h.0, first_left ms ns f h.1)
 
-  first_right : (ms ns : List Requirement) (f : ValidateFault) → AreMet r xs recorded ms → IsFirstUnmet r xs recorded ns f
+  pub first_right : (ms ns : List Requirement) (f : ValidateFault) → AreMet r xs recorded ms → IsFirstUnmet r xs recorded ns f
       → IsFirstUnmet r xs recorded (ms ++ ns) f
   first_right [] ns f met h = h
   first_right (m ∷ ms) ns f met h = inr (met.0, first_right ms ns f met.1 h)

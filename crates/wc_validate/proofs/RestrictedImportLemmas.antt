@@ -14,7 +14,7 @@ use Rattle.wc_names.specs.SameButIndices.{AreSameButIndices, without_indices}
 use Rattle.wc_names.specs.Imports.{Classified, CoreImport, ExternType, NameScope, extern_kind}
 use Rattle.wc_names.specs.Laws.{MeaningsUnique}
 use Rattle.wc_names.specs.Meanings.{means, refuses}
-use Rattle.wc_names.specs.Classifications.{FaultKind, other_fault, out_of_memory, refused_name, wrong_signature}
+use Rattle.wc_validate.specs.Classifications.{FaultKind, other_fault, out_of_memory, refused_name, wrong_signature}
 use Rattle.wc_names.specs.Views.{ImportView, adapter_export, main_module_export, main_module_memory}
 use Rattle.wc_names.proofs.SameMeaningLemmas.{fixed_plain, meaning_kept}
 use Rattle.wc_names.proofs.SameButIndicesLemmas.{of_same_fixed}
@@ -22,7 +22,7 @@ use Rattle.wc_names.proofs.SearchLemmas.{first_kind}
 use Rattle.wc_validate.specs.declared.fault.ValidateFault.{ValidateFault}
 use Rattle.wc_validate.specs.declared.fault.ValidateFault.TheVariants.{AdapterTypesDiffer, DuplicateImport, Mixed, SeveralMemoryImports}
 use Rattle.wc_validate.specs.Imports.Entries.{Entry, IsNameRecorded, adapter_type_in, adapter_type_of, by_modules, memory_of, memory_type_of, single}
-use Rattle.wc_validate.specs.Faults.{fault_kind}
+use Rattle.wc_validate.specs.Faults.{import_fault_kind}
 use Rattle.wc_validate.specs.Imports.Record.{AreEntries, ImportScope, IsCoreImport, IsEntry, IsEntryCause, IsFaultOfImport, IsImportFault, entry_faults, extern_type, original_name}
 use Rattle.wc_validate.specs.Restriction.{AreDistinct, HasCollision, HasOrigin, IsSameImport, main_module}
 use Rattle.wc_validate.specs.Imports.Classify.{HasSignature, IsNameFault}
@@ -62,7 +62,10 @@ not_refused : (e : NameScope) → MeaningsUnique e.resolve → (a : CoreImport) 
     → Classified e a (means v required_type)
     → HasSignature a.ty required_type → (k : FaultKind) → ¬ IsNameFault e a k
 not_refused e unique a v required_type meant signed out_of_memory h = h
-not_refused e unique a v required_type meant signed wrong_signature h =
+not_refused e unique a v required_type meant signed (wrong_signature (Some wanted)) h =
+    let both : means h.0 (Some wanted) ≡ means v required_type = unique e a (means h.0 (Some wanted)) (means v required_type) refl h.1 meant in
+    h.2 (subst (HasSignature a.ty) (sym (same_signature both)) signed)
+not_refused e unique a v required_type meant signed (wrong_signature None) h =
     let both : means h.0 (Some h.1) ≡ means v required_type = unique e a (means h.0 (Some h.1)) (means v required_type) refl h.2 meant in
     h.3 (subst (HasSignature a.ty) (sym (same_signature both)) signed)
 not_refused e unique a v required_type meant signed (refused_name why) h =
@@ -341,7 +344,7 @@ module _ (e : NameScope) (renames : Option (List RenameValue)) (v m : ModuleValu
         → ((y : Entry) → Contains ys y → IsEarlier e renames v m o front y)
         → IsFaultOfImport (name_scope_of e renames m) ys i f → (f ≡ DuplicateImport) × Collides front i
     of_fault o i front ys f from each (inl h) =
-        absurd (let is = meant o i h.1 from h.2 in not_refused e unique h.1 is.0 is.1 is.2 is.3 (fault_kind f) h.3)
+        absurd (let is = meant o i h.1 from h.2 in not_refused e unique h.1 is.0 is.1 is.2 is.3 (import_fault_kind f) h.3)
     of_fault o i front ys f from each (inr h) =
         let named = named_entry e renames m i h.0 h.1 in
         let kind = first_kind (λ k (g : ValidateFault). IsEntryCause ys h.0 k × (g ≡ k)) entry_faults f h.2 in

@@ -40,7 +40,7 @@ use Rattle.wc_validate.specs.declared.imports.record.ImportContext.{ImportContex
 use Rattle.wc_validate.specs.declared.imports.recorder.Recorder.{Recorder}
 use Rattle.wc_validate.specs.Private.Imports.Contexts.{AreRecorded, IsImportsRefusal, IsTypeIn, import_scope}
 use Rattle.wc_validate.specs.Imports.Entries.{Entry, Records}
-use Rattle.wc_validate.specs.Faults.{fault_kind, of_read}
+use Rattle.wc_validate.specs.Faults.{import_fault_kind, of_read}
 use Rattle.wc_validate.specs.Imports.Record.{ImportScope, IsEntryFault, IsImportFault}
 use Rattle.wc_validate.specs.Imports.Instances.{instance_entry}
 use Rattle.wc_validate.specs.Imports.Classify.{IsNameFault}
@@ -110,7 +110,7 @@ recorded_memory s is r h = ap memory_in h.2.instances ∙ h.2.memory_recorded
 
 -- what is no fault of imports
 fault_not : (s : ImportScope) (before : List Entry) (is : List ImportValue) (f : ValidateFault)
-    → ((e : NameScope) (a : CoreImport) → ¬ IsNameFault e a (fault_kind f)) → ((b : List Entry) (x : Entry) → ¬ IsEntryFault b x f)
+    → ((e : NameScope) (a : CoreImport) → ¬ IsNameFault e a (import_fault_kind f)) → ((b : List Entry) (x : Entry) → ¬ IsEntryFault b x f)
     → ¬ IsImportFault s before is f
 fault_not s before [] f name entry h = h
 fault_not s before (i ∷ is) f name entry (inl (inl h)) = name s.name_scope h.1 h.3

@@ -15,7 +15,10 @@ use Rattle.wc_validate.specs.Imports.Entries.{Entry, single}
 use Rattle.wc_validate.specs.Imports.Map.{imports_in}
 use Rattle.wc_validate.specs.Imports.Record.{ImportScope, IsCoreImport, IsEntry, library_entry}
 use Rattle.wc_validate.specs.NameScopes.{HasItsWorld}
-use Rattle.wc_validate.specs.Validated.{HasNoCause, IsRecordOf, IsImportScopeFor, ValidationInput, ModuleRecord}
+use Rattle.wc_validate.specs.Places.{IsPlace}
+use Rattle.wc_validate.specs.PlaceViews.{PlaceView}
+use Rattle.wc_validate.specs.Validated.{HasNoCause, IsCause, IsRecordOf, IsImportScopeFor, ValidationInput, ModuleRecord}
+use Rattle.wc_validate.specs.declared.fault.ValidateFault.{ValidateFault}
 
 -- of a module there is one record at most, for one validation input
 abbrev pub RecordsUnique : EncoderView → Type 0
@@ -63,3 +66,7 @@ abbrev pub RecordedExportsInRange : EncoderView → Type 0
 RecordedExportsInRange e =
     (j : ValidationInput) (bytes : List ℕ) (r : ModuleRecord) (w : WorldView) → j.encoder ≡ e → IsRecordOf j bytes r → IsWorldOf e w
     → All (λ (x : List ℕ × ExportView). IsExportIn e.resolve w x.1) r.exports
+
+-- where a fault has a place in the module that bytes spell, it has a cause there
+abbrev pub PlacesAreCauses : Type 0
+PlacesAreCauses = (j : ValidationInput) (bytes : List ℕ) (f : ValidateFault) (p : PlaceView) → IsPlace j bytes f p → IsCause j bytes f

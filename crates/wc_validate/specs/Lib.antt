@@ -1,6 +1,7 @@
 -- What contracts of this crate cite.
 pub mod PlaceViews
 pub mod Texts
+pub mod Classifications
 pub mod Faults
 pub mod NameScopes
 pub mod Imports

@@ -1,13 +1,13 @@
 -- What a fault of a module is about: the first import or export that its cause is at, or what is missing.
-use Rattle.std.specs.Prelude.{◌≡◌, ◌≢◌, ◌⊎◌, ◌≤◌, ℕ, List, [], ◌∷◌, ◌++◌, map, take, slice_get, All, Contains, IsTrue, MatchOption, Option, Some, None, true}
-use Rattle.std.specs.Option.{IfSome}
+use Rattle.std.specs.Prelude.{◌≡◌, ◌≢◌, ◌⊎◌, ◌≤◌, ℕ, List, [], ◌∷◌, ◌++◌, map, take, slice_get, All, Contains, IsSomeAnd, IsTrue, MatchOption, Option, Some, None, true}
+use Rattle.semver.specs.Identifiers.{parts_text}
 use Rattle.wc_read.specs.Exports.{ExportValue}
 use Rattle.wc_read.specs.Faults.{SpellsNothing}
 use Rattle.wc_read.specs.Imports.{ImportValue}
 use Rattle.wc_read.specs.Modules.{ModuleValue, SpellsModule}
 use Rattle.wc_read.specs.Types.{FuncTypeValue}
-use Rattle.wc_resolve.specs.Queries.{full_id}
-use Rattle.wc_resolve.specs.Views.{FunctionView, KeyView, interface_key, plain_key}
+use Rattle.wc_resolve.specs.Queries.{key_text}
+use Rattle.wc_resolve.specs.Views.{FunctionView, KeyView}
 use Rattle.wc_resolve.specs.World.{ResolveView}
 use Rattle.wc_encoder.specs.Entries.{Entries}
 use Rattle.wc_names.specs.Exports.{ClassifiedExport, CoreExport, is_export}
@@ -23,7 +23,7 @@ use Rattle.wc_validate.specs.Imports.Entries.{Entry, Records, single, first_by, 
 use Rattle.wc_validate.specs.Imports.Record.{ImportScope, AreEntries, IsCoreImport, IsEntry, IsFaultOfImport}
 use Rattle.wc_validate.specs.Exports.Map.{ExportRecord, is_memory}
 use Rattle.wc_validate.specs.Exports.Record.{AreExports, IsMismatched, core_exports, typed_export}
-use Rattle.wc_validate.specs.Requirements.{AreMet, IsMet, IsShortfall, Requirement, callback_name, callbacks, exported_type, function_names, functions_of, interface_functions, is_called_back, key_requirement, key_requirements, memory_count, one_memory, type_requirement, world_function}
+use Rattle.wc_validate.specs.Requirements.{AreMet, IsFirstUnmet, IsMet, IsShortfall, Requirement, callback_name, callbacks, exported_type, function_names, functions_of, interface_functions, is_called_back, key_requirement, key_requirements, memory_count, one_memory, requirements, type_requirement, world_function}
 use Rattle.wc_validate.specs.Validated.{ValidationInput, IsImportScopeFor, IsNameScopeOf, IsRecordOfImports}
 
 -- the import at an index is the first that is refused: those before it have these entries, each valid after all before
@@ -68,6 +68,12 @@ AreTypesOfImport s before i AdapterTypesDiffer d =
     × (first_by (adapter_type_of adapter function) before ≡ Some d.wanted) × (d.found ≢ d.wanted)
 AreTypesOfImport s before i f d = ⊥
 
+-- the types of the place of a fault of an import: those that it compares, or none
+abbrev pub IsTypedAt : ImportScope → List Entry → ImportValue → ValidateFault → Option DifferenceView → Type 0
+IsTypedAt s before i SignatureMismatch types = IsSomeAnd types (AreTypesOfImport s before i SignatureMismatch)
+IsTypedAt s before i AdapterTypesDiffer types = IsSomeAnd types (AreTypesOfImport s before i AdapterTypesDiffer)
+IsTypedAt s before i f types = types ≡ None
+
 -- the place of a fault is an import by this scope: the first that is refused
 pub record IsImportPlace (s : ImportScope) (imports : List ImportValue) (f : ValidateFault) (p : PlaceView) : Type 0 where
   pub index : ℕ
@@ -75,7 +81,7 @@ pub record IsImportPlace (s : ImportScope) (imports : List ImportValue) (f : Val
   pub before : List Entry
   pub first : IsFirstRefused s imports index value before f
   pub subject : p.subject ≡ an_import value.module_name value.name index
-  pub types : IfSome p.types (AreTypesOfImport s before value f)
+  pub types : IsTypedAt s before value f p.types
 
 abbrev pub IsPlaceOfImport : ValidationInput → ModuleValue → ValidateFault → PlaceView → Type 0
 IsPlaceOfImport j m f p = (s : ImportScope) × IsImportScopeFor j.encoder j.renames j.library m.types s × IsImportPlace s m.imports f p
@@ -101,7 +107,7 @@ pub record IsExportPlace (e : NameScope) (keys : List KeyView) (m : ModuleValue)
   pub core_export : CoreExport
   pub first : IsFirstMismatched e keys m exports index core_export
   pub subject : p.subject ≡ an_export core_export.name
-  pub types : IfSome p.types (AreTypesOfExport e keys core_export)
+  pub types : IsSomeAnd p.types (AreTypesOfExport e keys core_export)
 
 abbrev pub IsPlaceOfExport : ValidationInput → ModuleValue → ValidateFault → PlaceView → Type 0
 IsPlaceOfExport j m f p =
@@ -150,16 +156,11 @@ pub record IsFirstLacking (r : ResolveView) (xs : List CoreExport) (recorded : E
   pub unmet : ¬ IsMet r xs recorded need
   pub short : IsShortfall xs need f
 
--- the text of an interface under a key: a plain name, or the id of the interface
-abbrev pub interface_text : ResolveView → KeyView → ℕ → Option (List ℕ)
-interface_text r (plain_key name) i = Some name
-interface_text r (interface_key k) i = full_id r i
-
--- what is missing for a key that requires something: the first function of the interface that is not recorded; or the
--- function of the world
+-- what is missing for a key that requires something: the first function of the interface that is not recorded, under the
+-- text of the key; or the function of the world
 abbrev pub IsLack : ResolveView → ExportRecord → KeyView → Requirement → SubjectView → Type 0
 IsLack r recorded key (interface_functions i) x =
-    (module_name : List ℕ) × (function : List ℕ × FunctionView) × (interface_text r key i ≡ Some module_name)
+    (module_name : List ℕ) × (function : List ℕ × FunctionView) × (key_text parts_text r key ≡ Some module_name)
     × IsFirstFailing (λ (f : List ℕ × FunctionView). Contains (function_names recorded) (Some i, f.0)) (functions_of r i) function
     × (x ≡ missing_function module_name function.0)
 IsLack r recorded key (world_function name) x = x ≡ missing_export name
@@ -216,26 +217,29 @@ IsModulePlace j m f p = IsPlaceOfImport j m f p ⊎ (IsPlaceOfExport j m f p ⊎
 abbrev pub IsPlace : ValidationInput → List ℕ → ValidateFault → PlaceView → Type 0
 IsPlace j bytes f p = (m : ModuleValue) × SpellsModule bytes m × IsModulePlace j m f p
 
--- a fault has no place at an export of a module: the exports are recorded, or the first that is refused is refused for its
--- type, and the fault is another
+-- a fault has no place at an export of a module, or among what is missing: the exports are recorded, and the fault is not
+-- that of the first requirement that is not met; or the first export that is refused is refused for its type, and the fault
+-- is another
 abbrev pub IsOtherMismatch : NameScope → List KeyView → ModuleValue → List ExportValue → ValidateFault → Type 0
 IsOtherMismatch e keys m exports f = (index : ℕ) × (x : CoreExport) × IsFirstMismatched e keys m exports index x × (f ≢ SignatureMismatch)
 
-abbrev pub IsNoExportPlace : NameScope → List KeyView → ModuleValue → ValidateFault → Type 0
-IsNoExportPlace e keys m f =
-    ((recorded : ExportRecord) × AreExports e keys (core_exports m m.exports) recorded) ⊎ IsOtherMismatch e keys m m.exports f
+abbrev pub IsNoExportPlace : NameScope → List KeyView → List (List ℕ × FuncTypeValue) → ModuleValue → ValidateFault → Type 0
+IsNoExportPlace e keys functions m f =
+    ((recorded : ExportRecord) × AreExports e keys (core_exports m m.exports) recorded
+    × (¬ IsFirstUnmet e.resolve (core_exports m m.exports) recorded (requirements e.world.exports keys functions) f))
+    ⊎ IsOtherMismatch e keys m m.exports f
 
--- a fault has no place at an import or an export: the first import that is refused has another fault; or the imports are
--- recorded, and it has none at an export
+-- a fault has no place in a module: the first import that is refused has another fault; or the imports are recorded, and it
+-- has none at an export, or among what is missing
 abbrev pub IsNoPlace : ValidationInput → ModuleValue → ValidateFault → Type 0
 IsNoPlace j m f =
     ((s : ImportScope) × IsImportScopeFor j.encoder j.renames j.library m.types s × IsOtherRefused s m.imports f)
-    ⊎ ((imports : Records) × IsRecordOfImports j m imports × (e : NameScope) × IsNameScopeOf j.encoder e × IsNoExportPlace e j.keys m f)
+    ⊎ ((imports : Records) × IsRecordOfImports j m imports × (e : NameScope) × IsNameScopeOf j.encoder e × IsNoExportPlace e j.keys j.required m f)
 
 -- the same where bytes spell a module, if they spell one
 abbrev pub IsUnplaced : ValidationInput → List ℕ → ValidateFault → Type 0
 IsUnplaced j bytes f = SpellsNothing SpellsModule bytes ⊎ ((m : ModuleValue) × SpellsModule bytes m × IsNoPlace j m f)
 
--- what is answered of a fault is its place; nothing only where it has no place at an import or an export
+-- what is answered of a fault is its place; nothing only where it has none
 abbrev pub IsExplained : ValidationInput → List ℕ → ValidateFault → Option Place → Type 0
 IsExplained j bytes f answer = MatchOption answer (IsUnplaced j bytes f) (λ (p : Place). IsPlace j bytes f (place_view p))

@@ -1,6 +1,6 @@
 //! What faults of core modules are about: the first import or export at which a fault's cause stands.
 
-ghost use Rattle.std.specs.Prelude.{IfOk, option_copied};
+ghost use Rattle.std.specs.Prelude.{◌≡◌, ◌↔◌, IfOk, IsTrue, option_copied};
 ghost use Rattle.wc_read.specs.Modules.{IsModule, module_value};
 ghost use Rattle.wc_validate.specs.Exports.Contexts.{IsExportContext};
 ghost use Rattle.wc_validate.specs.Places.{IsExplained};
@@ -31,6 +31,13 @@ use wc_encoder::{ComponentEncoder, LibraryInfo};
 use wc_maps::{Map, Set};
 use wc_read::{FuncType, Module, ReadFault, read_module};
 use wc_resolve::WorldKey;
+
+/// Whether a fault is that an allocation failed.
+pub(crate) fn is_memory(fault: &ValidateFault) -> bool
+    ensures { IsTrue result ↔ (fault.now ≡ ValidateFault.Memory) }
+{
+    matches!(fault, ValidateFault::Memory)
+}
 
 /// What is missing among the exports of a module, none of which is refused.
 fn explain_missing(
@@ -71,7 +78,10 @@ fn explain_exports(
         validation_input.required.keys,
     )?;
     match first_mismatched(alloc, &context, module, &module.exports) {
-        Some(refused) => export_place(alloc, &module.exports, refused, fault),
+        Some(refused) => {
+            let (index, cause) = (refused.index, refused.fault);
+            export_place(alloc, module, &module.exports, index, cause, fault)
+        }
         None => explain_missing(alloc, &context, module, validation_input.required, fault),
     }
 }
@@ -124,6 +134,9 @@ fn explain_bytes(
 /// - `MissingInterfaceExport` and `MissingWorldExport` are about the first function that is missing for the first key of
 ///   the export set for which one is.
 ///
+/// Of `SignatureMismatch` it has the type that the name fixes and the one that is found, and of `AdapterTypesDiffer` the
+/// type with which the function was imported first and the one that is found; of the others it has no types.
+///
 /// `None` for `Read`, `NotAModule` and `Memory`, which are about the module as a whole, and where the module is not
 /// refused with this fault.
 ///
@@ -148,7 +161,7 @@ pub fn explain_module(
 /// What a fault is about that [`validate_adapter_module`](crate::validate_adapter_module) answered for the same
 /// encoder, bytes, required functions, export set and library, as [`explain_module`] has it. Besides, of the functions
 /// that other modules import from this one, `TypedReference`, `AdapterModuleDidNotExport` and `AdapterExportType` are
-/// about the first that is not exported as it is required; the last has both types.
+/// about the first that is not exported as it is required; the last has the required type and the one that is found.
 ///
 /// # Errors
 ///

@@ -1,7 +1,7 @@
 //! Laws of what is recorded of modules, and of why they are refused: contracts of functions that do nothing when they
 //! run.
 
-ghost use Rattle.wc_validate.specs.Laws.{EntriesInRange, EntriesUnique, RecordedExportsInRange, RecordsAreImports, RecordsExcludeFaults, RecordsInRange, RecordsUnique, SignaturesFixed};
+ghost use Rattle.wc_validate.specs.Laws.{EntriesInRange, EntriesUnique, PlacesAreCauses, RecordedExportsInRange, RecordsAreImports, RecordsExcludeFaults, RecordsInRange, RecordsUnique, SignaturesFixed};
 ghost use Rattle.wc_validate.specs.MemoryTypes.{RecordedMemoriesValid};
 ghost use Rattle.wc_validate.specs.Restriction.{RestrictionsRecorded, RestrictionsValid};
 
@@ -106,3 +106,10 @@ pub fn restrictions_recorded(encoder: &ComponentEncoder)
     meanings_unique(&metadata.resolve);
     exports_unique();
 }
+
+/// A fault that has a place in a module has a cause there: where `explain_module` or `explain_adapter_module` answers a
+/// place, the fault is one of those that `validate_module` or `validate_adapter_module` may answer for the same validation
+/// input. It does nothing when it runs.
+pub fn places_are_causes()
+    ensures { PlacesAreCauses }
+{}

@@ -32,6 +32,7 @@ mod fault;
 mod first_by_key;
 mod imports;
 pub mod laws;
+mod name_fault;
 mod name_scope;
 mod place;
 mod prefixes;

@@ -10,11 +10,11 @@ ghost use Rattle.wc_names.specs.Builtins.{signature};
 ghost use Rattle.wc_names.specs.Exports.{post_return_type};
 ghost use Rattle.wc_names.specs.Imports.{function_type, signature_type, val_type};
 ghost use Rattle.wc_names.specs.Views.{import_view};
-ghost use Rattle.wc_validate.specs.Private.Imports.Builtins.{async_value_type, thread_type, IsCheckedBy};
-ghost use Rattle.wc_names.specs.Classifications.{IsTypeChecked};
+ghost use Rattle.wc_validate.specs.Private.Imports.Builtins.{async_value_type, thread_type, IsCheckedBy, IsMismatch, IsMismatchBy};
+ghost use Rattle.wc_validate.specs.Classifications.{IsTypeChecked};
 ghost use Rattle.wc_validate.specs.Faults.{fault_kind};
 
-use crate::ValidateFault;
+use crate::name_fault::NameFault;
 use std::alloc::{AllocError, Global};
 use wc_names::Import;
 use wc_read::{FuncType, ValType};
@@ -48,21 +48,30 @@ pub(crate) fn names_types(ty: &FuncType) -> bool
     any_names_type(ty.params()) || any_names_type(ty.results())
 }
 
+/// The fault of a type that is not this one.
+fn mismatch(alloc: Global, params: &[ValType], results: &[ValType]) -> Result<NameFault, AllocError>
+    ensures { IfOk result (IsMismatch (signature params.now results.now)) }
+{
+    let own_params = Vec::from_slice(alloc, params)?;
+    let own_results = Vec::from_slice(alloc, results)?;
+    Ok(NameFault::SignatureMismatch(FuncType::new(own_params, own_results)))
+}
+
 /// The import or the export, if its type is the signature that its name fixes.
 pub(crate) fn checked<T: Drop>(
+    alloc: Global,
     item: T,
     ty: &FuncType,
     params: &[ValType],
     results: &[ValType],
-) -> Result<Option<T>, ValidateFault>
+) -> Result<Option<T>, NameFault>
     ensures { IsTypeChecked fault_kind result item
         (func_type_value ty.now) (signature params.now results.now) }
 {
     if has_type(ty, params, results) {
-        Ok(Some(item))
-    } else {
-        Err(ValidateFault::SignatureMismatch)
+        return Ok(Some(item));
     }
+    Err(mismatch(alloc, params, results)?)
 }
 
 /// A value, if it is kept; else a fault.
@@ -92,12 +101,34 @@ fn has_thread_type(import: &Import, ty: &FuncType) -> bool
     }
 }
 
+/// The fault of a built-in for threads whose type is another than it has to have.
+fn thread_mismatch(alloc: Global, import: &Import) -> Result<NameFault, AllocError>
+    ensures { IfOk result (IsMismatchBy thread_type import.now) }
+{
+    match import {
+        Import::ThreadIndex | Import::ThreadSuspend | Import::ThreadYield => {
+            mismatch(alloc, &[], &[ValType::I32])
+        }
+        Import::ThreadNewIndirect => {
+            mismatch(alloc, &[ValType::I32, ValType::I32], &[ValType::I32])
+        }
+        Import::ThreadResumeLater => mismatch(alloc, &[ValType::I32], &[]),
+        _ => mismatch(alloc, &[ValType::I32], &[ValType::I32]),
+    }
+}
+
 /// The built-in for threads, if its type is the one that it has to have.
-pub(crate) fn checked_thread(import: Import, ty: &FuncType) -> Result<Option<Import>, ValidateFault>
+pub(crate) fn checked_thread(
+    alloc: Global,
+    import: Import,
+    ty: &FuncType,
+) -> Result<Option<Import>, NameFault>
     ensures { IsCheckedBy thread_type import ty.now result }
 {
-    let has_its_type = has_thread_type(&import, ty);
-    kept(has_its_type, import, ValidateFault::SignatureMismatch)
+    if has_thread_type(&import, ty) {
+        return Ok(Some(import));
+    }
+    Err(thread_mismatch(alloc, &import)?)
 }
 
 /// Whether the type of a built-in of a future or stream is the one that it has to have.
@@ -132,15 +163,43 @@ fn has_async_value_type(import: &Import, ty: &FuncType) -> bool
     }
 }
 
+/// The fault of a built-in of a future or stream whose type is another than it has to have.
+fn async_value_mismatch(alloc: Global, import: &Import) -> Result<NameFault, AllocError>
+    ensures { IfOk result (IsMismatchBy async_value_type import.now) }
+{
+    match import {
+        Import::FutureNew(_) | Import::StreamNew(_) => mismatch(alloc, &[], &[ValType::I64]),
+        Import::FutureRead { .. } | Import::FutureWrite { .. } => {
+            mismatch(alloc, &[ValType::I32, ValType::I32], &[ValType::I32])
+        }
+        Import::StreamRead { .. } | Import::StreamWrite { .. } => mismatch(
+            alloc,
+            &[ValType::I32, ValType::I32, ValType::I32],
+            &[ValType::I32],
+        ),
+        Import::FutureForward(_) | Import::StreamForward(_) => {
+            mismatch(alloc, &[ValType::I32, ValType::I32], &[])
+        }
+        Import::FutureDropReadable(_)
+        | Import::FutureDropWritable(_)
+        | Import::StreamDropReadable(_)
+        | Import::StreamDropWritable(_) => mismatch(alloc, &[ValType::I32], &[]),
+        _ => mismatch(alloc, &[ValType::I32], &[ValType::I32]),
+    }
+}
+
 /// The built-in of a future or stream, if its type is the one that it has to have.
 pub(crate) fn checked_async_value(
+    alloc: Global,
     import: Import,
     ty: &FuncType,
-) -> Result<Option<Import>, ValidateFault>
+) -> Result<Option<Import>, NameFault>
     ensures { IsCheckedBy async_value_type import ty.now result }
 {
-    let has_its_type = has_async_value_type(&import, ty);
-    kept(has_its_type, import, ValidateFault::SignatureMismatch)
+    if has_async_value_type(&import, ty) {
+        return Ok(Some(import));
+    }
+    Err(async_value_mismatch(alloc, &import)?)
 }
 
 /// The value type of a core type: pointers and lengths are 32 bits.
@@ -192,6 +251,59 @@ pub(crate) fn has_function_type(
 {
     let core = resolve.wasm_signature(alloc, abi, function)?;
     Ok(has_signature(ty, &core))
+}
+
+/// The value types of these core types.
+fn val_types(alloc: Global, core: &[WasmType]) -> Result<Vec<ValType>, AllocError>
+    ensures { IfOk result (λ types. types.items ≡ map val_type core.now) }
+{
+    let mut types = Vec::new(alloc);
+    for index in 0..core.len() {
+        types.push(val_type(core[index]))?;
+    }
+    Ok(types)
+}
+
+/// The fault of a function whose type is not this core signature.
+fn signature_mismatch(
+    alloc: Global,
+    params: &[WasmType],
+    results: &[WasmType],
+) -> Result<NameFault, AllocError>
+    ensures { IfOk result (IsMismatch
+        (signature (map val_type params.now) (map val_type results.now))) }
+{
+    let own_params = val_types(alloc, params)?;
+    let own_results = val_types(alloc, results)?;
+    Ok(NameFault::SignatureMismatch(FuncType::new(own_params, own_results)))
+}
+
+/// The fault of an import whose type is not the core type of a function, lowered so.
+pub(crate) fn function_mismatch(
+    alloc: Global,
+    resolve: &Resolve,
+    abi: AbiVariant,
+    function: &Function,
+) -> Result<NameFault, AllocError>
+    requires { IsUsable resolve.now (function_view function.now) }
+    ensures { IfOk result (IsMismatch
+        (function_type resolve.now abi (function_view function.now))) }
+{
+    let core = resolve.wasm_signature(alloc, abi, function)?;
+    signature_mismatch(alloc, &core.params, &core.results)
+}
+
+/// The fault of an export that runs after a function has returned and whose type is not the results of the function.
+pub(crate) fn post_return_mismatch(
+    alloc: Global,
+    resolve: &Resolve,
+    function: &Function,
+) -> Result<NameFault, AllocError>
+    requires { IsUsable resolve.now (function_view function.now) }
+    ensures { IfOk result (IsMismatch (post_return_type resolve.now (function_view function.now))) }
+{
+    let returned = resolve.wasm_signature(alloc, AbiVariant::GuestExport, function)?;
+    signature_mismatch(alloc, &returned.results, &[])
 }
 
 /// Whether the type of an export is that of what runs after a function has returned: its parameters are the results of

@@ -131,8 +131,10 @@ fn main() -> Result<(), Box<dyn Error>> {
     for (name, adapter) in &world.adapters {
         instance(name, &adapter.info, &world, &mut steps);
     }
+    let width = steps.iter().map(|step| step[1].len()).max();
+    let width = width.unwrap_or_default();
     for [step, what, with] in &steps {
-        println!("{step:8}{what:72} {with}");
+        println!("{step:8}{what:width$}  {with}");
     }
     Ok(())
 }

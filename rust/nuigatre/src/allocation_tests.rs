@@ -5,7 +5,8 @@ use crate::error::Error;
 use crate::heap::counts::{add, fail_after, held, may_allocate};
 use crate::{
     Adapter, ComponentEncoder, ComponentWorld, ExportKind, Instance, Item, LibraryInfo,
-    MainOrAdapter, ModuleImportMap, Resolved, World, gc,
+    MainOrAdapter, ModuleImportMap, Plan, Resolved, World, gc, validate_adapter_module,
+    validate_module,
 };
 use std::alloc::{GlobalAlloc, Layout, System};
 use std::borrow::Cow;
@@ -48,6 +49,12 @@ unsafe impl GlobalAlloc for Counted {
 /// Three functions, of which `b` reaches two.
 const THREE: &[u8] = b"\0asm\x01\0\0\0\x01\x04\x01\x60\0\0\x03\x04\x03\0\0\0\x07\x09\x02\x01a\0\0\x01b\0\x01\x0a\x0c\x03\x02\0\x0b\x04\0\x10\x02\x0b\x02\0\x0b";
 
+/// A function that is exported as `a`, and is the start function.
+const STARTED: &[u8] = b"\0asm\x01\0\0\0\x01\x04\x01\x60\0\0\x03\x02\x01\0\x07\x05\x01\x01a\0\0\x08\x01\0\x0a\x04\x01\x02\0\x0b";
+
+/// The same as `b`.
+const STARTED_B: &[u8] = b"\0asm\x01\0\0\0\x01\x04\x01\x60\0\0\x03\x02\x01\0\x07\x05\x01\x01b\0\0\x08\x01\0\x0a\x04\x01\x02\0\x0b";
+
 /// An adapter with an imported realloc and an imported memory.
 const REALLOC: &[u8] = b"\0asm\x01\0\0\0\x01\x0c\x02\x60\x04\x7f\x7f\x7f\x7f\x01\x7f\x60\0\0\x02\x2e\x02\x0f__main_module__\x0ccabi_realloc\0\0\x03env\x06memory\x02\0\x01\x03\x02\x01\x01\x07\x05\x01\x01f\0\x01\x0a\x12\x01\x10\0\x41\0\x41\0\x41\0\x41\0\x10\0\x1a\x3f\0\x1a\x0b";
 
@@ -83,6 +90,12 @@ const EXPORTS: &str = r#"{
     "packages": [
         {"name": "a:b@1.0.0", "interfaces": {"run": 0}, "worlds": {}},
         {"name": "a:b@2.0.0", "interfaces": {"run": 1, "go": 2}, "worlds": {"demo": 0}}]
+}"#;
+
+/// A type of itself.
+const CYCLE: &str = r#"{
+    "worlds": [{"name": "demo", "imports": {}, "exports": {}, "package": null}], "interfaces": [],
+    "types": [{"name": "t", "kind": {"list": 0}}], "packages": []
 }"#;
 
 /// Imports `hello` of `my:demo/host` twice, and `b` of `old`.
@@ -180,14 +193,25 @@ fn trimming() {
     assert!(failures(|| gc::run(THREE, ["b"], None, 16)) > 20);
     assert!(failures(|| gc::run(REALLOC, ["f"], None, 16)) > 20);
     assert!(failures(|| gc::run(REALLOC, ["f"], Some("realloc"), 16)) > 20);
-    // one whose fault carries a name
+    // one whose fault carries a name, and one that has a place
     assert!(failures(|| gc::run(THREE, ["b", "x"], None, 16)) > 5);
+    assert!(failures(|| gc::run(STARTED, ["a"], None, 16)) > 5);
 }
 
 #[test]
 fn worlds() {
     let encoder = encoder();
     assert!(failures(|| ComponentWorld::new(&encoder)) > 200);
+    assert!(failures(|| Plan::new(&encoder)) > 200);
+}
+
+#[test]
+fn validation() {
+    let encoder = encoder();
+    assert!(failures(|| validate_module(&encoder)) > 50);
+    assert!(failures(|| validate_adapter_module(&encoder, "old")) > 50);
+    assert!(failures(|| validate_adapter_module(&encoder, "library")) > 50);
+    assert!(failures(|| validate_adapter_module(&encoder, "other")) > 50);
 }
 
 #[test]
@@ -231,5 +255,7 @@ fn refused_worlds() {
     assert!(refused(|it| it.adapters[0].required_exports.push("run")) > 50);
     assert!(refused(|it| it.adapters[0].wasm = LIBRARY) > 50);
     assert!(refused(|it| it.adapters[0].wasm = &THREE[..20]) > 50);
+    assert!(refused(|it| it.adapters[0].wasm = STARTED_B) > 50);
     assert!(refused(|it| it.reject_legacy_names = true) > 50);
+    assert!(refused(|it| it.resolve = CYCLE.into()) > 50);
 }

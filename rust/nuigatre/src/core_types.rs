@@ -3,6 +3,7 @@
 use crate::json::Value;
 use crate::memory::OutOfMemory;
 use crate::read::{Read, Unread, member, optional_member};
+use std::fmt::{self, Display, Formatter};
 
 /// A value type.
 #[derive(Clone, Copy, Debug, PartialEq, Eq, Hash)]
@@ -21,7 +22,7 @@ pub enum ValType {
     TypeRef { nullable: bool, index: u32 },
 }
 
-/// A function type.
+/// A function type. Its text is as `(i32, i64) -> i32`, with several results, or none, in parentheses too.
 #[derive(Clone, Debug, PartialEq, Eq, Hash)]
 pub struct FuncType {
     /// The types of the parameters.
@@ -97,6 +98,47 @@ impl FuncType {
             params: copy(&self.params)?,
             results: copy(&self.results)?,
         })
+    }
+}
+
+impl Display for ValType {
+    fn fmt(&self, f: &mut Formatter<'_>) -> fmt::Result {
+        f.write_str(match self {
+            ValType::I32 => "i32",
+            ValType::I64 => "i64",
+            ValType::F32 => "f32",
+            ValType::F64 => "f64",
+            ValType::V128 => "v128",
+            ValType::FuncRef => "funcref",
+            ValType::ExternRef => "externref",
+            ValType::FuncRefNonNull => "(ref func)",
+            ValType::ExternRefNonNull => "(ref extern)",
+            ValType::TypeRef { nullable, index } => {
+                let null = if *nullable { "null " } else { "" };
+                return write!(f, "(ref {null}{index})");
+            }
+        })
+    }
+}
+
+/// Types in parentheses.
+fn write_types(types: &[ValType], f: &mut Formatter<'_>) -> fmt::Result {
+    f.write_str("(")?;
+    for (position, ty) in types.iter().enumerate() {
+        let separator = if position == 0 { "" } else { ", " };
+        write!(f, "{separator}{ty}")?;
+    }
+    f.write_str(")")
+}
+
+impl Display for FuncType {
+    fn fmt(&self, f: &mut Formatter<'_>) -> fmt::Result {
+        write_types(&self.params, f)?;
+        f.write_str(" -> ")?;
+        match &self.results[..] {
+            [result] => write!(f, "{result}"),
+            results => write_types(results, f),
+        }
     }
 }
 

@@ -1,30 +1,55 @@
 //! Why a call has no answer.
 
-use crate::faults::{DedupeFault, GcFault};
+use crate::faults::{DedupeFault, TrimError};
 use crate::memory::OutOfMemory;
+use crate::place::Place;
 use crate::world_error::WorldError;
 use std::error;
 use std::fmt::{self, Display, Formatter};
 
 /// Why a call has no answer.
 ///
-/// Its text is all that is known, and has no source beside it: that of `Dedupe` and of `Trim` is the one that the program
-/// `wctrim` prints.
+/// Its text has no source beside it: that of `Dedupe` and of `Trim` is the one that the program `wctrim` prints. What it is
+/// about is beside it, where that is known:
+///
+/// ```
+/// use nuigatre::gc;
+///
+/// // a module of one function, which it exports as `f`, and which is its start function
+/// let adapter = b"\0asm\x01\0\0\0\x01\x04\x01\x60\0\0\x03\x02\x01\0\x07\x05\x01\x01f\0\0\x08\x01\0\x0a\x04\x01\x02\0\x0b";
+/// let error = gc::run(adapter, ["f"], None, 16).expect_err("a start function");
+/// assert_eq!(error.to_string(), "Trim: UnsupportedSection");
+/// let place = error.place().expect("a section");
+/// assert_eq!(place.to_string(), "start section");
+/// ```
 #[derive(Clone, Debug, PartialEq, Eq)]
 #[non_exhaustive]
 pub enum Error {
     /// An allocation failed. What was asked for is not done, and nothing stays allocated.
     Memory,
-    /// No export is required, or the exponent of a page size is more than 16.
+    /// No export is required, the exponent of a page size is more than 16, or no adapter has the name.
     BadArgument,
-    /// The library that is linked is of another version than this crate: it answers what this one does not know.
+    /// The library that is linked is of another version than this crate: its form has another number, or it answers what
+    /// this crate does not know.
     OtherVersion,
     /// The imports of the module could not be renamed.
     Dedupe(DedupeFault),
     /// The adapter could not be trimmed.
-    Trim(GcFault),
+    Trim(TrimError),
     /// There is no world of the component.
     World(WorldError),
+}
+
+impl Error {
+    /// What the error is about, if that is known: [`WorldError::place`] or [`TrimError::place`].
+    #[must_use]
+    pub fn place(&self) -> Option<&Place> {
+        match self {
+            Error::Trim(error) => error.place(),
+            Error::World(error) => error.place(),
+            _ => None,
+        }
+    }
 }
 
 impl From<OutOfMemory> for Error {
@@ -37,12 +62,12 @@ impl Display for Error {
     fn fmt(&self, f: &mut Formatter<'_>) -> fmt::Result {
         match self {
             Error::Memory => f.write_str("out of memory"),
-            Error::BadArgument => {
-                f.write_str("no export is required, or a page size is more than 2^16")
-            }
+            Error::BadArgument => f.write_str(
+                "no export is required, a page size is more than 2^16, or no adapter has the name",
+            ),
             Error::OtherVersion => f.write_str("libnuigatre.a is of another version"),
             Error::Dedupe(fault) => write!(f, "Dedupe: {fault}"),
-            Error::Trim(fault) => write!(f, "Trim: {fault}"),
+            Error::Trim(error) => write!(f, "Trim: {error}"),
             Error::World(error) => write!(f, "{error}"),
         }
     }

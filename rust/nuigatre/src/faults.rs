@@ -1,6 +1,8 @@
 //! The faults of renaming and trimming, and how their numbers are read.
 
-use crate::memory::string;
+use crate::ffi::Fault;
+use crate::memory::{Held, string};
+use crate::place::Place;
 use crate::read::Unread;
 use std::error;
 use std::fmt::{self, Display, Formatter};
@@ -118,6 +120,36 @@ pub enum GcFault {
     TooLarge,
 }
 
+/// Why an adapter could not be trimmed. Its text is that of the fault, without [the place](TrimError::place).
+#[derive(Clone, Debug, PartialEq, Eq)]
+pub struct TrimError {
+    fault: GcFault,
+    place: Held<Place>,
+}
+
+impl TrimError {
+    /// The error of a fault that the archive answered. `missing` is the name of the export that is missing.
+    pub(crate) fn of(answered: &Fault, missing: Option<&str>) -> Result<TrimError, Unread> {
+        Ok(TrimError {
+            fault: GcFault::from_number(answered.number, missing)?,
+            place: Held::of(Place::parse(&answered.text)?)?,
+        })
+    }
+
+    /// What is wrong.
+    #[must_use]
+    pub fn fault(&self) -> &GcFault {
+        &self.fault
+    }
+
+    /// What the fault is about, if that is known: of [`UnsupportedSection`](GcFault::UnsupportedSection) the section, and
+    /// of [`LiveBody`](GcFault::LiveBody) the body of a function and, where one is at fault, its operator.
+    #[must_use]
+    pub fn place(&self) -> Option<&Place> {
+        self.place.get()
+    }
+}
+
 /// A fault's own number, and that of the fault that it carries.
 pub(crate) fn parts_of(number: u32) -> (u32, u32) {
     (number % 256, number / 256)
@@ -174,8 +206,15 @@ impl Display for GcFault {
     }
 }
 
+impl Display for TrimError {
+    fn fmt(&self, f: &mut Formatter<'_>) -> fmt::Result {
+        write!(f, "{}", self.fault)
+    }
+}
+
 impl error::Error for DedupeFault {}
 impl error::Error for GcFault {}
+impl error::Error for TrimError {}
 
 #[cfg(test)]
 mod tests {

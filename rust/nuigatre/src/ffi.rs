@@ -3,6 +3,8 @@
 
 use crate::error::Error;
 use crate::memory::OutOfMemory;
+use crate::place::Place;
+use crate::read::Unread;
 use std::collections::hash_map::RandomState;
 use std::hash::BuildHasher;
 use std::marker::PhantomData;
@@ -35,7 +37,12 @@ const SAME: u32 = 3;
 const BAD_ARGUMENT: u32 = 4;
 const MEMORY: u32 = 5;
 
+/// The form of the calls, of messages and of answers that this crate knows: the archive's own number has to be this one.
+const ABI: u32 = 2;
+
 unsafe extern "C" {
+    safe fn nuigatre_abi() -> u32;
+
     fn nuigatre_dedupe(
         wasm: *const u8,
         wasm_length: usize,
@@ -79,6 +86,20 @@ unsafe extern "C" {
         out: *mut u8,
         out_length: usize,
     ) -> Answer;
+
+    fn nuigatre_validate(
+        seed0: u64,
+        seed1: u64,
+        message: *const u8,
+        message_length: usize,
+        modules: *const u8,
+        modules_length: usize,
+        has_name: bool,
+        name: *const u8,
+        name_length: usize,
+        out: *mut u8,
+        out_length: usize,
+    ) -> Answer;
 }
 
 /// How a trim is asked for.
@@ -99,13 +120,31 @@ pub(crate) enum Answered {
     },
     /// The input itself.
     Same,
-    /// The fault of this number. Where an export is missing, `position` is where its name is among those passed. `text`
-    /// is that of a fault of a component's world.
-    Fault {
-        number: u32,
-        position: usize,
-        text: String,
-    },
+    /// A fault.
+    Fault(Fault),
+}
+
+/// A fault, as it is answered.
+pub(crate) struct Fault {
+    pub(crate) number: u32,
+    /// Of a trim where the name of a missing export is among those passed. Of the calls on a message where the place
+    /// begins in the text; 0 where there is none.
+    pub(crate) position: usize,
+    /// Of a trim the fault's place, as JSON; of the calls on a message its text, and then its place.
+    pub(crate) text: String,
+}
+
+impl Fault {
+    /// The text and the place of a fault of a call on a message.
+    pub(crate) fn into_parts(mut self) -> Result<(String, Option<Place>), Unread> {
+        if self.position == 0 {
+            return Ok((self.text, None));
+        }
+        let place = self.text.get(self.position..).ok_or(Unread::Unknown)?;
+        let place = Place::parse(place)?;
+        self.text.truncate(self.position);
+        Ok((self.text, place))
+    }
 }
 
 impl<'a> Slice<'a> {
@@ -121,7 +160,7 @@ impl<'a> Slice<'a> {
 /// Renames the repeated imports of a module. The answer has the renamed module, and then the text of its renames.
 /// `room` is how many bytes are made ready for it before it is known how many there are.
 pub(crate) fn dedupe(wasm: &[u8], room: usize) -> Result<Answered, Error> {
-    answered(room, false, |out| {
+    answered(room, |out| {
         // SAFETY: the declaration is that of the archive. Both slices are borrowed for the call, and `out` is its alone.
         // The archive writes to the front of `out`, and reads nothing of it.
         unsafe { nuigatre_dedupe(wasm.as_ptr(), wasm.len(), start(out), out.len()) }
@@ -138,7 +177,7 @@ pub(crate) fn trim(arguments: TrimArguments<'_>, room: usize) -> Result<Answered
     } = arguments;
     let name = realloc.unwrap_or_default();
     let (seed0, seed1) = seed();
-    answered(room, false, |out| {
+    answered(room, |out| {
         // SAFETY: as above. The slices of `required` are borrowed for as long as `arguments`.
         unsafe {
             nuigatre_trim(
@@ -181,7 +220,7 @@ fn answer_to(
     room: usize,
 ) -> Result<Answered, Error> {
     let (seed0, seed1) = seed();
-    answered(room, true, |out| {
+    answered(room, |out| {
         // SAFETY: as above, of each of these calls.
         unsafe {
             call(
@@ -191,6 +230,35 @@ fn answer_to(
                 message.len(),
                 modules.as_ptr(),
                 modules.len(),
+                start(out),
+                out.len(),
+            )
+        }
+    })
+}
+
+/// Validates the main module of a message, and then the adapter of this name, if one is given. The answer has no bytes.
+pub(crate) fn validate(
+    message: &[u8],
+    modules: &[u8],
+    adapter: Option<&str>,
+    room: usize,
+) -> Result<Answered, Error> {
+    let name = adapter.unwrap_or_default();
+    let (seed0, seed1) = seed();
+    answered(room, |out| {
+        // SAFETY: as above.
+        unsafe {
+            nuigatre_validate(
+                seed0,
+                seed1,
+                message.as_ptr(),
+                message.len(),
+                modules.as_ptr(),
+                modules.len(),
+                adapter.is_some(),
+                name.as_ptr(),
+                name.len(),
                 start(out),
                 out.len(),
             )
@@ -213,13 +281,14 @@ fn start(out: &mut [MaybeUninit<u8>]) -> *mut u8 {
     out.as_mut_ptr().cast()
 }
 
-/// Calls with a buffer of `room` bytes; once more, with one as long as the answer, where that is too small. Faults of
-/// some calls have a text.
+/// Calls with a buffer of `room` bytes; once more, with one as long as the answer, where that is too small.
 fn answered(
     room: usize,
-    has_text: bool,
     call: impl Fn(&mut [MaybeUninit<u8>]) -> Answer,
 ) -> Result<Answered, Error> {
+    if nuigatre_abi() != ABI {
+        return Err(Error::OtherVersion);
+    }
     let mut room = room;
     // the second time it is as long as the answer
     for _ in 0..2 {
@@ -228,13 +297,11 @@ fn answered(
         let answer = call(&mut bytes.spare_capacity_mut()[..room]);
         let is_long = answer.length > room;
         match answer.status {
-            TOO_SMALL if is_long => room = answer.length,
-            FAULT if !has_text => return answer.with(Vec::new()),
-            // the text of the fault had no room
-            FAULT if is_long => room = answer.length,
+            // of a fault its text and its place have no room
+            TOO_SMALL | FAULT if is_long => room = answer.length,
             DONE | FAULT if !is_long => {
-                // SAFETY: as is proved of the archive, the front of the buffer has `length` bytes, which are the answer
-                // or the text of the fault.
+                // SAFETY: as is proved of the archive, the front of the buffer has `length` bytes, which are the answer,
+                // or the text and the place of the fault.
                 unsafe { bytes.set_len(answer.length) };
                 return answer.with(bytes);
             }
@@ -256,10 +323,102 @@ impl Answer {
                 module_length: self.module_length,
             });
         }
-        Ok(Answered::Fault {
+        Ok(Answered::Fault(Fault {
             number: self.fault,
             position: self.position,
             text: String::from_utf8(bytes).map_err(|_| Error::OtherVersion)?,
-        })
+        }))
+    }
+}
+
+#[cfg(test)]
+mod tests {
+    use super::{Answer, Answered, DONE, FAULT, Fault, MEMORY, SAME, TOO_SMALL, answered};
+    use crate::error::Error;
+    use crate::read::Unread;
+    use std::cell::Cell;
+    use std::mem::MaybeUninit;
+
+    /// What an archive answers that has these bytes, with the fewest and the most bytes of the buffers that it was given.
+    fn ask(status: u32, bytes: &[u8], room: usize) -> (Result<Answered, Error>, usize, usize) {
+        let (least, most) = (Cell::new(usize::MAX), Cell::new(0));
+        let call = |out: &mut [MaybeUninit<u8>]| {
+            least.set(least.get().min(out.len()));
+            most.set(most.get().max(out.len()));
+            let has_room = out.len() >= bytes.len();
+            if has_room {
+                out.iter_mut().zip(bytes).for_each(|(to, byte)| {
+                    to.write(*byte);
+                });
+            }
+            Answer {
+                status: if status == DONE && !has_room {
+                    TOO_SMALL
+                } else {
+                    status
+                },
+                fault: 9,
+                length: bytes.len(),
+                module_length: 1,
+                position: 2,
+            }
+        };
+        (answered(room, call), least.get(), most.get())
+    }
+
+    #[test]
+    fn buffers() {
+        for (room, least, most) in [(4, 4, 4), (3, 3, 3), (2, 2, 3), (0, 0, 3)] {
+            match ask(DONE, b"abc", room) {
+                (Ok(Answered::Bytes { bytes, .. }), l, m) => {
+                    assert_eq!((&bytes[..], l, m), (&b"abc"[..], least, most));
+                }
+                _ => panic!("no bytes"),
+            }
+            match ask(FAULT, b"abc", room) {
+                (Ok(Answered::Fault(fault)), l, m) => {
+                    assert_eq!((fault.text.as_str(), l, m), ("abc", least, most));
+                    assert_eq!((fault.number, fault.position), (9, 2));
+                }
+                _ => panic!("no fault"),
+            }
+        }
+    }
+
+    /// Statuses that nothing is read of, and those that no archive of this version answers.
+    #[test]
+    fn statuses() {
+        assert!(matches!(ask(SAME, b"", 1).0, Ok(Answered::Same)));
+        assert!(matches!(ask(MEMORY, b"", 1).0, Err(Error::Memory)));
+        for (status, bytes) in [(6, ""), (TOO_SMALL, "a"), (u32::MAX, "")] {
+            let answer = ask(status, bytes.as_bytes(), 1).0;
+            assert!(matches!(answer, Err(Error::OtherVersion)));
+        }
+        // always a longer one, and no text
+        assert!(matches!(
+            ask(TOO_SMALL, b"ab", 1).0,
+            Err(Error::OtherVersion)
+        ));
+        assert!(matches!(ask(FAULT, b"\xff", 1).0, Err(Error::OtherVersion)));
+    }
+
+    #[test]
+    fn parts_of_faults() {
+        let parts = |position: usize, text: &str| {
+            let fault = Fault {
+                number: 9,
+                position,
+                text: text.to_owned(),
+            };
+            let (text, place) = fault.into_parts()?;
+            Ok((text, place.map(|it| it.to_string())))
+        };
+        assert_eq!(parts(0, "text"), Ok(("text".to_owned(), None)));
+        assert_eq!(parts(4, "text"), Ok(("text".to_owned(), None)));
+        let world = (String::from("é"), Some(String::from("world 0")));
+        assert_eq!(parts(2, r#"é{"kind":"world","index":0}"#), Ok(world));
+        assert_eq!(parts(1, "é"), Err(Unread::Unknown));
+        assert_eq!(parts(5, "text"), Err(Unread::Unknown));
+        assert_eq!(parts(1, "text"), Err(Unread::Unknown));
     }
 }

@@ -1,7 +1,7 @@
 //! Trimming of adapters.
 
 use crate::error::Error;
-use crate::faults::GcFault;
+use crate::faults::TrimError;
 use crate::ffi::{self, Answered, Slice, TrimArguments};
 use crate::memory::{collect, fitted};
 
@@ -19,7 +19,7 @@ const ADDED: usize = 1024;
 /// # Errors
 ///
 /// - `BadArgument`: `required` is empty, or `page_size_log2` is more than 16.
-/// - `Trim`: the adapter is no module, or has what is not supported.
+/// - `Trim`: the adapter is no module, or has what is not supported. The error has [a place](Error::place).
 /// - `Memory`: an allocation failed.
 /// - `OtherVersion`: the library is of another version than this crate.
 pub fn run(
@@ -50,11 +50,9 @@ fn run_on(
     match ffi::trim(arguments, room)? {
         Answered::Bytes { bytes, .. } => Ok(fitted(bytes)),
         Answered::Same => Err(Error::OtherVersion),
-        Answered::Fault {
-            number, position, ..
-        } => {
-            let missing = required.get(position).copied();
-            Err(Error::Trim(GcFault::from_number(number, missing)?))
+        Answered::Fault(fault) => {
+            let missing = required.get(fault.position).copied();
+            Err(Error::Trim(TrimError::of(&fault, missing)?))
         }
     }
 }

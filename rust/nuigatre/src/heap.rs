@@ -4,8 +4,36 @@
 //! are on 64-bit Linux. Where there is none, `ok` is false, and `block` is any pointer but null. A size of 0 asks for a
 //! block too.
 
+#![cfg_attr(
+    not(all(target_os = "linux", target_arch = "x86_64")),
+    allow(dead_code)
+)]
+
 use std::ffi::c_void;
 use std::ptr;
+
+// The names that the archive calls. They are hidden: a shared library that this crate is part of does not export them, as
+// it would functions that are `no_mangle`, so each calls its own.
+#[cfg(all(target_os = "linux", target_arch = "x86_64"))]
+std::arch::global_asm!(
+    ".pushsection .text.rattle_heap, \"ax\", @progbits",
+    ".globl rattle_alloc",
+    ".hidden rattle_alloc",
+    ".type rattle_alloc, @function",
+    "rattle_alloc: jmp {alloc}",
+    ".globl rattle_realloc",
+    ".hidden rattle_realloc",
+    ".type rattle_realloc, @function",
+    "rattle_realloc: jmp {realloc}",
+    ".globl rattle_dealloc",
+    ".hidden rattle_dealloc",
+    ".type rattle_dealloc, @function",
+    "rattle_dealloc: jmp {dealloc}",
+    ".popsection",
+    alloc = sym alloc,
+    realloc = sym reallocate,
+    dealloc = sym dealloc,
+);
 
 unsafe extern "C" {
     fn malloc(size: usize) -> *mut c_void;
@@ -15,7 +43,7 @@ unsafe extern "C" {
 
 /// An allocation that may have failed.
 #[repr(C)]
-pub struct Allocated {
+struct Allocated {
     ok: bool,
     block: *mut c_void,
 }
@@ -38,8 +66,7 @@ impl Allocated {
     }
 }
 
-#[unsafe(no_mangle)]
-extern "C" fn rattle_alloc(size: usize, align: usize) -> Allocated {
+extern "C" fn alloc(size: usize, align: usize) -> Allocated {
     if !counts::may_allocate() {
         return Allocated::failed();
     }
@@ -49,23 +76,16 @@ extern "C" fn rattle_alloc(size: usize, align: usize) -> Allocated {
     allocated
 }
 
-#[unsafe(no_mangle)]
-extern "C" fn rattle_realloc(
-    block: *mut c_void,
-    _kept: usize,
-    size: usize,
-    align: usize,
-) -> Allocated {
+extern "C" fn reallocate(block: *mut c_void, _kept: usize, size: usize, align: usize) -> Allocated {
     if !counts::may_allocate() {
         return Allocated::failed();
     }
-    // SAFETY: the block is one that `rattle_alloc` or this function gave and that was not given back, as is proved of
+    // SAFETY: the block is one that `alloc` or this function gave and that was not given back, as is proved of
     // the archive.
     Allocated::of(unsafe { realloc(block, size.max(align)) })
 }
 
-#[unsafe(no_mangle)]
-extern "C" fn rattle_dealloc(block: *mut c_void) {
+extern "C" fn dealloc(block: *mut c_void) {
     counts::add(-1);
     // SAFETY: as above.
     unsafe { free(block) }

@@ -1,18 +1,19 @@
 //! Core WebAssembly modules made ready to be parts of a component: repeated imports renamed
 //! ([`ModuleImportMap`]), adapters trimmed to what is used of them ([`gc::run`]), and all of that for the world of a
 //! component and its plan ([`ComponentWorld`], [`Plan`]), by resolved worlds as JSON, which may be read once for many
-//! components ([`Resolved`]). The names are those of the Rust crate `wit-component`, and so is what they do.
+//! components ([`Resolved`]). One module may be validated alone ([`validate_module`], [`validate_adapter_module`]). The names
+//! are those of the Rust crate `wit-component`, and so is what they do. A fault says what it is about ([`Error::place`]).
 //!
 //! The work is done by `libnuigatre.a`, whose functions are proved: each ends on all bytes, and answers what its
-//! contract says. This crate is the way there, and is tested: a heap, four calls, and the reading of their answers. It
+//! contract says. This crate is the way there, and is tested: a heap, five calls, and the reading of their answers. It
 //! has no dependency but the standard library. Calls may run on several threads at once, and keep nothing but the seed of
 //! their maps, which the first trim, world or plan draws for the process.
 //!
 //! No call ends the process or panics: where an allocation fails, the library's or this crate's, the answer is
 //! [`Error::Memory`]. (A library that was compiled without its proof stops the process where it is wrong. The seed is of
-//! `RandomState`, which panics where the system gives no random bytes.) A thread that calls [`ComponentWorld::new`],
-//! [`Plan::new`] or [`Resolved::new`] needs a stack of 256 KB, whatever the input; for the other calls the smallest one
-//! that a thread can have is enough, 16 KB.
+//! `RandomState`, which panics where the system gives no random bytes.) A thread that calls [`gc::run`] or
+//! [`ModuleImportMap::new`] needs the smallest stack that there is, 16 KB; for the other calls it needs one of 256 KB,
+//! whatever the input.
 //!
 //! ```
 //! use nuigatre::{ModuleImportMap, gc};
@@ -52,10 +53,12 @@ mod json;
 mod memory;
 mod module_import_map;
 mod ordered_map;
+mod place;
 mod plan;
 mod read;
 mod renames;
 mod resolved;
+mod validation;
 mod wit_types;
 mod world;
 mod world_error;
@@ -68,13 +71,15 @@ pub use core_types::{ExportKind, FuncType, MemoryType, ValType, WasmSignature, W
 pub use encoder::{Adapter, ComponentEncoder, Instance, Item, LibraryInfo, MainOrAdapter, World};
 pub use error::Error;
 pub use exports::{Export, ExportMap};
-pub use faults::{DedupeFault, GcFault, ReadFault};
+pub use faults::{DedupeFault, GcFault, ReadFault, TrimError};
 pub use ids::{AbiVariant, InterfaceId, StringEncoding, TypeId, WorldKey};
 pub use imports::{Import, ImportInstance, ImportMap, PayloadInfo, PayloadType};
 pub use module_import_map::{ModuleImportMap, Rename};
 pub use ordered_map::{Iter, Lookup, OrderedMap};
+pub use place::{Place, Subject, TypeDifference};
 pub use plan::{Plan, Use};
 pub use resolved::{Resolved, Worlds};
+pub use validation::{validate_adapter_module, validate_module};
 pub use wit_types::Type;
 pub use world::{
     ComponentWorld, ImportedInterface, Lowering, RequiredOptions, ValidatedModule, WorldAdapter,

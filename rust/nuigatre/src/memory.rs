@@ -72,6 +72,22 @@ pub(crate) fn fitted_text(text: String) -> String {
     string(&text).unwrap_or(text)
 }
 
+/// A value on the heap, or nothing.
+#[derive(Clone, Debug, PartialEq, Eq)]
+pub(crate) struct Held<T>(Vec<T>);
+
+impl<T> Held<T> {
+    pub(crate) const NOTHING: Held<T> = Held(Vec::new());
+
+    pub(crate) fn of(value: Option<T>) -> Result<Self, OutOfMemory> {
+        Ok(Held(collect(value)?))
+    }
+
+    pub(crate) fn get(&self) -> Option<&T> {
+        self.0.first()
+    }
+}
+
 /// A text that is written piece by piece. All that fails is an allocation.
 #[derive(Default)]
 pub(crate) struct Text(pub(crate) String);

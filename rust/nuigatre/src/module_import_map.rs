@@ -64,7 +64,7 @@ impl ModuleImportMap {
                 Ok((Cow::Owned(fitted(bytes)), Some(map)))
             }
             Answered::Same => Ok((wasm, None)),
-            Answered::Fault { number, .. } => Err(Error::Dedupe(DedupeFault::from_number(number)?)),
+            Answered::Fault(fault) => Err(Error::Dedupe(DedupeFault::from_number(fault.number)?)),
         }
     }
 

@@ -7,7 +7,7 @@ use crate::ids::AbiVariant;
 use crate::json::Value;
 use crate::read::{Read, Unread, member, optional_member};
 use crate::world_error::WorldError;
-use std::str;
+use std::{slice, str, vec};
 
 /// How many bytes of a first buffer are for each byte of the message.
 const PER_BYTE: usize = 2;
@@ -56,10 +56,26 @@ impl Plan {
         match ffi::plan(message.as_bytes(), &modules, room)? {
             Answered::Bytes { bytes, .. } => Ok(read_plan(&bytes)?),
             Answered::Same => Err(Error::OtherVersion),
-            Answered::Fault { number, text, .. } => {
-                Err(Error::World(WorldError::of(number, text, encoder)?))
-            }
+            Answered::Fault(fault) => Err(Error::World(WorldError::of(fault, encoder)?)),
         }
+    }
+}
+
+impl<'a> IntoIterator for &'a Plan {
+    type Item = &'a Use;
+    type IntoIter = slice::Iter<'a, Use>;
+
+    fn into_iter(self) -> slice::Iter<'a, Use> {
+        self.uses.iter()
+    }
+}
+
+impl IntoIterator for Plan {
+    type Item = Use;
+    type IntoIter = vec::IntoIter<Use>;
+
+    fn into_iter(self) -> vec::IntoIter<Use> {
+        self.uses.into_iter()
     }
 }
 

@@ -59,6 +59,12 @@ impl Read for u32 {
     }
 }
 
+impl Read for u8 {
+    fn read(value: &Value<'_>) -> Result<Self, Unread> {
+        u64::read(value)?.try_into().map_err(|_| Unread::Unknown)
+    }
+}
+
 impl Read for usize {
     fn read(value: &Value<'_>) -> Result<Self, Unread> {
         u64::read(value)?.try_into().map_err(|_| Unread::Unknown)

@@ -163,7 +163,8 @@ impl ComponentWorld {
     ///
     /// # Errors
     ///
-    /// - `World`: the worlds, or a module, are refused. The fault has a text, with the path to what is wrong in the JSON.
+    /// - `World`: the worlds, or a module, are refused. The error has a text, with the path to what is wrong in the JSON,
+    ///   and [a place](Error::place) in the module.
     /// - `Memory`: an allocation failed.
     /// - `OtherVersion`: the library is of another version than this crate.
     pub fn new(encoder: &ComponentEncoder<'_>) -> Result<Self, Error> {
@@ -178,9 +179,7 @@ impl ComponentWorld {
                 module_length,
             } => Ok(read_world(bytes, module_length)?),
             Answered::Same => Err(Error::OtherVersion),
-            Answered::Fault { number, text, .. } => {
-                Err(Error::World(WorldError::of(number, text, encoder)?))
-            }
+            Answered::Fault(fault) => Err(Error::World(WorldError::of(fault, encoder)?)),
         }
     }
 

@@ -2,16 +2,20 @@
 
 use crate::encoder::ComponentEncoder;
 use crate::faults::{DedupeFault, GcFault, ReadFault, numbered, parts_of};
-use crate::memory::string;
+use crate::ffi::Fault;
+use crate::memory::{Held, string};
+use crate::place::Place;
 use crate::read::Unread;
 use std::error;
 use std::fmt::{self, Display, Formatter};
 
-/// Why a component has no world. Its text has all names that the fault carries, and the path to what is wrong in the JSON.
+/// Why a component has no world. Its text has all names that the fault carries, and the path to what is wrong in the JSON;
+/// but not [the place](WorldError::place).
 #[derive(Clone, Debug, PartialEq, Eq)]
 pub struct WorldError {
     fault: WorldFault,
     text: String,
+    place: Held<Place>,
 }
 
 /// Why a component has no world. Of several causes the first in this order is named, and of several keys the first, those
@@ -258,20 +262,33 @@ impl WorldError {
         &self.fault
     }
 
+    /// What the fault is about, if that is known:
+    ///
+    /// - of [`Main`](WorldFault::Main), [`Adapter`](WorldFault::Adapter) and [`Minimized`](WorldFault::Minimized) an import
+    ///   or an export of the module, or what it lacks; nothing where its bytes are no module;
+    /// - of [`Trim`](WorldFault::Trim) a section, or the body of a function, where that is unsupported or no code;
+    /// - of [`Resolve`](WorldFault::Resolve) a world, an interface, a type or a package.
+    #[must_use]
+    pub fn place(&self) -> Option<&Place> {
+        self.place.get()
+    }
+
     /// The worlds are not JSON, or more than one value of it.
     pub(crate) fn not_json() -> Result<WorldError, Unread> {
         Ok(WorldError {
             fault: WorldFault::Json(JsonFault::NotJson),
             text: string("Json: not JSON")?,
+            place: Held::NOTHING,
         })
     }
 
-    /// The error of this number and text, which the archive answered to the message of an encoder.
+    /// The error of a fault that the archive answered to the message of an encoder.
     pub(crate) fn of(
-        number: u32,
-        text: String,
+        answered: Fault,
         encoder: &ComponentEncoder<'_>,
     ) -> Result<WorldError, Unread> {
+        let number = answered.number;
+        let (text, place) = answered.into_parts()?;
         let fault = match parts_of(number) {
             (2, carried) => WorldFault::Json(JsonFault::from_number(carried)?),
             (3, 0) => WorldFault::UnknownWorld,
@@ -288,7 +305,8 @@ impl WorldError {
             (15, 0) => WorldFault::RepeatedKey(quoted(&text, "RepeatedKey ")?),
             _ => return Err(Unread::Unknown),
         };
-        Ok(WorldError { fault, text })
+        let place = Held::of(place)?;
+        Ok(WorldError { fault, text, place })
     }
 }
 

@@ -14,6 +14,14 @@ const TWO: &[u8] = b"\0asm\x01\0\0\0\x01\x04\x01\x60\0\0\x03\x03\x02\0\0\x07\x05
 /// An adapter whose export `f` calls an imported realloc of the main module's, and which imports its memory.
 const REALLOC: &[u8] = b"\0asm\x01\0\0\0\x01\x0c\x02\x60\x04\x7f\x7f\x7f\x7f\x01\x7f\x60\0\0\x02\x2e\x02\x0f__main_module__\x0ccabi_realloc\0\0\x03env\x06memory\x02\0\x01\x03\x02\x01\x01\x07\x05\x01\x01f\0\x01\x0a\x12\x01\x10\0\x41\0\x41\0\x41\0\x41\0\x10\0\x1a\x3f\0\x1a\x0b";
 
+/// The fault of a trim.
+fn trim_fault(error: &Error) -> &GcFault {
+    match error {
+        Error::Trim(error) => error.fault(),
+        other => panic!("no fault of a trim: {other:?}"),
+    }
+}
+
 #[test]
 fn names_are_passed() {
     assert_eq!(gc::run(THREE, ["b"], None, 16), Ok(TWO.to_vec()));
@@ -32,7 +40,7 @@ fn collections_of_names() {
     assert_eq!(gc::run(THREE, some, None, 16), Ok(TWO.to_vec()));
     let missing = names.into_iter().chain(["x".to_owned()]);
     let fault = gc::run(THREE, missing, None, 16).expect_err("x");
-    assert_eq!(fault, Error::Trim(GcFault::MissingExport("x".to_owned())));
+    assert_eq!(trim_fault(&fault), &GcFault::MissingExport("x".to_owned()));
 }
 
 #[test]
@@ -44,7 +52,7 @@ fn the_realloc_is_passed() {
     assert!(!grown.windows(15).any(|at| at == b"__main_module__"));
     // its memory has pages of 2^16 bytes
     let fault = gc::run(REALLOC, ["f"], None, 0).expect_err("pages of one byte");
-    assert_eq!(fault, Error::Trim(GcFault::ReallocMemory));
+    assert_eq!(trim_fault(&fault), &GcFault::ReallocMemory);
 }
 
 #[test]
@@ -57,9 +65,9 @@ fn arguments_that_are_none() {
 #[test]
 fn faults_carry_what_they_are_about() {
     let fault = gc::run(THREE, ["b", "b", "x", "y"], None, 16).expect_err("x");
-    assert_eq!(fault, Error::Trim(GcFault::MissingExport("x".to_owned())));
+    assert_eq!(trim_fault(&fault), &GcFault::MissingExport("x".to_owned()));
     let fault = gc::run(b"\0asm\x0d\0\x01\0", ["b"], None, 16).expect_err("a component");
-    assert_eq!(fault, Error::Trim(GcFault::Read(ReadFault::Component)));
+    assert_eq!(trim_fault(&fault), &GcFault::Read(ReadFault::Component));
     assert_eq!(fault.to_string(), "Trim: Read: Component");
     // its text has all that is known
     assert!(fault.source().is_none());

@@ -4,7 +4,7 @@ use nuigatre::{
     AbiVariant, Adapter, ComponentEncoder, ComponentWorld, DedupeFault, EncoderFault, Error,
     FuncType, Import, ImportInstance, InterfaceId, JsonFault, Lowering, MainOrAdapter,
     ModuleImportMap, Plan, PlanFault, Problem, ReadFault, ResolveFault, ValidateFault, World,
-    WorldFault, WorldKey,
+    WorldFault, WorldKey, validate_adapter_module, validate_module,
 };
 use std::thread;
 
@@ -247,7 +247,7 @@ fn modules_that_are_refused() {
     assert_eq!(fault, WorldFault::Adapter("old".into(), missing), "{text}");
 }
 
-/// A world on the stack that it needs, of JSON that nests as deep as it may, and deeper.
+/// A world and its plan on the stack that they need, of JSON that nests as deep as it may, and deeper.
 #[test]
 fn on_a_stack_of_its_size() {
     let nested = |depth: usize| {
@@ -263,7 +263,11 @@ fn on_a_stack_of_its_size() {
             let call = || {
                 let mut encoder = encoder();
                 encoder.resolve = (&worlds).into();
-                ComponentWorld::new(&encoder).is_ok()
+                let is_made = ComponentWorld::new(&encoder).is_ok();
+                assert_eq!(Plan::new(&encoder).is_ok(), is_made);
+                assert_eq!(validate_module(&encoder).is_ok(), is_made);
+                assert_eq!(validate_adapter_module(&encoder, "old").is_ok(), is_made);
+                is_made
             };
             let thread = thread::Builder::new().stack_size(256 << 10);
             let is_made = thread.spawn_scoped(scope, call).expect("a thread").join();
@@ -317,6 +321,8 @@ fn plan() {
         ("hello", AbiVariant::GuestImport)
     );
     assert_eq!((hello.slot, &hello.realloc), (None, &None));
+    assert!((&plan).into_iter().eq(&plan.uses));
+    assert!(plan.clone().into_iter().eq(plan.uses));
 }
 
 /// A function that takes a string needs a memory, which the main module has not.

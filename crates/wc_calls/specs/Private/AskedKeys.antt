@@ -9,7 +9,7 @@ use Rattle.wc_selection.specs.RequiredExports.{AreKeysThere}
 use Rattle.wc_selection.specs.Requests.{RequestValue, given_keys}
 use Rattle.wc_selection.specs.declared.fault.RequestFault.{RequestFault}
 use Rattle.wc_selection.specs.declared.fault.RequestFault.TheVariants as request
-use Rattle.wc_calls.specs.AskedKeys.{gives_none, main_keys, request_for}
+use Rattle.wc_calls.specs.AskedKeys.{gives_none, keys_in, main_keys, request_for, request_in}
 use Rattle.wc_calls.specs.MessageFaults.{IsAdaptersCause, IsAskedCause}
 use Rattle.wc_calls.specs.Messages.{AdapterMessageView, KeyMessageView}
 use Rattle.wc_calls.specs.declared.asked_keys.AskedKeys.{AskedKeys}
@@ -38,7 +38,8 @@ abbrev pub IsExportersCause : ResolveView → ℕ → Option (List KeyMessageVie
 IsExportersCause r world exports ms bytes (UnknownKey key) = IsAskedCauseFor (export_keys r world) exports ms r world (UnknownKey key)
 IsExportersCause r world exports ms bytes (SeveralKeys key) = IsAskedCauseFor (export_keys r world) exports ms r world (SeveralKeys key)
 IsExportersCause r world exports ms bytes (RepeatedKey key) = IsAskedCauseFor (export_keys r world) exports ms r world (RepeatedKey key)
-IsExportersCause r world exports ms bytes f = IsAdaptersCause ms bytes f
+IsExportersCause r world exports ms bytes Memory = ⊤
+IsExportersCause r world exports ms bytes f = AreKeysThere (given_keys (request_in r world exports ms)) (texts_of (keys_in r world exports ms)) × IsAdaptersCause ms bytes f
 
 -- the fault of a key that no export has
 abbrev pub IsUnknownKey : List NamedKey → List ℕ → MessageFault → Type 0

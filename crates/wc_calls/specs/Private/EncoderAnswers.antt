@@ -1,6 +1,6 @@
 -- Words of contracts of private functions. No contract of a public function cites these, directly or through others.
 -- What is answered for an encoder.
-use Rattle.std.specs.Prelude.{◌≡◌, ◌++◌, ℕ, List, length, ⊤}
+use Rattle.std.specs.Prelude.{◌≡◌, ◌++◌, ℕ, List, [], length, ⊤}
 use Rattle.wc_encoder.specs.EncoderParts.{EncoderView}
 use Rattle.wc_plan.specs.EncoderFaults.{IsWorldCause}
 use Rattle.wc_plan.specs.Faults.{HasNoFault, IsFirstFault}
@@ -10,8 +10,9 @@ use Rattle.wc_world.specs.Options.{plain_options}
 use Rattle.wc_world.specs.Views.{ComponentWorldView}
 use Rattle.wc_world.specs.World.{IsWorldOf}
 use Rattle.wc_calls.specs.ComponentWorlds.{modules_text}
+use Rattle.wc_calls.specs.Places.{IsPartPlaceText, IsWorldPlaceText}
 use Rattle.wc_calls.specs.declared.message_fault.MessageFault.{MessageFault}
-use Rattle.wc_calls.specs.declared.message_fault.MessageFault.TheVariants.{Memory, World, Plan}
+use Rattle.wc_calls.specs.declared.message_fault.MessageFault.TheVariants.{Memory, Resolve, World, Plan}
 
 -- the modules of the world that plain options make of an encoder, of this length, and then the world as JSON
 pub record IsAnswerFor (e : EncoderView) (module_length : ℕ) (text : List ℕ) : Type 0 where
@@ -25,6 +26,16 @@ abbrev pub IsFaultFor : EncoderView → MessageFault → Type 0
 IsFaultFor e Memory = ⊤
 IsFaultFor e (World f) = IsWorldCause e f
 IsFaultFor e f = ⊥
+
+-- what a fault of an encoder's component is about, as a text
+abbrev pub IsPlaceFor : EncoderView → MessageFault → List ℕ → Type 0
+IsPlaceFor e (World f) text = IsWorldPlaceText e f text
+IsPlaceFor e f text = text ≡ []
+
+-- what a fault of a message that is no encoder is about
+abbrev pub IsPartPlaceFor : List ℕ → MessageFault → List ℕ → Type 0
+IsPartPlaceFor message (Resolve f) text = IsPartPlaceText message f text
+IsPartPlaceFor message f text = text ≡ []
 
 -- the plan as JSON of the world that plain options make of an encoder
 pub record IsPlanFor (e : EncoderView) (text : List ℕ) : Type 0 where

@@ -2,6 +2,7 @@
 
 use crate::names::shown_imports::put_copy;
 use crate::validation::described_modules::{DescribedModule, described_of};
+use crate::validation::explained::{explain_adapter, explain_main};
 use crate::validation::export_calls::{classify_exports, put_found_reallocs, put_recorded};
 use crate::validation::shown_modules::{put_imports, put_memory, put_modules, put_required};
 use std::alloc::{AllocError, Global};
@@ -13,7 +14,8 @@ use wc_fixtures::encoder_fixture::described_encoder;
 use wc_fixtures::resolve_calls::argument_words;
 use wc_fixtures::stop::Stop;
 use wc_fixtures::words::Words;
-use wc_read::ReadFault;
+use wc_maps::Map;
+use wc_read::{FuncType, ReadFault};
 use wc_rows::lines::Lines;
 use wc_rows::rows::Row;
 use wc_validate::{
@@ -58,6 +60,24 @@ fn put_validated(
             Ok(())
         }
     }
+}
+
+/// A module, as the encoder's main one: what is asked of it, or why it is refused. After the word `explain` it is why it is
+/// refused, and what that is about.
+fn put_as_main(
+    encoder: &ComponentEncoder,
+    bytes: &[u8],
+    renames: Option<&ModuleImportMap>,
+    words: &mut Words,
+    out: &mut Lines,
+) -> Result<(), Bad> {
+    if words.take("explain") {
+        explain_main(words.alloc, encoder, bytes, renames, out);
+        return words.end();
+    }
+    encoder.well_formedness();
+    let validated = validate_module(words.alloc, encoder, bytes, renames);
+    put_validated(&validated, words, out)
 }
 
 /// What single imports are, without their names.
@@ -125,9 +145,7 @@ fn put_deduped(
     out: &mut Lines,
 ) -> Result<(), Bad> {
     let (deduped, renames) = ModuleImportMap::new(words.alloc, CowSlice::Borrowed(bytes))?;
-    encoder.well_formedness();
-    let validated = validate_module(words.alloc, encoder, deduped.as_slice(), renames.as_ref());
-    put_validated(&validated, words, out)
+    put_as_main(encoder, deduped.as_slice(), renames.as_ref(), words, out)
 }
 
 /// The module that is described by its imports.
@@ -140,27 +158,16 @@ fn put_described<'a>(
     let bytes = described_of(words.alloc, &row.input)?.into_bytes(words.alloc)?;
     if words.take("deduped") {
         put_deduped(encoder, &bytes, words, out)?;
-        return Ok(());
+    } else {
+        put_as_main(encoder, &bytes, None, words, out)?;
     }
-    encoder.well_formedness();
-    put_validated(
-        &validate_module(words.alloc, encoder, &bytes, None),
-        words,
-        out,
-    )?;
     Ok(())
 }
 
 /// The main module of the encoder, with the names that it had.
 fn put_main(encoder: &ComponentEncoder, words: &mut Words, out: &mut Lines) -> Result<(), Bad> {
-    encoder.well_formedness();
-    let validated = validate_module(
-        words.alloc,
-        encoder,
-        encoder.module(),
-        encoder.module_import_map(),
-    );
-    put_validated(&validated, words, out)
+    let renames = encoder.module_import_map();
+    put_as_main(encoder, encoder.module(), renames, words, out)
 }
 
 /// The module that is described, as one of the encoder's adapters.
@@ -173,12 +180,28 @@ fn put_as_adapter(
 ) -> Result<(), Bad> {
     let required = described.take_required(words.alloc);
     let bytes = described.into_bytes(words.alloc)?;
+    put_required_adapter(encoder, adapter, &bytes, &required, words, out)
+}
+
+/// The bytes of a module, as one of the encoder's adapters of which these functions are required.
+fn put_required_adapter(
+    encoder: &ComponentEncoder,
+    adapter: &Adapter,
+    bytes: &[u8],
+    required: &Map<String, FuncType>,
+    words: &mut Words,
+    out: &mut Lines,
+) -> Result<(), Bad> {
+    if words.take("explain") {
+        explain_adapter(words.alloc, encoder, adapter, bytes, required, out);
+        return words.end();
+    }
     encoder.well_formedness();
     let validated = validate_adapter_module(
         words.alloc,
         encoder,
-        &bytes,
-        &required,
+        bytes,
+        required,
         &adapter.required_exports,
         adapter.library_info.as_ref(),
     );

@@ -1,5 +1,5 @@
 -- How many bytes the text of a number or of other immediates has.
-use Rattle.std.specs.Prelude.{◌≡◌, ℕ, List, ◌∷◌, ◌++◌, length, Bool, true, Option, Some, None, ◌<◌, ◌≤◌, ◌^◌, ◌*◌, ◌-◌, ℤ, pos, negsuc}
+use Rattle.std.specs.Prelude.{◌≡◌, ◌⊎◌, ℕ, List, ◌∷◌, ◌++◌, length, Bool, true, Option, Some, None, ◌<◌, ◌≤◌, ◌^◌, ◌*◌, ◌-◌, ℤ, pos, negsuc}
 use Rattle.wc_read.specs.OperatorText.{mem_arg_text}
 use Rattle.wc_read.specs.Reading.Bytes.{Read}
 use Rattle.wc_read.specs.Reading.Operators.{mem_arg_at}
@@ -30,6 +30,10 @@ SizesMemoryIndex memory bytes (Some size) = (left : List ℕ) × (bytes ≡ 0 �
 -- no fewer bytes than so many, ten at most, spell the number
 abbrev pub IsShortest : ℕ → ℕ → Type 0
 IsShortest number size = 1 < size → (size ≤ 10) × (2 ^ (7 * (size - 1)) ≤ number)
+
+-- fewer bytes than so many, or than ten, spell the number
+abbrev pub IsLonger : ℕ → ℕ → Type 0
+IsLonger number size = (1 < size) × ((10 < size) ⊎ (number < 2 ^ (7 * (size - 1))))
 
 -- the number, or -1 less the number where that is negative: the bits of its text besides the sign
 abbrev pub without_sign : ℤ → ℕ

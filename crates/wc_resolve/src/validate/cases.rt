@@ -7,7 +7,7 @@ ghost use Rattle.wc_resolve.specs.WellFormed.{HasNoEmptyType, HasCases};
 
 use crate::{Parts, TypeDefKind};
 
-fn has_cases(kind: &TypeDefKind) -> bool
+pub(crate) fn has_cases(kind: &TypeDefKind) -> bool
     ensures { IsTrue result ↔ HasCases (kind_view kind.now) }
 {
     match kind {

@@ -68,7 +68,7 @@ fn are_matching_keys(parts: &Parts, entries: &Map<WorldKey, WorldItem>) -> bool
 }
 
 #[tactic(auto, unfolding(crate::specs::WellFormed::HasMatchingKeys))]
-fn has_matching_keys(parts: &Parts, world: &World) -> bool
+pub(crate) fn has_matching_keys(parts: &Parts, world: &World) -> bool
     ensures { IsTrue result ↔ HasMatchingKeys (parts_view parts.now) (world_view world.now) }
 {
     are_matching_keys(parts, &world.imports) && are_matching_keys(parts, &world.exports)
@@ -104,7 +104,7 @@ fn are_functions_called(functions: &Map<String, Function>) -> bool
 }
 
 #[tactic(auto, unfolding(crate::specs::WellFormed::HasMatchingNames))]
-fn has_matching_names(parts: &Parts, interface: &Interface) -> bool
+pub(crate) fn has_matching_names(parts: &Parts, interface: &Interface) -> bool
     ensures { IsTrue result ↔ HasMatchingNames (parts_view parts.now)
         (interface_view interface.now) }
 {
@@ -130,7 +130,7 @@ fn are_interfaces_called(parts: &Parts, interfaces: &Map<String, InterfaceId>) -
 }
 
 #[tactic(auto, unfolding(crate::specs::WellFormed::HasMatchingMembers))]
-fn has_matching_members(parts: &Parts, package: &Package) -> bool
+pub(crate) fn has_matching_members(parts: &Parts, package: &Package) -> bool
     ensures { IsTrue result ↔ HasMatchingMembers (parts_view parts.now)
         (package_view «package».now) }
 {

@@ -56,7 +56,7 @@ fn are_entries_identified(parts: &Parts, entries: &Map<WorldKey, WorldItem>) -> 
 }
 
 #[tactic(auto, unfolding(crate::specs::WellFormed::AreKeysIdentified))]
-fn are_keys_identified(parts: &Parts, world: &World) -> bool
+pub(crate) fn are_keys_identified(parts: &Parts, world: &World) -> bool
     ensures { IsTrue result ↔ AreKeysIdentified (parts_view parts.now) (world_view world.now) }
 {
     are_entries_identified(parts, &world.imports) && are_entries_identified(parts, &world.exports)
@@ -83,7 +83,7 @@ fn are_listed_identified(parts: &Parts, interfaces: &Map<String, InterfaceId>) -
 }
 
 #[tactic(auto, unfolding(crate::specs::WellFormed::AreMembersIdentified))]
-fn are_members_identified(parts: &Parts, package: &Package) -> bool
+pub(crate) fn are_members_identified(parts: &Parts, package: &Package) -> bool
     ensures { IsTrue result ↔
         AreMembersIdentified (parts_view parts.now) (package_view «package».now) }
 {
@@ -100,7 +100,7 @@ fn are_packages_identified(parts: &Parts) -> bool
         .all(|package| are_members_identified(parts, package))
 }
 
-fn has_needed_name(def: &TypeDef) -> bool
+pub(crate) fn has_needed_name(def: &TypeDef) -> bool
     ensures { IsTrue result ↔
         HasNeededName (kind_view def.now.kind) (option_map string_bytes def.now.name) }
 {

@@ -8,7 +8,51 @@ ghost use Rattle.wc_resolve.specs.World.{IsChildrenFirst, LeadWithin, children};
 
 use crate::kinds::referenced_indices;
 use crate::{ResolveFault, TypeDef};
-use std::alloc::{AllocError, Global};
+use std::alloc::{AllocError, AllocFailed, Global};
+
+/// Why there is no order.
+#[derive(Clone, Copy)]
+pub(crate) enum OrderFault {
+    /// An allocation failed.
+    Memory,
+    /// The type at this index refers to itself, directly or through others.
+    Cycle(usize),
+}
+
+impl From<AllocError> for OrderFault {
+    ghost use Rattle.std.specs.Prelude.{◌≡◌};
+    ghost use Rattle.wc_resolve.specs.declared.validate.order.OrderFault.TheVariants.{Memory};
+
+    ghost from_gives = { λ _ e. e ≡ Memory };
+
+    fn from(_e: AllocError) -> OrderFault {
+        OrderFault::Memory
+    }
+}
+
+impl<T: Drop> From<AllocFailed<T>> for OrderFault {
+    ghost use Rattle.std.specs.Prelude.{◌≡◌};
+    ghost use Rattle.wc_resolve.specs.declared.validate.order.OrderFault.TheVariants.{Memory};
+
+    ghost from_gives = { λ _ e. e ≡ Memory };
+
+    fn from(_e: AllocFailed<T>) -> OrderFault {
+        OrderFault::Memory
+    }
+}
+
+impl From<OrderFault> for ResolveFault {
+    ghost use Rattle.wc_resolve.specs.Faults.{IsFaultOf};
+
+    ghost from_gives = { IsFaultOf };
+
+    fn from(fault: OrderFault) -> ResolveFault {
+        match fault {
+            OrderFault::Memory => ResolveFault::Memory,
+            OrderFault::Cycle(_) => ResolveFault::Cycle,
+        }
+    }
+}
 
 /// How far the walk is with a type.
 #[derive(Clone, Copy)]
@@ -68,7 +112,7 @@ fn enter_children(
 }
 
 /// The indices of all types, each after those that it refers to; the fault `Cycle` where there is no such order.
-pub(crate) fn children_first(alloc: Global, types: &[TypeDef]) -> Result<Vec<usize>, ResolveFault>
+pub(crate) fn children_first(alloc: Global, types: &[TypeDef]) -> Result<Vec<usize>, OrderFault>
     requires { LeadWithin (map type_view types.now) (length types.now) }
     ensures order { IfOk result (λ o.
         IsChildrenFirst (children (map type_view types.now)) o.items) }
@@ -87,7 +131,7 @@ pub(crate) fn children_first(alloc: Global, types: &[TypeDef]) -> Result<Vec<usi
             }
             IndexStep::Enter(index) => match progress[index] {
                 Progress::Done => {}
-                Progress::Open => return Err(ResolveFault::Cycle),
+                Progress::Open => return Err(OrderFault::Cycle(index)),
                 Progress::New => {
                     progress[index] = Progress::Open;
                     steps.push(IndexStep::Leave(index))?;

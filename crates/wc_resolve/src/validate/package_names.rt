@@ -4,6 +4,7 @@ ghost use Rattle.std.specs.Prelude.{IfOk, MatchOption, map};
 ghost use Rattle.wc_resolve.specs.Views.{package_view};
 ghost use Rattle.wc_resolve.specs.WellFormed.{ArePackagesDistinct, HaveDistinctNames};
 ghost use Rattle.wc_resolve.specs.ResolveParts.{parts_view};
+ghost use Rattle.wc_resolve.specs.Places.{IsRepeatAt};
 ghost use Rattle.wc_resolve.specs.Tables.{AreNamesOf};
 
 use crate::{Package, PackageName, Parts};
@@ -49,4 +50,23 @@ pub(crate) fn distinct_package_names(
         (λ names. ArePackagesDistinct view × AreNamesOf view.packages names.keys)) }
 {
     distinct_names(alloc, &parts.packages)
+}
+
+/// The index of the first package that has the name and version of an earlier one.
+pub(crate) fn first_repeated(
+    alloc: Global,
+    packages: &[Package],
+) -> Result<Option<usize>, AllocError>
+    ensures { let views = map package_view packages.now in IfOk result (λ o. MatchOption o
+        (HaveDistinctNames views) (IsRepeatAt views)) }
+{
+    let mut names = Set::with_hasher(alloc, seed_of(packages));
+    for index in 0..packages.len() {
+        let name = packages[index].name.clone(alloc)?;
+        let (_index, is_new) = names.insert_full(name)?;
+        if !is_new {
+            return Ok(Some(index));
+        }
+    }
+    Ok(None)
 }

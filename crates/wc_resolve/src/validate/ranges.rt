@@ -88,7 +88,7 @@ fn are_entries_in(parts: &Parts, entries: &Map<WorldKey, WorldItem>) -> bool
 }
 
 #[tactic(auto, unfolding(crate::specs::Ranges::IsWorldIn))]
-fn is_world_in(parts: &Parts, world: &World) -> bool
+pub(crate) fn is_world_in(parts: &Parts, world: &World) -> bool
     ensures { IsTrue result ↔ IsWorldIn (parts_view parts.now) (world_view world.now) }
 {
     are_entries_in(parts, &world.imports) && are_entries_in(parts, &world.exports)
@@ -140,7 +140,7 @@ fn are_links_in(parts: &Parts, interface: &Interface) -> bool
 }
 
 #[tactic(auto, unfolding(crate::specs::Ranges::IsInterfaceIn))]
-fn is_interface_in(parts: &Parts, interface: &Interface) -> bool
+pub(crate) fn is_interface_in(parts: &Parts, interface: &Interface) -> bool
     ensures { IsTrue result
         ↔ IsInterfaceIn (parts_view parts.now) (interface_view interface.now) }
 {
@@ -165,7 +165,7 @@ fn are_interface_names_in(count: usize, interfaces: &Map<String, InterfaceId>) -
 }
 
 #[tactic(auto, unfolding(crate::specs::Ranges::IsPackageIn))]
-fn is_package_in(parts: &Parts, package: &Package) -> bool
+pub(crate) fn is_package_in(parts: &Parts, package: &Package) -> bool
     ensures { IsTrue result ↔ IsPackageIn (parts_view parts.now) (package_view «package».now) }
 {
     are_interface_names_in(parts.interfaces.len(), &package.interfaces)
@@ -192,7 +192,11 @@ fn is_owner_in(parts: &Parts, owner: TypeOwner) -> bool
 }
 
 #[tactic(auto, unfolding(crate::specs::Ranges::IsTypeDefIn))]
-fn is_type_def_in(alloc: Global, parts: &Parts, def: &TypeDef) -> Result<bool, AllocError>
+pub(crate) fn is_type_def_in(
+    alloc: Global,
+    parts: &Parts,
+    def: &TypeDef,
+) -> Result<bool, AllocError>
     ensures { IfOk result (λ b. IsTrue b
         ↔ IsTypeDefIn (parts_view parts.now) (type_view def.now)) }
 {

@@ -1,16 +1,18 @@
 //! Which types are resources, and whether none occurs by value.
 
 ghost use Rattle.std.specs.Prelude.{◌≡◌, ◌↔◌, ◌<◌, ℕ, Contains, IfOk, IsTrue, length, map};
-ghost use Rattle.wc_resolve.specs.Views.{function_view, type_view};
+ghost use Rattle.wc_resolve.specs.Views.{function_view, interface_view, type_view, world_view};
 ghost use Rattle.wc_resolve.specs.ResolveParts.{parts_view};
 ghost use Rattle.wc_resolve.specs.Ranges.{IsFunctionIn};
 ghost use Rattle.wc_resolve.specs.Resources.{AreResourceFlags, is_resource_kind};
-ghost use Rattle.wc_resolve.specs.World.{IsChildrenFirst, children, kind_at};
-ghost use Rattle.wc_resolve.specs.WellFormed.{HasNoResourceByValue, IsFunctionFree};
+ghost use Rattle.wc_resolve.specs.World.{DoesInterfacePass, DoesTypePass, DoesWorldPass, IsChildrenFirst, children, kind_at};
+ghost use Rattle.wc_resolve.specs.WellFormed.{HasNoResourceByValue, IsFree, IsFunctionFree};
 
 use crate::validate::ranges::is_function_in;
-use crate::validate::type_test::{TypeTest, all_types_pass, function_passes};
-use crate::{Function, Parts, TypeDef, TypeDefKind, WitType};
+use crate::validate::type_test::{
+    TypeTest, all_types_pass, function_passes, interface_passes, type_def_passes, world_passes,
+};
+use crate::{Function, Interface, Parts, TypeDef, TypeDefKind, WitType, World};
 use std::alloc::{AllocError, Global};
 
 /// Whether the type at an index is a resource, or an alias of a type that is flagged as one.
@@ -79,6 +81,45 @@ fn is_function_free(types: &[TypeDef], resource_flags: &[bool], function: &Funct
 {
     let _ = types;
     function_passes(&NotResource { resource_flags }, function)
+}
+
+/// Whether no parameter or result of the functions of a world is a resource, by the flags of all types.
+pub(crate) fn is_world_free(parts: &Parts, resource_flags: &[bool], world: &World) -> bool
+    requires { AreResourceFlags (parts_view parts.now).types resource_flags.now }
+    ensures { IsTrue result ↔ DoesWorldPass (IsFree (parts_view parts.now).types)
+        (world_view world.now) }
+{
+    let _ = parts;
+    world_passes(&NotResource { resource_flags }, world)
+}
+
+/// Whether no parameter or result of the functions of an interface is a resource, by the flags of all types.
+pub(crate) fn is_interface_free(
+    parts: &Parts,
+    resource_flags: &[bool],
+    interface: &Interface,
+) -> bool
+    requires { AreResourceFlags (parts_view parts.now).types resource_flags.now }
+    ensures { IsTrue result ↔ DoesInterfacePass (IsFree (parts_view parts.now).types)
+        (interface_view interface.now) }
+{
+    let _ = parts;
+    interface_passes(&NotResource { resource_flags }, interface)
+}
+
+/// Whether a type contains no resource by value, by the flags of all types.
+pub(crate) fn is_type_free(
+    alloc: Global,
+    parts: &Parts,
+    resource_flags: &[bool],
+    def: &TypeDef,
+) -> Result<bool, AllocError>
+    requires { AreResourceFlags (parts_view parts.now).types resource_flags.now }
+    ensures { IfOk result (λ b. IsTrue b ↔ DoesTypePass (IsFree (parts_view parts.now).types)
+        (type_view def.now)) }
+{
+    let _ = parts;
+    type_def_passes(alloc, &NotResource { resource_flags }, def)
 }
 
 /// Whether the ids of a function are in range, and no parameter or result is a resource, by the flags of all types.

@@ -41,7 +41,7 @@ fn are_keys_spelled(entries: &Map<WorldKey, WorldItem>) -> bool
 }
 
 #[tactic(auto, unfolding(crate::specs::WellFormed::IsWorldSpelled))]
-fn is_world_spelled(world: &World) -> bool
+pub(crate) fn is_world_spelled(world: &World) -> bool
     ensures { IsTrue result ↔ IsWorldSpelled (world_view world.now) }
 {
     are_keys_spelled(&world.imports) && are_keys_spelled(&world.exports)
@@ -63,7 +63,7 @@ fn are_functions_spelled(functions: &Map<String, Function>) -> bool
 }
 
 #[tactic(auto, unfolding(crate::specs::WellFormed::IsInterfaceSpelled))]
-fn is_interface_spelled(interface: &Interface) -> bool
+pub(crate) fn is_interface_spelled(interface: &Interface) -> bool
     ensures { IsTrue result ↔ IsInterfaceSpelled (interface_view interface.now) }
 {
     is_optional_name(&interface.name) && are_functions_spelled(&interface.functions)
@@ -79,7 +79,7 @@ fn are_interfaces_spelled(parts: &Parts) -> bool
 }
 
 #[tactic(auto, unfolding(crate::specs::WellFormed::IsTypeSpelled))]
-fn is_type_spelled(def: &TypeDef) -> bool
+pub(crate) fn is_type_spelled(def: &TypeDef) -> bool
     ensures { IsTrue result ↔ IsTypeSpelled (type_view def.now) }
 {
     is_optional_name(&def.name)
@@ -92,7 +92,7 @@ fn are_types_spelled(parts: &Parts) -> bool
 }
 
 #[tactic(auto, unfolding(crate::specs::WellFormed::IsPackageSpelled))]
-fn is_package_spelled(package: &Package) -> bool
+pub(crate) fn is_package_spelled(package: &Package) -> bool
     ensures { IsTrue result ↔ IsPackageSpelled (package_view «package».now) }
 {
     is_name(&package.name.namespace) && is_name(&package.name.name)

@@ -75,7 +75,7 @@ fn item_passes<T: TypeTest>(test: &T, item: &WorldItem) -> bool
 }
 
 #[tactic(auto, unfolding(crate::specs::World::DoesWorldPass))]
-fn world_passes<T: TypeTest>(test: &T, world: &World) -> bool
+pub(crate) fn world_passes<T: TypeTest>(test: &T, world: &World) -> bool
     ensures { IsTrue result ↔ DoesWorldPass (T.Passes test.now) (world_view world.now) }
 {
     entries_pass(test, &world.imports) && entries_pass(test, &world.exports)
@@ -98,7 +98,7 @@ fn functions_pass<T: TypeTest>(test: &T, functions: &Map<String, Function>) -> b
 }
 
 #[tactic(auto, unfolding(crate::specs::World::DoesInterfacePass))]
-fn interface_passes<T: TypeTest>(test: &T, interface: &Interface) -> bool
+pub(crate) fn interface_passes<T: TypeTest>(test: &T, interface: &Interface) -> bool
     ensures { IsTrue result
         ↔ DoesInterfacePass (T.Passes test.now) (interface_view interface.now) }
 {
@@ -115,7 +115,11 @@ fn interfaces_pass<T: TypeTest>(test: &T, interfaces: &[Interface]) -> bool
 }
 
 #[tactic(auto, unfolding(crate::specs::World::DoesTypePass))]
-fn type_def_passes<T: TypeTest>(alloc: Global, test: &T, def: &TypeDef) -> Result<bool, AllocError>
+pub(crate) fn type_def_passes<T: TypeTest>(
+    alloc: Global,
+    test: &T,
+    def: &TypeDef,
+) -> Result<bool, AllocError>
     ensures { IfOk result (λ b. IsTrue b
         ↔ DoesTypePass (T.Passes test.now) (type_view def.now)) }
 {

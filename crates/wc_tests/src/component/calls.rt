@@ -17,7 +17,9 @@ use wc_resolve::Resolve;
 use wc_rows::lines::Lines;
 use wc_rows::rows::Row;
 use wc_validate::ValidateFault;
-use wc_world::{ComponentWorld, ImportOptions, PlainOptions, WorldFault};
+use wc_world::{
+    ComponentWorld, ImportOptions, ModulePlace, PlainOptions, WorldFault, WorldPlace, explain,
+};
 
 /// A fault; and after PageSize the adapter, and the bytes in its pages and in the main module's.
 fn put_fault(fault: &WorldFault, out: &mut Lines) {
@@ -47,10 +49,46 @@ fn put_world(
     }
 }
 
-/// `component_world PART..`, by plain options.
+/// A place: after the module that it is in.
+fn put_world_place(place: &WorldPlace, out: &mut Lines) {
+    match &place.adapter {
+        Some(name) => writeln!(out, "in {name}"),
+        None => out.push_str("in the main module\n"),
+    }
+    match &place.place {
+        ModulePlace::Validation(place) => writeln!(out, "{place}"),
+        ModulePlace::Trim(place) => writeln!(out, "{place}"),
+    }
+}
+
+/// What a fault is about, or `none`, where that is asked for.
+fn put_asked_place(
+    alloc: Global,
+    encoder: &ComponentEncoder,
+    fault: &WorldFault,
+    parts: &[&str],
+    out: &mut Lines,
+) {
+    if parts.first() == Some(&"explain") {
+        put_explained(alloc, encoder, fault, out);
+    }
+}
+
+fn put_explained(alloc: Global, encoder: &ComponentEncoder, fault: &WorldFault, out: &mut Lines) {
+    match explain(alloc, encoder, fault) {
+        Ok(Some(place)) => put_world_place(&place, out),
+        Ok(None) => out.push_str("none\n"),
+        Err(_) => out.lack_memory(),
+    }
+}
+
+/// `component_world PART..`, by plain options. `component_world explain`: why there is none, and what that is about.
 fn component_world(alloc: Global, encoder: &ComponentEncoder, parts: &[&str], out: &mut Lines) {
     let world = ComponentWorld::new(alloc, encoder, &PlainOptions);
     put_world(alloc, &world, parts, out);
+    if let Err(fault) = &world {
+        put_asked_place(alloc, encoder, fault, parts, out);
+    }
 }
 
 /// Where the input has a script, the main module is the one that its lines describe.

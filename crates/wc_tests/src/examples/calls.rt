@@ -1,7 +1,7 @@
 //! An example of `wc_calls`.
 
 ghost use Rattle.std.specs.Prelude.{◌≡◌, ◌≢◌, [], ◌∷◌, Some, codes};
-ghost use Rattle.wc_calls.specs.Answers.{IsPut, done};
+ghost use Rattle.wc_calls.specs.Answers.{IsPut, done, failed};
 ghost use Rattle.wc_calls.specs.Required.{trim_input_of};
 ghost use Rattle.wc_calls.specs.Trimming.{IsRun, with_realloc};
 
@@ -14,7 +14,7 @@ use wc_maps::Seed;
 pub(crate) fn trim_to_write(alloc: Global, seed: Seed, adapter: &[u8], out: &mut [u8]) -> Answer
     ensures done { result.status ≡ done → IsPut (IsRun (with_realloc (codes "realloc"))
         (trim_input_of adapter.now (codes "write" ∷ []))) result.length out.old out.new }
-    ensures unchanged { result.status ≢ done → out.new ≡ out.old }
+    ensures unchanged { result.status ≢ done → result.status ≢ failed → out.new ≡ out.old }
 {
     trim(alloc, seed, adapter, &[b"write"], Some(b"realloc"), 16, out)
 }

@@ -1,13 +1,15 @@
 //! Examples of `wc_gc`.
 
-ghost use Rattle.std.specs.Prelude.{◌≡◌, ◌≢◌, ◌↔◌, [], IfOk, IsTrue};
+ghost use Rattle.std.specs.Prelude.{◌≡◌, ◌≢◌, ◌↔◌, [], IfOk, IsTrue, None};
 ghost use Rattle.wc_read.specs.Modules.{ModuleValue, SpellsModule};
 ghost use Rattle.wc_gc.specs.Decoded.{DecodedModule};
 ghost use Rattle.wc_gc.specs.Liveness.{IsLive, names_of, trim_input};
+ghost use Rattle.wc_gc.specs.Parts.{settings};
 ghost use Rattle.wc_gc.specs.Traces.{HasCut};
+ghost use Rattle.wc_tests.specs.Unedited.{IsTrimmedOwn};
 
 use std::alloc::Global;
-use wc_gc::laws::no_trace;
+use wc_gc::laws::{no_trace, nothing_is_edited};
 use wc_gc::{GcFault, LiveSet, liveness_counted, run};
 use wc_maps::Set;
 use wc_read::Space;
@@ -46,4 +48,20 @@ pub(crate) fn trim_both(
     let one = run(alloc, first, required, None, 16)?;
     let other = run(alloc, second, required, None, 16)?;
     Ok((one, other))
+}
+
+/// An adapter, trimmed to some exports, for a main module without a realloc. Where nothing is added to it and it reaches no
+/// imported realloc, all that is kept is to every depth what it is in the adapter itself.
+pub(crate) fn trim_unedited(
+    alloc: Global,
+    adapter: &[u8],
+    required: &Set<String>,
+) -> Result<Vec<u8>, GcFault>
+    requires { required.now.keys ≢ [] }
+    ensures { IfOk result (λ v. IsTrimmedOwn (settings None 16)
+        (trim_input adapter.now required.now.keys) v.items) }
+{
+    nothing_is_edited();
+    let trimmed = run(alloc, adapter, required, None, 16)?;
+    Ok(trimmed)
 }

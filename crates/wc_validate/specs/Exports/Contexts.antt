@@ -11,7 +11,7 @@ use Rattle.wc_validate.specs.Private.Externs.{extern_view}
 use Rattle.wc_validate.specs.NameScopes.{HasItsWorld, name_scope_of}
 use Rattle.wc_names.specs.declared.exports.Export.{Export}
 use Rattle.wc_read.specs.declared.types.FuncType.{FuncType}
-use Rattle.wc_validate.specs.declared.fault.ValidateFault.{ValidateFault}
+use Rattle.wc_validate.specs.declared.name_fault.NameFault.{NameFault}
 
 -- an export of this name and type
 abbrev pub core_export : List ℕ → ExternType → CoreExport
@@ -44,11 +44,11 @@ abbrev pub MeansExportBy : ExportContext → List ℕ → ExternType → ExportM
 MeansExportBy c name ty m = ClassifiedExport (name_scope_of c.names) c.standard.keys (core_export name ty) m
 
 -- what an export is by a look-up, of some of the kinds, or of one
-abbrev pub IsExportBy : Scheme → ExportLookup → List ExportKind → List ℕ → Extern → Result (Option Export) ValidateFault → Type 0
+abbrev pub IsExportBy : Scheme → ExportLookup → List ExportKind → List ℕ → Extern → Result (Option Export) NameFault → Type 0
 IsExportBy s l some_kinds name ty result = IsTypedExport (MeansByLookup s l some_kinds name) (extern_view ty) result
 
-abbrev pub IsFunctionBy : Scheme → ExportLookup → List ExportKind → List ℕ → FuncType → Result (Option Export) ValidateFault → Type 0
+abbrev pub IsFunctionBy : Scheme → ExportLookup → List ExportKind → List ℕ → FuncType → Result (Option Export) NameFault → Type 0
 IsFunctionBy s l some_kinds name ty result = IsExportFunction (MeansByLookup s l some_kinds name) ty result
 
-abbrev pub IsFunctionOfKind : Scheme → ExportLookup → ExportKind → List ℕ → FuncType → Result (Option Export) ValidateFault → Type 0
+abbrev pub IsFunctionOfKind : Scheme → ExportLookup → ExportKind → List ℕ → FuncType → Result (Option Export) NameFault → Type 0
 IsFunctionOfKind s l kind name ty result = IsExportFunction (IsOfKind s l kind name) ty result

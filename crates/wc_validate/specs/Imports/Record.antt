@@ -17,7 +17,7 @@ use Rattle.wc_names.specs.Views.{ImportView, adapter_export, main_module_memory,
 use Rattle.wc_validate.specs.declared.fault.ValidateFault.{ValidateFault}
 use Rattle.wc_validate.specs.declared.fault.ValidateFault.TheVariants.{WholeDiffers, Mixed, SeveralMemoryImports, DuplicateImport, AdapterTypesDiffer}
 use Rattle.wc_validate.specs.Imports.Entries.{Entry, single, whole, all_of, names_of, by_modules, Records, IsAllRecorded, IsNameRecorded, memory_of, adapter_type_of, first_by}
-use Rattle.wc_validate.specs.Faults.{fault_kind}
+use Rattle.wc_validate.specs.Faults.{import_fault_kind}
 use Rattle.wc_validate.specs.Imports.Classify.{HasSignature, IsNameFault}
 
 -- what imports are recorded by: what names are looked up in; the library that the module is, if it is one; the original
@@ -114,7 +114,7 @@ AreImports s is records = (xs : List Entry) × AreEntries s [] is xs × (records
 -- the fault of one import after entries: of its name, or else the first of its entry
 abbrev pub IsFaultOfImport : ImportScope → List Entry → ImportValue → ValidateFault → Type 0
 IsFaultOfImport s before i f =
-    ((library_entry s.library i.module_name i.name ≡ None) × (a : CoreImport) × IsCoreImport s i a × IsNameFault s.name_scope a (fault_kind f))
+    ((library_entry s.library i.module_name i.name ≡ None) × (a : CoreImport) × IsCoreImport s i a × IsNameFault s.name_scope a (import_fault_kind f))
     ⊎ ((x : Entry) × IsEntry s i x × IsEntryFault before x f)
 
 -- the fault of the first import that has one

@@ -1,13 +1,15 @@
 -- What has to be exported, as the code has it.
 use Rattle.std.specs.Prelude.{ℕ, All, List, map, String, ◌∷◌, [], IfErr, IsTrue, OnOk, Option, Result}
-use Rattle.std.specs.Option.{option_to_list}
+use Rattle.std.specs.Option.{IsSome, option_to_list}
+use Rattle.semver.specs.Identifiers.{parts_text}
 use Rattle.std.specs.declared.alloc.Global.{Global}
 use Rattle.wc_read.specs.declared.core_module.Module.{Module}
 use Rattle.wc_read.specs.declared.types.FuncType.{FuncType}
 use Rattle.wc_read.specs.Types.{func_type_value}
 use Rattle.wc_resolve.specs.declared.worlds.WorldItem.{WorldItem}
 use Rattle.wc_resolve.specs.declared.worlds.WorldKey.{WorldKey}
-use Rattle.wc_resolve.specs.Ranges.{IsItemIn}
+use Rattle.wc_resolve.specs.Queries.{key_text}
+use Rattle.wc_resolve.specs.Ranges.{IsItemIn, IsKeyIn}
 use Rattle.wc_resolve.specs.Views.{ItemView, KeyView, key_view, world_entry}
 use Rattle.wc_names.specs.declared.exports.Export.{Export}
 use Rattle.wc_names.specs.Imports.{NameScope}
@@ -54,6 +56,16 @@ IsUnmetBy n q m recorded f = IsUnmetFault n.resolve.now (exports_in m m.exports.
 -- what the world exports is in range
 abbrev pub HasItemsInRange : NameScope → Type 0
 HasItemsInRange e = All (λ (x : KeyView × ItemView). IsItemIn e.resolve x.1) e.world.exports
+
+-- a key is in range, and has a text; and the keys of what the world exports
+abbrev pub IsKeyNamed : ResolveView → KeyView → Type 0
+IsKeyNamed r key = IsKeyIn r key × IsSome (key_text parts_text r key)
+
+abbrev pub AreKeysNamed : ResolveView → List (WorldKey × WorldItem) → Type 0
+AreKeysNamed r exports = All (λ (x : KeyView × ItemView). IsKeyNamed r x.0) (map world_entry exports)
+
+abbrev pub HasKeysNamed : NameScope → Type 0
+HasKeysNamed e = All (λ (x : KeyView × ItemView). IsKeyNamed e.resolve x.0) e.world.exports
 
 -- some requirements are met by what is recorded, whose functions are those of names, or why they are not
 abbrev pub MeetsByNames : {T F : Type 0} → ResolveView → List (Option InterfaceId × String Global) → List Requirement → Result T F → Type 0

@@ -7,10 +7,12 @@ ghost use Rattle.wc_validate.specs.Exports.Record.{AreExportsIn};
 ghost use Rattle.wc_validate.specs.Private.Explained.{IsExportStopIn, IsMismatchExplained};
 
 use crate::ValidateFault;
-use crate::explain::refused::Refused;
+use crate::explain::refused::RefusedExport;
 use crate::exports::classify::{ExportContext, classify_export};
 use crate::exports::record::exported_type;
-use crate::place::{Place, Subject};
+use crate::externs::Extern;
+use crate::name_fault::NameFault;
+use crate::place::{Place, Subject, TypeDifference};
 use std::alloc::{AllocError, Global};
 use wc_read::Module;
 
@@ -20,7 +22,7 @@ pub(crate) fn first_mismatched(
     context: &ExportContext<'_>,
     module: &Module<'_>,
     exports: &[wc_read::Export<'_>],
-) -> Option<Refused>
+) -> Option<RefusedExport>
     requires context { IsExportContext context.now }
     requires items { AreExportsIn «module».now exports.now }
     requires typed { HaveTypes (module_value «module».now) }
@@ -30,7 +32,7 @@ pub(crate) fn first_mismatched(
     for (index, export) in exports.iter().enumerate() {
         let ty = exported_type(module, export.kind, export.index);
         if let Err(fault) = classify_export(alloc, context, export.name, ty) {
-            return Some(Refused { index, fault });
+            return Some(RefusedExport { index, fault });
         }
     }
     None
@@ -43,26 +45,36 @@ fn is_mismatch(fault: &ValidateFault) -> bool
     matches!(fault, ValidateFault::SignatureMismatch)
 }
 
-/// The export that is refused, as the place of a fault: if it is refused with this fault.
+/// The export at an index that is refused for this cause, as the place of a fault: if that is this fault.
 pub(crate) fn export_place(
     alloc: Global,
+    module: &Module<'_>,
     exports: &[wc_read::Export<'_>],
-    refused: Refused,
+    index: usize,
+    cause: NameFault,
     fault: &ValidateFault,
 ) -> Result<Option<Place>, AllocError>
-    requires { refused.index < length exports.now }
-    ensures { IsMismatchExplained exports.now refused fault.now result }
+    requires in_range { index < length exports.now }
+    requires items { AreExportsIn «module».now exports.now }
+    requires typed { HaveTypes (module_value «module».now) }
+    ensures { IsMismatchExplained «module».now exports.now index cause fault.now result }
 {
     // An export is refused for its type, or an allocation failed.
-    if !is_mismatch(&refused.fault) {
+    let NameFault::SignatureMismatch(wanted) = cause else {
         return Err(AllocError);
-    }
+    };
     if !is_mismatch(fault) {
         return Ok(None);
     }
-    let name = String::from_str(alloc, exports[refused.index].name)?;
+    let export = &exports[index];
+    // Only functions have signatures.
+    let Extern::Func(ty) = exported_type(module, export.kind, export.index) else {
+        return Err(AllocError);
+    };
+    let found = ty.clone(alloc)?;
+    let name = String::from_str(alloc, export.name)?;
     Ok(Some(Place {
         subject: Subject::Export(name),
-        types: None,
+        types: Some(TypeDifference { wanted, found }),
     }))
 }

@@ -1,9 +1,10 @@
 //! Functions that other modules import, and that are not exported as they are required.
 
-ghost use Rattle.std.specs.Prelude.{◌≡◌, ◌≢◌, ◌↔◌, IfErr, IfOk, IsTrue};
-ghost use Rattle.wc_validate.specs.Private.Explained.{IsFunctionExplained, IsFunctionLackIn, IsRetyped, IsSaidAs};
+ghost use Rattle.std.specs.Prelude.{◌≡◌, ◌≢◌, ◌↔◌, IfErr, IfOk, IsTrue, false};
+ghost use Rattle.wc_validate.specs.Private.Explained.{AreMetByIndex, IsFunctionExplained, IsFunctionLackIn, IsNotExported, IsRetyped, IsSaidApart, IsSaidAs};
 
 use crate::ValidateFault;
+use crate::explain::is_memory;
 use crate::place::{Place, Subject, TypeDifference};
 use crate::requirements::exported_functions::check_function;
 use std::alloc::{AllocError, Global};
@@ -24,7 +25,8 @@ pub(crate) fn first_unexported<'r>(
     index: &Map<&str, &FuncType>,
     functions: &'r Map<String, FuncType>,
 ) -> Result<(), LackingFunction<'r>>
-    ensures { IfErr result (IsFunctionLackIn index.now.entries functions.now.entries) }
+    ensures met { AreMetByIndex index.now.entries functions.now.entries result }
+    ensures lacking { IfErr result (IsFunctionLackIn index.now.entries functions.now.entries) }
 {
     for (name, ty) in functions.iter() {
         let text = name.as_str();
@@ -39,18 +41,28 @@ pub(crate) fn first_unexported<'r>(
     Ok(())
 }
 
+/// Whether a fault is that a function of a name is not exported.
+fn is_not_exported(fault: &ValidateFault, name: &str) -> bool
+    ensures { IsTrue result ↔ IsNotExported fault.now name.now }
+{
+    match fault {
+        ValidateFault::AdapterModuleDidNotExport(own) => own.name() == name,
+        _ => false,
+    }
+}
+
 /// Whether a fault says all that another one says of what is missing.
 fn is_said_too(fault: &ValidateFault, found: &ValidateFault) -> bool
     ensures same { IsTrue result → IsSaidAs found.now fault.now }
     ensures real { IsTrue result → found.now ≢ ValidateFault.Memory }
+    ensures other { result ≡ false → IsSaidApart found.now fault.now }
 {
     match found {
         ValidateFault::AdapterExportType => matches!(fault, ValidateFault::AdapterExportType),
         ValidateFault::TypedReference => matches!(fault, ValidateFault::TypedReference),
-        ValidateFault::AdapterModuleDidNotExport(missing) => match fault {
-            ValidateFault::AdapterModuleDidNotExport(own) => own.name() == missing.name(),
-            _ => false,
-        },
+        ValidateFault::AdapterModuleDidNotExport(missing) => {
+            is_not_exported(fault, missing.name())
+        }
         _ => false,
     }
 }
@@ -91,7 +103,7 @@ pub(crate) fn function_place(
 ) -> Result<Option<Place>, AllocError>
     ensures { IsFunctionExplained index.now.entries lacking.entry fault.now result }
 {
-    if matches!(lacking.fault, ValidateFault::Memory) {
+    if is_memory(&lacking.fault) {
         return Err(AllocError);
     }
     if !is_said_too(fault, &lacking.fault) {

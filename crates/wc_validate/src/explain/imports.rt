@@ -1,17 +1,22 @@
 //! The import at which validation stops.
 
-ghost use Rattle.std.specs.Prelude.{◌≡◌, ◌≢◌, ◌↔◌, ◌<◌, All, IfErr, IfOk, IsTrue, false, length};
+ghost use Rattle.std.specs.Prelude.{◌≡◌, ◌≢◌, ◌↔◌, ◌<◌, All, Err, IfErr, IfOk, IfSome, IsTrue, false, length};
 ghost use Rattle.wc_validate.specs.NameScopes.{AreInterfacesOf, HasItsWorld, name_scope_of};
 ghost use Rattle.wc_validate.specs.Places.{IsOfImport, an_import, subject_view};
-ghost use Rattle.wc_validate.specs.Private.Explained.{IsImportExplained, IsStopIn};
+ghost use Rattle.wc_validate.specs.Private.Explained.{AreDifferingTypes, AreMismatchedTypes, AreTypesIn, IsAdapterFunction, IsImportExplained, IsStopIn};
 ghost use Rattle.wc_validate.specs.Private.Imports.Contexts.{AreAllRecorded, IsTypeIn};
 
 use crate::ValidateFault;
 use crate::explain::refused::Refused;
-use crate::imports::record::{ImportContext, record_one};
+use crate::imports::record::{ImportContext, classify_import, record_imports, record_one};
 use crate::imports::recorder::Recorder;
-use crate::place::{Place, Subject};
+use crate::name_fault::NameFault;
+use crate::place::{Place, Subject, TypeDifference};
+use crate::signatures::has_type;
 use std::alloc::{AllocError, Global};
+use wc_names::Import;
+use wc_names::laws::meanings_unique;
+use wc_read::{FuncType, ImportType};
 
 /// The imports of a module, recorded in their order; or the first that is refused.
 pub(crate) fn first_refused(
@@ -88,6 +93,115 @@ fn import_subject(
     })
 }
 
+/// The type that a name fixes, of an answer that refuses an import for its type.
+fn wanted_type<T: Drop>(answer: Result<T, NameFault>) -> Option<FuncType>
+    ensures { IfSome result (λ wanted. answer ≡ Err (NameFault.SignatureMismatch wanted)) }
+{
+    match answer {
+        Err(NameFault::SignatureMismatch(wanted)) => Some(wanted),
+        _ => None,
+    }
+}
+
+/// The types that differ of an import whose type is another than its name fixes: that one, and its own.
+fn mismatched_types(
+    alloc: Global,
+    context: &ImportContext<'_>,
+    import: &wc_read::Import<'_>,
+) -> Result<TypeDifference, AllocError>
+    requires world { HasItsWorld (name_scope_of context.now.names) }
+    requires interfaces { AreInterfacesOf (name_scope_of context.now.names) context.now.interfaces }
+    requires typed { IsTypeIn (length context.now.types.now) import.now.ty }
+    ensures { IfOk result (AreMismatchedTypes context.now import.now) }
+{
+    // A function is refused for its type, or an allocation failed.
+    let ImportType::Func(index) = import.ty else {
+        return Err(AllocError);
+    };
+    let Some(wanted) = wanted_type(classify_import(alloc, context, import)) else {
+        return Err(AllocError);
+    };
+    let found = context.types[index as usize].clone(alloc)?;
+    Ok(TypeDifference { wanted, found })
+}
+
+/// The function of an adapter that an import is: the adapter, its name and its type.
+fn adapter_function(
+    alloc: Global,
+    context: &ImportContext<'_>,
+    import: &wc_read::Import<'_>,
+) -> Result<((String, String), FuncType), AllocError>
+    requires world { HasItsWorld (name_scope_of context.now.names) }
+    requires interfaces { AreInterfacesOf (name_scope_of context.now.names) context.now.interfaces }
+    requires typed { IsTypeIn (length context.now.types.now) import.now.ty }
+    ensures { IfOk result (IsAdapterFunction context.now import.now) }
+{
+    // The import is a function of an adapter, or an allocation failed.
+    match context
+        .arguments
+        .passed_argument(import.module, import.name)
+    {
+        Some(_) => Err(AllocError),
+        None => match classify_import(alloc, context, import) {
+            Ok(Import::AdapterExport { adapter, func, ty }) => Ok(((adapter, func), ty)),
+            _ => Err(AllocError),
+        },
+    }
+}
+
+/// The types that differ of an import of a function of an adapter, after those before it: the type with which that is
+/// imported first, and its own.
+fn differing_types(
+    alloc: Global,
+    context: &ImportContext<'_>,
+    before: &[wc_read::Import<'_>],
+    import: &wc_read::Import<'_>,
+) -> Result<TypeDifference, AllocError>
+    requires world { HasItsWorld (name_scope_of context.now.names) }
+    requires interfaces { AreInterfacesOf (name_scope_of context.now.names) context.now.interfaces }
+    requires earlier { All (λ i. IsTypeIn (length context.now.types.now) i.ty) before.now }
+    requires typed { IsTypeIn (length context.now.types.now) import.now.ty }
+    ensures { IfOk result (AreDifferingTypes context.now before.now import.now) }
+{
+    meanings_unique(context.names.resolve);
+    // The imports before are recorded and the types differ, or an allocation failed.
+    let Ok(recorder) = record_imports(alloc, context, before) else {
+        return Err(AllocError);
+    };
+    let (key, found) = adapter_function(alloc, context, import)?;
+    let Some(first) = recorder.first_type(&key) else {
+        return Err(AllocError);
+    };
+    if has_type(&found, first.params(), first.results()) {
+        return Err(AllocError);
+    }
+    let wanted = first.clone(alloc)?;
+    Ok(TypeDifference { wanted, found })
+}
+
+/// The types that the fault of an import compares, after those before it.
+fn import_types(
+    alloc: Global,
+    context: &ImportContext<'_>,
+    before: &[wc_read::Import<'_>],
+    import: &wc_read::Import<'_>,
+    fault: &ValidateFault,
+) -> Result<Option<TypeDifference>, AllocError>
+    requires world { HasItsWorld (name_scope_of context.now.names) }
+    requires interfaces { AreInterfacesOf (name_scope_of context.now.names) context.now.interfaces }
+    requires earlier { All (λ i. IsTypeIn (length context.now.types.now) i.ty) before.now }
+    requires typed { IsTypeIn (length context.now.types.now) import.now.ty }
+    ensures { IfOk result (AreTypesIn context.now before.now import.now fault.now) }
+{
+    match fault {
+        ValidateFault::SignatureMismatch => Ok(Some(mismatched_types(alloc, context, import)?)),
+        ValidateFault::AdapterTypesDiffer => {
+            Ok(Some(differing_types(alloc, context, before, import)?))
+        }
+        _ => Ok(None),
+    }
+}
+
 /// The import that is refused, as the place of a fault: if it is refused with this fault.
 pub(crate) fn import_place(
     alloc: Global,
@@ -96,6 +210,9 @@ pub(crate) fn import_place(
     refused: Refused,
     fault: &ValidateFault,
 ) -> Result<Option<Place>, AllocError>
+    requires world { HasItsWorld (name_scope_of context.now.names) }
+    requires interfaces { AreInterfacesOf (name_scope_of context.now.names) context.now.interfaces }
+    requires typed { All (λ i. IsTypeIn (length context.now.types.now) i.ty) imports.now }
     requires in_range { refused.index < length imports.now }
     requires refused { IsStopIn context.now imports.now refused }
     ensures { IfOk result (IsImportExplained context.now imports.now fault.now) }
@@ -106,9 +223,9 @@ pub(crate) fn import_place(
     if !is_same_fault(fault, &refused.fault) {
         return Ok(None);
     }
-    let subject = import_subject(alloc, &imports[refused.index], refused.index)?;
-    Ok(Some(Place {
-        subject,
-        types: None,
-    }))
+    let import = &imports[refused.index];
+    let before = &imports[..refused.index];
+    let types = import_types(alloc, context, before, import, &refused.fault)?;
+    let subject = import_subject(alloc, import, refused.index)?;
+    Ok(Some(Place { subject, types }))
 }

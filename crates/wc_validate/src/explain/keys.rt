@@ -1,16 +1,15 @@
 //! What is missing for the keys of an export set.
 
-ghost use Rattle.std.specs.Prelude.{◌≡◌, ◌≢◌, ◌<◌, All, IfErr, IfOk, IfSome, IsTrue, length, map, string_bytes};
-ghost use Rattle.std.specs.Option.{option_map};
+ghost use Rattle.std.specs.Prelude.{◌≡◌, ◌≢◌, ◌<◌, All, IfErr, IfOk, IsTrue, MatchOption, false, length, map};
 ghost use Rattle.wc_resolve.specs.Ranges.{IsItemIn};
 ghost use Rattle.wc_resolve.specs.Views.{key_view, world_entry};
 ghost use Rattle.wc_validate.specs.NameScopes.{name_scope_of};
-ghost use Rattle.wc_validate.specs.Places.{interface_text};
-ghost use Rattle.wc_validate.specs.Private.Explained.{IsKeyExplained, IsLackIn, IsLackNamed, IsLackOf, IsLackingFunction};
-ghost use Rattle.wc_validate.specs.Private.RequiredExports.{HasItemsInRange, MeetsByNames, requirements_of_keys};
+ghost use Rattle.wc_validate.specs.Private.Explained.{AreAllNamed, IsKeyExplained, IsLackIn, IsLackNamed, IsLackOf, IsLackingFunction, IsOfKey};
+ghost use Rattle.wc_validate.specs.Private.RequiredExports.{AreKeysNamed, HasItemsInRange, HasKeysNamed, IsKeyNamed, MeetsByNames, requirements_of_keys};
 ghost use Rattle.wc_validate.specs.Requirements.{interface_functions};
 
 use crate::ValidateFault;
+use crate::explain::is_memory;
 use crate::name_scope::Names;
 use crate::place::{Place, Subject};
 use crate::requirements::check_key;
@@ -56,8 +55,9 @@ fn lacking_function<'r>(
     id: InterfaceId,
 ) -> Result<Option<&'r str>, AllocError>
     requires { id.0 < length resolve.now.interfaces }
-    ensures { IfOk result (λ name. IfSome name (IsLackingFunction resolve.now functions.now.keys
-        id.0)) }
+    ensures { IfOk result (λ name. MatchOption name
+        (AreAllNamed resolve.now functions.now.keys id.0)
+        (IsLackingFunction resolve.now functions.now.keys id.0)) }
 {
     for (name, _function) in resolve.interface(id).functions.iter() {
         if !is_recorded(alloc, functions, Some(id), name.as_str())? {
@@ -67,24 +67,7 @@ fn lacking_function<'r>(
     Ok(None)
 }
 
-/// The text of an interface under a key: a plain name, or the id of the interface, if it has one.
-fn interface_text(
-    alloc: Global,
-    resolve: &Resolve,
-    key: &WorldKey,
-    id: InterfaceId,
-) -> Result<Option<String>, AllocError>
-    requires { id.0 < length resolve.now.interfaces }
-    ensures { IfOk result (λ text. option_map string_bytes text
-        ≡ interface_text resolve.now (key_view key.now) id.0) }
-{
-    match key {
-        WorldKey::Name(name) => Ok(Some(String::from_str(alloc, name)?)),
-        WorldKey::Interface(_) => resolve.id_of(alloc, id),
-    }
-}
-
-/// The first function of an interface that is missing, under the text of the interface.
+/// The first function of an interface that is missing, under the text of the interface's key.
 fn interface_lack(
     alloc: Global,
     functions: &FunctionNames,
@@ -92,16 +75,15 @@ fn interface_lack(
     key: &WorldKey,
     id: InterfaceId,
 ) -> Result<Option<Subject>, AllocError>
-    requires { id.0 < length resolve.now.interfaces }
+    requires there { id.0 < length resolve.now.interfaces }
+    requires named { IsKeyNamed resolve.now (key_view key.now) }
     ensures { IfOk result (IsLackOf resolve.now functions.now.keys (key_view key.now)
         (interface_functions id.0)) }
 {
     let Some(function) = lacking_function(alloc, functions, resolve, id)? else {
         return Ok(None);
     };
-    let Some(module_name) = interface_text(alloc, resolve, key, id)? else {
-        return Ok(None);
-    };
+    let module_name = resolve.name_world_key(alloc, key)?;
     let name = String::from_str(alloc, function)?;
     Ok(Some(Subject::MissingFunction { module_name, name }))
 }
@@ -114,7 +96,8 @@ fn key_lack(
     exports: &Map<WorldKey, WorldItem>,
     key: &WorldKey,
 ) -> Result<Option<Subject>, AllocError>
-    requires { All (λ x. IsItemIn resolve.now x.1) (map world_entry exports.now.entries) }
+    requires items { All (λ x. IsItemIn resolve.now x.1) (map world_entry exports.now.entries) }
+    requires named { AreKeysNamed resolve.now exports.now.entries }
     ensures { IfOk result (IsLackNamed resolve.now functions.now.keys exports.now.entries
         key.now) }
 {
@@ -135,6 +118,7 @@ fn key_lack(
 fn is_same_fault(fault: &ValidateFault, found: &ValidateFault) -> bool
     ensures same { IsTrue result → fault.now ≡ found.now }
     ensures real { IsTrue result → found.now ≢ ValidateFault.Memory }
+    ensures other { result ≡ false → IsOfKey found.now → fault.now ≢ found.now }
 {
     match found {
         ValidateFault::MissingInterfaceExport => {
@@ -153,10 +137,11 @@ pub(crate) fn key_place(
     lacking: LackingKey<'_>,
     fault: &ValidateFault,
 ) -> Result<Option<Place>, AllocError>
-    requires { HasItemsInRange (name_scope_of names.now) }
+    requires items { HasItemsInRange (name_scope_of names.now) }
+    requires named { HasKeysNamed (name_scope_of names.now) }
     ensures { IsKeyExplained names.now functions.now.keys lacking.entry fault.now result }
 {
-    if matches!(lacking.fault, ValidateFault::Memory) {
+    if is_memory(&lacking.fault) {
         return Err(AllocError);
     }
     if !is_same_fault(fault, &lacking.fault) {

@@ -1,12 +1,12 @@
 //! What is missing among the exports of a module.
 
-ghost use Rattle.std.specs.Prelude.{◌≤◌, IfOk, MatchOption, map};
+ghost use Rattle.std.specs.Prelude.{◌≡◌, ◌↔◌, ◌≤◌, IfOk, IsTrue, MatchOption, map};
 ghost use Rattle.wc_read.specs.Modules.{HaveTypes, module_value};
 ghost use Rattle.wc_validate.specs.Exports.Map.{export_entry};
 ghost use Rattle.wc_validate.specs.Exports.Record.{AreExportsIn, exports_in};
 ghost use Rattle.wc_validate.specs.NameScopes.{name_scope_of};
 ghost use Rattle.wc_validate.specs.Private.Explained.{AreAlone, IsCallbackExplained, IsMemoryExplained, IsMissingExplained, IsSecondNamed, IsUncalled};
-ghost use Rattle.wc_validate.specs.Private.RequiredExports.{AreCalledBack, HasItemsInRange};
+ghost use Rattle.wc_validate.specs.Private.RequiredExports.{AreCalledBack, HasItemsInRange, HasKeysNamed};
 ghost use Rattle.wc_validate.specs.Requirements.{memory_count};
 
 use crate::ValidateFault;
@@ -39,6 +39,13 @@ fn second_memory<'n>(names: &'n Map<String, Export>) -> Option<&'n str>
     None
 }
 
+/// Whether a fault is that there are two memories.
+fn is_several(fault: &ValidateFault) -> bool
+    ensures { IsTrue result ↔ (fault.now ≡ ValidateFault.SeveralMemoryExports) }
+{
+    matches!(fault, ValidateFault::SeveralMemoryExports)
+}
+
 /// A second memory, as the place of a fault: if the fault is that there are two.
 fn memory_place(
     alloc: Global,
@@ -47,7 +54,7 @@ fn memory_place(
 ) -> Result<Option<Place>, AllocError>
     ensures { IfOk result (IsMemoryExplained name.now fault.now) }
 {
-    if !matches!(fault, ValidateFault::SeveralMemoryExports) {
+    if !is_several(fault) {
         return Ok(None);
     }
     Ok(Some(Place {
@@ -72,6 +79,13 @@ fn uncalled<'n>(
     Ok(None)
 }
 
+/// Whether a fault is that a callback is missing.
+fn is_uncalled(fault: &ValidateFault) -> bool
+    ensures { IsTrue result ↔ (fault.now ≡ ValidateFault.MissingCallback) }
+{
+    matches!(fault, ValidateFault::MissingCallback)
+}
+
 /// The callback of an export, as the place of a fault: if the fault is that a callback is missing.
 fn callback_place(
     alloc: Global,
@@ -80,7 +94,7 @@ fn callback_place(
 ) -> Result<Option<Place>, AllocError>
     ensures { IfOk result (IsCallbackExplained name.now fault.now) }
 {
-    if !matches!(fault, ValidateFault::MissingCallback) {
+    if !is_uncalled(fault) {
         return Ok(None);
     }
     let mut callback = String::from_str(alloc, "[callback]")?;
@@ -103,6 +117,7 @@ fn unmet_place<'m>(
     requires items { AreExportsIn «module».now «module».now.exports.items }
     requires typed { HaveTypes (module_value «module».now) }
     requires world { HasItemsInRange (name_scope_of names.now) }
+    requires named { HasKeysNamed (name_scope_of names.now) }
     requires alone { AreAlone names.now «module».now recorded.now.entries }
     ensures { IfOk result (IsMissingExplained names.now required.entry
         (exports_in «module».now «module».now.exports.items) recorded.now.entries fault.now) }
@@ -132,6 +147,7 @@ pub(crate) fn missing_place<'m>(
     requires items { AreExportsIn «module».now «module».now.exports.items }
     requires typed { HaveTypes (module_value «module».now) }
     requires world { HasItemsInRange (name_scope_of names.now) }
+    requires named { HasKeysNamed (name_scope_of names.now) }
     ensures { IfOk result (IsMissingExplained names.now required.entry
         (exports_in «module».now «module».now.exports.items) recorded.now.entries fault.now) }
 {

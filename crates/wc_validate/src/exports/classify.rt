@@ -8,11 +8,13 @@ ghost use Rattle.wc_validate.specs.Exports.Contexts.{HasNamesBy, IsExportContext
 ghost use Rattle.wc_validate.specs.Private.Exports.Classify.{IsTypedExport, fixed_kinds, named_kinds, IsAnyTypeExport, IsFixedExport, IsMemoryExport, IsNamedExport, IsTableExport};
 ghost use Rattle.wc_validate.specs.NameScopes.{HasItsWorld, name_scope_of};
 
-use crate::ValidateFault;
 use crate::externs::Extern;
+use crate::name_fault::NameFault;
 use crate::name_scope::Names;
 use crate::prefixes::{STANDARD_MARKER, after};
-use crate::signatures::{checked, has_function_type, has_post_return_type};
+use crate::signatures::{
+    checked, function_mismatch, has_function_type, has_post_return_type, post_return_mismatch,
+};
 use std::alloc::{AllocError, Global};
 use wc_names::{Export, ExportNames, Legacy, NameMangling, Standard};
 use wc_read::{FuncType, MemoryType, ValType};
@@ -71,17 +73,24 @@ fn lifted<'n, N: NameMangling>(scheme: &N, name: &'n str) -> (AbiVariant, &'n st
 /// The realloc, the function that is called before all others, or the task hook.
 fn fixed_export<N: NameMangling>(
     scheme: &N,
+    alloc: Global,
     name: &str,
     ty: &FuncType,
-) -> Result<Option<Export>, ValidateFault>
+) -> Result<Option<Export>, NameFault>
     ensures { IsFixedExport (N.scheme scheme.now) fixed_kinds name.now ty.now result }
 {
     if name == scheme.export_realloc() {
         let four = [ValType::I32, ValType::I32, ValType::I32, ValType::I32];
-        return checked(Export::GeneralPurposeRealloc, ty, &four, &[ValType::I32]);
+        return checked(
+            alloc,
+            Export::GeneralPurposeRealloc,
+            ty,
+            &four,
+            &[ValType::I32],
+        );
     }
     if name == scheme.export_initialize() {
-        return checked(Export::Initialize, ty, &[], &[]);
+        return checked(alloc, Export::Initialize, ty, &[], &[]);
     }
     let Some(hook) = scheme.export_wasm_task_hook() else {
         return Ok(None);
@@ -89,7 +98,7 @@ fn fixed_export<N: NameMangling>(
     if name != hook {
         return Ok(None);
     }
-    checked(Export::WasmTaskHook, ty, &[ValType::I32], &[])
+    checked(alloc, Export::WasmTaskHook, ty, &[ValType::I32], &[])
 }
 
 /// The export of a function, lifted so.
@@ -138,7 +147,7 @@ fn named_function<N: NameMangling>(
     lookup: ExportLookup<'_>,
     name: &str,
     ty: &FuncType,
-) -> Result<Option<Export>, ValidateFault>
+) -> Result<Option<Export>, NameFault>
     requires world { HasItsWorld (name_scope_of lookup.names.now) }
     requires named { HasNamesBy (N.scheme scheme.now) lookup }
     ensures { IsFunctionOfKind (N.scheme scheme.now) lookup.entry function name.now ty.now result }
@@ -150,7 +159,7 @@ fn named_function<N: NameMangling>(
         return Ok(None);
     };
     if !has_function_type(alloc, resolve, abi, target.2, ty)? {
-        return Err(ValidateFault::SignatureMismatch);
+        return Err(function_mismatch(alloc, resolve, abi, target.2)?);
     }
     Ok(Some(function_of(alloc, abi, target)?))
 }
@@ -162,7 +171,7 @@ fn named_post_return<N: NameMangling>(
     lookup: ExportLookup<'_>,
     name: &str,
     ty: &FuncType,
-) -> Result<Option<Export>, ValidateFault>
+) -> Result<Option<Export>, NameFault>
     requires world { HasItsWorld (name_scope_of lookup.names.now) }
     requires named { HasNamesBy (N.scheme scheme.now) lookup }
     ensures { IsFunctionOfKind (N.scheme scheme.now) lookup.entry post_return name.now ty.now
@@ -178,7 +187,7 @@ fn named_post_return<N: NameMangling>(
         return Ok(None);
     };
     if !has_post_return_type(alloc, resolve, target.2, ty)? {
-        return Err(ValidateFault::SignatureMismatch);
+        return Err(post_return_mismatch(alloc, resolve, target.2)?);
     }
     Ok(Some(post_return_of(alloc, target)?))
 }
@@ -190,7 +199,7 @@ fn named_callback<N: NameMangling>(
     exports: &ExportNames<'_>,
     name: &str,
     ty: &FuncType,
-) -> Result<Option<Export>, ValidateFault>
+) -> Result<Option<Export>, NameFault>
     ensures { IsNamedExport (N.scheme scheme.now) exports.now callback name.now ty.now result }
 {
     let Some(called) = scheme.async_lift_callback_name(name) else {
@@ -201,23 +210,30 @@ fn named_callback<N: NameMangling>(
     };
     let own = callback_of(alloc, target)?;
     let three = [ValType::I32, ValType::I32, ValType::I32];
-    checked(own, ty, &three, &[ValType::I32])
+    checked(alloc, own, ty, &three, &[ValType::I32])
 }
 
 /// The destructor of a resource, if an export is one.
 fn named_destructor<N: NameMangling>(
     scheme: &N,
+    alloc: Global,
     exports: &ExportNames<'_>,
     name: &str,
     ty: &FuncType,
-) -> Result<Option<Export>, ValidateFault>
+) -> Result<Option<Export>, NameFault>
     ensures { IsNamedExport (N.scheme scheme.now) exports.now destructor name.now ty.now result }
 {
     let (_abi, rest) = lifted(scheme, name);
     let Some(resource) = exports.destructed(rest) else {
         return Ok(None);
     };
-    checked(Export::ResourceDtor(resource), ty, &[ValType::I32], &[])
+    checked(
+        alloc,
+        Export::ResourceDtor(resource),
+        ty,
+        &[ValType::I32],
+        &[],
+    )
 }
 
 /// The export of a function that is named for what the world exports.
@@ -227,7 +243,7 @@ fn named_export<N: NameMangling>(
     lookup: ExportLookup<'_>,
     name: &str,
     ty: &FuncType,
-) -> Result<Option<Export>, ValidateFault>
+) -> Result<Option<Export>, NameFault>
     requires world { HasItsWorld (name_scope_of lookup.names.now) }
     requires named { HasNamesBy (N.scheme scheme.now) lookup }
     ensures { IsFunctionBy (N.scheme scheme.now) lookup.entry named_kinds name.now ty.now result }
@@ -244,7 +260,7 @@ fn named_export<N: NameMangling>(
     if callback.is_some() {
         return Ok(callback);
     }
-    named_destructor(scheme, lookup.exports, name, ty)
+    named_destructor(scheme, alloc, lookup.exports, name, ty)
 }
 
 /// The export of a function, by a scheme.
@@ -254,12 +270,12 @@ fn function_by<N: NameMangling>(
     lookup: ExportLookup<'_>,
     name: &str,
     ty: &FuncType,
-) -> Result<Option<Export>, ValidateFault>
+) -> Result<Option<Export>, NameFault>
     requires world { HasItsWorld (name_scope_of lookup.names.now) }
     requires named { HasNamesBy (N.scheme scheme.now) lookup }
     ensures { IsFunctionBy (N.scheme scheme.now) lookup.entry export_kinds name.now ty.now result }
 {
-    let fixed = fixed_export(scheme, name, ty)?;
+    let fixed = fixed_export(scheme, alloc, name, ty)?;
     if fixed.is_some() {
         return Ok(fixed);
     }
@@ -298,7 +314,7 @@ fn export_by<N: NameMangling>(
     lookup: ExportLookup<'_>,
     name: &str,
     ty: Extern<'_>,
-) -> Result<Option<Export>, ValidateFault>
+) -> Result<Option<Export>, NameFault>
     requires world { HasItsWorld (name_scope_of lookup.names.now) }
     requires named { HasNamesBy (N.scheme scheme.now) lookup }
     ensures { IsExportBy (N.scheme scheme.now) lookup.entry export_kinds name.now ty.entry result }
@@ -317,7 +333,7 @@ pub(crate) fn classify_export(
     context: &ExportContext<'_>,
     name: &str,
     ty: Extern<'_>,
-) -> Result<Option<Export>, ValidateFault>
+) -> Result<Option<Export>, NameFault>
     requires { IsExportContext context.now }
     ensures { IsTypedExport (MeansExportBy context.now name.now)
         (extern_view ty.entry) result }

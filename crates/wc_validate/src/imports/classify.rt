@@ -9,11 +9,11 @@ ghost use Rattle.wc_validate.specs.Private.Imports.Functions.{function_item_view
 ghost use Rattle.wc_validate.specs.Imports.Classify.{IsAdapterMeaning, IsClassified, IsSomeFunctionClassification, core_import, IsOtherItem};
 ghost use Rattle.wc_validate.specs.NameScopes.{AreInterfacesOf, HasItsWorld, name_scope_of};
 
-use crate::ValidateFault;
 use crate::externs::Extern;
 use crate::imports::environment::ENVIRONMENT;
 use crate::imports::items::{ImportedFunction, ImportedItem};
 use crate::imports::scheme::scheme_import;
+use crate::name_fault::NameFault;
 use crate::name_scope::{Interfaces, Names};
 use crate::signatures::names_types;
 use std::alloc::{AllocError, Global};
@@ -59,11 +59,11 @@ fn adapter_item(
     adapter: &str,
     name: &str,
     ty: &FuncType,
-) -> Result<Import, ValidateFault>
+) -> Result<Import, NameFault>
     ensures { IsSomeFunctionClassification (IsAdapterMeaning adapter.now name.now) ty.now result }
 {
     if names_types(ty) {
-        return Err(ValidateFault::TypedReference);
+        return Err(NameFault::TypedReference);
     }
     let adapter = String::from_str(alloc, adapter)?;
     let func = String::from_str(alloc, name)?;
@@ -81,13 +81,13 @@ fn other_item(
     module_name: &str,
     name: &str,
     kind: ExportKind,
-) -> Result<Import, ValidateFault>
+) -> Result<Import, NameFault>
     ensures { IsOtherItem module_name.now name.now kind result }
 {
     if is_main_module(module_name) {
         return Ok(main_item(alloc, name, kind)?);
     }
-    Err(ValidateFault::NotAFunction)
+    Err(NameFault::NotAFunction)
 }
 
 /// What is imported under a name and is a memory.
@@ -96,7 +96,7 @@ fn memory_item(
     module_name: &str,
     name: &str,
     ty: MemoryType,
-) -> Result<Import, ValidateFault>
+) -> Result<Import, NameFault>
     ensures { (e : NameScope)
         → IsClassified e (core_import module_name.now name.now (memory_type ty)) result }
 {
@@ -112,7 +112,7 @@ fn function_item(
     names: &Names<'_>,
     interfaces: &Interfaces<'_>,
     function: ImportedFunction<'_>,
-) -> Result<Import, ValidateFault>
+) -> Result<Import, NameFault>
     requires world { HasItsWorld (name_scope_of names.now) }
     requires interfaces { AreInterfacesOf (name_scope_of names.now) interfaces.now }
     ensures { IsClassified (name_scope_of names.now) (function_item_view function.entry) result }
@@ -132,7 +132,7 @@ pub(crate) fn classify(
     names: &Names<'_>,
     interfaces: &Interfaces<'_>,
     item: ImportedItem<'_>,
-) -> Result<Import, ValidateFault>
+) -> Result<Import, NameFault>
     requires world { HasItsWorld (name_scope_of names.now) }
     requires interfaces { AreInterfacesOf (name_scope_of names.now) interfaces.now }
     ensures { IsClassified (name_scope_of names.now) (item_view item.entry) result }

@@ -5,8 +5,8 @@ ghost use Rattle.wc_names.specs.Environment.{names_value_type};
 ghost use Rattle.wc_names.specs.Views.{import_view};
 ghost use Rattle.wc_validate.specs.Private.Imports.Functions.{IsOfEnvironment};
 
-use crate::ValidateFault;
 use crate::imports::items::ImportedFunction;
+use crate::name_fault::NameFault;
 use crate::signatures::{kept, names_type};
 use wc_names::{Import, NameMangling};
 
@@ -28,7 +28,7 @@ fn names_value_type(import: &Import) -> bool
 pub(crate) fn environment<N: NameMangling>(
     scheme: &N,
     function: ImportedFunction<'_>,
-) -> Result<Option<Import>, ValidateFault>
+) -> Result<Option<Import>, NameFault>
     ensures { IsOfEnvironment (N.scheme scheme.now) function.entry result }
 {
     if function.module_name != ENVIRONMENT {
@@ -38,5 +38,5 @@ pub(crate) fn environment<N: NameMangling>(
         return Ok(None);
     };
     let is_plain = !names_value_type(&import);
-    kept(is_plain, import, ValidateFault::TypedReference)
+    kept(is_plain, import, NameFault::TypedReference)
 }

@@ -9,9 +9,9 @@ ghost use Rattle.wc_validate.specs.Private.Imports.Interface.{IsIndexed, found_v
 ghost use Rattle.wc_validate.specs.Private.Imports.Kinds.{other_kinds};
 ghost use Rattle.wc_validate.specs.NameScopes.{HasInterfaces, HasItsWorld, lookup_name_scope, name_scope_of};
 
-use crate::ValidateFault;
 use crate::imports::intrinsics::{exported_intrinsic, imported_intrinsic, lowered_function};
 use crate::imports::items::ImportedFunction;
+use crate::name_fault::NameFault;
 use crate::name_scope::{Lookup, Names};
 use crate::prefixes::after;
 use std::alloc::{AllocError, Global};
@@ -73,7 +73,7 @@ fn exported_item<N: NameMangling>(
     names: &Names<'_>,
     found: FoundInterface,
     function: ImportedFunction<'_>,
-) -> Result<Import, ValidateFault>
+) -> Result<Import, NameFault>
     requires world { HasItsWorld (name_scope_of names.now) }
     requires interface { found.id.0 < length names.now.resolve.now.interfaces }
     ensures { IsDecidedAsExport (N.scheme scheme.now) names.now found function.entry result }
@@ -88,7 +88,7 @@ fn exported_item<N: NameMangling>(
     };
     match exported_intrinsic(scheme, alloc, &context, function.name, function.ty)? {
         Some(import) => Ok(import),
-        None => Err(ValidateFault::UnknownIntrinsic),
+        None => Err(NameFault::UnknownIntrinsic),
     }
 }
 
@@ -99,7 +99,7 @@ fn exported_interface<N: NameMangling>(
     lookup: Lookup<'_>,
     text: &str,
     function: ImportedFunction<'_>,
-) -> Result<Import, ValidateFault>
+) -> Result<Import, NameFault>
     requires world { HasItsWorld (lookup_name_scope lookup) }
     requires interfaces { HasInterfaces (interface_texts (N.scheme scheme.now)) lookup }
     ensures { IsDecidedInExport (N.scheme scheme.now)
@@ -114,7 +114,7 @@ fn exported_interface<N: NameMangling>(
     };
     match interface_of(scheme, alloc, exports, text)? {
         Some(found) => exported_item(scheme, alloc, names, found, function),
-        None => Err(ValidateFault::UnknownInterface),
+        None => Err(NameFault::UnknownInterface),
     }
 }
 
@@ -125,7 +125,7 @@ fn imported_item<N: NameMangling>(
     names: &Names<'_>,
     found: FoundInterface,
     function: ImportedFunction<'_>,
-) -> Result<Import, ValidateFault>
+) -> Result<Import, NameFault>
     requires world { HasItsWorld (name_scope_of names.now) }
     requires interface { found.id.0 < length names.now.resolve.now.interfaces }
     ensures { IsDecidedAsImport (N.scheme scheme.now) names.now found function.entry result }
@@ -143,7 +143,7 @@ fn imported_item<N: NameMangling>(
         Some(lowered) => Ok(lowered),
         None => match imported_intrinsic(scheme, alloc, &context, function.name, function.ty)? {
             Some(import) => Ok(import),
-            None => Err(ValidateFault::MissingFunction),
+            None => Err(NameFault::MissingFunction),
         },
     }
 }
@@ -155,7 +155,7 @@ fn imported_interface<N: NameMangling>(
     lookup: Lookup<'_>,
     text: &str,
     function: ImportedFunction<'_>,
-) -> Result<Import, ValidateFault>
+) -> Result<Import, NameFault>
     requires world { HasItsWorld (lookup_name_scope lookup) }
     requires interfaces { HasInterfaces (interface_texts (N.scheme scheme.now)) lookup }
     ensures { IsDecidedInImport (N.scheme scheme.now)
@@ -170,7 +170,7 @@ fn imported_interface<N: NameMangling>(
     };
     match interface_of(scheme, alloc, imports, text)? {
         Some(found) => imported_item(scheme, alloc, names, found, function),
-        None => Err(ValidateFault::UnknownInterface),
+        None => Err(NameFault::UnknownInterface),
     }
 }
 
@@ -180,14 +180,14 @@ pub(crate) fn interface_import<N: NameMangling>(
     alloc: Global,
     lookup: Lookup<'_>,
     function: ImportedFunction<'_>,
-) -> Result<Import, ValidateFault>
+) -> Result<Import, NameFault>
     requires world { HasItsWorld (lookup_name_scope lookup) }
     requires interfaces { HasInterfaces (interface_texts (N.scheme scheme.now)) lookup }
     ensures { IsDecidedAmong (N.scheme scheme.now)
         (lookup_name_scope lookup.entry) other_kinds function.entry result }
 {
     let Some(text) = after(function.module_name, scheme.import_non_root_prefix()) else {
-        return Err(ValidateFault::BadSyntax);
+        return Err(NameFault::BadSyntax);
     };
     match after(text, scheme.import_exported_intrinsic_prefix()) {
         Some(export) => exported_interface(scheme, alloc, lookup, export, function),

@@ -9,9 +9,9 @@ ghost use Rattle.wc_validate.specs.Private.Imports.Kinds.{IsContextFormed, IsInt
 ghost use Rattle.wc_validate.specs.Private.Imports.Lookups.{LookupScope, lookup_scope};
 ghost use Rattle.wc_validate.specs.Private.Imports.Intrinsics.{has_result, operation_of, IsIntrinsicAmong, IsIntrinsicOf, IsOnResource, import_of_function, import_on_resource};
 
-use crate::ValidateFault;
 use crate::imports::lookups::{function_named, resource_named, scope_key};
-use crate::signatures::{checked, checked_async_value, has_function_type};
+use crate::name_fault::NameFault;
+use crate::signatures::{checked, checked_async_value, function_mismatch, has_function_type};
 use std::alloc::{AllocError, Global};
 use wc_names::{Import, NameMangling, PayloadLookupContext};
 use wc_read::{FuncType, ValType};
@@ -51,7 +51,7 @@ pub(crate) fn lowered_function(
     name: &str,
     abi: AbiVariant,
     ty: &FuncType,
-) -> Result<Option<Import>, ValidateFault>
+) -> Result<Option<Import>, NameFault>
     requires { IsContextFormed context.now }
     ensures { IsClassifiedBy (MeansFunction (lookup_scope context.now) name.now abi) ty.now result }
 {
@@ -60,7 +60,7 @@ pub(crate) fn lowered_function(
         return Ok(None);
     };
     if !has_function_type(alloc, context.resolve, abi, function, ty)? {
-        return Err(ValidateFault::SignatureMismatch);
+        return Err(function_mismatch(alloc, context.resolve, abi, function)?);
     }
     Ok(Some(function_import(alloc, context, name, function, abi)?))
 }
@@ -107,7 +107,7 @@ fn on_resource(
     operation: ResourceOperation,
     resource: &str,
     ty: &FuncType,
-) -> Result<Option<Import>, ValidateFault>
+) -> Result<Option<Import>, NameFault>
     requires { IsContextFormed context.now }
     ensures { IsOnResource context.now operation resource.now ty.now result }
 {
@@ -116,9 +116,9 @@ fn on_resource(
     };
     let import = resource_import(alloc, context, operation, resource, id)?;
     if has_result(context.imported, operation) {
-        checked(import, ty, &[ValType::I32], &[ValType::I32])
+        checked(alloc, import, ty, &[ValType::I32], &[ValType::I32])
     } else {
-        checked(import, ty, &[ValType::I32], &[])
+        checked(alloc, import, ty, &[ValType::I32], &[])
     }
 }
 
@@ -129,7 +129,7 @@ fn resource_drop<N: NameMangling>(
     context: &PayloadLookupContext<'_>,
     name: &str,
     ty: &FuncType,
-) -> Result<Option<Import>, ValidateFault>
+) -> Result<Option<Import>, NameFault>
     requires { IsContextFormed context.now }
     ensures { IsIntrinsicOf (N.scheme scheme.now) context.now
         (of_resource resource_drop) name.now ty.now result }
@@ -147,7 +147,7 @@ fn resource_new<N: NameMangling>(
     context: &PayloadLookupContext<'_>,
     name: &str,
     ty: &FuncType,
-) -> Result<Option<Import>, ValidateFault>
+) -> Result<Option<Import>, NameFault>
     requires { IsContextFormed context.now }
     ensures { IsIntrinsicOf (N.scheme scheme.now) context.now
         (of_resource resource_new) name.now ty.now result }
@@ -165,7 +165,7 @@ fn resource_rep<N: NameMangling>(
     context: &PayloadLookupContext<'_>,
     name: &str,
     ty: &FuncType,
-) -> Result<Option<Import>, ValidateFault>
+) -> Result<Option<Import>, NameFault>
     requires { IsContextFormed context.now }
     ensures { IsIntrinsicOf (N.scheme scheme.now) context.now
         (of_resource resource_rep) name.now ty.now result }
@@ -183,7 +183,7 @@ fn task_return<N: NameMangling>(
     context: &PayloadLookupContext<'_>,
     name: &str,
     ty: &FuncType,
-) -> Result<Option<Import>, ValidateFault>
+) -> Result<Option<Import>, NameFault>
     requires { IsContextFormed context.now }
     ensures { IsIntrinsicAmong (N.scheme scheme.now) context.now task_returns name.now ty.now
         result }
@@ -192,7 +192,7 @@ fn task_return<N: NameMangling>(
         return Ok(None);
     };
     let Some(function) = function_named(alloc, context, function_name)? else {
-        return Err(ValidateFault::NoSuchExport);
+        return Err(NameFault::NoSuchExport);
     };
     let key = scope_key(alloc, context, function_name)?;
     let own = function.clone(alloc)?;
@@ -202,14 +202,15 @@ fn task_return<N: NameMangling>(
 /// `task.cancel`, if a name is of it.
 fn task_cancel<N: NameMangling>(
     scheme: &N,
+    alloc: Global,
     name: &str,
     ty: &FuncType,
-) -> Result<Option<Import>, ValidateFault>
+) -> Result<Option<Import>, NameFault>
     ensures { (l : LookupScope) → IsClassifiedBy
         (IsIntrinsic (N.scheme scheme.now) l name.now task_cancel) ty.now result }
 {
     if scheme.task_cancel(name) {
-        return checked(Import::ExportedTaskCancel, ty, &[], &[]);
+        return checked(alloc, Import::ExportedTaskCancel, ty, &[], &[]);
     }
     Ok(None)
 }
@@ -221,14 +222,14 @@ fn async_value<N: NameMangling>(
     context: &PayloadLookupContext<'_>,
     name: &str,
     ty: &FuncType,
-) -> Result<Option<Import>, ValidateFault>
+) -> Result<Option<Import>, NameFault>
     requires { IsContextFormed context.now }
     ensures { IsIntrinsicOf (N.scheme scheme.now) context.now of_async_value name.now ty.now
         result }
 {
     context.resolve.well_formedness();
     match scheme.payload_intrinsic(alloc, context, name)? {
-        Some(import) => checked_async_value(import, ty),
+        Some(import) => checked_async_value(alloc, import, ty),
         None => Ok(None),
     }
 }
@@ -240,7 +241,7 @@ pub(crate) fn imported_intrinsic<N: NameMangling>(
     context: &PayloadLookupContext<'_>,
     name: &str,
     ty: &FuncType,
-) -> Result<Option<Import>, ValidateFault>
+) -> Result<Option<Import>, NameFault>
     requires { IsContextFormed context.now }
     ensures { IsIntrinsicAmong (N.scheme scheme.now) context.now
         (wit_intrinsics true) name.now ty.now result }
@@ -258,14 +259,14 @@ fn task_intrinsic<N: NameMangling>(
     context: &PayloadLookupContext<'_>,
     name: &str,
     ty: &FuncType,
-) -> Result<Option<Import>, ValidateFault>
+) -> Result<Option<Import>, NameFault>
     requires { IsContextFormed context.now }
     ensures { IsIntrinsicAmong (N.scheme scheme.now) context.now task_intrinsics name.now ty.now
         result }
 {
     match task_return(scheme, alloc, context, name, ty)? {
         Some(returned) => Ok(Some(returned)),
-        None => match task_cancel(scheme, name, ty)? {
+        None => match task_cancel(scheme, alloc, name, ty)? {
             Some(cancelled) => Ok(Some(cancelled)),
             None => async_value(scheme, alloc, context, name, ty),
         },
@@ -279,7 +280,7 @@ pub(crate) fn exported_intrinsic<N: NameMangling>(
     context: &PayloadLookupContext<'_>,
     name: &str,
     ty: &FuncType,
-) -> Result<Option<Import>, ValidateFault>
+) -> Result<Option<Import>, NameFault>
     requires { IsContextFormed context.now }
     ensures { IsIntrinsicAmong (N.scheme scheme.now) context.now
         (wit_intrinsics false) name.now ty.now result }

@@ -14,6 +14,7 @@ use crate::imports::arguments::{Arguments, PassedArgument};
 use crate::imports::classify::classify;
 use crate::imports::items::ImportedItem;
 use crate::imports::recorder::Recorder;
+use crate::name_fault::NameFault;
 use crate::name_scope::{Interfaces, Names};
 use std::alloc::Global;
 use wc_dedupe::ModuleImportMap;
@@ -56,11 +57,11 @@ fn original_name<'a>(renames: Option<&'a ModuleImportMap>, import: &wc_read::Imp
 }
 
 /// What an import is, by its original name.
-fn classify_import(
+pub(crate) fn classify_import(
     alloc: Global,
     context: &ImportContext<'_>,
     import: &wc_read::Import<'_>,
-) -> Result<Import, ValidateFault>
+) -> Result<Import, NameFault>
     requires world { HasItsWorld (name_scope_of context.now.names) }
     requires interfaces { AreInterfacesOf (name_scope_of context.now.names) context.now.interfaces }
     requires typed { IsTypeIn (length context.now.types.now) import.now.ty }

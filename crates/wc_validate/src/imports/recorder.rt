@@ -1,6 +1,8 @@
 //! The imports of a core module, recorded one after another.
 
-ghost use Rattle.std.specs.Prelude.{◌≡◌, ◌↔◌, [], IfErr, IfOk, IsTrue, OnOk, false, map};
+ghost use Rattle.std.specs.Prelude.{◌≡◌, ◌↔◌, [], IfErr, IfOk, IsTrue, OnOk, false, map, option_copied, string_bytes};
+ghost use Rattle.std.specs.Option.{option_map};
+ghost use Rattle.wc_read.specs.Types.{func_type_value};
 ghost use Rattle.wc_encoder.specs.Adapters.{which_view};
 ghost use Rattle.wc_names.specs.Views.{import_view};
 ghost use Rattle.wc_validate.specs.Imports.AdapterTypes.{IsNotedAfter, first_some, noted_type, type_entry};
@@ -81,6 +83,14 @@ impl Recorder {
             memory: None,
             adapter_types: Map::with_hasher(alloc, seed),
         }
+    }
+
+    /// The type with which a function of an adapter was imported first, if it was; by the adapter and the function.
+    pub(crate) fn first_type(&self, key: &(String, String)) -> Option<&FuncType>
+        ensures { option_map func_type_value (option_copied result)
+            ≡ types_in self.now (string_bytes key.now.0) (string_bytes key.now.1) }
+    {
+        self.adapter_types.get(key)
     }
 
     /// Whether an import that is a function of an adapter has the type with which that was imported first. The type and

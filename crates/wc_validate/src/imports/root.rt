@@ -6,10 +6,10 @@ ghost use Rattle.wc_validate.specs.Private.Imports.Functions.{IsDecidedInRoot, I
 ghost use Rattle.wc_validate.specs.Private.Imports.Kinds.{other_root_kinds, root_kinds};
 ghost use Rattle.wc_validate.specs.NameScopes.{HasItsWorld, name_scope_of};
 
-use crate::ValidateFault;
 use crate::imports::builtins::root_builtin;
 use crate::imports::intrinsics::{imported_intrinsic, lowered_function};
 use crate::imports::lookups::is_imported;
+use crate::name_fault::NameFault;
 use crate::name_scope::Names;
 use std::alloc::{AllocError, Global};
 use wc_names::{Import, NameMangling, PayloadLookupContext};
@@ -22,7 +22,7 @@ fn root_function<N: NameMangling>(
     names: &Names<'_>,
     name: &str,
     ty: &FuncType,
-) -> Result<Option<Import>, ValidateFault>
+) -> Result<Option<Import>, NameFault>
     requires { HasItsWorld (name_scope_of names.now) }
     ensures { IsOfRootKind (N.scheme scheme.now)
         (name_scope_of names.now) root_function name.now ty.now result }
@@ -44,14 +44,14 @@ fn root_unknown<N: NameMangling>(
     alloc: Global,
     names: &Names<'_>,
     name: &str,
-) -> Result<ValidateFault, AllocError>
+) -> Result<NameFault, AllocError>
     ensures { IfOk result (IsRootRefusal (N.scheme scheme.now) (name_scope_of names.now) name.now) }
 {
     let (item_name, _abi) = scheme.world_key_name_and_abi(name);
     if is_imported(alloc, names.world, item_name)? {
-        return Ok(ValidateFault::RootNotFunction);
+        return Ok(NameFault::RootNotFunction);
     }
-    Ok(ValidateFault::NoRootImport)
+    Ok(NameFault::NoRootImport)
 }
 
 /// The import of a name from the root that is no function and no built-in of no interface.
@@ -61,7 +61,7 @@ fn root_other<N: NameMangling>(
     names: &Names<'_>,
     name: &str,
     ty: &FuncType,
-) -> Result<Import, ValidateFault>
+) -> Result<Import, NameFault>
     requires { HasItsWorld (name_scope_of names.now) }
     ensures { IsDecidedInRoot (N.scheme scheme.now)
         (name_scope_of names.now) other_root_kinds name.now ty.now result }
@@ -86,12 +86,12 @@ pub(crate) fn root_import<N: NameMangling>(
     names: &Names<'_>,
     name: &str,
     ty: &FuncType,
-) -> Result<Import, ValidateFault>
+) -> Result<Import, NameFault>
     requires { HasItsWorld (name_scope_of names.now) }
     ensures { IsDecidedInRoot (N.scheme scheme.now)
         (name_scope_of names.now) root_kinds name.now ty.now result }
 {
-    match root_builtin(scheme, name, ty)? {
+    match root_builtin(scheme, alloc, name, ty)? {
         Some(builtin) => Ok(builtin),
         None => match root_function(scheme, alloc, names, name, ty)? {
             Some(function) => Ok(function),

@@ -6,12 +6,12 @@ ghost use Rattle.wc_validate.specs.Private.Imports.Functions.{IsAmong, IsDecided
 ghost use Rattle.wc_validate.specs.Private.Imports.Kinds.{export_root_kinds};
 ghost use Rattle.wc_validate.specs.NameScopes.{AreInterfacesOf, HasInterfaces, HasItsWorld, lookup_name_scope, name_scope_of};
 
-use crate::ValidateFault;
 use crate::imports::environment::environment;
 use crate::imports::interface::interface_import;
 use crate::imports::intrinsics::exported_intrinsic;
 use crate::imports::items::ImportedFunction;
 use crate::imports::root::root_import;
+use crate::name_fault::NameFault;
 use crate::name_scope::{Interfaces, Lookup, Names};
 use crate::prefixes::{STANDARD_MARKER, after};
 use std::alloc::Global;
@@ -23,7 +23,7 @@ fn export_root<N: NameMangling>(
     alloc: Global,
     names: &Names<'_>,
     function: ImportedFunction<'_>,
-) -> Result<Option<Import>, ValidateFault>
+) -> Result<Option<Import>, NameFault>
     requires { HasItsWorld (name_scope_of names.now) }
     ensures { IsAmong (N.scheme scheme.now)
         (name_scope_of names.now) export_root_kinds function.entry result }
@@ -53,7 +53,7 @@ fn import_by<N: NameMangling>(
     alloc: Global,
     lookup: Lookup<'_>,
     function: ImportedFunction<'_>,
-) -> Result<Import, ValidateFault>
+) -> Result<Import, NameFault>
     requires world { HasItsWorld (lookup_name_scope lookup) }
     requires interfaces { HasInterfaces (interface_texts (N.scheme scheme.now)) lookup }
     ensures { IsDecidedAmong (N.scheme scheme.now)
@@ -77,7 +77,7 @@ pub(crate) fn scheme_import(
     names: &Names<'_>,
     interfaces: &Interfaces<'_>,
     function: ImportedFunction<'_>,
-) -> Result<Import, ValidateFault>
+) -> Result<Import, NameFault>
     requires world { HasItsWorld (name_scope_of names.now) }
     requires interfaces { AreInterfacesOf (name_scope_of names.now) interfaces.now }
     ensures { IsDecidedByScheme (name_scope_of names.now) function.entry result }

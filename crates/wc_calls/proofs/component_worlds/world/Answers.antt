@@ -1,20 +1,27 @@
 use Rattle.wc_calls.specs.ComponentWorlds.{IsWorldAnswer}
-use Rattle.wc_calls.proofs.ComponentWorldLemmas.{too_long, written}
+use Rattle.wc_calls.specs.Private.EncoderAnswers.{IsAnswerFor}
+use Rattle.wc_calls.proofs.ComponentWorldLemmas.{answered_to}
+use Rattle.wc_calls.proofs.FaultAnswerLemmas.{message_refused, put_by, too_long_by, world_refused}
 use Rattle.wc_calls.proofs.component_worlds.world.Goals as goal
 
 pub returns-in-Ok-clause-done : goal.returns-in-Ok-clause-done
 returns-in-Ok-clause-done c = λ is.
-    written (IsWorldAnswer c.args.message.now c.args.modules.now) c.deref.result.now c.deref-in-Ok.result.now c.in-Ok.answer.modules.items c.in-Ok.answer.json.items
-    c.put.result.module_length c.put.result.length c.args.out.now c.put.new.out c.in-Ok.ensures.answer c.deref.ensures.value c.deref-in-Ok.ensures.value
-    c.put.ensures.module_length c.put.ensures.length (c.put.ensures.done is)
+    let r = c.world_for.result in
+    put_by (IsAnswerFor c.in-Ok.encoder r.module_length) (IsWorldAnswer c.args.message.now c.args.modules.now r.module_length) r.length c.args.out.now
+    c.world_for.new.out (answered_to c.args.message.now c.args.modules.now c.in-Ok.encoder r.module_length c.in-Ok.ensures.encoder) (c.world_for.ensures.done is)
 
 pub returns-in-Ok-clause-too_small : goal.returns-in-Ok-clause-too_small
 returns-in-Ok-clause-too_small c = λ is.
-    too_long (IsWorldAnswer c.args.message.now c.args.modules.now) c.deref.result.now c.deref-in-Ok.result.now c.in-Ok.answer.modules.items c.in-Ok.answer.json.items
-    c.put.result.module_length c.put.result.length c.args.out.now c.in-Ok.ensures.answer c.deref.ensures.value c.deref-in-Ok.ensures.value
-    c.put.ensures.module_length c.put.ensures.length (c.put.ensures.too_small is)
+    let r = c.world_for.result in
+    too_long_by (IsAnswerFor c.in-Ok.encoder r.module_length) (IsWorldAnswer c.args.message.now c.args.modules.now r.module_length) r.length c.args.out.now
+    (answered_to c.args.message.now c.args.modules.now c.in-Ok.encoder r.module_length c.in-Ok.ensures.encoder) (c.world_for.ensures.too_small is)
+
+pub returns-in-Ok-clause-fault : goal.returns-in-Ok-clause-fault
+returns-in-Ok-clause-fault c = λ is.
+    world_refused c.args.message.now c.args.modules.now c.in-Ok.encoder c.world_for.result c.args.out.now c.world_for.new.out c.in-Ok.ensures.encoder
+    (c.world_for.ensures.fault is)
 
 pub returns-in-Err-clause-fault : goal.returns-in-Err-clause-fault
 returns-in-Err-clause-fault c = λ is.
-    let h = c.answer_fault.ensures.fault is in
-    (c.in-Err.fault, c.in-Err.ensures.fault, (λ same. c.answer_fault.ensures.memory same is), h.0, h.1)
+    message_refused c.args.message.now c.args.modules.now c.in-Err.fault c.answer_message_fault.result c.args.out.now c.answer_message_fault.new.out
+    c.in-Err.ensures.fault (c.answer_message_fault.ensures.fault is)

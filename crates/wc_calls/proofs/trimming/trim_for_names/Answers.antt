@@ -3,7 +3,7 @@ use Rattle.wc_gc.specs.Parts.{settings}
 use Rattle.wc_calls.specs.Required.{texts, trim_input_of}
 use Rattle.wc_calls.specs.Trimming.{IsRun}
 use Rattle.wc_calls.proofs.RequiredLemmas.{some_keys}
-use Rattle.wc_calls.proofs.TrimmingLemmas.{run_of, put_of, too_long_of, fault_of}
+use Rattle.wc_calls.proofs.TrimmingLemmas.{run_of, put_of, statuses_of, too_long_of, fault_of}
 use Rattle.wc_calls.proofs.trimming.trim_for_names.Goals as goal
 
 pub run-trimmed-requires-clause-some : goal.run-trimmed-requires-clause-some
@@ -26,4 +26,8 @@ returns-clause-too_small c =
 pub returns-clause-fault : goal.returns-clause-fault
 returns-clause-fault c =
     let p = c.put_trimmed in
-    fault_of (settings c.args.realloc c.args.page_size_log2) c.args.wasm.now (names_of c.in-Ok.names.keys) (texts c.args.required.now) c.run-trimmed.result p.result.status p.result.fault p.result.position c.in-Ok.ensures c.run-trimmed.ensures.fault p.ensures.ok p.ensures.memory p.ensures.fault
+    fault_of (settings c.args.realloc c.args.page_size_log2) c.args.wasm.now (names_of c.in-Ok.names.keys) (texts c.args.required.now) c.run-trimmed.result p.result
+    c.args.out.now p.new.out c.in-Ok.ensures c.run-trimmed.ensures.fault p.ensures.ok p.ensures.memory p.ensures.fault
+
+pub returns-clause-statuses : goal.returns-clause-statuses
+returns-clause-statuses c = statuses_of c.run-trimmed.result c.put_trimmed.result.status c.put_trimmed.ensures.ok c.put_trimmed.ensures.fault_or_memory

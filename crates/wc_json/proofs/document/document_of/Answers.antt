@@ -11,10 +11,10 @@ returns c =
     let ws = c.in_ok-worlds.worlds.items in
     let ps = c.in_ok-packages.packages.items in
     rw (
-      c.in_ok-worlds.ensures,
-      c.in_ok-interfaces.ensures,
-      c.in_ok-types.ensures,
-      c.in_ok-packages.ensures,
+      c.in_ok-worlds.ensures.reads,
+      c.in_ok-interfaces.ensures.reads,
+      c.in_ok-types.ensures.reads,
+      c.in_ok-packages.ensures.reads,
       c.in_ok-worlds-2.ensures.first,
       c.in_ok-worlds-2.ensures.second,
       c.in_ok-packages-2.ensures.first,

@@ -1,12 +1,10 @@
-use Rattle.std.proofs.Common.{[], inl, inr, refl, subst, sym}
+use Rattle.std.proofs.Common.{[], ◌∙◌, inl, inr, refl}
 use Rattle.wc_tool.specs.FaultTexts.{memory_text}
-use Rattle.wc_plan_tool.specs.Faults.{IsTextOf}
 use Rattle.wc_plan_tool.proofs.program.report.Goals as goal
 
 pub returns-in-Ok : goal.returns-in-Ok
 returns-in-Ok g c =
-    let text = subst (IsTextOf c.args.fault.now) (sym c.deref.ensures) c.in-Ok.ensures in
-    (c.deref.result.now, c.report_text.ensures.0, inl text, c.report_text.ensures.1, c.report_text.ensures.2)
+    (c.deref.result.now, c.report_text.ensures.0, inl (c.deref.ensures ∙ c.in-Ok.ensures), c.report_text.ensures.1, c.report_text.ensures.2)
 
 pub returns-in-Err : goal.returns-in-Err
 returns-in-Err g c = (memory_text, [], inr refl, inr refl, c.print_fault.ensures)

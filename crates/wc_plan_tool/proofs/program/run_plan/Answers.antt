@@ -1,8 +1,7 @@
-use Rattle.std.proofs.Common.{◌∙◌, OnOk, Some, map, refl, subst}
+use Rattle.std.proofs.Common.{◌∙◌, OnOk, Some, refl, subst}
 use Rattle.std.proofs.lemmas.Result.{err_from_is_err_and}
 use Rattle.wc_world.specs.WorldViews.{world_view}
 use Rattle.wc_plan_tool.specs.Arguments.{command_value}
-use Rattle.wc_plan_tool.specs.Program.{file_view}
 use Rattle.wc_plan_tool.specs.Screen.{Becomes}
 use Rattle.wc_plan_tool.specs.declared.faults.ProgramFault.TheVariants.{Memory}
 use Rattle.wc_plan_tool.proofs.RunLemmas.{all_written, quiet, some_unwritten}
@@ -36,7 +35,7 @@ returns-clause-done g c =
     let text = c.deref.ensures.value ∙ c.in_ok-description.ensures in
     let printed = subst (λ t. OnOk c.write_and_print.result (ends (Some t))) text made.printed in
     all_written command (held c.args.files.now) (held c.write_and_print.new.files) (g.F.DirectoryStore.makes c.args.files.now) out
-    (world_view c.args.world.now) c.requires.planned (map file_view c.in_ok-outputs.outputs.items) c.in_ok-outputs.ensures c.write_and_print.result made.made
+    (world_view c.args.world.now) c.requires.planned c.in_ok-outputs.outputs.items c.in_ok-outputs.ensures c.write_and_print.result made.made
     made.written printed
 
 pub returns-clause-fault : goal.returns-clause-fault
@@ -45,5 +44,5 @@ returns-clause-fault g c =
     let held = g.F.FileStore.held in
     let out = Becomes g.O.Screen.ends c.args.out.now c.write_and_print.new.out in
     some_unwritten command (held c.args.files.now) (held c.write_and_print.new.files) (g.F.DirectoryStore.makes c.args.files.now) out
-    (world_view c.args.world.now) c.requires.planned (map file_view c.in_ok-outputs.outputs.items) c.in_ok-outputs.ensures c.write_and_print.result
+    (world_view c.args.world.now) c.requires.planned c.in_ok-outputs.outputs.items c.in_ok-outputs.ensures c.write_and_print.result
     c.write_and_print.ensures.fault

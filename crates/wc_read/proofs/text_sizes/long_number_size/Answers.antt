@@ -6,4 +6,4 @@ overflow_sub-size c = number_left c.args.bits c.args.input.now c.in-Ok.number c.
 
 pub returns-then-is_shortest : goal.returns-then-is_shortest
 returns-then-is_shortest c =
-    number_long c.args.bits c.args.input.now c.in-Ok.number c.number.new.self.rest.now c.are_bytes.ensures (rw c.new-reader.ensures at c.in-Ok.ensures.read) (c.is_shortest.ensures c.if-is_shortest.true)
+    number_long c.args.bits c.args.input.now c.in-Ok.number c.number.new.self.rest.now c.are_bytes.ensures (rw c.new-reader.ensures at c.in-Ok.ensures.read) (c.is_shortest.ensures.shortest c.if-is_shortest.true)

@@ -11,14 +11,14 @@ use Rattle.wc_names.specs.ExportViews.{export_view}
 use Rattle.wc_names.specs.First.{FirstOf}
 use Rattle.wc_names.specs.Imports.{ExternType, NameScope, func_type, memory_type, table_type}
 use Rattle.wc_names.specs.Schemes.{Scheme}
-use Rattle.wc_validate.specs.declared.fault.ValidateFault.{ValidateFault}
+use Rattle.wc_validate.specs.declared.name_fault.NameFault.{NameFault}
 use Rattle.wc_read.specs.declared.types.MemoryType.{MemoryType}
 use Rattle.wc_read.specs.declared.types.TableType.{TableType}
-use Rattle.wc_names.specs.Classifications.{IsExportClassification}
+use Rattle.wc_validate.specs.Classifications.{IsExportClassification}
 use Rattle.wc_validate.specs.Faults.{fault_kind}
 
 -- what is answered of the name of an export of a type, by what the name means
-abbrev pub IsExportClassified : (ExportMeaning → Type 0) → ExternType → Result (Option Export) ValidateFault → Type 0
+abbrev pub IsExportClassified : (ExportMeaning → Type 0) → ExternType → Result (Option Export) NameFault → Type 0
 IsExportClassified Means ty result = IsExportClassification fault_kind Means ty result
 
 -- what an export's name means by a scheme, of some of the kinds
@@ -29,10 +29,10 @@ abbrev pub IsExportOfKind : Scheme → NameScope → List KeyView → ExportKind
 IsExportOfKind s e keys kind name ty m = IsExportKind s e keys name ty kind m
 
 -- a classification by what the name of an export of a type means; and of an export that is a function
-abbrev pub IsTypedExport : (ExternType → ExportMeaning → Type 0) → ExternType → Result (Option Export) ValidateFault → Type 0
+abbrev pub IsTypedExport : (ExternType → ExportMeaning → Type 0) → ExternType → Result (Option Export) NameFault → Type 0
 IsTypedExport MeansOf ty result = IsExportClassified (MeansOf ty) ty result
 
-abbrev pub IsExportFunction : (ExternType → ExportMeaning → Type 0) → FuncType → Result (Option Export) ValidateFault → Type 0
+abbrev pub IsExportFunction : (ExternType → ExportMeaning → Type 0) → FuncType → Result (Option Export) NameFault → Type 0
 IsExportFunction MeansOf ty result = IsTypedExport MeansOf (func_type (func_type_value ty)) result
 
 -- the kinds of functions: those that a scheme has one name for, and those that are named for what the world exports
@@ -53,7 +53,7 @@ IsAnyTypeExport name result =
     (λ x. (row : AnyTypeName) × (name ≡ (any_type_row row).text) × (export_view x ≡ (any_type_row row).export))
 
 -- an export is classified alike for all scopes and key sets: of some kinds of functions, of a memory, and of a table
-abbrev pub IsFixedExport : Scheme → List ExportKind → List ℕ → FuncType → Result (Option Export) ValidateFault → Type 0
+abbrev pub IsFixedExport : Scheme → List ExportKind → List ℕ → FuncType → Result (Option Export) NameFault → Type 0
 IsFixedExport s some_kinds name ty result = (e : NameScope) (keys : List KeyView) → IsExportFunction (MeansExport s e keys some_kinds name) ty result
 
 abbrev pub IsMemoryExport : Scheme → List ℕ → MemoryType → Option Export → Type 0
@@ -65,5 +65,5 @@ IsTableExport s name found =
     (e : NameScope) (keys : List KeyView) (ty : TableType) → IsTypedExport (MeansExport s e keys export_kinds name) (table_type ty) (Ok found)
 
 -- an export of one kind is classified alike for all scopes that have these names
-abbrev pub IsNamedExport : Scheme → ExportNamesView → ExportKind → List ℕ → FuncType → Result (Option Export) ValidateFault → Type 0
+abbrev pub IsNamedExport : Scheme → ExportNamesView → ExportKind → List ℕ → FuncType → Result (Option Export) NameFault → Type 0
 IsNamedExport s names kind name ty result = (e : NameScope) → AreNamesBy s e names → IsExportFunction (IsExportOfKind s e names.keys kind name) ty result

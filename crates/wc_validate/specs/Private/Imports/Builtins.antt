@@ -1,5 +1,6 @@
 -- Built-ins of no interface, tried in three groups; and the signatures that imports of built-ins fix.
 use Rattle.std.specs.Prelude.{◌≡◌, ℕ, List, Option, Some, None, Result}
+use Rattle.std.specs.Option.{IfSome}
 use Rattle.wc_read.specs.Types.{FuncTypeValue, func_type_value}
 use Rattle.wc_names.specs.AsyncValues.{operation_row}
 use Rattle.wc_names.specs.Builtins.{NamesBuiltin, IsThreadBuiltin, builtin_import, builtin_type}
@@ -8,8 +9,8 @@ use Rattle.wc_names.specs.Schemes.{Scheme}
 use Rattle.wc_names.specs.Views.{Builtin, error_context_new, error_context_debug_message, context_get, context_set, thread_index, thread_new_indirect, thread_resume_later, thread_suspend, thread_yield, thread_suspend_then_resume, thread_yield_then_resume, thread_suspend_then_promote, thread_yield_then_promote, ImportView, builtin, async_value, import_view}
 use Rattle.wc_read.specs.declared.types.FuncType.{FuncType}
 use Rattle.wc_names.specs.declared.imports.Import.{Import}
-use Rattle.wc_names.specs.Classifications.{IsTypeChecked}
-use Rattle.wc_validate.specs.declared.fault.ValidateFault.{ValidateFault}
+use Rattle.wc_validate.specs.Classifications.{IsTypeChecked, wrong_signature}
+use Rattle.wc_validate.specs.declared.name_fault.NameFault.{NameFault}
 use Rattle.wc_validate.specs.Faults.{fault_kind}
 
 -- the name is one of some built-ins
@@ -45,7 +46,14 @@ abbrev pub async_value_type : ImportView → Option FuncTypeValue
 async_value_type (async_value v op is_async info) = Some (operation_row v op).ty
 async_value_type i = None
 
+-- a fault says that a type is not this one; and not the one that an import has to have, if it has to have one
+abbrev pub IsMismatch : FuncTypeValue → NameFault → Type 0
+IsMismatch wanted f = fault_kind f ≡ wrong_signature (Some wanted)
+
+abbrev pub IsMismatchBy : (ImportView → Option FuncTypeValue) → Import → NameFault → Type 0
+IsMismatchBy type_of i f = IfSome (type_of (import_view i)) (λ wanted. IsMismatch wanted f)
+
 -- an import's type was compared with the one that it has to have
-abbrev pub IsCheckedBy : (ImportView → Option FuncTypeValue) → Import → FuncType → Result (Option Import) ValidateFault → Type 0
+abbrev pub IsCheckedBy : (ImportView → Option FuncTypeValue) → Import → FuncType → Result (Option Import) NameFault → Type 0
 IsCheckedBy type_of i ty result =
     (required_type : FuncTypeValue) → type_of (import_view i) ≡ Some required_type → IsTypeChecked fault_kind result i (func_type_value ty) required_type

@@ -12,6 +12,7 @@ use Rattle.wc_names.specs.declared.imports.Import.{Import as ClassifiedImport}
 use Rattle.wc_names.specs.Imports.{CoreImport}
 use Rattle.wc_validate.specs.declared.fault.ValidateFault.{ValidateFault}
 use Rattle.wc_validate.specs.declared.fault.ValidateFault.TheVariants.{Memory}
+use Rattle.wc_validate.specs.declared.name_fault.NameFault.{NameFault}
 use Rattle.wc_validate.specs.declared.imports.record.ImportContext.{ImportContext}
 use Rattle.wc_validate.specs.declared.imports.recorder.Recorder.{Recorder}
 use Rattle.wc_validate.specs.Private.Imports.Arguments.{HasArgumentsOf}
@@ -75,7 +76,7 @@ abbrev pub AreRefusedIn : ImportContext → Option LibraryView → List Import �
 AreRefusedIn c library is f = IsImportsRefusal (import_scope c library) (import_values is) f
 
 -- what an import of the code's is, by its original name
-abbrev pub IsClassifiedIn : ImportContext → Option LibraryView → Import → Result ClassifiedImport ValidateFault → Type 0
+abbrev pub IsClassifiedIn : ImportContext → Option LibraryView → Import → Result ClassifiedImport NameFault → Type 0
 IsClassifiedIn c library i result = (a : CoreImport) × IsCoreImport (import_scope c library) (import_value i) a × IsClassified (name_scope_of c.names) a result
 
 -- an import was recorded by a recorder after the entries that it has, or why it was not; by whichever library the module is

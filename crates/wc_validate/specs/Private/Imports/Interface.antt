@@ -13,7 +13,7 @@ use Rattle.wc_validate.specs.declared.imports.items.ImportedFunction.{ImportedFu
 use Rattle.wc_validate.specs.Private.Imports.Functions.{IsDecidedInExport, IsDecidedInImport}
 use Rattle.wc_validate.specs.declared.name_scope.Names.{Names}
 use Rattle.wc_validate.specs.Private.Imports.Kinds.{NamesExport, NamesImport}
-use Rattle.wc_validate.specs.declared.fault.ValidateFault.{ValidateFault}
+use Rattle.wc_validate.specs.declared.name_fault.NameFault.{NameFault}
 use Rattle.std.specs.Option.{option_map}
 
 -- what the world imports, or what it exports
@@ -37,10 +37,10 @@ abbrev pub IsFoundBy : Scheme → InterfaceLookup → List ℕ → Option CodeIn
 IsFoundBy s l text found = Finds (option_map found_view found) (NamesAmong s l text)
 
 -- a function of an interface that is imported, or exported, and is found, whichever text is about it
-abbrev pub IsDecidedAsImport : Scheme → Names → CodeInterface → ImportedFunction → Result Import ValidateFault → Type 0
+abbrev pub IsDecidedAsImport : Scheme → Names → CodeInterface → ImportedFunction → Result Import NameFault → Type 0
 IsDecidedAsImport s n found f result =
     (text : List ℕ) → NamesImport s (name_scope_of n) text (found_view found) → IsDecidedInImport s (name_scope_of n) text f result
 
-abbrev pub IsDecidedAsExport : Scheme → Names → CodeInterface → ImportedFunction → Result Import ValidateFault → Type 0
+abbrev pub IsDecidedAsExport : Scheme → Names → CodeInterface → ImportedFunction → Result Import NameFault → Type 0
 IsDecidedAsExport s n found f result =
     (text : List ℕ) → NamesExport s (name_scope_of n) text (found_view found) → IsDecidedInExport s (name_scope_of n) text f result

@@ -11,7 +11,7 @@ use Rattle.wc_names.specs.Views.{ImportView}
 use Rattle.wc_validate.specs.Faults.{IsClassifiedBy}
 use Rattle.wc_validate.specs.Private.Imports.Kinds.{IsIntrinsic, MeansIntrinsic, MeansOnResource, function_import, resource_import}
 use Rattle.wc_names.specs.declared.payloads.PayloadLookupContext.{PayloadLookupContext}
-use Rattle.wc_validate.specs.declared.fault.ValidateFault.{ValidateFault}
+use Rattle.wc_validate.specs.declared.name_fault.NameFault.{NameFault}
 use Rattle.wc_names.specs.WitIntrinsics.{WitIntrinsic}
 use Rattle.wc_names.specs.Contexts.{context_scope}
 use Rattle.wc_resolve.specs.Views.{function_view}
@@ -30,14 +30,14 @@ has_result false resource_new = true
 has_result false resource_rep = true
 
 -- what a part of the classification answers of some built-ins, or of one, of the world or of one of its interfaces
-abbrev pub IsIntrinsicAmong : Scheme → PayloadLookupContext → List WitIntrinsic → List ℕ → FuncType → Result (Option Import) ValidateFault → Type 0
+abbrev pub IsIntrinsicAmong : Scheme → PayloadLookupContext → List WitIntrinsic → List ℕ → FuncType → Result (Option Import) NameFault → Type 0
 IsIntrinsicAmong s c some_intrinsics name ty result = IsClassifiedBy (MeansIntrinsic s (lookup_scope c) some_intrinsics name) ty result
 
-abbrev pub IsIntrinsicOf : Scheme → PayloadLookupContext → WitIntrinsic → List ℕ → FuncType → Result (Option Import) ValidateFault → Type 0
+abbrev pub IsIntrinsicOf : Scheme → PayloadLookupContext → WitIntrinsic → List ℕ → FuncType → Result (Option Import) NameFault → Type 0
 IsIntrinsicOf s c intrinsic name ty result = IsClassifiedBy (IsIntrinsic s (lookup_scope c) name intrinsic) ty result
 
 -- what a part of the classification answers of an operation on a resource
-abbrev pub IsOnResource : PayloadLookupContext → CodeOperation → List ℕ → FuncType → Result (Option Import) ValidateFault → Type 0
+abbrev pub IsOnResource : PayloadLookupContext → CodeOperation → List ℕ → FuncType → Result (Option Import) NameFault → Type 0
 IsOnResource c op resource ty result = IsClassifiedBy (MeansOnResource (lookup_scope c) (operation_of op) resource) ty result
 
 -- the imports of an operation on a resource, and of a function by its name

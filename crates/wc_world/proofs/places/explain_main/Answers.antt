@@ -1,4 +1,4 @@
-use Rattle.std.proofs.Common.{None, subst}
+use Rattle.std.proofs.Common.{None, Some, refl, subst}
 use Rattle.std.specs.Option.{option_copied}
 use Rattle.wc_validate.specs.Places.{IsExplained}
 use Rattle.wc_validate.specs.Validated.{main_input}
@@ -9,3 +9,10 @@ pub returns-in-None : goal.returns-in-None
 returns-in-None c =
     main_answer c.args.encoder.now c.args.fault.now (option_copied c.module_import_map-import_map.result) c.module-bytes.result.now None c.module_import_map-import_map.ensures c.module-bytes.ensures
     (subst (λ o. IsExplained (main_input c.args.encoder.now (option_copied c.module_import_map-import_map.result)) c.module-bytes.result.now c.args.fault.now o) c.in-None.is c.in_ok-place.ensures)
+
+pub returns-in-Some : goal.returns-in-Some
+returns-in-Some c = (
+  refl,
+  main_answer c.args.encoder.now c.args.fault.now (option_copied c.module_import_map-import_map.result) c.module-bytes.result.now (Some c.in-Some.place) c.module_import_map-import_map.ensures c.module-bytes.ensures
+      (subst (λ o. IsExplained (main_input c.args.encoder.now (option_copied c.module_import_map-import_map.result)) c.module-bytes.result.now c.args.fault.now o) c.in-Some.is c.in_ok-place.ensures),
+)

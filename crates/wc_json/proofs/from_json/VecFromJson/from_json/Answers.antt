@@ -12,7 +12,7 @@ loop-item-preserved g c =
     let view = g.T.FromJson.view in
     let invariant = c.loop-item.invariant in
     let index = c.len-index.result in
-    let item = Reads_at_step view (index_step index) c.from_json.result (Ok c.in_ok-at_index.field-0) _ c.in_ok-at_index.ensures c.from_json.ensures in
+    let item = Reads_at_step view (index_step index) c.from_json.result (Ok c.in_ok-at_index.field-0) _ c.in_ok-at_index.ensures c.from_json.ensures.reads in
     record {
       count = omega (arith, c.in_ok-push.ensures.len, invariant.count);
       reading = invariant.reading
@@ -21,8 +21,8 @@ loop-item-preserved g c =
           view c.loop-item.list.items c.push.new.self.items c.in_ok-at_index.field-0 item c.in_ok-push.ensures.items;
     }
 
-pub returns-in_err-at_index : goal.returns-in_err-at_index
-returns-in_err-at_index g c =
+pub returns-in_err-at_index-clause-reads : goal.returns-in_err-at_index-clause-reads
+returns-in_err-at_index-clause-reads g c =
     let p = err_from_is_err_and c.from_residual-in_err-at_index.result c.from_residual-in_err-at_index.ensures.1 in
     let reading = g.T.FromJson.reading in
     let view = g.T.FromJson.view in
@@ -31,7 +31,7 @@ returns-in_err-at_index g c =
     let fault = c.in_err-at_index.field-0.0 in
     let items = c.deref-item-items.result.now in
     let whole = list-value_view reading c.args.value.now c.in-Array.items items c.in-Array.is c.deref-item-items.ensures.value ∙ invariant.reading in
-    let item = Reads_at_step view (index_step index) c.from_json.result (Err fault) _ c.in_err-at_index.ensures c.from_json.ensures in
+    let item = Reads_at_step view (index_step index) c.from_json.result (Err fault) _ c.in_err-at_index.ensures c.from_json.ensures.reads in
     rw (p.1, p.2) (subst (IsFaultOf fault) (sym whole)
     (IsFaultOf_item reading items c.loop-item.item-index index c.item-item.result c.loop-item-test.true c.item-item.is (c.len-index.ensures ∙ invariant.count)
     fault (map view c.loop-item.list.items) item))

@@ -18,7 +18,7 @@ loop-member-preserved g c =
     let before = entries_view string_eq bytes_eq string_bytes view (λ a b. refl) c.loop-member.map.entries in
     let rest = members_view (drop (c.loop-member.member-index + 1) members) in
     let value = Reads_at_step view (key_step c.member-item.result.0.now) c.from_json.result
-    (Ok c.in_ok-entry.entry) _ c.in_ok-entry.ensures c.from_json.ensures in
+    (Ok c.in_ok-entry.entry) _ c.in_ok-entry.ensures c.from_json.ensures.reads in
     c.loop-member.invariant
     ∙ entries_after-member bytes_eq (λ k a. k) reading members c.loop-member.member-index c.member-item.result c.loop-member-test.true c.member-item.is
     before (view c.in_ok-entry.entry) value
@@ -36,6 +36,8 @@ returns-in_err-entry g c =
     let fault = c.in_err-entry.field-0.0 in
     let whole = entries-value_view bytes_eq
     (λ k a. k) reading c.args.value.now c.in-Object.members members c.in-Object.is c.deref-member-items.ensures.value ∙ c.loop-member.invariant in
-    let value = Reads_at_step view (key_step c.member-item.result.0.now) c.from_json.result (Err fault) _ c.in_err-entry.ensures c.from_json.ensures in
-    rw (p.1, p.2) (subst (IsFaultOf fault) (sym whole)
-    (IsFaultOf_member bytes_eq (λ k a. k) reading members c.loop-member.member-index c.member-item.result c.loop-member-test.true c.member-item.is fault _ value))
+    let value = Reads_at_step view (key_step c.member-item.result.0.now) c.from_json.result (Err fault) _ c.in_err-entry.ensures c.from_json.ensures.reads in
+    record {
+      reads = rw (p.1, p.2) (subst (IsFaultOf fault) (sym whole)
+          (IsFaultOf_member bytes_eq (λ k a. k) reading members c.loop-member.member-index c.member-item.result c.loop-member-test.true c.member-item.is fault _ value));
+    }

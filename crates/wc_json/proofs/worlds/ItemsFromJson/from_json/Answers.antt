@@ -20,7 +20,7 @@ loop-member-preserved c =
     let before = entries_view key_eq.it key_view_eq key_view item_view keys_viewed c.loop-member.items.entries in
     let rest = members_view (drop (c.loop-member.member-index + 1) members) in
     let value = Reads_at_step item_view (key_step c.member-item.result.0.now) c.from_json.result
-    (Ok c.in_ok-item.item) _ c.in_ok-item.ensures c.from_json.ensures in
+    (Ok c.in_ok-item.item) _ c.in_ok-item.ensures c.from_json.ensures.reads in
     c.loop-member.invariant
     ∙ entries_after-member key_view_eq item_key item members c.loop-member.member-index c.member-item.result c.loop-member-test.true c.member-item.is
     before (item_view c.in_ok-item.item) value
@@ -36,7 +36,9 @@ returns-in_err-item c =
     let fault = c.in_err-item.field-0.0 in
     let whole = entries-value_view key_view_eq item_key item c.args.value.now c.in-Object.members members c.in-Object.is
     c.deref-member-items.ensures.value ∙ c.loop-member.invariant in
-    let value = Reads_at_step item_view (key_step c.member-item.result.0.now) c.from_json.result (Err fault) _ c.in_err-item.ensures c.from_json.ensures in
-    rw (p.1, p.2) (subst (IsFaultOf fault) (sym whole)
-    (IsFaultOf_member key_view_eq item_key item members c.loop-member.member-index c.member-item.result c.loop-member-test.true c.member-item.is
-    fault _ value))
+    let value = Reads_at_step item_view (key_step c.member-item.result.0.now) c.from_json.result (Err fault) _ c.in_err-item.ensures c.from_json.ensures.reads in
+    record {
+      reads = rw (p.1, p.2) (subst (IsFaultOf fault) (sym whole)
+          (IsFaultOf_member key_view_eq item_key item members c.loop-member.member-index c.member-item.result c.loop-member-test.true c.member-item.is
+          fault _ value));
+    }

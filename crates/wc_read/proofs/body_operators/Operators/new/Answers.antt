@@ -4,7 +4,7 @@ use Rattle.wc_read.specs.Decoding.{operators_left}
 use Rattle.wc_read.specs.Reading.Bytes.{vector_at}
 use Rattle.wc_read.specs.Reading.Bodies.{locals_at}
 use Rattle.wc_read.proofs.DecodingLemmas.{body_after_locals, body_with_locals}
-use Rattle.wc_read.proofs.LocalRunsLemmas.{refused_locals, front_runs, keeps_read, keeps_text, keeps_no_types, small_enough, rest_within}
+use Rattle.wc_read.proofs.LocalRunsLemmas.{refused_locals, front_runs, keeps_read, keeps_text, keeps_no_types, keeps_exact, small_enough, rest_within}
 use Rattle.wc_read.proofs.body_operators.Operators.new.Goals as goal
 
 pub returns-in_err-is_shortest-clause-refused : goal.returns-in_err-is_shortest-clause-refused
@@ -37,4 +37,8 @@ returns-clause-keeps_locals c =
       read = keeps_read c.split_at.result.0.now c.args.slice.now c.pass_locals.new.self.rest.now p.0 c.split_at.ensures.front p.1;
       text = λ is. keeps_text c.split_at.result.0.now c.args.slice.now c.pass_locals.new.self.rest.now p.0 c.split_at.ensures.front p.1 (p.3 is).0;
       no_types = λ is. keeps_no_types c.split_at.result.0.now c.args.slice.now c.pass_locals.new.self.rest.now p.0 c.split_at.ensures.front p.1 (p.3 is).1;
+      exact = λ no. keeps_exact c.split_at.result.0.now c.args.slice.now c.pass_locals.new.self.rest.now p.0 c.split_at.ensures.front p.1 (p.4 no);
     }
+
+pub returns-clause-front : goal.returns-clause-front
+returns-clause-front c = (c.split_at.result.1.now, c.split_at.ensures.by_index.0)

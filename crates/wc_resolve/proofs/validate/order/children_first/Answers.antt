@@ -1,4 +1,4 @@
-use Rattle.std.proofs.Common.{◌<◌, map, length, inr, refl, rules}
+use Rattle.std.proofs.Common.{◌<◌, map, length, rules}
 use Rattle.wc_resolve.specs.Views.{type_view}
 use Rattle.wc_resolve.specs.World.{children}
 use Rattle.wc_resolve.specs.declared.validate.order.IndexStep.TheVariants.{Enter, Leave}
@@ -24,7 +24,7 @@ pub steps-preserved-in-Done : goal.steps-preserved-in-Done
 steps-preserved-in-Done c = skipped (children (map type_view c.args.types.now)) (length c.args.types.now) c.in-Enter.index c.steps.progress.items c.steps.steps.items c.pop.new.self.items c.in-Some.step c.steps.order.items c.index.result.now c.in-Some.ensures.items c.in-Enter.is c.steps.invariant c.index.ensures c.in-Done.is
 
 pub returns-in-Open-clause-fault : goal.returns-in-Open-clause-fault
-returns-in-Open-clause-fault c = inr (refl, (c.in-Enter.index, cycle_closed (children (map type_view c.args.types.now)) (length c.args.types.now) c.in-Enter.index c.steps.progress.items c.steps.steps.items c.pop.new.self.items c.in-Some.step c.steps.order.items c.index.result.now c.in-Some.ensures.items c.in-Enter.is c.steps.invariant c.index.ensures c.in-Open.is))
+returns-in-Open-clause-fault c = cycle_closed (children (map type_view c.args.types.now)) (length c.args.types.now) c.in-Enter.index c.steps.progress.items c.steps.steps.items c.pop.new.self.items c.in-Some.step c.steps.order.items c.index.result.now c.in-Some.ensures.items c.in-Enter.is c.steps.invariant c.index.ensures c.in-Open.is
 
 pub index_mut-requires-in-New : goal.index_mut-requires-in-New
 index_mut-requires-in-New c = let small : target (Enter c.in-Enter.index) < length c.steps.progress.items = in_bounds (children (map type_view c.args.types.now)) (length c.args.types.now) c.steps.progress.items c.steps.steps.items c.pop.new.self.items c.in-Some.step (Enter c.in-Enter.index) c.steps.order.items c.in-Some.ensures.items c.in-Enter.is c.steps.invariant in search (rules, small)

@@ -1,4 +1,4 @@
-use Rattle.std.proofs.Common.{Some, ap}
+use Rattle.std.proofs.Common.{None, Some, ap}
 use Rattle.std.specs.List.{filter_map}
 use Rattle.wc_read.specs.Types.{func_type_value}
 use Rattle.wc_validate.specs.Places.{an_export}
@@ -14,3 +14,7 @@ returns c = λ xs same. (
   ap an_export c.in_ok-from_str.ensures.ok,
   difference_is c.in_ok-wanted.wanted c.in_ok-found.found (func_type_value c.args.ty.now) (func_type_value c.in-Some.own.now.now) c.in_ok-wanted.ensures c.in_ok-found.ensures,
 )
+
+pub returns-in_default : goal.returns-in_default
+returns-in_default c = λ xs same.
+    typed_found c.args.index.now.entries c.args.name.now None (filter_map typed_name xs) c.in_default.ensures.value same

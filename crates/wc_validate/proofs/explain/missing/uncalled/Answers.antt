@@ -1,4 +1,4 @@
-use Rattle.std.proofs.Common.{◌≡◌, ◌∙◌, List, ℕ, IsTrue, true, false, ap, map, refl, sym}
+use Rattle.std.proofs.Common.{◌≡◌, ◌∙◌, List, ℕ, IsTrue, true, false, ap, map, sym}
 use Rattle.wc_names.specs.ExportViews.{ExportView}
 use Rattle.wc_validate.specs.Exports.Map.{export_entry}
 use Rattle.wc_validate.specs.Requirements.{is_called_back}

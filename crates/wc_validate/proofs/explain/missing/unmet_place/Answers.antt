@@ -4,7 +4,7 @@ use Rattle.wc_validate.specs.Exports.Map.{export_entry}
 use Rattle.wc_validate.specs.Exports.Record.{exports_in}
 use Rattle.wc_validate.specs.Imports.Map.{required_entry}
 use Rattle.wc_validate.specs.Private.ExportedFunctions.{IsExportIndexOf}
-use Rattle.wc_validate.proofs.MissingLemmas.{function_lacking, key_missing}
+use Rattle.wc_validate.proofs.MissingLemmas.{function_lacking, key_missing, nothing_missing}
 use Rattle.wc_validate.proofs.explain.missing.unmet_place.Goals as goal
 
 pub returns-in-Err : goal.returns-in-Err
@@ -23,4 +23,12 @@ returns c =
     function_lacking c.args.names.now c.args.required xs c.args.recorded.now.entries c.args.fault.now c.function_place.result c.requires.alone
     (c.in_default.ensures.met xs recorded c.in_ok-functions.ensures)
     (c.function_place.ensures c.args.names.now.resolve.now xs recorded (map required_entry c.args.required.functions.now.entries) same
-    (c.in-Err-first_unexported.ensures c.args.names.now.resolve.now xs recorded same))
+    (c.in-Err-first_unexported.ensures.lacking c.args.names.now.resolve.now xs recorded same))
+
+pub returns-in-Ok : goal.returns-in-Ok
+returns-in-Ok c =
+    let xs = exports_in c.args.module.now c.args.module.now.exports.items in
+    let recorded = map export_entry c.args.recorded.now.entries in
+    let same = subst (λ z. IsExportIndexOf c.in_ok-index.index.entries (exports_in c.args.module.now z)) c.deref.ensures.value c.in_ok-index.ensures in
+    nothing_missing c.args.names.now c.args.required xs c.args.recorded.now.entries c.args.fault.now c.requires.alone
+    (c.in_default.ensures.met xs recorded c.in_ok-functions.ensures) (c.in-Ok.ensures.met c.args.names.now.resolve.now xs recorded same)

@@ -8,8 +8,8 @@ use Rattle.wc_validate.specs.Private.Exports.Classify.{fixed_kinds}
 use Rattle.wc_validate.proofs.BuiltinLemmas.{equal, not_equal, unequal}
 use Rattle.wc_validate.proofs.ExportKindLemmas.{some_is}
 use Rattle.wc_validate.proofs.IntrinsicLemmas.{not_found}
-use Rattle.wc_names.proofs.ClassificationLemmas.{classified_export, classified_nothing}
-use Rattle.wc_names.specs.Classifications.{of_exports}
+use Rattle.wc_validate.proofs.ClassificationLemmas.{classified_export, classified_nothing}
+use Rattle.wc_validate.specs.Classifications.{of_exports}
 use Rattle.wc_validate.specs.Faults.{fault_kind}
 use Rattle.wc_validate.proofs.exports.classify.fixed_export.Goals as goal
 

@@ -5,8 +5,8 @@ use Rattle.wc_names.specs.Imports.{func_type}
 use Rattle.wc_validate.specs.Private.Exports.Classify.{fixed_kinds, named_kinds}
 use Rattle.wc_validate.specs.NameScopes.{name_scope_of}
 use Rattle.wc_validate.proofs.ExportKindLemmas.{no_other}
-use Rattle.wc_names.proofs.ClassificationLemmas.{group_passed, group_skipped, group_none, group_some}
-use Rattle.wc_names.specs.Classifications.{of_exports}
+use Rattle.wc_validate.proofs.ClassificationLemmas.{group_passed, group_skipped, group_none, group_some}
+use Rattle.wc_validate.specs.Classifications.{of_exports}
 use Rattle.wc_validate.specs.Faults.{fault_kind}
 use Rattle.wc_validate.proofs.exports.classify.function_by.Goals as goal
 

@@ -2,8 +2,8 @@ use Rattle.std.proofs.Common.{◌∙◌, inl, refl, sym}
 use Rattle.std.proofs.lemmas.Slice.Eq.{bytes_eq-Decides}
 use Rattle.wc_validate.proofs.BuiltinLemmas.{not_equal}
 use Rattle.wc_validate.proofs.ExportKindLemmas.{no_memory}
-use Rattle.wc_names.proofs.ClassificationLemmas.{classified_nothing, classified_unchecked}
-use Rattle.wc_names.specs.Classifications.{of_exports}
+use Rattle.wc_validate.proofs.ClassificationLemmas.{classified_nothing, classified_unchecked}
+use Rattle.wc_validate.specs.Classifications.{of_exports}
 use Rattle.wc_validate.specs.Faults.{fault_kind}
 use Rattle.wc_validate.proofs.exports.classify.memory_by.Goals as goal
 

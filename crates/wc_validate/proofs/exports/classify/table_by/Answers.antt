@@ -3,8 +3,8 @@ use Rattle.std.proofs.lemmas.Slice.Eq.{bytes_eq-Decides}
 use Rattle.wc_validate.proofs.BuiltinLemmas.{not_equal}
 use Rattle.wc_validate.proofs.ExportKindLemmas.{no_memory_table, no_table, some_is}
 use Rattle.wc_validate.proofs.IntrinsicLemmas.{not_found}
-use Rattle.wc_names.proofs.ClassificationLemmas.{classified_nothing, classified_unchecked}
-use Rattle.wc_names.specs.Classifications.{of_exports}
+use Rattle.wc_validate.proofs.ClassificationLemmas.{classified_nothing, classified_unchecked}
+use Rattle.wc_validate.specs.Classifications.{of_exports}
 use Rattle.wc_validate.specs.Faults.{fault_kind}
 use Rattle.wc_validate.proofs.exports.classify.table_by.Goals as goal
 

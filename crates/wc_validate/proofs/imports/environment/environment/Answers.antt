@@ -3,12 +3,12 @@ use Rattle.std.proofs.lemmas.Bool.{not-false, not-true}
 use Rattle.std.proofs.lemmas.Slice.Eq.{bytes_eq-Decides}
 use Rattle.wc_read.specs.Types.{func_type_value}
 use Rattle.wc_names.specs.Environment.{environment_module}
-use Rattle.wc_names.proofs.ClassificationLemmas.{classified_nothing}
+use Rattle.wc_validate.proofs.ClassificationLemmas.{classified_nothing}
 use Rattle.wc_validate.specs.Faults.{fault_kind}
-use Rattle.wc_validate.specs.declared.fault.ValidateFault.TheVariants.{TypedReference}
+use Rattle.wc_validate.specs.declared.name_fault.NameFault.TheVariants.{TypedReference}
 use Rattle.wc_validate.proofs.BuiltinLemmas.{not_equal}
 use Rattle.wc_validate.proofs.ImportSchemeLemmas.{kept_environment, no_environment}
-use Rattle.wc_names.specs.Classifications.{of_imports}
+use Rattle.wc_validate.specs.Classifications.{of_imports}
 use Rattle.wc_validate.proofs.imports.environment.environment.Goals as goal
 
 pub returns-then-ne : goal.returns-then-ne

@@ -1,14 +1,14 @@
 use Rattle.std.proofs.Common.{inl, refl, false}
 use Rattle.wc_resolve.specs.Views.{key_view}
 use Rattle.wc_names.specs.Meanings.{unknown_interface}
-use Rattle.wc_names.proofs.ClassificationLemmas.{classified_refused}
-use Rattle.wc_validate.specs.declared.fault.ValidateFault.TheVariants.{UnknownInterface}
+use Rattle.wc_validate.proofs.ClassificationLemmas.{classified_refused}
+use Rattle.wc_validate.specs.declared.name_fault.NameFault.TheVariants.{UnknownInterface}
 use Rattle.wc_validate.specs.Faults.{fault_kind}
 use Rattle.wc_validate.specs.NameScopes.{lookup_name_scope}
 use Rattle.wc_validate.proofs.ImportInterfaceLemmas.{found_in_range}
 use Rattle.wc_validate.proofs.ScopeLemmas.{keys_in_range}
 use Rattle.wc_validate.proofs.StageLemmas.{failed, still_err}
-use Rattle.wc_names.specs.Classifications.{of_imports}
+use Rattle.wc_validate.specs.Classifications.{of_imports}
 use Rattle.wc_validate.proofs.imports.interface.exported_interface.Goals as goal
 
 pub interface_of-requires-clause-keys : goal.interface_of-requires-clause-keys

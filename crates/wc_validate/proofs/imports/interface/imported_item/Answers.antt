@@ -4,15 +4,15 @@ use Rattle.wc_names.specs.Imports.{IsKind, interface_unknown, interface_function
 use Rattle.wc_names.specs.Meanings.{missing_function}
 use Rattle.wc_names.specs.Schemes.{interface_prefix}
 use Rattle.wc_names.specs.WitIntrinsics.{wit_intrinsics}
-use Rattle.wc_names.proofs.ClassificationLemmas.{group_some, group_none, classified_last, classified_next, classified_none, classified_some}
-use Rattle.wc_validate.specs.declared.fault.ValidateFault.TheVariants.{MissingFunction}
+use Rattle.wc_validate.proofs.ClassificationLemmas.{group_some, group_none, classified_last, classified_next, classified_none, classified_some}
+use Rattle.wc_validate.specs.declared.name_fault.NameFault.TheVariants.{MissingFunction}
 use Rattle.wc_validate.specs.Faults.{fault_kind}
 use Rattle.wc_validate.specs.Private.Imports.Interface.{found_view}
 use Rattle.wc_validate.specs.NameScopes.{imported_function, name_scope_of}
 use Rattle.wc_validate.proofs.FoundLemmas.{import_known, of_interface_function, of_interface_intrinsics}
 use Rattle.wc_validate.proofs.ImportInterfaceLemmas.{id_in_range}
 use Rattle.wc_validate.proofs.StageLemmas.{stage_err, stages_err, still_err}
-use Rattle.wc_names.specs.Classifications.{of_imports}
+use Rattle.wc_validate.specs.Classifications.{of_imports}
 use Rattle.wc_validate.proofs.imports.interface.imported_item.Goals as goal
 
 pub returns-in_err-lowered : goal.returns-in_err-lowered

@@ -1,12 +1,12 @@
 use Rattle.std.proofs.Common.{◌∷◌, [], refl}
 use Rattle.wc_names.specs.Schemes.{resource_drop, resource_new, resource_rep}
 use Rattle.wc_names.specs.WitIntrinsics.{of_resource, task_return, no_task_return, task_cancel, of_async_value}
-use Rattle.wc_names.proofs.ClassificationLemmas.{classified_some, classified_none}
+use Rattle.wc_validate.proofs.ClassificationLemmas.{classified_some, classified_none}
 use Rattle.wc_validate.specs.Faults.{fault_kind}
 use Rattle.wc_validate.specs.Private.Imports.Kinds.{IsIntrinsic}
 use Rattle.wc_validate.specs.Private.Imports.Lookups.{lookup_scope}
 use Rattle.wc_validate.proofs.StageLemmas.{stage_err}
-use Rattle.wc_names.specs.Classifications.{of_imports}
+use Rattle.wc_validate.specs.Classifications.{of_imports}
 use Rattle.wc_validate.proofs.imports.intrinsics.exported_intrinsic.Goals as goal
 
 pub returns-in_err-dropped : goal.returns-in_err-dropped

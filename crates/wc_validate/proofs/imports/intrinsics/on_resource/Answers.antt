@@ -1,10 +1,10 @@
 use Rattle.std.proofs.Common.{sym, ◌∙◌}
-use Rattle.wc_names.proofs.ClassificationLemmas.{classified_import, classified_nothing}
+use Rattle.wc_validate.proofs.ClassificationLemmas.{classified_import, classified_nothing}
 use Rattle.wc_validate.specs.Faults.{fault_kind}
 use Rattle.wc_validate.specs.Private.Imports.Intrinsics.{operation_of}
 use Rattle.wc_validate.proofs.IntrinsicLemmas.{not_found, same_meaning, with_result, without_result}
 use Rattle.wc_validate.proofs.StageLemmas.{failed}
-use Rattle.wc_names.specs.Classifications.{of_imports}
+use Rattle.wc_validate.specs.Classifications.{of_imports}
 use Rattle.wc_validate.proofs.imports.intrinsics.on_resource.Goals as goal
 
 pub returns-in_err-id : goal.returns-in_err-id

@@ -1,8 +1,8 @@
 use Rattle.std.proofs.Common.{refl}
-use Rattle.wc_names.proofs.ClassificationLemmas.{classified_import, classified_nothing}
+use Rattle.wc_validate.proofs.ClassificationLemmas.{classified_import, classified_nothing}
 use Rattle.wc_validate.specs.Faults.{fault_kind}
 use Rattle.wc_validate.proofs.BuiltinLemmas.{not_so}
-use Rattle.wc_names.specs.Classifications.{of_imports}
+use Rattle.wc_validate.specs.Classifications.{of_imports}
 use Rattle.wc_validate.proofs.imports.intrinsics.task_cancel.Goals as goal
 
 pub returns-then-task_cancel : goal.returns-then-task_cancel

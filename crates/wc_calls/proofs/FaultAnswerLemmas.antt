@@ -1,0 +1,92 @@
+-- Faults that are answered, by their causes and what they are about.
+use Rattle.std.proofs.Common.{◌≡◌, ◌≢◌, ◌<◌, ℕ, List, length, sym, subst}
+use Rattle.wc_encoder.specs.EncoderParts.{EncoderView}
+use Rattle.wc_calls.specs.Answers.{IsPut, IsTooLong}
+use Rattle.wc_calls.specs.Encoders.{IsEncoderOf}
+use Rattle.wc_calls.specs.FaultAnswers.{IsFaultAnswered}
+use Rattle.wc_calls.specs.MessageFaults.{IsMessageCause, IsNoEncoderCause}
+use Rattle.wc_calls.specs.Places.{IsPlaceOf}
+use Rattle.wc_calls.specs.Private.EncoderAnswers.{IsFaultFor, IsPartPlaceFor, IsPlaceFor, IsPlanFaultFor}
+use Rattle.wc_calls.specs.declared.answers.Answer.{Answer}
+use Rattle.wc_calls.specs.declared.message_fault.MessageFault.{MessageFault}
+use Rattle.wc_calls.specs.declared.message_fault.MessageFault.TheVariants.{Memory, Plan, Resolve, World}
+
+-- what is put, and what is too long for the buffer, by what is known of it
+
+pub put_by : (P Q : List ℕ → Type 0) (n : ℕ) (old new : List ℕ) → ((text : List ℕ) → P text → Q text) → IsPut P n old new → IsPut Q n old new
+put_by P Q n old new f (text, is, size, front) = (text, f text is, size, front)
+
+pub too_long_by : (P Q : List ℕ → Type 0) (n : ℕ) (old : List ℕ) → ((text : List ℕ) → P text → Q text) → IsTooLong P n old → IsTooLong Q n old
+too_long_by P Q n old f (text, is, size, less) = (text, f text is, size, less)
+
+-- a fault that is answered, by more that is known of it
+pub answered_by : (P Q : MessageFault → Type 0) (R S : MessageFault → List ℕ → Type 0) (a : Answer) (old new : List ℕ)
+    → ((f : MessageFault) → f ≢ Memory → P f → Q f) → ((f : MessageFault) (place : List ℕ) → P f → R f place → S f place)
+    → IsFaultAnswered P R a old new → IsFaultAnswered Q S a old new
+answered_by P Q R S a old new causes places (f, cause, other, place, at, answered) = (f, causes f other cause, other, place, places f place cause at, answered)
+
+-- a certain fault
+pub answered_as : (g : MessageFault) (Q : MessageFault → Type 0) (R S : MessageFault → List ℕ → Type 0) (a : Answer) (old new : List ℕ)
+    → Q g → ((place : List ℕ) → R g place → S g place) → IsFaultAnswered (λ f. f ≡ g) R a old new → IsFaultAnswered Q S a old new
+answered_as g Q R S a old new cause places h =
+    answered_by (λ f. f ≡ g) Q R S a old new (λ f other same. subst Q (sym same) cause)
+    (λ f place same at. subst (λ z. S z place) (sym same) (places place (subst (λ z. R z place) same at))) h
+
+-- the fault of a message that is no encoder, and what it is about
+
+pub message_cause : (message modules : List ℕ) (f : MessageFault) → IsNoEncoderCause message modules f → IsMessageCause message modules f
+message_cause message modules (World f) h = absurd h
+message_cause message modules (Plan f) h = absurd h
+message_cause message modules f h = h
+
+pub part_place : (message modules : List ℕ) (f : MessageFault) (place : List ℕ) → IsNoEncoderCause message modules f → IsPartPlaceFor message f place
+    → IsPlaceOf message modules f place
+part_place message modules (World f) place h at = absurd h
+part_place message modules f place h at = at
+
+pub message_refused : (message modules : List ℕ) (f : MessageFault) (a : Answer) (old new : List ℕ) → IsNoEncoderCause message modules f
+    → IsFaultAnswered (λ g. g ≡ f) (IsPartPlaceFor message) a old new
+    → IsFaultAnswered (IsMessageCause message modules) (IsPlaceOf message modules) a old new
+message_refused message modules f a old new h answered =
+    answered_as f (IsMessageCause message modules) (IsPartPlaceFor message) (IsPlaceOf message modules) a old new (message_cause message modules f h)
+    (λ place at. part_place message modules f place h at) answered
+
+-- the fault for an encoder that a message is, and what it is about
+
+world_cause : (message modules : List ℕ) (e : EncoderView) (f : MessageFault) → IsEncoderOf message modules e → IsFaultFor e f → IsMessageCause message modules f
+world_cause message modules e Memory encodes is = tt
+world_cause message modules e (World f) encodes is = (e, encodes, is)
+world_cause message modules e f encodes is = absurd is
+
+world_place : (message modules : List ℕ) (e : EncoderView) (f : MessageFault) (place : List ℕ) → IsEncoderOf message modules e → IsFaultFor e f
+    → IsPlaceFor e f place → IsPlaceOf message modules f place
+world_place message modules e Memory place encodes is at = at
+world_place message modules e (World f) place encodes is at = (e, encodes, at)
+world_place message modules e f place encodes is at = absurd is
+
+pub world_refused : (message modules : List ℕ) (e : EncoderView) (a : Answer) (old new : List ℕ) → IsEncoderOf message modules e
+    → IsFaultAnswered (IsFaultFor e) (IsPlaceFor e) a old new
+    → IsFaultAnswered (IsMessageCause message modules) (IsPlaceOf message modules) a old new
+world_refused message modules e a old new encodes answered =
+    answered_by (IsFaultFor e) (IsMessageCause message modules) (IsPlaceFor e) (IsPlaceOf message modules) a old new
+    (λ f other is. world_cause message modules e f encodes is) (λ f place is at. world_place message modules e f place encodes is at) answered
+
+plan_cause : (message modules : List ℕ) (e : EncoderView) (f : MessageFault) → IsEncoderOf message modules e → IsPlanFaultFor e f → IsMessageCause message modules f
+plan_cause message modules e Memory encodes is = tt
+plan_cause message modules e (World f) encodes is = (e, encodes, is)
+plan_cause message modules e (Plan f) encodes is = (e, encodes, is.0, is.1, is.2)
+plan_cause message modules e f encodes is = absurd is
+
+plan_place : (message modules : List ℕ) (e : EncoderView) (f : MessageFault) (place : List ℕ) → IsEncoderOf message modules e → IsPlanFaultFor e f
+    → IsPlaceFor e f place → IsPlaceOf message modules f place
+plan_place message modules e Memory place encodes is at = at
+plan_place message modules e (World f) place encodes is at = (e, encodes, at)
+plan_place message modules e (Plan f) place encodes is at = at
+plan_place message modules e f place encodes is at = absurd is
+
+pub plan_refused : (message modules : List ℕ) (e : EncoderView) (a : Answer) (old new : List ℕ) → IsEncoderOf message modules e
+    → IsFaultAnswered (IsPlanFaultFor e) (IsPlaceFor e) a old new
+    → IsFaultAnswered (IsMessageCause message modules) (IsPlaceOf message modules) a old new
+plan_refused message modules e a old new encodes answered =
+    answered_by (IsPlanFaultFor e) (IsMessageCause message modules) (IsPlaceFor e) (IsPlaceOf message modules) a old new
+    (λ f other is. plan_cause message modules e f encodes is) (λ f place is at. plan_place message modules e f place encodes is at) answered

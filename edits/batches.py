@@ -1,0 +1,586 @@
+#!/usr/bin/env python3
+"""Tries many edits of a crate in one check: those that turn different functions.
+
+    edits/batches.py [--sources DIR] [--over DIR] [--work DIR] [--edit NAME].. [--most N] [--jobs N] [--again] [--plan]
+                     [--unchanged] [--table FILE] CRATE..
+
+An edit changes the body of one function, and a caller sees only that function's contract. So edits of different functions
+don't hide one another, and are tried together, in a copy of the crate. In the copy every function that none of them
+turns has the body `unreachable!()` and no proof file: its contract stands as it is, and costs next to nothing to check.
+The check goes past what it refuses (`--allow-holes`), and says of each function what of its proof is refused:
+
+    clause   what the function ensures (a goal `returns..`), or the invariant of a type
+    loop     an invariant or a measure of a loop
+    lemma    a lemma that its proof cites, where the edit turns a statement
+    step     what a call requires, an index, an overflow, a panic
+    name     nothing but a name that a proof file cites and that the edit took away: this says little of the contract
+    none     nothing: the edit is not refused
+    unread   the front end refuses the edited text, so no contract was tried
+
+One function that no edit of the batch turns is kept as it is, and has to come out with nothing refused, so that a copy in
+which all is refused is not taken for an answer. An edit that the front end refuses is left out, and the batch tried
+again. Edits of heads and of constants are tried apart from those of bodies, at the functions that name the constant; then
+those of `specs/`, at the functions whose contracts lead to what is changed. What is not refused is tried once more, alone.
+
+The crate's sources are those of this checkout, or of DIR/crates/CRATE by --sources. The statements of the crates below are
+read from DIR/NAME.rlib by --over; without it, from crates/NAME/out/rlib of the sources, where `rt ci` leaves them. The crate
+itself has to be proved: what is refused here is taken to be refused for the edit. --work keeps what was checked and
+found (without it /tmp/edits-in-batches): what was found over the same sources isn't tried again, but with --again.
+Printed is a line for each edit, with the first message, and the processor seconds; --table writes a table of all that
+is known of the crates. The status is 0 where each edit is refused for more than a name. --plan prints the batches alone.
+--unchanged applies no edit: then each function has to come out as `none`, which shows that the stubs change no proof.
+"""
+
+import argparse
+import functools
+import hashlib
+import json
+import os
+import re
+import resource
+import shutil
+import subprocess
+import sys
+
+TOP = os.path.dirname(os.path.dirname(os.path.abspath(__file__)))
+KIT = "/opt/rattle"
+HEAD = re.compile(r'^( *)(?:pub(?:\([^)]*\))? )?((?:const |unsafe |extern "C" )*)fn (\w+)')
+IMPL = re.compile(r"^ *(?:unsafe )?impl\b")
+KINDS = ("clause", "loop", "lemma", "step", "name", "none", "unread", "untried")
+
+
+class Function:
+    """A function of a source file: its path below the crate, and the lines of its head and of its body."""
+
+    def __init__(self, file, name, owner, trait, lines, places, whole):
+        self.file, self.name, self.owner, self.trait = file, name, owner, trait
+        # the lines of the head, of the body's opening and of its end, and their places in the text
+        self.head, self.first, self.last = lines
+        self.begins, self.opens, self.ends = places
+        # of no other use than as it is: a const function, a default method, a function of a cycle
+        self.whole = whole
+        module = file[len("src/") : -len(".rt")].replace("/", "::")
+        self.module = "" if module in ("lib", "main") else re.sub(r"::mod$", "", module)
+        self.key = (file, owner, trait, name)
+
+    def path(self):
+        return "::".join(it for it in (self.module, self.owner + self.trait, self.name) if it)
+
+
+def type_name(text):
+    """The last word of a type's or a trait's path, without references, lifetimes and arguments."""
+    text = re.sub(r"<.*", "", text.strip())
+    text = re.sub(r"^&(?:'\w+ )?(?:mut )?", "", text)
+    return re.sub(r"\W", "", text.split("::")[-1])
+
+
+def arguments_end(text, at):
+    """The end of the generic arguments that begin at a place."""
+    depth = 0
+    for i in range(at, len(text)):
+        depth += {"<": 1, ">": -1}.get(text[i], 0) if text[i - 1 : i + 1] != "->" else 0
+        if not depth:
+            return i + 1
+    return at
+
+
+def owner_of(line):
+    """The type and the trait of an `impl` line."""
+    text = line.strip().split("impl", 1)[1]
+    text = text[arguments_end(text, 0) :] if text.startswith("<") else text
+    text = re.sub(r"\s+where\b.*", "", text).rstrip(" {}")
+    trait, has_trait, owner = text.partition(" for ")
+    return (type_name(owner), type_name(trait)) if has_trait else (type_name(text), "")
+
+
+@functools.lru_cache(maxsize=None)
+def functions_of(file, text):
+    """The functions of a file in the layout of `rt fmt` that have a body."""
+    lines, found, owner, starts = text.split("\n"), [], ("", "", ""), [0]
+    for line in lines:
+        starts.append(starts[-1] + len(line) + 1)
+    for n, line in enumerate(lines):
+        if IMPL.match(line) and not line.startswith(" "):
+            owner = (*owner_of(line), "")
+        elif re.match(r"(?:pub(?:\([^)]*\))? )?(?:unsafe )?trait (\w+)", line):
+            owner = (re.search(r"trait (\w+)", line)[1], "", "trait")
+        elif line.startswith("}"):
+            owner = ("", "", "")
+        head = HEAD.match(line)
+        if not head:
+            continue
+        indent, at = head[1], n
+        while at < len(lines):
+            it = lines[at]
+            mine = it.startswith(indent) and not it[len(indent) :].startswith((" ", "//"))
+            if mine and (it == indent + "{" or it.endswith((" {", "{}"))) or it.endswith(";"):
+                break
+            at += 1
+        if at == len(lines) or lines[at].endswith(";"):
+            continue
+        end = at
+        while not lines[at].endswith("{}") and end < len(lines) and lines[end] != indent + "}":
+            end += 1
+        attributes, up = "", n - 1
+        while up >= 0 and re.match(r" *(#\[|///)", lines[up]):
+            attributes += lines[up]
+            up -= 1
+        whole = "const" in head[2] or "#[cycle" in attributes or owner[2] == "trait"
+        in_type = owner if indent else ("", "", "")
+        places = starts[n], starts[at + 1] - 1, starts[min(end + 1, len(lines))] - 1
+        found.append(Function(file, head[3], in_type[0], in_type[1], (n, at, end), places, whole))
+    return found
+
+
+def pairs_of(text):
+    """The pairs of an edit, each with its file."""
+    file, old = "", ""
+    for line in text.split("\n"):
+        if line.startswith("file: "):
+            file = line[len("file: ") :].strip()
+        elif line.startswith("old: "):
+            old = line[len("old: ") :]
+        elif line.startswith("new:"):
+            yield file, old, line[len("new:") :].removeprefix(" ")
+
+
+class Edit:
+    """An edit, and what it turns: bodies of functions, heads of functions, or items that are no function."""
+
+    def __init__(self, name, text, sources):
+        self.name, self.text, self.fault = name, text, ""
+        self.functions, self.heads, self.items = [], [], []
+        self.fault = applied(self, sources)[1]
+        for file, old, new in [] if self.fault else pairs_of(text):
+            place = sources[file].find(old)
+            if not file.startswith("src/") or place < 0:
+                self.items.append((file, place))
+                continue
+            place += len(os.path.commonprefix([old, new]))
+            it = next((it for it in functions_of(file, sources[file]) if it.begins <= place <= it.ends), None)
+            if it:
+                group = self.functions if place >= it.opens else self.heads
+                if it.key not in [x.key for x in group]:
+                    group.append(it)
+            elif not re.search(r"(^| )fn \w+[(<]", new) or re.match(r"(pub )?impl", old):
+                self.items.append((file, place))
+
+
+def applied(edit, texts):
+    """The texts that an edit changes, as it makes them of these; or why it cannot be applied."""
+    made = {}
+    for file, old, new in pairs_of(edit.text):
+        text = made.get(file, texts.get(file))
+        if text is None:
+            return {}, f"there is no file {file}"
+        if text.count(old) != 1:
+            return {}, f"an 'old:' text is in {file} {text.count(old)} times"
+        made[file] = text.replace(old, new)
+    return made, ""
+
+
+class Crate:
+    def __init__(self, sources, over, name):
+        self.top, self.over, self.name = sources, over, name
+        self.folder = f"{sources}/crates/{name}"
+        self.uses, self.static = {}, set()
+        with open(f"{sources}/crates.txt", encoding="utf-8") as file:
+            for line in file:
+                head, colon, tail = line.partition("#")[0].partition(":")
+                if colon:
+                    it, *kinds = head.split()
+                    self.uses[it] = tail.split()
+                    self.static |= {it} if "staticlib" in kinds else set()
+        if name not in self.uses:
+            sys.exit(f"batches.py: crates.txt lists no crate {name}")
+        self.texts = {}
+        for part in ("src", "specs", "proofs"):
+            for at, _, names in os.walk(f"{self.folder}/{part}"):
+                for it in names:
+                    path = os.path.relpath(f"{at}/{it}", self.folder)
+                    with open(f"{at}/{it}", encoding="utf-8") as file:
+                        self.texts[path] = file.read()
+        self.src = {path: it for path, it in self.texts.items() if path.startswith("src/")}
+        self.functions = [it for path in sorted(self.src) for it in functions_of(path, self.src[path])]
+        every = sorted((path, hashlib.sha256(it.encode()).hexdigest()) for path, it in self.texts.items())
+        self.sum = hashlib.sha256(repr(every).encode()).hexdigest()[:16]
+
+    @functools.lru_cache(maxsize=None)
+    def definitions(self):
+        """The definitions in `specs/`, each with the words in it."""
+        parts = [part for path, text in self.texts.items() if path.startswith("specs/") for part in re.split(r"\n(?=\S)", text)]
+        parts = [part for part in parts if DEFINED.match(part) and not re.match(r"(pub )?(use|mod) |--", part)]
+        return [(DEFINED.match(part)[1], words_of(part)) for part in parts]
+
+    def command(self, flags):
+        below, todo = [], [it for it in self.uses[self.name] if it in self.uses]
+        while todo:
+            it = todo.pop()
+            if it not in below:
+                below.append(it)
+                todo += [x for x in self.uses[it] if x in self.uses]
+        rlib = lambda it: self.over or f"{self.top}/crates/{it}/out/rlib"
+        for it in below:
+            if not os.path.isdir(f"{rlib(it)}/{it}.rlib"):
+                sys.exit(f"batches.py: no statements of {it} in {rlib(it)}")
+        root = next(it for it in ("src/main.rt", "src/lib.rt") if it in self.src)
+        words = [f"{KIT}/bin/rattle", "check", "--crate-name", self.name, root, "--extern", f"std={KIT}/rlibs/std.rlib"]
+        for it in self.uses[self.name]:
+            words += ["--extern", f"{it}={rlib(it)}/{it}.rlib" if it in self.uses else f"{it}={KIT}/rlibs/{it}.rlib"]
+        words += ["-L", f"dependency={KIT}/rlibs"]
+        for folder in sorted({rlib(it) for it in below}):
+            words += ["-L", f"dependency={folder}"]
+        words += ["--crate-type", "staticlib"] if self.name in self.static else []
+        words += ["--antt-project", f"{KIT}/rattle/logic/antt-project.json", "--logic-built", f"{KIT}/logic_built"]
+        return [*words, "--links", f"{self.name}=", *flags]
+
+    def only(self, function, tries):
+        """What `--only` finds a function by: the end of its name where that is the only one, then longer names."""
+        same = [it for it in self.functions if it.name == function.name]
+        is_module = any(re.search(rf"(^|/){function.name}\.rt$", it) for it in self.src)
+        owner = function.owner + function.trait
+        short = f"{owner}::{function.name}" if owner else function.name
+        long = f"{function.module}::{short}" if function.module else short
+        is_free = len(same) == 1 and not is_module and function.name not in DERIVED
+        last = f"{function.module}::{function.owner}" if owner and function.module else function.owner or function.module
+        names = [*([function.name] if is_free else [short] if owner else []), long, short, last, function.module]
+        # two impls of one trait for one type, as two `From`, have longer names: the module has both
+        names = [function.module] if sum(it.key == function.key for it in self.functions) > 1 and function.module else names
+        names = [it for n, it in enumerate(names) if it and it not in names[:n]]
+        return names[min(tries, len(names) - 1)]
+
+
+def stubbed(text, keep):
+    """A file in which every function but those to keep has the body `unreachable!()`."""
+    lines = text.split("\n")
+    for it in reversed(functions_of(keep[0], text)):
+        if not it.whole and it.key not in keep[1]:
+            if it.first == it.last:
+                lines[it.first] = lines[it.first].removesuffix("{}") + "{ unreachable!() }"
+            else:
+                lines[it.first + 1 : it.last] = ["unreachable!()"]
+    return "\n".join(lines)
+
+
+def copied(crate, edits, keep, room):
+    """Writes a copy of the crate in which only the functions to keep have their bodies and proof files (all, where `keep` is
+    None), with the edits applied. Gives the edits that could be, one after another."""
+    texts, used = dict(crate.texts), []
+    if keep is not None:
+        for path in crate.src:
+            texts[path] = stubbed(texts[path], (path, keep))
+        for it in crate.functions:
+            if not it.whole and it.key not in keep:
+                folder = rf"(.*/)?{it.owner}{it.trait}\w*" if it.trait else rf"(.*/)?{it.owner}" if it.owner else it.module.replace("::", "/")
+                mine = re.compile(rf"proofs/{folder}{'/' if folder else ''}{it.name}/(Invariants|Answers|Proof)\.antt")
+                for path in [it for it in texts if it.startswith("proofs/") and mine.fullmatch(it)]:
+                    del texts[path]
+    for edit in edits:
+        made, fault = applied(edit, texts)
+        if not fault:
+            texts.update(made)
+            used.append(edit)
+    for at, _, names in os.walk(room):
+        for it in names:
+            if os.path.relpath(f"{at}/{it}", room) not in texts:
+                os.remove(f"{at}/{it}")
+    for path, text in texts.items():
+        os.makedirs(os.path.dirname(f"{room}/{path}"), exist_ok=True)
+        with open(f"{room}/{path}", "w", encoding="utf-8") as file:
+            file.write(text)
+    return used
+
+
+def spent():
+    it = resource.getrusage(resource.RUSAGE_CHILDREN)
+    return it.ru_utime + it.ru_stime
+
+
+def kind_of(goal):
+    """What a goal of a function's proof is: of a clause, of a loop, or of a step."""
+    last = goal.split(".")[-1]
+    if re.match(r"returns|invariant_of|ensures", last):
+        return "clause"
+    if re.search(r"-(init|preserved|smaller|bounded|stays)(-|$)", last) or re.match(r"(loop|steps)\b", last):
+        return "clause" if re.search(r"-returns", last) else "loop"
+    return "step"
+
+
+DERIVED = ("clone", "eq", "fmt", "hash", "cmp", "partial_cmp", "default", "drop", "from", "next")
+HEAD_ANYWHERE = re.compile(r"(?m)^ *(?:pub(?:\([^)]*\))? )?(?:const |unsafe |extern \"C\" )*fn (\w+)")
+DEFINED = re.compile(r"(?:pub |abbrev |data |record |unfoldable |lemma |ruleset )*(?!pub |module )(\S+)")
+NAMES = re.compile(r"has no field|is not in scope|has no `|was not admitted|no such|is no name|has no step|names no")
+
+
+def words_of(text):
+    return set(re.findall(r"[^\s(){}\[\].,;:&<>]+", text)) - {"pub", "record", "data", "abbrev", "where", "=", "→"}
+
+
+def lines_on(crate, function, lines):
+    """The names and verdicts that a check prints on a function and its closures."""
+    found = []
+    for line in lines:
+        at = re.match(r"fn (\S+): (.*)", line)
+        path = at[1].split("::") if at else [""]
+        for n, it in enumerate(path[1:], 1) if path[0] == crate.name else []:
+            its_type = function.owner and function.owner.lower() in path[n - 1].lower() and function.trait in path[n - 1]
+            if it == function.name and (its_type or not function.owner and "::".join(path[1:n]) == function.module):
+                found.append((at[1], at[2]))
+    return found
+
+
+def judged(crate, function, lines, with_lemmas=False):
+    """What a check says of a function: the kind, and the first that is refused of it."""
+    mine, refused, notes = lines_on(crate, function, lines), [], []
+    if not mine:
+        return "untried", "the check has no line on it"
+    for name, verdict in mine:
+        if verdict.startswith(("no holes", "depends on a hole")):
+            continue
+        module = f"Rattle.{crate.name}.proofs." + ".".join(name.split("::")[1:]) + "."
+        folder = "proofs/" + "/".join(name.split("::")[1:]) + "/"
+        stands = re.findall(r"`([^`]*)`", verdict.split("; it calls")[0]) if "stands on" in verdict else []
+        goals = [it[len(module) :] for it in stands if it.startswith(module)]
+        goals += re.findall(r"`([^`.:]+)`", verdict.split("did not prove")[1]) if "did not prove" in verdict else []
+        if "could not tell" in verdict:
+            notes.append(verdict[:200])
+        elif not goals and not stands and "it calls" not in verdict:
+            goals = [""]
+        for goal in goals:
+            short = goal.split(".")[-1]
+            said = [it for it in lines if folder in it and f"`{short}`" in it] if short else [it for it in lines if folder in it]
+            errors = [it for it in said if ": error" in it]
+            message = next(iter(errors), "") or next((it for it in said if "must prove" in it), "") or verdict
+            refused.append((kind_of(short), bool(errors) and all(NAMES.search(it) for it in errors), short, message))
+        if with_lemmas:
+            lemmas = [it for it in stands if not it.startswith(module) and re.search(r"(Lemmas|Laws)\.", it)]
+            refused += [("lemma", False, it, "refused") for it in lemmas]
+    if not refused:
+        return ("untried", notes[0]) if notes else ("none", "; ".join(it for _, it in mine)[:200])
+    for wanted in ("clause", "loop", "lemma", "step"):
+        for kind, is_name, goal, message in refused:
+            if kind == wanted and not is_name:
+                message = re.sub(r"^(note: )?(\./)?\S*?:\d+:\d+: (error: )?(`[^`]*`: )?", "", message)
+                return kind, f"{goal}: {message}"[:300]
+    return "name", f"{refused[0][2]}: {refused[0][3]}"[:300]
+
+
+class Tries:
+    """The edits of a crate, tried; what was found is kept."""
+
+    def __init__(self, crate, given):
+        self.crate, self.given = crate, given
+        self.room = f"{given.work}/{crate.name}"
+        os.makedirs(f"{self.room}/copy", exist_ok=True)
+        self.kept, self.found, self.longer = f"{self.room}/found.json", {}, {}
+        self.runs = sum(it.startswith("log-") for it in os.listdir(self.room))
+        if os.path.exists(self.kept) and not given.unchanged:
+            with open(self.kept, encoding="utf-8") as file:
+                self.found = json.load(file)
+
+    def key(self, edit):
+        return hashlib.sha256((self.crate.sum + edit.text).encode()).hexdigest()[:16]
+
+    def tell(self, edit, kind, said, how):
+        where = ", ".join(it.path() for it in edit.asked[:4])
+        self.found[edit.name] = {"key": self.key(edit), "kind": kind, "said": said, "how": how, "at": where}
+        with open(os.devnull if self.given.unchanged else self.kept, "w", encoding="utf-8") as file:
+            json.dump(self.found, file, indent=1, sort_keys=True)
+        print(f"{self.crate.name}/{edit.name}: {kind} ({how}; {where}): {said}", flush=True)
+
+    def check(self, edits, keep, asked):
+        """The edits that a copy has, and the lines of its check."""
+        used = copied(self.crate, [] if self.given.unchanged else edits, keep, f"{self.room}/copy")
+        used = edits if self.given.unchanged else used
+        for _ in range(60):
+            names = {it.key: self.crate.only(it, self.longer.get(it.key, 0)) for it in asked}
+            flags = [x for it in sorted(set(names.values())) for x in ("--only", it)]
+            flags += ["--allow-holes", "--jobs", str(self.given.jobs), "--incremental", f"{self.room}/incremental"]
+            before, how = spent(), {"stdin": subprocess.DEVNULL, "stdout": subprocess.PIPE, "stderr": subprocess.STDOUT}
+            ran = subprocess.run(self.crate.command(flags), cwd=f"{self.room}/copy", text=True, errors="replace", **how)
+            self.seconds, self.runs = spent() - before, self.runs + 1
+            with open(f"{self.room}/log-{self.runs}", "w", encoding="utf-8") as file:
+                file.write(f"{len(used)} edits, {self.seconds:.0f} s: {' '.join(it.name for it in used)}\n{ran.stdout}")
+            # a name that fits no function, or several: a longer one
+            wrong = [it for it in asked if ran.returncode == 2 and f"`{names[it.key]}`" in ran.stdout]
+            wrong = [it for it in wrong if self.longer.get(it.key, 0) < 5]
+            if not wrong:
+                break
+            for it in wrong:
+                self.longer[it.key] = self.longer.get(it.key, 0) + 1
+        return used, ran.stdout.rstrip().split("\n")
+
+    def witness(self, keep):
+        """A short function that none of the edits turns, to be proved as it is."""
+        text = lambda it, to: "\n".join(self.crate.src[it.file].split("\n")[it.head : to])
+        short = [it for it in self.crate.functions if it.last - it.first == 2 and it.key not in keep and not it.whole]
+        short = [it for it in short if "ensures" in text(it, it.first) and "(" not in text(it, it.last).split("{\n")[-1]]
+        return min(short, key=lambda it: (it.owner != "", it.key), default=None)
+
+    def batch(self, edits):
+        """Tries edits that lead to different functions at once."""
+        keep = {it.key for edit in edits for it in edit.asked}
+        witness = self.witness(keep)
+        asked = [it for edit in edits for it in edit.asked] + ([witness] if witness else [])
+        used, lines = self.check(edits, keep | ({witness.key} if witness else set()), asked)
+        how = f"{len(used)} at once, {self.seconds / max(1, len(used)):.1f} s each" if len(used) > 1 else f"alone, {self.seconds:.0f} s"
+        for edit in edits:
+            if edit not in used:
+                self.tell(edit, "untried", "it cannot be applied to the copy", how)
+        if not any(re.match(r"only=\d+", it) for it in lines):
+            bad = self.unread(lines, used)
+            if len(used) == 1:
+                bad = bad or [(used[0], next((it for it in lines if "error" in it), lines[-1])[:300])]
+            for edit, said in bad:
+                self.tell(edit, "unread", said, how)
+            left = [it for it in used if it not in [edit for edit, _ in bad]]
+            for part in [left] if bad else [used[: len(used) // 2], used[len(used) // 2 :]]:
+                if part:
+                    self.batch(part)
+            return
+        if witness and judged(self.crate, witness, lines)[0] != "none":
+            how += f", {witness.path()} wrongly refused"
+        for edit in used:
+            is_spec = any(not file.startswith("src/") for file, _ in edit.items)
+            told = [judged(self.crate, it, lines, is_spec or bool(edit.heads)) for it in edit.asked]
+            self.tell(edit, *min(told, key=lambda it: KINDS.index(it[0])), how)
+
+    def unread(self, lines, edits):
+        """Of a check that the front end stopped: the edits in whose functions its errors are."""
+        bad = []
+        for line in lines:
+            at = re.match(r"(?:\./)?(src/\S+?):(\d+):\d+: error: (.*)", line)
+            if not at:
+                continue
+            with open(f"{self.room}/copy/{at[1]}", encoding="utf-8") as file:
+                before = "\n".join(file.read().split("\n")[: int(at[2])])
+            heads = HEAD_ANYWHERE.findall(before)
+            for edit in edits:
+                is_here = heads and any(it.file == at[1] and it.name == heads[-1] for it in edit.asked)
+                if is_here and edit not in [it for it, _ in bad]:
+                    bad.append((edit, at[3][:300]))
+        return bad
+
+    def leads(self, edit):
+        """The functions that an edit of no function may have refused: those that name what it changes."""
+        words, inside = set(), ""
+        for file, place in edit.items:
+            text = self.crate.texts[file]
+            if file.startswith("src/"):
+                before = text[: place + len(text[place:].split("\n")[0])]
+                named = re.findall(r"(?m)^ *(?:pub(?:\([^)]*\))? )?(const|static|type|struct|enum|trait|ghost|use|impl)\b([^\n]*)", before)
+                kind, rest = named[-1] if named else ("", "")
+                found = re.findall(r"\w+", rest.split("=")[0])
+                if kind in ("const", "static", "type", "struct", "enum", "trait") and found:
+                    words.add(found[0])
+                elif kind == "use" and found:
+                    words.add(found[-1])
+                    inside = file
+            else:
+                part = re.split(r"\n(?=\S)", text[: place + 1])[-1] + text[place + 1 :].split("\n")[0]
+                name = DEFINED.match(part)
+                words |= {name[1]} if name else set()
+        seen = set()
+        while words - seen and not inside:
+            seen |= words
+            words |= {name for name, its in self.crate.definitions() if its & seen}
+        its = lambda it: words_of(self.crate.src[it.file][it.begins : it.ends])
+        return [it for it in self.crate.functions if inside in ("", it.file) and its(it) & words]
+
+    def run(self, edits):
+        known = [it["key"] for it in self.found.values() if it["kind"] != "untried"]
+        todo = [it for it in edits if self.given.again or self.given.unchanged or self.key(it) not in known]
+        for edit in todo:
+            edit.asked = [*edit.functions, *[it for it in edit.heads if it.key not in [x.key for x in edit.functions]]]
+            if edit.items and not edit.fault:
+                edit.asked += [it for it in self.leads(edit) if it.key not in [x.key for x in edit.asked]]
+            if not self.given.plan and (edit.fault or not edit.asked):
+                self.tell(edit, "untried", edit.fault or "no function is known to lead to it", "not tried")
+        todo = [it for it in todo if not it.fault and it.asked]
+        plain = [it for it in todo if not it.heads and not it.items]
+        source = [it for it in todo if it not in plain and all(file.startswith("src/") for file, _ in it.items)]
+        specs = [it for it in todo if it not in plain and it not in source]
+        plans = [group for its in (plain, source, specs) for group in batches(its, self.given.most, self.crate.texts)]
+        for edits in plans:
+            print(f"{self.crate.name}: {len(edits)} of {len(todo)} edits, {sum(len(it.asked) for it in edits)} functions", flush=True)
+        for edits in plans if not self.given.plan else []:
+            self.batch(edits)
+            for edit in edits if len(edits) > 1 else []:
+                if self.found[edit.name]["kind"] in ("lemma", "none", "untried") and not self.given.unchanged:
+                    self.batch([edit])
+
+
+def batches(edits, most, texts):
+    """The edits in few groups, in each of which they lead to different functions, and can be applied one after another."""
+    made = []
+    for edit in edits:
+        keys = {it.key for it in edit.asked}
+        for group in made:
+            now, fault = applied(edit, group["texts"])
+            if len(group["edits"]) < most and not keys & group["keys"] and not fault:
+                break
+        else:
+            group = {"edits": [], "keys": set(), "texts": dict(texts)}
+            made.append(group)
+            now, fault = applied(edit, texts)
+        group["edits"].append(edit)
+        group["keys"] |= keys
+        group["texts"].update(now)
+    return [it["edits"] for it in made]
+
+
+def row(found, crate, names):
+    """A line of the table: how many edits were refused at what."""
+    kinds = [found.get(it, {"kind": "untried"})["kind"] for it in names]
+    return f"| `{crate}` | {len(names)} | " + " | ".join(str(kinds.count(it)) for it in KINDS) + " |"
+
+
+def named(found, crate, names):
+    """A line for each kind but clauses: the names of its edits."""
+    lines = []
+    for kind in KINDS[1:]:
+        its = [f"`{it}`" for it in names if it in found and found[it]["kind"] == kind]
+        lines += [f"- `{crate}`, {kind}: {', '.join(its)}"] if its else []
+    return lines
+
+
+def main():
+    parser = argparse.ArgumentParser(usage=__doc__.split("\n\n")[1].strip())
+    parser.add_argument("--sources", default=TOP)
+    parser.add_argument("--over")
+    parser.add_argument("--work", default="/tmp/edits-in-batches")
+    parser.add_argument("--edit", action="append", default=[])
+    parser.add_argument("--most", type=int, default=40)
+    parser.add_argument("--jobs", type=int, default=1)
+    parser.add_argument("--again", action="store_true")
+    parser.add_argument("--plan", action="store_true")
+    parser.add_argument("--unchanged", action="store_true")
+    parser.add_argument("--table")
+    parser.add_argument("crates", nargs="+")
+    given = parser.parse_args()
+    rows, lists, is_well = [], [], True
+    for name in given.crates:
+        crate = Crate(os.path.abspath(given.sources), given.over and os.path.abspath(given.over), name)
+        edits = []
+        for folder in (f"{TOP}/edits/{name}", f"{TOP}/crates/{name}/must-fail"):
+            for it in sorted(os.listdir(folder)) if os.path.isdir(folder) else []:
+                if it.endswith(".edit"):
+                    with open(f"{folder}/{it}", encoding="utf-8") as file:
+                        edits.append(Edit(it[: -len(".edit")], file.read(), crate.texts))
+        names, start = [it.name for it in edits], spent()
+        tries = Tries(crate, given)
+        tries.run([it for it in edits if not given.edit or it.name in given.edit])
+        rows.append(row(tries.found, name, names))
+        lists += named(tries.found, name, names)
+        wanted = ("none",) if given.unchanged else KINDS[:4]
+        is_well &= all(tries.found.get(it, {"kind": "untried"})["kind"] in wanted for it in names)
+        print(f"{name}: {spent() - start:.0f} processor seconds\n{rows[-1]}", flush=True)
+        if given.table:
+            head = ["| Crate | Edits | " + " | ".join(KINDS) + " |", "|---" * (len(KINDS) + 2) + "|"]
+            with open(given.table, "w", encoding="utf-8") as file:
+                file.write("\n".join([*head, *rows, "", *lists]) + "\n")
+    sys.exit(0 if is_well else 1)
+
+
+if __name__ == "__main__":
+    main()

@@ -1,0 +1,283 @@
+//! What faults are about.
+
+use crate::core_types::FuncType;
+use crate::ids::{InterfaceId, TypeId};
+use crate::json::Value;
+use crate::read::{Read, Unread, member, optional_member};
+use std::fmt::{self, Display, Formatter};
+
+/// What a fault is about. Its text is as `import "env" "log", wanted (i32) -> (), found () -> (), in adapter "old"`.
+#[derive(Clone, Debug, PartialEq, Eq, Hash)]
+#[non_exhaustive]
+pub struct Place {
+    /// The adapter or the library whose module it is in; `None` for the main module, for the adapter of
+    /// [`gc::run`](crate::gc::run), which has no name, and for what is in no module.
+    pub adapter: Option<String>,
+    /// What it is.
+    pub subject: Subject,
+    /// The core types that differ, where the fault is that they do.
+    pub types: Option<TypeDifference>,
+}
+
+/// What a fault is about, by its names or its number. An import or an export of a module is there as it is; what a module
+/// lacks is missing.
+#[derive(Clone, Debug, PartialEq, Eq, Hash)]
+#[non_exhaustive]
+pub enum Subject {
+    /// An import of a module.
+    #[non_exhaustive]
+    Import {
+        /// The name of the module that it comes from.
+        module: String,
+        /// Its name in that module. That of a renamed import is the new one.
+        name: String,
+        /// Its index among all imports, from 0 on.
+        index: usize,
+    },
+    /// An export of a module.
+    #[non_exhaustive]
+    Export {
+        /// Its name.
+        name: String,
+    },
+    /// A function of an interface, which the module has to export.
+    #[non_exhaustive]
+    MissingFunction {
+        /// The interface, as the names of exports have it: `wasi:cli/run@0.2.6`.
+        module: String,
+        /// The function's name in the interface.
+        name: String,
+    },
+    /// An export that the module has to have.
+    #[non_exhaustive]
+    MissingExport {
+        /// Its name.
+        name: String,
+    },
+    /// A section of an adapter.
+    #[non_exhaustive]
+    Section {
+        /// The section's id in the binary format: 8 for the start function, 9 for elements, 11 for data, 12 for their
+        /// count.
+        id: u8,
+    },
+    /// The body of a function of an adapter.
+    #[non_exhaustive]
+    Body {
+        /// The function's index, imported ones counted too.
+        function: u32,
+        /// The number of the operator in the body, from 0 on, each `else` and `end` counted; `None` where the body is no
+        /// code, or where the types of its locals are at fault.
+        operator: Option<usize>,
+    },
+    /// The world at an index among those of the JSON.
+    World(u32),
+    /// An interface.
+    Interface(InterfaceId),
+    /// A type.
+    Type(TypeId),
+    /// The package at an index among those of the JSON.
+    Package(u32),
+}
+
+/// Two core types that differ. The text is as `wanted (i32) -> (), found () -> i64`.
+#[derive(Clone, Debug, PartialEq, Eq, Hash)]
+#[non_exhaustive]
+pub struct TypeDifference {
+    /// The type that is wanted.
+    pub wanted: FuncType,
+    /// The type that is found.
+    pub found: FuncType,
+}
+
+impl Place {
+    /// The place of this text, which the archive wrote; `None` where it wrote none.
+    pub(crate) fn parse(text: &str) -> Result<Option<Place>, Unread> {
+        if text.is_empty() {
+            return Ok(None);
+        }
+        Ok(Some(Place::read(&Value::parse(text)?)?))
+    }
+}
+
+/// The member of this name, where there is one that is not null.
+fn member_if_there<T: Read>(value: &Value<'_>, name: &str) -> Result<Option<T>, Unread> {
+    match value.find(name) {
+        Some(_) => optional_member(value, name),
+        None => Ok(None),
+    }
+}
+
+impl Read for Place {
+    fn read(value: &Value<'_>) -> Result<Self, Unread> {
+        Ok(Place {
+            adapter: member_if_there(value, "adapter")?,
+            subject: Subject::read(value)?,
+            types: member_if_there(value, "types")?,
+        })
+    }
+}
+
+impl Read for Subject {
+    fn read(value: &Value<'_>) -> Result<Self, Unread> {
+        Ok(match value.kind()? {
+            "import" => Subject::Import {
+                module: member(value, "module")?,
+                name: member(value, "name")?,
+                index: member(value, "index")?,
+            },
+            "export" => Subject::Export {
+                name: member(value, "name")?,
+            },
+            "missing-function" => Subject::MissingFunction {
+                module: member(value, "module")?,
+                name: member(value, "name")?,
+            },
+            "missing-export" => Subject::MissingExport {
+                name: member(value, "name")?,
+            },
+            "section" => Subject::Section {
+                id: member(value, "id")?,
+            },
+            "body" => Subject::Body {
+                function: member(value, "function")?,
+                operator: optional_member(value, "operator")?,
+            },
+            "world" => Subject::World(member(value, "index")?),
+            "interface" => Subject::Interface(member(value, "index")?),
+            "type" => Subject::Type(member(value, "index")?),
+            "package" => Subject::Package(member(value, "index")?),
+            _ => return Err(Unread::Unknown),
+        })
+    }
+}
+
+impl Read for TypeDifference {
+    fn read(value: &Value<'_>) -> Result<Self, Unread> {
+        Ok(TypeDifference {
+            wanted: member(value, "wanted")?,
+            found: member(value, "found")?,
+        })
+    }
+}
+
+impl Display for Place {
+    fn fmt(&self, f: &mut Formatter<'_>) -> fmt::Result {
+        write!(f, "{}", self.subject)?;
+        if let Some(types) = &self.types {
+            write!(f, ", {types}")?;
+        }
+        match &self.adapter {
+            Some(name) => write!(f, ", in adapter {name:?}"),
+            None => Ok(()),
+        }
+    }
+}
+
+impl Display for Subject {
+    /// Names are in quotes, with escapes.
+    fn fmt(&self, f: &mut Formatter<'_>) -> fmt::Result {
+        match self {
+            Subject::Import { module, name, .. } => write!(f, "import {module:?} {name:?}"),
+            Subject::Export { name } => write!(f, "export {name:?}"),
+            Subject::MissingFunction { module, name } => write!(f, "missing {module:?} {name:?}"),
+            Subject::MissingExport { name } => write!(f, "missing export {name:?}"),
+            Subject::Section { id: 8 } => f.write_str("start section"),
+            Subject::Section { id: 9 } => f.write_str("element section"),
+            Subject::Section { id: 11 } => f.write_str("data section"),
+            Subject::Section { id: 12 } => f.write_str("data count section"),
+            Subject::Section { id } => write!(f, "section {id}"),
+            Subject::Body {
+                function,
+                operator: Some(operator),
+            } => write!(f, "operator {operator} of the body of function {function}"),
+            Subject::Body { function, .. } => write!(f, "body of function {function}"),
+            Subject::World(index) => write!(f, "world {index}"),
+            Subject::Interface(id) => write!(f, "interface {}", id.0),
+            Subject::Type(id) => write!(f, "type {}", id.0),
+            Subject::Package(index) => write!(f, "package {index}"),
+        }
+    }
+}
+
+impl Display for TypeDifference {
+    fn fmt(&self, f: &mut Formatter<'_>) -> fmt::Result {
+        write!(f, "wanted {}, found {}", self.wanted, self.found)
+    }
+}
+
+#[cfg(test)]
+mod tests {
+    use super::{Place, Subject};
+    use crate::read::Unread;
+
+    /// The text of the place that a JSON text is.
+    fn shown(json: &str) -> String {
+        let place = Place::parse(json).expect("a place");
+        place.map_or_else(String::new, |it| it.to_string())
+    }
+
+    #[test]
+    fn forms() {
+        let types = r#"{"wanted":{"params":["i32",{"nullable":true,"index":3}],"results":["i64"]},"found":{"params":[],"results":["externref","non-null-funcref"]}}"#;
+        let of_import = r#"{"kind":"import","adapter":"a \"b\"","module":"m","name":"f","index":3,"types":TYPES}"#;
+        assert_eq!(
+            shown(&of_import.replace("TYPES", types)),
+            r#"import "m" "f", wanted (i32, (ref null 3)) -> i64, found () -> (externref, (ref func)), in adapter "a \"b\"""#
+        );
+        assert_eq!(
+            Place::parse(&of_import.replace("TYPES", "null")),
+            Ok(Some(Place {
+                adapter: Some("a \"b\"".into()),
+                subject: Subject::Import {
+                    module: "m".into(),
+                    name: "f".into(),
+                    index: 3
+                },
+                types: None
+            }))
+        );
+        for (json, text) in [
+            (
+                r#"{"kind":"export","adapter":null,"name":"f\n","types":null}"#,
+                r#"export "f\n""#,
+            ),
+            (
+                r#"{"kind":"missing-function","adapter":null,"module":"wasi:cli/run@0.2.6","name":"run","types":null}"#,
+                r#"missing "wasi:cli/run@0.2.6" "run""#,
+            ),
+            (
+                r#"{"kind":"missing-export","adapter":null,"name":"f","types":null}"#,
+                r#"missing export "f""#,
+            ),
+            (r#"{"kind":"section","id":8}"#, "start section"),
+            (
+                r#"{"kind":"section","adapter":"old","id":12}"#,
+                r#"data count section, in adapter "old""#,
+            ),
+            (
+                r#"{"kind":"body","function":7,"operator":2}"#,
+                "operator 2 of the body of function 7",
+            ),
+            (
+                r#"{"kind":"body","adapter":"old","function":7,"operator":null}"#,
+                r#"body of function 7, in adapter "old""#,
+            ),
+            (r#"{"kind":"world","index":0}"#, "world 0"),
+            (r#"{"kind":"interface","index":1}"#, "interface 1"),
+            (r#"{"kind":"type","index":2}"#, "type 2"),
+            (r#"{"kind":"package","index":3}"#, "package 3"),
+            ("", ""),
+        ] {
+            assert_eq!(shown(json), text);
+        }
+        for json in [
+            "{}",
+            r#"{"kind":"other"}"#,
+            r#"{"kind":"section","id":256}"#,
+            r#"{"kind":"export","adapter":3,"name":"f"}"#,
+        ] {
+            assert_eq!(Place::parse(json), Err(Unread::Unknown), "{json}");
+        }
+    }
+}

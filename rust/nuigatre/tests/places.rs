@@ -1,0 +1,397 @@
+//! What faults are about: ten ordinary mistakes, and the parts of an adapter and of worlds.
+
+use nuigatre::{
+    Adapter, ComponentEncoder, ComponentWorld, Error, GcFault, Plan, PlanFault, ResolveFault,
+    Resolved, Subject, ValidateFault, WorldFault, gc, validate_adapter_module, validate_module,
+};
+
+/// The package `my:demo@0.2.0`: the interface `host` with `add: func(a: u32) -> u64` and `log: func(s: string)`, and the
+/// world `w`, which imports `host` and `ask: func() -> string`, and exports `run: func(a: u32) -> u64`.
+const WORLDS: &str = r#"{
+    "worlds": [{"name": "w", "package": 0,
+        "imports": {
+            "interface-0": {"interface": {"id": 0}},
+            "ask": {"function": {"name": "ask", "kind": "freestanding", "params": [], "result": "string"}}},
+        "exports": {"run": {"function": {"name": "run", "kind": "freestanding",
+            "params": [{"name": "a", "type": "u32"}], "result": "u64"}}}}],
+    "interfaces": [{"name": "host", "package": 0, "types": {}, "functions": {
+        "add": {"name": "add", "kind": "freestanding", "params": [{"name": "a", "type": "u32"}], "result": "u64"},
+        "log": {"name": "log", "kind": "freestanding", "params": [{"name": "s", "type": "string"}]}}}],
+    "types": [],
+    "packages": [{"name": "my:demo@0.2.0", "interfaces": {"host": 0}, "worlds": {"w": 0}}]
+}"#;
+
+const HOST: &str = "my:demo/host@0.2.0";
+
+/// A core type of parameters and results: `i` is `i32`, and `I` is `i64`.
+type Ty = (&'static str, &'static str);
+
+fn vector<T>(items: &[T], put: impl Fn(&mut Vec<u8>, &T)) -> Vec<u8> {
+    let mut bytes = vec![items.len() as u8];
+    for item in items {
+        put(&mut bytes, item);
+    }
+    bytes
+}
+
+/// A length below 2^14.
+fn put_length(bytes: &mut Vec<u8>, length: usize) {
+    bytes.extend([length as u8 | 128, (length >> 7) as u8]);
+}
+
+fn put_name(bytes: &mut Vec<u8>, name: &str) {
+    put_length(bytes, name.len());
+    bytes.extend(name.as_bytes());
+}
+
+fn put_types(bytes: &mut Vec<u8>, types: &str) {
+    bytes.push(types.len() as u8);
+    let code = |letter| if letter == b'i' { 0x7f } else { 0x7e };
+    bytes.extend(types.bytes().map(code));
+}
+
+fn put_section(module: &mut Vec<u8>, id: u8, content: &[u8]) {
+    module.push(id);
+    put_length(module, content.len());
+    module.extend(content);
+}
+
+/// A module that imports these functions, and exports functions of one body each, and a memory if it is to have one.
+fn module(imports: &[(&str, &str, Ty)], exports: &[(&str, Ty)], memory: bool) -> Vec<u8> {
+    let of_imports = imports.iter().map(|it| it.2);
+    let types: Vec<Ty> = of_imports.chain(exports.iter().map(|it| it.1)).collect();
+    let types = vector(&types, |bytes, ty| {
+        bytes.push(0x60);
+        put_types(bytes, ty.0);
+        put_types(bytes, ty.1);
+    });
+    let indices: Vec<u8> = (0..).take(imports.len() + exports.len()).collect();
+    let (of_imports, of_exports) = indices.split_at(imports.len());
+    let import_section = vector(of_imports, |bytes, index| {
+        let (from, name, _) = imports[usize::from(*index)];
+        put_name(bytes, from);
+        put_name(bytes, name);
+        bytes.extend([0, *index]);
+    });
+    let mut items: Vec<(&str, u8, u8)> = exports
+        .iter()
+        .zip(of_exports)
+        .map(|(export, index)| (export.0, 0, *index))
+        .collect();
+    if memory {
+        items.push(("memory", 2, 0));
+    }
+    let export_section = vector(&items, |bytes, (name, kind, index)| {
+        put_name(bytes, name);
+        bytes.extend([*kind, *index]);
+    });
+    let mut module = b"\0asm\x01\0\0\0".to_vec();
+    put_section(&mut module, 1, &types);
+    put_section(&mut module, 2, &import_section);
+    put_section(
+        &mut module,
+        3,
+        &vector(of_exports, |bytes, index| bytes.push(*index)),
+    );
+    if memory {
+        put_section(&mut module, 5, b"\x01\0\x01");
+    }
+    put_section(&mut module, 7, &export_section);
+    // `unreachable`
+    put_section(
+        &mut module,
+        10,
+        &vector(of_exports, |bytes, _| bytes.extend(b"\x03\0\0\x0b")),
+    );
+    module
+}
+
+const RUN: (&str, Ty) = ("run", ("i", "I"));
+
+/// A main module that imports these, and exports `run`.
+fn main_module(imports: &[(&str, &str, Ty)]) -> Vec<u8> {
+    module(imports, &[RUN], false)
+}
+
+/// Why an encoder of this main module and these adapters has no plan: the text, and what it is about.
+fn mistake(main: &[u8], adapters: &[Adapter<'_>]) -> (Error, String) {
+    let mut encoder = ComponentEncoder::new(WORLDS, "w", main);
+    encoder.adapters = adapters.to_vec();
+    let error = Plan::new(&encoder).expect_err("a mistake");
+    match &error {
+        Error::World(it) if matches!(it.fault(), WorldFault::Plan(_)) => {
+            ComponentWorld::new(&encoder).expect("a world without a plan");
+        }
+        _ => assert_eq!(ComponentWorld::new(&encoder), Err(error.clone())),
+    }
+    let place = error.place().map(ToString::to_string);
+    (error, place.unwrap_or_default())
+}
+
+fn world_fault(error: &Error) -> &WorldFault {
+    match error {
+        Error::World(error) => error.fault(),
+        other => panic!("no fault of a world: {other:?}"),
+    }
+}
+
+/// The fault of the main module, and what it is about.
+#[track_caller]
+fn assert_main(main: &[u8], fault: ValidateFault, wanted: &str) {
+    let (error, place) = mistake(main, &[]);
+    assert_eq!(*world_fault(&error), WorldFault::Main(fault));
+    assert_eq!(place, wanted);
+    // validation alone finds the same
+    let encoder = ComponentEncoder::new(WORLDS, "w", main);
+    assert_eq!(validate_module(&encoder), Err(error));
+}
+
+#[test]
+fn an_interface_that_the_world_lacks() {
+    let main = main_module(&[
+        (HOST, "add", ("i", "I")),
+        ("my:demo/clock@0.2.0", "now", ("", "I")),
+    ]);
+    let wanted = r#"import "my:demo/clock@0.2.0" "now""#;
+    assert_main(&main, ValidateFault::UnknownInterface, wanted);
+    let (error, _) = mistake(&main, &[]);
+    let place = error.place().expect("a place");
+    assert!(place.adapter.is_none() && place.types.is_none());
+    assert!(matches!(place.subject, Subject::Import { index: 1, .. }));
+}
+
+#[test]
+fn another_version() {
+    let main = main_module(&[("my:demo/host@0.1.0", "add", ("i", "I"))]);
+    let wanted = r#"import "my:demo/host@0.1.0" "add""#;
+    assert_main(&main, ValidateFault::UnknownInterface, wanted);
+}
+
+#[test]
+fn a_letter_wrong() {
+    let main = main_module(&[(HOST, "Add", ("i", "I"))]);
+    let wanted = r#"import "my:demo/host@0.2.0" "Add""#;
+    assert_main(&main, ValidateFault::MissingFunction, wanted);
+}
+
+#[test]
+fn too_few_parameters() {
+    let main = main_module(&[(HOST, "log", ("i", ""))]);
+    let wanted = r#"import "my:demo/host@0.2.0" "log", wanted (i32, i32) -> (), found (i32) -> ()"#;
+    assert_main(&main, ValidateFault::SignatureMismatch, wanted);
+    let exported = module(&[], &[("run", ("i", "i"))], false);
+    let wanted = r#"export "run", wanted (i32) -> i64, found (i32) -> i32"#;
+    assert_main(&exported, ValidateFault::SignatureMismatch, wanted);
+}
+
+#[test]
+fn an_export_missing() {
+    let main = module(&[(HOST, "add", ("i", "I"))], &[], false);
+    let wanted = r#"missing export "run""#;
+    assert_main(&main, ValidateFault::MissingWorldExport, wanted);
+}
+
+#[test]
+fn a_memory_missing() {
+    let main = main_module(&[(HOST, "log", ("ii", ""))]);
+    let (error, place) = mistake(&main, &[]);
+    assert_eq!(*world_fault(&error), WorldFault::Plan(PlanFault::NoMemory));
+    assert_eq!(place, "");
+}
+
+#[test]
+fn a_realloc_missing() {
+    let main = module(&[("$root", "ask", ("i", ""))], &[RUN], true);
+    let (error, place) = mistake(&main, &[]);
+    assert_eq!(*world_fault(&error), WorldFault::Plan(PlanFault::NoRealloc));
+    assert_eq!(place, "");
+}
+
+#[test]
+fn an_adapter_not_given() {
+    let main = main_module(&[("wasi_snapshot_preview1", "fd_write", ("iiii", "i"))]);
+    let wanted = r#"import "wasi_snapshot_preview1" "fd_write""#;
+    assert_main(&main, ValidateFault::UnknownInterface, wanted);
+}
+
+#[test]
+fn an_adapter_for_the_wrong_world() {
+    let main = main_module(&[("wasi_snapshot_preview1", "fd_write", ("iiii", "i"))]);
+    let stdout = [("wasi:cli/stdout@0.2.6", "get-stdout", ("", "i"))];
+    let wasm = module(&stdout, &[("fd_write", ("iiii", "i"))], false);
+    let adapters = [Adapter::new("wasi_snapshot_preview1", &wasm)];
+    let (error, place) = mistake(&main, &adapters);
+    let name = "wasi_snapshot_preview1";
+    let fault = WorldFault::Adapter(name.into(), ValidateFault::UnknownInterface);
+    assert_eq!(*world_fault(&error), fault);
+    let wanted =
+        r#"import "wasi:cli/stdout@0.2.6" "get-stdout", in adapter "wasi_snapshot_preview1""#;
+    assert_eq!(place, wanted);
+    assert_eq!(
+        error.place().and_then(|it| it.adapter.as_deref()),
+        Some(name)
+    );
+    // validation alone finds the same
+    let mut encoder = ComponentEncoder::new(WORLDS, "w", &main);
+    encoder.adapters = adapters.to_vec();
+    assert_eq!(validate_module(&encoder), Ok(()));
+    assert_eq!(validate_adapter_module(&encoder, name), Err(error));
+    assert_eq!(
+        validate_adapter_module(&encoder, "other"),
+        Err(Error::BadArgument)
+    );
+}
+
+#[test]
+fn a_text_that_is_no_module() {
+    let (error, place) = mistake(b"(module)", &[]);
+    assert_eq!(error.to_string(), "Dedupe: Read: NotWasm");
+    assert_eq!(place, "");
+}
+
+/// What an adapter lacks, or exports with another type.
+#[test]
+fn exports_of_adapters() {
+    let main = main_module(&[("old", "f", ("i", "i"))]);
+    let about = |exports: &[(&str, Ty)]| {
+        let wasm = module(&[], exports, false);
+        let (error, place) = mistake(&main, &[Adapter::new("old", &wasm)]);
+        assert!(matches!(world_fault(&error), WorldFault::Adapter(name, _) if name == "old"));
+        place
+    };
+    assert_eq!(
+        about(&[("g", ("i", "i"))]),
+        r#"missing export "f", in adapter "old""#
+    );
+    assert_eq!(
+        about(&[("f", ("iI", "i"))]),
+        r#"export "f", wanted (i32) -> i32, found (i32, i64) -> i32, in adapter "old""#
+    );
+}
+
+/// An adapter that the component doesn't need is validated alone all the same.
+#[test]
+fn adapters_alone() {
+    let main = main_module(&[]);
+    let bad = module(&[("nowhere", "f", ("", ""))], &[("f", ("", ""))], false);
+    let good = module(&[(HOST, "add", ("i", "I"))], &[("f", ("", ""))], false);
+    let mut encoder = ComponentEncoder::new(WORLDS, "w", &main);
+    encoder.adapters = vec![Adapter::new("bad", &bad), Adapter::new("good", &good)];
+    assert!(ComponentWorld::new(&encoder).is_ok());
+    assert_eq!(validate_module(&encoder), Ok(()));
+    assert_eq!(validate_adapter_module(&encoder, "good"), Ok(()));
+    let error = validate_adapter_module(&encoder, "bad").expect_err("an import of nothing");
+    assert_eq!(error.to_string(), "World: Adapter `bad`: UnknownInterface");
+    let place = error.place().expect("a place").to_string();
+    assert_eq!(place, r#"import "nowhere" "f", in adapter "bad""#);
+    // the main module is validated before
+    let wrong = main_module(&[("nowhere", "g", ("", ""))]);
+    encoder.module = &wrong;
+    let error = validate_adapter_module(&encoder, "good").expect_err("an import of nothing");
+    assert_eq!(error.to_string(), "World: Main: UnknownInterface");
+}
+
+/// Names of any characters. The place is longer than the first buffer that validation alone has.
+#[test]
+fn long_names() {
+    let name = "\"é\n\\\0\u{7f}😀".repeat(200);
+    let main = main_module(&[(&name, &name, ("", ""))]);
+    let wanted = format!("import {name:?} {name:?}");
+    assert_main(&main, ValidateFault::UnknownInterface, &wanted);
+    let (error, _) = mistake(&main, &[]);
+    match &error.place().expect("a place").subject {
+        Subject::Import {
+            module, name: own, ..
+        } => assert_eq!((module, own), (&name, &name)),
+        other => panic!("no import: {other:?}"),
+    }
+}
+
+/// A message that is refused for another reason than a module.
+#[test]
+fn no_encoder() {
+    let main = main_module(&[]);
+    let encoder = ComponentEncoder::new(WORLDS, "other", &main);
+    let error = validate_module(&encoder).expect_err("no such world");
+    assert_eq!(*world_fault(&error), WorldFault::UnknownWorld);
+    let adapter = validate_adapter_module(&encoder, "old");
+    assert_eq!(adapter, Err(error));
+}
+
+/// `f` of an adapter, with this section before its code, and this body.
+fn adapter(section: &[u8], body: &[u8]) -> Vec<u8> {
+    let mut module =
+        b"\0asm\x01\0\0\0\x01\x04\x01\x60\0\0\x03\x02\x01\0\x07\x05\x01\x01f\0\0".to_vec();
+    module.extend(section);
+    let mut bodies = vec![1, body.len() as u8];
+    bodies.extend(body);
+    module.extend([10, bodies.len() as u8]);
+    module.extend(bodies);
+    module
+}
+
+/// Sections and operators that are refused, where an adapter is trimmed alone and where it is for a component.
+#[test]
+fn trims() {
+    let main = main_module(&[("old", "f", ("", ""))]);
+    for (wasm, fault, wanted) in [
+        (
+            adapter(b"\x08\x01\0", b"\0\x0b"),
+            GcFault::UnsupportedSection,
+            "start section",
+        ),
+        (
+            // `nop`, and a call of a function that is not there
+            adapter(b"", b"\0\x01\x10\x05\x0b"),
+            GcFault::LiveBody,
+            "operator 1 of the body of function 0",
+        ),
+        (
+            // a code that is no operator's
+            adapter(b"", b"\0\xff\x0b"),
+            GcFault::LiveBody,
+            "body of function 0",
+        ),
+    ] {
+        let error = gc::run(&wasm, ["f"], None, 16).expect_err(wanted);
+        match &error {
+            Error::Trim(error) => assert_eq!(*error.fault(), fault),
+            other => panic!("no fault of a trim: {other:?}"),
+        }
+        assert_eq!(
+            error.place().map(ToString::to_string).as_deref(),
+            Some(wanted)
+        );
+        let (error, place) = mistake(&main, &[Adapter::new("old", &wasm)]);
+        assert_eq!(*world_fault(&error), WorldFault::Trim("old".into(), fault));
+        assert_eq!(place, format!("{wanted}, in adapter \"old\""));
+    }
+    let error = gc::run(&adapter(b"", b"\0\x0b"), ["g"], None, 16).expect_err("no `g`");
+    assert!(error.place().is_none());
+}
+
+/// Parts of worlds.
+#[test]
+fn parts() {
+    let about = |worlds: &str| {
+        let error = Resolved::new(worlds).expect_err("worlds that are refused");
+        let place = error.place().expect("a place").to_string();
+        (world_fault(&error).clone(), place)
+    };
+    let range = WorldFault::Resolve(ResolveFault::IdRange);
+    let interface = WORLDS.replace("{\"id\": 0}", "{\"id\": 1}");
+    assert_eq!(about(&interface), (range.clone(), "world 0".into()));
+    let types = WORLDS.replace("\"type\": \"string\"", "\"type\": 7");
+    assert_eq!(about(&types), (range.clone(), "interface 0".into()));
+    let cycle = WORLDS.replace(
+        "\"types\": [],",
+        r#""types": [{"name": "t", "kind": {"list": 0}, "owner": null}],"#,
+    );
+    let cycle = about(&cycle);
+    assert_eq!(
+        cycle,
+        (WorldFault::Resolve(ResolveFault::Cycle), "type 0".into())
+    );
+    let package = WORLDS.replace("{\"host\": 0}", "{\"host\": 1}");
+    assert_eq!(about(&package), (range, "package 0".into()));
+}
