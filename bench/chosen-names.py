@@ -28,12 +28,13 @@ import signal
 import subprocess
 import sys
 
-import colliding
-from colliding import SEED, after_number
-from generate import HEADER, function_import, name, number, section, types, vector
-from trimming import body, exports, functions
-
 TOP = pathlib.Path(__file__).resolve().parent.parent
+sys.path.append(str(TOP / "checks"))
+import colliding
+from adapter_shapes import body, exports, functions
+from colliding import SEED, after_number
+from module_bytes import HEADER, function_import, name, number, section, types, vector
+
 FOLDER = TOP / "bench" / "data" / "chosen-names"
 FILES = "in.wasm", "adapter.wasm", "out.wasm", "worlds.json", "names.rows"
 IN, ADAPTER, OUT, WORLDS, ROWS = (str(FOLDER / file) for file in FILES)

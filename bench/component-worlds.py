@@ -9,6 +9,10 @@ given) of a row that only builds the encoder, and how much longer those take tha
 that make the component's world: the last is the time of `ComponentWorld::new` and `PlainOptions::new`. It says of adapters
 besides how long `trim` takes of all of them, without the reading of the row. Times are of the processor, user's and
 system's. The rows are written into bench/data.
+
+A case has 2,000 interfaces of 50 functions, which are all imported or all exported, and a main module that imports some of
+their functions; or 2,000 exported interfaces, each of which uses all before it; or a main module of 20 MB and six adapters,
+each of 10 to 100,000 functions of the shape `chain` of checks/adapter_shapes.py.
 """
 import argparse
 import os
@@ -16,11 +20,12 @@ import pathlib
 import subprocess
 import sys
 
-from generate import HEADER, function_import, name, number, section, vector
-from many_interfaces import fixture
-from trimming import TYPES, body, chain, call, exports, functions
-
 TOP = pathlib.Path(__file__).resolve().parent.parent
+sys.path.append(str(TOP / "checks"))
+from adapter_shapes import TYPES, body, call, chain, exports, functions
+from many_interfaces import fixture
+from module_bytes import HEADER, function_import, section, vector
+
 PROGRAM = TOP / "crates" / "wc_tests" / "out" / "wc_tests"
 FOLDER = TOP / "bench" / "data" / "component-worlds"
 INTERFACES = 2000

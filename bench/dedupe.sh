@@ -1,5 +1,8 @@
 #!/bin/sh
-# Times `wctrim dedupe` and `cp` on the modules of bench/data, best of 5 each, and checks what dedupe wrote.
+# Times `wctrim dedupe` and `cp` on the modules that generate.py writes into bench/data, in turn, best of 5 each. It is the
+# built program that is timed, not the script `wctrim`; what it prints is thrown away. After the runs it stops unless the
+# imports are as many as before and all different, no more of them are renamed than must be, and the bytes are unchanged
+# where nothing was renamed.
 set -e
 top=$(CDPATH='' cd -P -- "$(dirname -- "$0")/.." && pwd -P)
 "$top/wctrim" --build

@@ -4,7 +4,8 @@
     many-imports.py [IMPORTS] [INTERFACES] | crates/wc_tests/out/wc_tests - > answers
 
 20,000 imports and 2,000 interfaces, unless other numbers are given. Each interface is in a package of its own, and has
-ten functions; imports name the functions of one interface after the other. Beside it is a row of the same fixture with
+ten functions; imports name the functions of one interface after the other, half of them by another version of the same
+track. Beside it is a row of the same fixture with
 no import. What the first takes longer than the second is the reading of its lines and the validation.
 """
 import sys

@@ -1,16 +1,19 @@
 #!/bin/sh
-# Times read_module, and read_body over every body, beside wasm-objdump and wasm-validate on the same files,
-# best of 5 each: over C's and C++'s libraries linked whole, and over the module of 50 MB of generate.py.
+# Times read_module, and read_body over every body, of files that are in memory: the fastest of five runs of many readings,
+# less the fastest of five of none, divided by their number. Beside it are full runs of wasm-objdump -h and wasm-validate on
+# the same files, best of 5 each; the first skips the contents of sections, and the second checks types too, so neither does
+# the same work. The files are C's and C++'s libraries linked whole, without exports and with all of them, and the module of
+# 50 MB of generate.py.
 set -e
 top=$(CDPATH='' cd -P -- "$(dirname -- "$0")/.." && pwd -P)
-. "$top/bench/need.sh"
+. "$top/checks/need.sh"
 need wasm-ld lld
 need wasm-validate wabt
 need wasm-objdump wabt
 need python3 python3
 need /usr/lib/wasm32-wasi/libc.a wasi-libc
 need /usr/lib/wasm32-wasi/libc++.a libc++-dev-wasm32
-program=$("$top/bench/reader-program.sh")
+program=$("$top/checks/reader-program.sh")
 data=$top/bench/data
 [ -e "$data/no-repeats.wasm" ] || python3 "$top/bench/generate.py" "$data" >/dev/null
 for kind in --no-gc-sections --export-all; do

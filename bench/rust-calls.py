@@ -3,7 +3,7 @@
 
     bench/rust-calls.py [--program PROGRAM] [--rounds N] [--folder FOLDER] [--most N]
 
-The adapters have 3, 1,000 and 100,000 functions; the larger two are those of the shape `chain` of bench/trimming.py,
+The adapters have 3, 1,000 and 100,000 functions; the larger two are those of the shape `chain` of checks/adapter_shapes.py,
 every second function of which goes. For each a line says its bytes and those that are left, and then the fastest time
 of a call of `gc::run` through the crate of rust/nuigatre, of a process of PROGRAM (crates/wctrim/out/wctrim, unless
 another is given), and of a process of `wasm-metadce`, where binaryen is installed. A call is timed inside of the
@@ -12,7 +12,7 @@ the calls on small adapters are repeated until they take a tenth of a second. Th
 as the call. Where PROGRAM is not there, calls alone are timed.
 
 Then worlds of 1,000, 10,000 and 40,000 functions are made, or of those of N at most, as many of which an adapter
-exports, and all of which the main module imports; and with a FOLDER that of bench/rust-world.py. For each a line says
+exports, and all of which the main module imports; and with a FOLDER that of checks/rust-world.py. For each a line says
 the time of a call of `ComponentWorld::new`, and of looking each import of the main module up in it.
 """
 import argparse
@@ -25,24 +25,17 @@ import sys
 import tempfile
 import time
 
-from adapters import TOP
-from trimming import TYPES, body, call, chain, exports, functions, module
-from generate import name, section, vector
-
-CRATE = os.path.join(TOP, "rust", "nuigatre")
+TOP = os.path.dirname(os.path.dirname(os.path.abspath(__file__)))
+sys.path.append(os.path.join(TOP, "checks"))
+from adapter_shapes import TYPES, body, call, chain, exports, functions, module
+from module_bytes import name, section, vector
+from rust_examples import built_example
 
 
 def three(_):
     """Three functions: the first is exported as `b`, the second as `a`, which calls the third."""
     bodies = section(10, vector([body([], b""), body([], call(2)), body([], b"")]))
     return module(TYPES, functions(3), exports([("b", 0), ("a", 1)]), bodies), ["a"]
-
-
-def built_example(name):
-    command = ["cargo", "build", "--offline", "--release", "--quiet", "--example", name]
-    subprocess.run(command, cwd=CRATE, check=True)
-    target = os.environ.get("CARGO_TARGET_DIR", os.path.join(CRATE, "target"))
-    return os.path.join(target, "release", "examples", name)
 
 
 def demo_world(count):

@@ -38,7 +38,6 @@ import json
 import os
 import re
 import resource
-import shutil
 import subprocess
 import sys
 
@@ -544,6 +543,20 @@ def named(found, crate, names):
     return lines
 
 
+def texts_of_edits(crate):
+    """The names and the texts of a crate's edits, those of folders in its folder among them."""
+    paths = {}
+    for top in (f"{TOP}/edits/{crate}", f"{TOP}/crates/{crate}/must-fail"):
+        for folder, _, files in sorted(os.walk(top)):
+            for file in sorted(it for it in files if it.endswith(".edit")):
+                path = paths.setdefault(file, f"{folder}/{file}")
+                if path != f"{folder}/{file}":
+                    sys.exit(f"batches.py: two edits of {crate} are named {file}: {path} and {folder}/{file}")
+    for file, path in paths.items():
+        with open(path, encoding="utf-8") as text:
+            yield file.removesuffix(".edit"), text.read()
+
+
 def main():
     parser = argparse.ArgumentParser(usage=__doc__.split("\n\n")[1].strip())
     parser.add_argument("--sources", default=TOP)
@@ -561,12 +574,7 @@ def main():
     rows, lists, is_well = [], [], True
     for name in given.crates:
         crate = Crate(os.path.abspath(given.sources), given.over and os.path.abspath(given.over), name)
-        edits = []
-        for folder in (f"{TOP}/edits/{name}", f"{TOP}/crates/{name}/must-fail"):
-            for it in sorted(os.listdir(folder)) if os.path.isdir(folder) else []:
-                if it.endswith(".edit"):
-                    with open(f"{folder}/{it}", encoding="utf-8") as file:
-                        edits.append(Edit(it[: -len(".edit")], file.read(), crate.texts))
+        edits = [Edit(it, text, crate.texts) for it, text in texts_of_edits(name)]
         names, start = [it.name for it in edits], spent()
         tries = Tries(crate, given)
         tries.run([it for it in edits if not given.edit or it.name in given.edit])

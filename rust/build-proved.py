@@ -10,23 +10,10 @@ the static library alone, in some minutes. Where one of them is missing, or has 
 and nothing is done. It is 1 where the static library is not proved, or there is no rt on PATH.
 """
 import os
-import shutil
 import subprocess
 import sys
 
-TOP = os.path.dirname(os.path.dirname(os.path.abspath(__file__)))
-CRATE = "nuigatre"
-
-
-def used_by_crates():
-    """The libraries that each crate uses, by crates.txt."""
-    used = {}
-    with open(os.path.join(TOP, "crates.txt"), encoding="utf-8") as file:
-        for line in file:
-            name, found, libraries = line.split("#")[0].partition(":")
-            if found:
-                used[name.split()[0]] = libraries.split()
-    return used
+from static_library import CRATE, TOP, kit_for, say, used_by_crates
 
 
 def rlib(crate):
@@ -62,15 +49,11 @@ def command(kit, used):
 
 
 def main():
-    rt = shutil.which("rt")
-    if rt is None:
-        print("rust/check: rt is not on PATH: it proves and builds the static library", file=sys.stderr)
-        return 1
-    kit = os.path.dirname(os.path.dirname(os.path.realpath(rt)))
+    kit = kit_for("proves and builds the static library")
     used = used_by_crates()
     if not all(is_fresh(library) for library in used[CRATE] if library in used):
         return 3
-    print("rust/check: the static library is proved and built over what rt ci proved here", file=sys.stderr)
+    say("the static library is proved and built over what rt ci proved here")
     folder = os.path.join(TOP, "crates", CRATE)
     os.makedirs(os.path.join(folder, "out"), exist_ok=True)
     return 1 if subprocess.run(command(kit, used), cwd=folder, check=False).returncode else 0

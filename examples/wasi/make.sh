@@ -3,7 +3,7 @@
 # and adapter.wasm, the adapter of WASI commands, cut out of the linker for components that Rust's toolchain has.
 set -e
 here=$(CDPATH='' cd -P -- "$(dirname -- "$0")" && pwd -P)
-. "$here/../../bench/need.sh"
+. "$here/../../checks/need.sh"
 need clang clang
 need wasm-ld lld
 need /usr/lib/wasm32-wasi/libc.a wasi-libc
@@ -11,4 +11,4 @@ need "$(clang -print-resource-dir)/lib/wasi/libclang_rt.builtins-wasm32.a" libcl
 need python3 python3
 mkdir -p "$here/out"
 clang --target=wasm32-wasi -O2 -s "$here/hello.c" -o "$here/out/hello.wasm"
-"$here/../../bench/adapters.py" --cut 'wasi:cli/run@0.2.6#run' "$here/out/adapter.wasm"
+"$here/../../checks/adapters.py" --cut 'wasi:cli/run@0.2.6#run' "$here/out/adapter.wasm"

@@ -10,4 +10,4 @@ optional_name false name = None
 -- how an adapter is trimmed: for a main module that exports a realloc of this name, if it exports one, and has pages of
 -- 2 ^ exponent bytes
 abbrev pub settings_of : Bool → List ℕ → ℕ → SettingsValue
-settings_of has_realloc realloc exponent = record { realloc = optional_name has_realloc realloc; exponent = exponent }
+settings_of has_realloc realloc page_size_log2 = record { realloc = optional_name has_realloc realloc; page_size_log2 = page_size_log2 }

@@ -16,12 +16,14 @@ ghost use Rattle.std.specs.Prelude.{◌≡◌, ◌≢◌, ◌≤◌, []};
 ghost use Rattle.std.specs.Option.{option_map};
 ghost use Rattle.wc_read.specs.Sections.{IsComponent};
 ghost use Rattle.wc_dedupe.specs.Dedupe.{IsDeduped};
+ghost use Rattle.wc_gc.specs.Liveness.{trim_input_for_names};
+ghost use Rattle.wc_gc.specs.TrimmedText.{IsTrimmed};
 ghost use Rattle.wc_calls.specs.Answers.{AreOthersOfFaultZero, AreOthersOfTextZero, AreOthersZero, IsPut, IsTooLong, done, failed, too_small, same, bad_argument};
 ghost use Rattle.wc_calls.specs.ComponentPlans.{IsPlanAnswer};
 ghost use Rattle.wc_calls.specs.ComponentWorlds.{IsFaultOf, IsWorldAnswer};
 ghost use Rattle.wc_calls.specs.Renaming.{IsRenamed, IsRenamingFault};
-ghost use Rattle.wc_calls.specs.Required.{texts, trim_input_of};
-ghost use Rattle.wc_calls.specs.Trimming.{AreArguments, IsRun, IsTrimmingFault};
+ghost use Rattle.wc_calls.specs.Required.{texts};
+ghost use Rattle.wc_calls.specs.Trimming.{AreArguments, IsTrimmingFault};
 ghost use Rattle.wc_calls.specs.Validation.{IsNoModuleOf, IsValidOf, IsValidationFaultOf};
 ghost use Rattle.nuigatre.specs.Arguments.{optional_name, settings_of};
 
@@ -62,11 +64,11 @@ pub extern "C" fn nuigatre_trim(
     out: &mut [u8],
 ) -> Answer
     ensures done { result.status ≡ done
-        → IsPut (IsRun (settings_of has_realloc realloc.now page_size_log2)
-        (trim_input_of wasm.now (texts required.now))) result.length out.old out.new }
+        → IsPut (IsTrimmed (settings_of has_realloc realloc.now page_size_log2)
+        (trim_input_for_names wasm.now (texts required.now))) result.length out.old out.new }
     ensures too_small { result.status ≡ too_small
-        → IsTooLong (IsRun (settings_of has_realloc realloc.now page_size_log2)
-        (trim_input_of wasm.now (texts required.now))) result.length out.old }
+        → IsTooLong (IsTrimmed (settings_of has_realloc realloc.now page_size_log2)
+        (trim_input_for_names wasm.now (texts required.now))) result.length out.old }
     ensures fault { result.status ≡ failed
         → IsTrimmingFault (settings_of has_realloc realloc.now page_size_log2) wasm.now
         (texts required.now) result out.old out.new }
@@ -167,12 +169,12 @@ pub extern "C" fn nuigatre_validate(
 }
 
 /// The form of the calls, messages and answers.
-const ABI: u32 = 2;
+const ABI: u32 = 3;
 
 /// The number of the form of these calls, their messages and answers. It goes up with each change that a caller can see.
 #[unsafe(no_mangle)]
 pub extern "C" fn nuigatre_abi() -> u32
-    ensures { result ≡ 2 }
+    ensures { result ≡ 3 }
 {
     ABI
 }

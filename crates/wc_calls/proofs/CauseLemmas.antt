@@ -1,13 +1,13 @@
 -- Causes of faults, step by step.
 use Rattle.std.proofs.Common.{◌≡◌, ℕ, ◌<◌, Bool, false, List, [], length, Option, unwrap_or, Result, Ok, Err, IfErr, inl, inr, refl, subst, sym}
 use Rattle.json.specs.Json.{document}
-use Rattle.wc_dedupe.specs.Dedupe.{IsCause as IsDedupeCause, IsDeduped, renames_in}
+use Rattle.wc_dedupe.specs.Dedupe.{IsDedupeCause, IsDeduped, renames_in}
 use Rattle.wc_dedupe.specs.Renaming.{RenameValue}
 use Rattle.wc_dedupe.specs.declared.fault.DedupeFault.{DedupeFault}
 use Rattle.wc_dedupe.specs.declared.fault.DedupeFault.TheVariants.{Memory as dedupe_memory}
 use Rattle.wc_encoder.specs.Adapters.{AdapterView}
 use Rattle.wc_encoder.specs.EncoderParts.{EncoderView}
-use Rattle.wc_encoder.specs.Fault.{IsCause as IsEncoderCause}
+use Rattle.wc_encoder.specs.Fault.{IsEncoderCause}
 use Rattle.wc_encoder.specs.declared.fault.EncoderFault.{EncoderFault}
 use Rattle.wc_encoder.specs.declared.fault.EncoderFault.TheVariants.{Memory as encoder_memory}
 use Rattle.wc_json.specs.FromJson.{IsCauseOf}
@@ -16,7 +16,7 @@ use Rattle.wc_json.specs.declared.fault.JsonFault.TheVariants.{Memory as json_me
 use Rattle.wc_resolve.specs.Views.{KeyView}
 use Rattle.wc_resolve.specs.WellFormed.{IsWellFormed}
 use Rattle.wc_resolve.specs.World.{ResolveView}
-use Rattle.wc_resolve.specs.Faults.{IsCause as IsResolveCause}
+use Rattle.wc_resolve.specs.Faults.{IsResolveCause}
 use Rattle.wc_resolve.specs.declared.fault.ResolveFault.{ResolveFault}
 use Rattle.wc_resolve.specs.declared.fault.ResolveFault.TheVariants.{Memory as resolve_memory}
 use Rattle.wc_json.specs.Document.{DocumentView}

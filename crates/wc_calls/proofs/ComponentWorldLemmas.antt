@@ -2,48 +2,48 @@
 use Rattle.std.proofs.Common.{◌≡◌, ◌≢◌, ◌⊎◌, ◌++◌, ◌≤◌, ◌<◌, ℕ, List, Result, Ok, Err, IfOk, IfErr, length, sym, subst, ap, inl, inr, arith}
 use Rattle.wc_encoder.specs.EncoderParts.{EncoderView}
 use Rattle.wc_record.specs.Texts.{world_text}
-use Rattle.wc_world.specs.Causes.{IsCause, IsMemory}
-use Rattle.wc_world.specs.Options.{plain_options}
+use Rattle.wc_world.specs.Causes.{IsComponentWorldCause, IsMemory}
+use Rattle.wc_world.specs.Options.{OptionsOf}
 use Rattle.wc_world.specs.Views.{ComponentWorldView}
 use Rattle.wc_world.specs.World.{IsWorldOf}
 use Rattle.wc_world.specs.declared.fault.WorldFault.{WorldFault}
 use Rattle.wc_world.specs.declared.fault.WorldFault.TheVariants.{Memory as world_memory}
 use Rattle.wc_calls.specs.Answers.{IsFront, IsPut, IsTooLong, done, too_small}
 use Rattle.wc_calls.specs.ComponentWorlds.{IsWorldAnswer, modules_text}
-use Rattle.wc_calls.specs.Encoders.{IsEncoderOf}
+use Rattle.wc_calls.specs.Encoders.{AreOptionsOf, IsEncoderOf}
 use Rattle.wc_calls.specs.MessageFaults.{of_world}
 use Rattle.wc_calls.specs.Private.EncoderAnswers.{IsAnswerFor, IsFaultFor}
 use Rattle.wc_calls.specs.declared.component_worlds.WorldAnswer.{WorldAnswer}
 use Rattle.wc_calls.specs.declared.message_fault.MessageFault.{MessageFault}
 use Rattle.wc_calls.specs.declared.message_fault.MessageFault.TheVariants.{Memory}
 
--- what is answered for an encoder, of which this is the component's world
+-- what is answered for an encoder and options, of which this is the component's world
 
-pub answered_for : (e : EncoderView) (w : ComponentWorldView) (r : Result WorldAnswer MessageFault) → IsWorldOf plain_options e w
+pub answered_for : (options : OptionsOf) (e : EncoderView) (w : ComponentWorldView) (r : Result WorldAnswer MessageFault) → IsWorldOf options e w
     → IfOk r (λ a. a.modules.items ≡ modules_text w) → IfOk r (λ a. a.json.items ≡ world_text w)
-    → IfOk r (λ a. IsAnswerFor e (length a.modules.items) (a.modules.items ++ a.json.items))
-answered_for e w (Ok a) made modules json = record {
+    → IfOk r (λ a. IsAnswerFor options e (length a.modules.items) (a.modules.items ++ a.json.items))
+answered_for options e w (Ok a) made modules json = record {
   world = w;
   made = made;
   size = ap length modules;
   whole = (λ i. modules i ++ json i);
 }
-answered_for e w (Err f) made modules json = tt
+answered_for options e w (Err f) made modules json = tt
 
 pub memory_for : (e : EncoderView) (r : Result WorldAnswer MessageFault) → IfErr r (λ f. f ≡ Memory) → IfErr r (IsFaultFor e)
 memory_for e (Ok a) is = tt
 memory_for e (Err f) is = subst (IsFaultFor e) (sym is) tt
 
 -- and the fault, where there is none
-pub world_fault_for : (e : EncoderView) (f : WorldFault) → IsMemory e f ⊎ IsCause e f → IsFaultFor e (of_world f)
+pub world_fault_for : (e : EncoderView) (f : WorldFault) → IsMemory e f ⊎ IsComponentWorldCause e f → IsFaultFor e (of_world f)
 world_fault_for e world_memory h = tt
 world_fault_for e f h = ((λ same. cc), h)
 
 -- the same for a message
-pub answered_to : (message modules : List ℕ) (e : EncoderView) (module_length : ℕ) → IsEncoderOf message modules e
-    → (text : List ℕ) → IsAnswerFor e module_length text → IsWorldAnswer message modules module_length text
-answered_to message modules e module_length encodes text is =
-    record { encoder = e; encodes = encodes; world = is.world; made = is.made; size = is.size; whole = is.whole }
+pub answered_to : (message modules : List ℕ) (options : OptionsOf) (e : EncoderView) (module_length : ℕ) → IsEncoderOf message modules e
+    → AreOptionsOf message options → (text : List ℕ) → IsAnswerFor options e module_length text → IsWorldAnswer message modules module_length text
+answered_to message modules options e module_length encodes given text is =
+    record { encoder = e; encodes = encodes; options = options; given = given; world = is.world; made = is.made; size = is.size; whole = is.whole }
 
 -- what holds of the bytes of modules and a text, with the length of the modules, as they were written
 

@@ -1,8 +1,9 @@
 -- Faults that are answered, by their causes and what they are about.
 use Rattle.std.proofs.Common.{◌≡◌, ◌≢◌, ◌<◌, ℕ, List, length, sym, subst}
 use Rattle.wc_encoder.specs.EncoderParts.{EncoderView}
+use Rattle.wc_world.specs.Options.{OptionsOf}
 use Rattle.wc_calls.specs.Answers.{IsPut, IsTooLong}
-use Rattle.wc_calls.specs.Encoders.{IsEncoderOf}
+use Rattle.wc_calls.specs.Encoders.{AreOptionsOf, IsEncoderOf}
 use Rattle.wc_calls.specs.FaultAnswers.{IsFaultAnswered}
 use Rattle.wc_calls.specs.MessageFaults.{IsMessageCause, IsNoEncoderCause}
 use Rattle.wc_calls.specs.Places.{IsPlaceOf}
@@ -71,22 +72,24 @@ world_refused message modules e a old new encodes answered =
     answered_by (IsFaultFor e) (IsMessageCause message modules) (IsPlaceFor e) (IsPlaceOf message modules) a old new
     (λ f other is. world_cause message modules e f encodes is) (λ f place is at. world_place message modules e f place encodes is at) answered
 
-plan_cause : (message modules : List ℕ) (e : EncoderView) (f : MessageFault) → IsEncoderOf message modules e → IsPlanFaultFor e f → IsMessageCause message modules f
-plan_cause message modules e Memory encodes is = tt
-plan_cause message modules e (World f) encodes is = (e, encodes, is)
-plan_cause message modules e (Plan f) encodes is = (e, encodes, is.0, is.1, is.2)
-plan_cause message modules e f encodes is = absurd is
+plan_cause : (message modules : List ℕ) (options : OptionsOf) (e : EncoderView) (f : MessageFault) → IsEncoderOf message modules e
+    → AreOptionsOf message options → IsPlanFaultFor options e f → IsMessageCause message modules f
+plan_cause message modules options e Memory encodes given is = tt
+plan_cause message modules options e (World f) encodes given is = (e, encodes, is)
+plan_cause message modules options e (Plan f) encodes given is = (e, encodes, options, given, is.0, is.1, is.2)
+plan_cause message modules options e f encodes given is = absurd is
 
-plan_place : (message modules : List ℕ) (e : EncoderView) (f : MessageFault) (place : List ℕ) → IsEncoderOf message modules e → IsPlanFaultFor e f
-    → IsPlaceFor e f place → IsPlaceOf message modules f place
-plan_place message modules e Memory place encodes is at = at
-plan_place message modules e (World f) place encodes is at = (e, encodes, at)
-plan_place message modules e (Plan f) place encodes is at = at
-plan_place message modules e f place encodes is at = absurd is
+plan_place : (message modules : List ℕ) (options : OptionsOf) (e : EncoderView) (f : MessageFault) (place : List ℕ) → IsEncoderOf message modules e
+    → IsPlanFaultFor options e f → IsPlaceFor e f place → IsPlaceOf message modules f place
+plan_place message modules options e Memory place encodes is at = at
+plan_place message modules options e (World f) place encodes is at = (e, encodes, at)
+plan_place message modules options e (Plan f) place encodes is at = at
+plan_place message modules options e f place encodes is at = absurd is
 
-pub plan_refused : (message modules : List ℕ) (e : EncoderView) (a : Answer) (old new : List ℕ) → IsEncoderOf message modules e
-    → IsFaultAnswered (IsPlanFaultFor e) (IsPlaceFor e) a old new
+pub plan_refused : (message modules : List ℕ) (options : OptionsOf) (e : EncoderView) (a : Answer) (old new : List ℕ) → IsEncoderOf message modules e
+    → AreOptionsOf message options → IsFaultAnswered (IsPlanFaultFor options e) (IsPlaceFor e) a old new
     → IsFaultAnswered (IsMessageCause message modules) (IsPlaceOf message modules) a old new
-plan_refused message modules e a old new encodes answered =
-    answered_by (IsPlanFaultFor e) (IsMessageCause message modules) (IsPlaceFor e) (IsPlaceOf message modules) a old new
-    (λ f other is. plan_cause message modules e f encodes is) (λ f place is at. plan_place message modules e f place encodes is at) answered
+plan_refused message modules options e a old new encodes given answered =
+    answered_by (IsPlanFaultFor options e) (IsMessageCause message modules) (IsPlaceFor e) (IsPlaceOf message modules) a old new
+    (λ f other is. plan_cause message modules options e f encodes given is)
+    (λ f place is at. plan_place message modules options e f place encodes is at) answered

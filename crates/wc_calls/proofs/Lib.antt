@@ -8,4 +8,5 @@ mod TrimmingLemmas
 mod AskedKeyLemmas
 mod FaultAnswerLemmas
 mod ModuleLemmas
+mod OptionTableLemmas
 mod PlaceLemmas

@@ -1,18 +1,18 @@
 -- The name of a missing export is at its position among the names that are passed.
-use Rattle.std.proofs.Common.{◌≡◌, ◌≢◌, ◌⊎◌, ℕ, Bool, true, false, List, [], ◌∷◌, ◌++◌, ◌||◌, cond, if◌then◌else◌, fold, Some, refl, sym, ◌∙◌, ap, subst, inl, inr}
+use Rattle.std.proofs.Common.{◌≡◌, ◌≢◌, ℕ, Bool, true, List, [], ◌∷◌, cond, Some, refl, sym, ap, subst, inl, inr}
 use Rattle.std.proofs.Math.Bool.{or-true}
 use Rattle.std.proofs.lemmas.Bool.{cases_Bool, or_cases}
-use Rattle.std.proofs.lemmas.List.Folds.{list_any-append}
 use Rattle.std.proofs.lemmas.Slice.Eq.{bytes_eq-Decides}
 use Rattle.std.specs.Prelude.{string_bytes}
 use Rattle.std.specs.List.{find, list_any, slice_get}
 use Rattle.std.specs.Str.{bytes_eq}
-use Rattle.indexmap.specs.IndexSet.{insert_key}
+use Rattle.wc_gc.specs.Liveness.{distinct_names, trim_input_for_names}
 use Rattle.wc_gc.specs.Parts.{SettingsValue}
 use Rattle.wc_gc.specs.Trimming.{IsTrimFault}
 use Rattle.wc_gc.specs.declared.fault.GcFault.{GcFault}
 use Rattle.wc_gc.specs.declared.fault.GcFault.TheVariants.{Memory, MissingExport}
-use Rattle.wc_calls.specs.Required.{distinct_names, position_of, trim_input_of}
+use Rattle.wc_gc.proofs.NameSetLemmas.{among_distinct}
+use Rattle.wc_calls.specs.Required.{position_of}
 use Rattle.wc_calls.specs.Trimming.{IsPosition, position_in}
 
 -- what is found is among the names
@@ -27,35 +27,6 @@ found_among p (y ∷ ys) x e =
       | inr fails ↦
           (let rest : find p ys ≡ Some x = subst (λ b. cond b (Some y) (find p ys) ≡ Some x) fails e in
           rw (found_among p ys x rest) (or-true _))
-    ]
-
--- what is in a set after a name was put into it was there, or is that name
-key_among : (keys : List (List ℕ)) (n x : List ℕ) → list_any (bytes_eq x) (insert_key bytes_eq keys n) ≡ true → (list_any (bytes_eq x) keys ≡ true) ⊎ (bytes_eq x n ≡ true)
-key_among keys n x e =
-    elim (cases_Bool (list_any (bytes_eq n) keys)) [
-      | inl there ↦ inl (subst (λ b. list_any (bytes_eq x) (if b then keys else keys ++ n ∷ []) ≡ true) there e)
-      | inr new ↦
-          (let more : list_any (bytes_eq x) (keys ++ n ∷ []) ≡ true = subst (λ b. list_any (bytes_eq x) (if b then keys else keys ++ n ∷ []) ≡ true) new e in
-          elim (or_cases (list_any (bytes_eq x) keys) (bytes_eq x n || false) (sym (list_any-append (bytes_eq x) keys (n ∷ [])) ∙ more)) [
-            | inl old ↦ inl old
-            | inr one ↦
-                elim (or_cases (bytes_eq x n) false one) [
-                  | inl is ↦ inr is
-                  | inr fails ↦ absurd cc
-                ]
-          ])
-    ]
-
-inserted_among : (names keys : List (List ℕ)) (x : List ℕ) → list_any (bytes_eq x) (fold (insert_key bytes_eq) keys names) ≡ true → (list_any (bytes_eq x) keys ≡ true) ⊎ (list_any (bytes_eq x) names ≡ true)
-inserted_among [] keys x e = inl e
-inserted_among (n ∷ names) keys x e =
-    elim (inserted_among names (insert_key bytes_eq keys n) x e) [
-      | inl there ↦
-          elim (key_among keys n x there) [
-            | inl old ↦ inl old
-            | inr new ↦ inr (rw new refl)
-          ]
-      | inr rest ↦ inr (rw rest (or-true _))
     ]
 
 -- what is among the names is at its position
@@ -75,13 +46,10 @@ position_there (n ∷ names) x e =
 
 missing_there : (names : List (List ℕ)) (p : List ℕ → Bool) (x : List ℕ) → find p (distinct_names names) ≡ Some x → slice_get names (position_of names x) ≡ Some x
 missing_there names p x e =
-    elim (inserted_among names [] x (found_among p (distinct_names names) x e)) [
-      | inl none ↦ absurd cc
-      | inr among ↦ position_there names x among
-    ]
+    position_there names x (among_distinct names x (found_among p (distinct_names names) x e))
 
 -- the position that an answer has for a fault that has its cause
-pub named_position : (s : SettingsValue) (wasm : List ℕ) (names : List (List ℕ)) (f : GcFault) → f ≢ Memory → IsTrimFault s (trim_input_of wasm names) f → IsPosition names f (position_in names f)
+pub named_position : (s : SettingsValue) (wasm : List ℕ) (names : List (List ℕ)) (f : GcFault) → f ≢ Memory → IsTrimFault s (trim_input_for_names wasm names) f → IsPosition names f (position_in names f)
 named_position s wasm names (MissingExport name) other fault =
     elim fault [
       | inl memory ↦ absurd (other memory)

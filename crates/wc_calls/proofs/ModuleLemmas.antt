@@ -13,7 +13,7 @@ use Rattle.wc_encoder.specs.EncoderParts.{EncoderView}
 use Rattle.wc_resolve.specs.Views.{key_view}
 use Rattle.wc_validate.specs.Imports.Map.{required_entry, required_in}
 use Rattle.wc_validate.specs.Places.{IsExplained, IsUnplaced}
-use Rattle.wc_validate.specs.Validated.{IsCause, IsRecordOf, ModuleRecord, ValidationInput, adapter_input, main_input}
+use Rattle.wc_validate.specs.Validated.{IsValidateCause, IsRecordOf, ModuleRecord, ValidationInput, adapter_input, main_input}
 use Rattle.wc_validate.specs.declared.fault.ValidateFault.{ValidateFault}
 use Rattle.wc_validate.specs.declared.fault.ValidateFault.TheVariants as validate
 use Rattle.wc_validate.specs.declared.place.Place.{Place}
@@ -55,10 +55,10 @@ module _ (g : AdapterInput) (library : Option LibraryView) (own : library ≡ op
   input_recorded bytes r is h = (r, subst (λ b. IsRecordOf (input_of g) b r) is (subst (λ j. IsRecordOf j bytes r) passed_input h))
 
   pub input_refused : (bytes : List ℕ) (f : ValidateFault) → bytes ≡ g.adapter.now.wasm.items
-      → IsCause (adapter_input g.encoder.now library (map key_view g.adapter.now.required_exports.keys) (map required_entry g.required.now.entries)) bytes f
-      → IsCause (input_of g) g.adapter.now.wasm.items f
+      → IsValidateCause (adapter_input g.encoder.now library (map key_view g.adapter.now.required_exports.keys) (map required_entry g.required.now.entries)) bytes f
+      → IsValidateCause (input_of g) g.adapter.now.wasm.items f
   unfolding passed
-  input_refused bytes f is h = subst (λ b. IsCause (input_of g) b f) is (subst (λ j. IsCause j bytes f) passed_input h)
+  input_refused bytes f is h = subst (λ b. IsValidateCause (input_of g) b f) is (subst (λ j. IsValidateCause j bytes f) passed_input h)
 
   pub input_explained : (bytes : List ℕ) (f : ValidateFault) (o : Option Place) → bytes ≡ g.adapter.now.wasm.items
       → IsExplained (adapter_input g.encoder.now library (map key_view g.adapter.now.required_exports.keys) (map required_entry g.required.now.entries)) bytes f o
@@ -123,12 +123,12 @@ module _ (g : AdapterInput) (main : ModuleRecord) (recorded : IsMainRecord g.enc
 
 -- the main module is refused
 pub main_refused : (e : EncoderView) (name : Option (List ℕ)) (f : ValidateFault) (renames : Option (List RenameValue)) (bytes : List ℕ) (a : Answer) (old new : List ℕ)
-    → renames ≡ e.module_import_map → bytes ≡ e.module_bytes → f ≢ validate.Memory → IsCause (main_input e renames) bytes f
+    → renames ≡ e.module_import_map → bytes ≡ e.module_bytes → f ≢ validate.Memory → IsValidateCause (main_input e renames) bytes f
     → IsFaultAnswered (λ m. m ≡ World (Main f)) (IsModulePlaceFor e) a old new
     → IsFaultAnswered (IsModuleFault e name) (IsModulePlaceFor e) a old new
 main_refused e name f renames bytes a old new same is other h answered =
     answered_as (World (Main f)) (IsModuleFault e name) (IsModulePlaceFor e) (IsModulePlaceFor e) a old new
-    (other, subst (λ b. IsCause (main_input e e.module_import_map) b f) is (subst (λ z. IsCause (main_input e z) bytes f) same h))
+    (other, subst (λ b. IsValidateCause (main_input e e.module_import_map) b f) is (subst (λ z. IsValidateCause (main_input e z) bytes f) same h))
     (λ text at. at) answered
 
 -- the same for a message

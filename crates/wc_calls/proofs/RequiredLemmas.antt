@@ -1,17 +1,16 @@
 -- The texts of slices, one after another.
-use Rattle.std.proofs.Common.{◌≡◌, ◌≢◌, ℕ, ◌+◌, ◌<◌, ◌≤◌, List, [], ◌∷◌, ◌++◌, length, take, map, fold, get_or, zero, suc, Bor, Result, Ok, Err}
-use Rattle.std.proofs.Common.{refl, sym, ◌∙◌, ap, subst, String, Global, inl, inr, arith}
-use Rattle.std.proofs.lemmas.Bool.{cases_Bool}
+use Rattle.std.proofs.Common.{◌≡◌, ◌≢◌, ℕ, ◌+◌, ◌<◌, ◌≤◌, List, [], ◌∷◌, ◌++◌, length, take, get_or, zero, suc, Bor, Result, Ok, Err}
+use Rattle.std.proofs.Common.{refl, sym, ◌∙◌, ap, subst, String, Global, arith}
 use Rattle.std.proofs.lemmas.List.{take_more, take_all, map-append}
 use Rattle.std.proofs.lemmas.List.Elements.{All-append, All-from_recursion}
-use Rattle.std.proofs.lemmas.List.Sums.{fold-append}
 use Rattle.std.specs.Prelude.{string_bytes}
-use Rattle.std.specs.List.{All, list_any}
+use Rattle.std.specs.List.{All}
 use Rattle.std.specs.Result.{MatchResult, IsOk}
-use Rattle.std.specs.Str.{IsUtf8, bytes_eq}
+use Rattle.std.specs.Str.{IsUtf8}
 use Rattle.indexmap.specs.IndexSet.{insert_key}
-use Rattle.wc_gc.proofs.NameSetLemmas.{same_text, text_more}
-use Rattle.wc_calls.specs.Required.{texts, distinct_names}
+use Rattle.wc_gc.specs.Liveness.{distinct_names, names_of}
+use Rattle.wc_gc.proofs.NameSetLemmas.{same_text, set_more as name_more, some_keys}
+use Rattle.wc_calls.specs.Required.{texts}
 
 texts_more : (xs : List (Bor (List ℕ))) (i : ℕ) (d : Bor (List ℕ)) → i < length xs → texts (take (i + 1) xs) ≡ texts (take i xs) ++ (get_or xs i d).now ∷ []
 texts_more xs i d within = ap texts (take_more xs i d within) ∙ map-append (λ (s : Bor (List ℕ)). s.now) (take i xs) (get_or xs i d ∷ [])
@@ -46,29 +45,12 @@ text_read (Err f) s P Q is e = absurd cc
 
 -- the set of the texts that were passed, after one more is put into it
 pub set_more : (keys : List (String Global)) (xs : List (Bor (List ℕ))) (i : ℕ) (d : Bor (List ℕ)) (name : String Global) → i < length xs
-    → map string_bytes keys ≡ distinct_names (texts (take i xs)) → string_bytes name ≡ (get_or xs i d).now
-    → map string_bytes (insert_key same_text keys name) ≡ distinct_names (texts (take (i + 1) xs))
+    → names_of keys ≡ distinct_names (texts (take i xs)) → string_bytes name ≡ (get_or xs i d).now
+    → names_of (insert_key same_text keys name) ≡ distinct_names (texts (take (i + 1) xs))
 set_more keys xs i d name within known is =
-    text_more keys name
-    ∙ (ap (λ l. insert_key bytes_eq l (string_bytes name)) known
-    ∙ (ap (insert_key bytes_eq (distinct_names (texts (take i xs)))) is
-    ∙ sym (ap distinct_names (texts_more xs i d within) ∙ fold-append (insert_key bytes_eq) [] (texts (take i xs)) ((get_or xs i d).now ∷ []))))
+    name_more keys (texts (take i xs)) name (get_or xs i d).now known is ∙ ap distinct_names (sym (texts_more xs i d within))
 
 -- a set of names is not empty, where there is a name
-
-insert_some : (keys : List (List ℕ)) (name : List ℕ) → insert_key bytes_eq keys name ≢ []
-insert_some [] name = λ e. cc
-insert_some (k ∷ keys) name =
-    elim (cases_Bool (list_any (bytes_eq name) (k ∷ keys))) [
-      | inl there ↦ λ e. let same : insert_key bytes_eq (k ∷ keys) name ≡ k ∷ keys = rw there refl in absurd cc
-      | inr new ↦ λ e. let more : insert_key bytes_eq (k ∷ keys) name ≡ k ∷ (keys ++ name ∷ []) = rw new refl in absurd cc
-    ]
-
-inserted_some : (names keys : List (List ℕ)) → keys ≢ [] → fold (insert_key bytes_eq) keys names ≢ []
-inserted_some [] keys some = some
-inserted_some (n ∷ names) keys some = inserted_some names (insert_key bytes_eq keys n) (insert_some keys n)
-
-pub some_keys : (keys : List (String Global)) (xs : List (Bor (List ℕ))) → map string_bytes keys ≡ distinct_names (texts xs) → xs ≢ [] → keys ≢ []
-some_keys keys [] same some = λ e. some refl
-some_keys keys (x ∷ xs) same some =
-    λ e. inserted_some (texts xs) (insert_key bytes_eq [] x.now) (insert_some [] x.now) (sym same ∙ ap (map string_bytes) e)
+pub some_texts : (keys : List (String Global)) (xs : List (Bor (List ℕ))) → names_of keys ≡ distinct_names (texts xs) → xs ≢ [] → keys ≢ []
+some_texts keys [] same some = λ e. some refl
+some_texts keys (x ∷ xs) same some = some_keys keys (texts (x ∷ xs)) same (λ e. absurd cc)

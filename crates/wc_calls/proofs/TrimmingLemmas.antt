@@ -1,14 +1,12 @@
 -- What trimming answers, as the answer of a call.
-use Rattle.std.proofs.Common.{◌≡◌, ◌≢◌, ◌≤◌, ◌⊎◌, ◌<◌, arith, ℕ, List, length, Result, Ok, Err, IfOk, IfErr, refl, sym, subst, inl, inr}
-use Rattle.std.specs.Result.{IsOk}
+use Rattle.std.proofs.Common.{◌≡◌, ◌≢◌, ◌≤◌, ◌⊎◌, ◌<◌, arith, ℕ, List, length, Result, Ok, Err, IfOk, IfErr, sym, subst, inl, inr}
+use Rattle.wc_gc.specs.Liveness.{TrimInput, distinct_names, trim_input_for_names}
 use Rattle.wc_gc.specs.Parts.{SettingsValue}
-use Rattle.wc_gc.specs.Trimming.{IsTrimmed, IsTrimCause, IsTrimFault}
-use Rattle.wc_gc.specs.TrimmedText.{IsTrimmedRead}
+use Rattle.wc_gc.specs.Trimming.{IsTrimFault}
 use Rattle.wc_gc.specs.declared.fault.GcFault.{GcFault}
 use Rattle.wc_gc.specs.declared.fault.GcFault.TheVariants.{Memory}
 use Rattle.wc_calls.specs.Answers.{IsBytesStatus, IsFront, IsPut, IsTooLong, bad_argument, done, failed, same as same_status, too_small, out_of_memory}
-use Rattle.wc_calls.specs.Required.{distinct_names, trim_input_of}
-use Rattle.wc_calls.specs.Trimming.{IsRun, IsTrimRefused, IsTrimmingFault, IsPosition}
+use Rattle.wc_calls.specs.Trimming.{IsTrimRefused, IsTrimmingFault, IsPosition}
 use Rattle.wc_calls.specs.declared.answers.Answer.{Answer}
 use Rattle.wc_calls.proofs.MissingLemmas.{named_position}
 
@@ -16,14 +14,11 @@ use Rattle.wc_calls.proofs.MissingLemmas.{named_position}
 one_of : (status n : ℕ) → status ≡ n → n ≤ 5 → n ≢ 3 → n ≢ 4 → (status ≤ 5) × (status ≢ same_status) × (status ≢ bad_argument)
 one_of status n is most other another = subst (λ k. (k ≤ 5) × (k ≢ same_status) × (k ≢ bad_argument)) (sym is) (most, other, another)
 
--- what `run` promises, with each name once
-pub run_of : {V : Type 0} (items : V → List ℕ) (s : SettingsValue) (wasm : List ℕ) (keys names : List (List ℕ)) (r : Result V GcFault) → keys ≡ distinct_names names → IfOk r (λ v. IsTrimmed s (record { bytes = wasm; required = keys }) (items v)) → (IsOk r → (f : GcFault) → ¬ (IsTrimCause s (record { bytes = wasm; required = keys }) f)) → IfOk r (λ v. IsTrimmedRead s (record { bytes = wasm; required = keys }) (items v)) → IfOk r (λ v. IsRun s (trim_input_of wasm names) (items v))
-run_of items s wasm keys names (Ok v) same trimmed none read = record {
-  trimmed = subst (λ (ns : List (List ℕ)). IsTrimmed s (record { bytes = wasm; required = ns }) (items v)) same trimmed;
-  no_cause = subst (λ (ns : List (List ℕ)). (f : GcFault) → ¬ (IsTrimCause s (record { bytes = wasm; required = ns }) f)) same (none refl);
-  read = subst (λ (ns : List (List ℕ)). IsTrimmedRead s (record { bytes = wasm; required = ns }) (items v)) same read;
-}
-run_of items s wasm keys names (Err f) same trimmed none read = tt
+-- what is so of the names of a set is so of the names that are put into it, each once
+pub for_names : {V : Type 0} (P : TrimInput → V → Type 0) (wasm : List ℕ) (keys names : List (List ℕ)) (r : Result V GcFault) → keys ≡ distinct_names names
+    → IfOk r (P (record { bytes = wasm; required = keys })) → IfOk r (P (trim_input_for_names wasm names))
+for_names P wasm keys names (Ok v) same h = subst (λ (ns : List (List ℕ)). P (record { bytes = wasm; required = ns }) v) same h
+for_names P wasm keys names (Err f) same h = h
 
 pub put_of : {V : Type 0} (items : V → List ℕ) (P : List ℕ → Type 0) (r : Result V GcFault) (status n : ℕ) (old new : List ℕ) → IfOk r (λ v. P (items v)) → IfOk r (λ v. n ≡ length (items v)) → IfOk r (λ v. status ≡ done → IsFront (items v) old new) → IfErr r (λ f. (status ≢ done) × (status ≢ too_small)) → status ≡ done → IsPut P n old new
 put_of items P (Ok v) status n old new is long front refused e = (items v, is, long, front e)

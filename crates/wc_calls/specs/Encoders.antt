@@ -14,12 +14,18 @@ use Rattle.wc_selection.specs.Keys.{NamedKey, export_keys, texts_of}
 use Rattle.wc_selection.specs.RequiredExports.{AreKeysThere}
 use Rattle.wc_selection.specs.Requests.{given_keys}
 use Rattle.wc_selection.specs.Worlds.{IsSelected}
+use Rattle.wc_world.specs.Options.{OptionsOf}
 use Rattle.wc_calls.specs.AskedKeys.{adapter_keys, gives_none, keys_in, main_keys, request_in}
+use Rattle.wc_calls.specs.ImportOptions.{listed_options}
 use Rattle.wc_calls.specs.Messages.{AdapterMessageView, KeyMessageView, MessageView, WorldNameView, at_index, message, of_name}
 
 -- the text is JSON, no object in it repeats a member, and its value is read as the message
 abbrev pub IsMessage : List ℕ → MessageView → Type 0
 IsMessage text m = IsSomeAnd (document text) (λ j. HasUniqueKeys j × (message j ≡ Ok m))
+
+-- the options of lowered functions that the bytes of a message give
+abbrev pub AreOptionsOf : List ℕ → OptionsOf → Type 0
+AreOptionsOf text options = (m : MessageView) × IsMessage text m × (options ≡ listed_options m.options)
 
 -- the index that a message gives; or the only world that its text names
 abbrev pub IsWorldNamed : DocumentView → WorldNameView → ℕ → Type 0

@@ -6,6 +6,7 @@ pub mod Encoders
 pub mod FaultAnswers
 pub mod FaultNumbers
 pub mod FaultTexts
+pub mod ImportOptions
 pub mod Libraries
 pub mod MessageFaults
 pub mod Messages

@@ -2,18 +2,18 @@
 use Rattle.std.specs.Prelude.{◌≡◌, ◌≢◌, ◌⊎◌, ◌<◌, ◌++◌, ℕ, List, ◌∷◌, map, length, sum, ⊤, All, Contains, string_bytes}
 use Rattle.std.specs.Str.{IsUtf8}
 use Rattle.json.specs.Json.{document}
-use Rattle.wc_dedupe.specs.Dedupe.{IsCause as IsDedupeCause}
+use Rattle.wc_dedupe.specs.Dedupe.{IsDedupeCause}
 use Rattle.wc_dedupe.specs.declared.fault.DedupeFault.{DedupeFault}
 use Rattle.wc_dedupe.specs.declared.fault.DedupeFault.TheVariants.{Memory as dedupe_memory}
 use Rattle.wc_encoder.specs.Adapters.{AdapterView}
 use Rattle.wc_encoder.specs.EncoderParts.{EncoderView}
-use Rattle.wc_encoder.specs.Fault.{IsCause as IsEncoderCause}
+use Rattle.wc_encoder.specs.Fault.{IsEncoderCause}
 use Rattle.wc_encoder.specs.declared.fault.EncoderFault.{EncoderFault}
 use Rattle.wc_encoder.specs.declared.fault.EncoderFault.TheVariants.{Memory as encoder_memory}
 use Rattle.wc_json.specs.FromJson.{IsCauseOf}
 use Rattle.wc_json.specs.declared.fault.JsonFault.{JsonFault}
 use Rattle.wc_json.specs.declared.fault.JsonFault.TheVariants.{Memory as json_memory}
-use Rattle.wc_resolve.specs.Faults.{IsCause as IsResolveCause}
+use Rattle.wc_resolve.specs.Faults.{IsResolveCause}
 use Rattle.wc_resolve.specs.declared.fault.ResolveFault.{ResolveFault}
 use Rattle.wc_resolve.specs.declared.fault.ResolveFault.TheVariants.{Memory as resolve_memory}
 use Rattle.wc_resolve.specs.Views.{KeyView}
@@ -22,7 +22,7 @@ use Rattle.wc_plan.specs.EncoderFaults.{IsWorldCause}
 use Rattle.wc_plan.specs.Faults.{IsFirstFault}
 use Rattle.wc_plan.specs.declared.fault.PlanFault.{PlanFault}
 use Rattle.wc_plan.specs.declared.fault.PlanFault.TheVariants.{Memory as plan_memory, World as plan_world}
-use Rattle.wc_world.specs.Options.{plain_options}
+use Rattle.wc_world.specs.Options.{OptionsOf}
 use Rattle.wc_world.specs.Views.{ComponentWorldView}
 use Rattle.wc_world.specs.World.{IsWorldOf}
 use Rattle.wc_world.specs.declared.fault.WorldFault.{WorldFault}
@@ -37,7 +37,7 @@ use Rattle.wc_selection.specs.Worlds.{ArePackagesIn, AreSeveralWorlds, IsNoWorld
 use Rattle.wc_selection.specs.declared.fault.RequestFault.{RequestFault}
 use Rattle.wc_selection.specs.declared.fault.RequestFault.TheVariants as request
 use Rattle.wc_calls.specs.AskedKeys.{keys_in, request_in}
-use Rattle.wc_calls.specs.Encoders.{AreChosen, AreExporters, IsEncoderOf, IsMessage, IsPartsOf, IsWorldNamed}
+use Rattle.wc_calls.specs.Encoders.{AreChosen, AreExporters, AreOptionsOf, IsEncoderOf, IsMessage, IsPartsOf, IsWorldNamed}
 use Rattle.wc_calls.specs.Messages.{AdapterMessageView, MessageView, WorldNameView, at_index, message, of_name}
 use Rattle.wc_calls.specs.declared.message_fault.MessageFault.{MessageFault}
 use Rattle.wc_calls.specs.declared.message_fault.MessageFault.TheVariants.{Memory, NotText, Json, UnknownWorld, Lengths, Resolve, AdapterTwice, Dedupe, Encoder, World, SeveralWorlds, PackageRange, UnknownKey, SeveralKeys, RepeatedKey, Plan}
@@ -171,7 +171,8 @@ IsMessageCause text modules NotText = ¬ IsUtf8 text
 IsMessageCause text modules (Json f) = IsCauseOf message (document text) f
 IsMessageCause text modules (World f) = (e : EncoderView) × IsEncoderOf text modules e × IsWorldCause e f
 IsMessageCause text modules (Plan f) =
-    (e : EncoderView) × IsEncoderOf text modules e × (w : ComponentWorldView) × IsWorldOf plain_options e w × IsFirstFault w f
+    (e : EncoderView) × IsEncoderOf text modules e × (options : OptionsOf) × AreOptionsOf text options × (w : ComponentWorldView)
+    × IsWorldOf options e w × IsFirstFault w f
 IsMessageCause text modules f = (m : MessageView) × IsMessage text m × IsPartsCause m modules f
 
 -- why a message and modules are no encoder: a fault of these, and none of its component

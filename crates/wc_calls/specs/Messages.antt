@@ -11,6 +11,7 @@ use Rattle.wc_json.specs.Ids.{index}
 use Rattle.wc_json.specs.Keys.{key}
 use Rattle.wc_json.specs.Members.{optional_member, required_member}
 use Rattle.wc_resolve.specs.Views.{KeyView, key_view}
+use Rattle.wc_calls.specs.ImportOptions.{NamedOptions, named_options, options_view}
 use Rattle.wc_calls.specs.Libraries.{library, library_message_view}
 use Rattle.wc_calls.specs.declared.messages.AdapterMessage.{AdapterMessage}
 use Rattle.wc_calls.specs.declared.messages.KeyMessage.{KeyMessage}
@@ -77,7 +78,8 @@ adapter_message j = do
   Ok (record { name = name; size = size; exports = exports; library_info = library_info })
 
 -- the worlds, interfaces, types and packages; the world; flags, which may be missing, and the name of the task hook; how
--- many bytes the main module has, and the keys that it has to export, which may be missing; and the adapters
+-- many bytes the main module has, and the keys that it has to export, which may be missing; the adapters; and the options of
+-- lowered functions, which may be missing
 pub record MessageView : Type 0 where
   pub document : DocumentView
   pub world : WorldNameView
@@ -87,6 +89,7 @@ pub record MessageView : Type 0 where
   pub size : ℕ
   pub exports : Option (List KeyMessageView)
   pub adapters : List AdapterMessageView
+  pub options : Option (List NamedOptions)
 
 abbrev pub message_view : Message → MessageView
 message_view m = record {
@@ -98,6 +101,7 @@ message_view m = record {
   size = m.length;
   exports = exports_view m.exports;
   adapters = map adapter_message_view m.adapters.items;
+  options = options_view m.options;
 }
 
 abbrev pub message : Json → Reading MessageView
@@ -110,6 +114,7 @@ message j = do
   size ← required_member (codes "length") index j
   exports ← optional_member (codes "exports") (list key_message) j
   adapters ← required_member (codes "adapters") (list adapter_message) j
+  options ← optional_member (codes "options") (list named_options) j
   Ok (record {
     document = document;
     world = world;
@@ -119,4 +124,5 @@ message j = do
     size = size;
     exports = exports;
     adapters = adapters;
+    options = options;
   })

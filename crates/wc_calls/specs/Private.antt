@@ -2,3 +2,4 @@
 pub mod EncoderAnswers
 pub mod AskedKeys
 pub mod ModuleAnswers
+pub mod OptionTables

@@ -1,7 +1,7 @@
 -- What the call that renames repeated imports answers.
 use Rattle.std.specs.Prelude.{◌≡◌, ◌≢◌, ℕ, List, [], ◌++◌, length}
 use Rattle.wc_dedupe.specs.Renaming.{RenameValue}
-use Rattle.wc_dedupe.specs.Dedupe.{IsDeduped, IsCause}
+use Rattle.wc_dedupe.specs.Dedupe.{IsDeduped, IsDedupeCause}
 use Rattle.wc_dedupe.specs.declared.fault.DedupeFault.{DedupeFault}
 use Rattle.wc_dedupe.specs.declared.fault.DedupeFault.TheVariants.{Memory}
 use Rattle.wc_calls.specs.FaultNumbers.{dedupe_fault_number}
@@ -16,4 +16,4 @@ IsRenamed wasm module_length text =
 -- the number is that of a fault that has its cause, and is not Memory
 abbrev pub IsRenamingFault : List ℕ → ℕ → Type 0
 IsRenamingFault wasm number =
-    (f : DedupeFault) × IsCause wasm f × (f ≢ Memory) × (number ≡ dedupe_fault_number f)
+    (f : DedupeFault) × IsDedupeCause wasm f × (f ≢ Memory) × (number ≡ dedupe_fault_number f)

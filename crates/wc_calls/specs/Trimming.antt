@@ -2,35 +2,27 @@
 use Rattle.std.specs.Prelude.{◌≡◌, ◌≢◌, ◌≤◌, ◌<◌, length, ℕ, List, [], IfSome, Some, string_bytes}
 use Rattle.std.specs.List.{All, slice_get}
 use Rattle.std.specs.Str.{IsUtf8}
-use Rattle.wc_gc.specs.Liveness.{TrimInput}
+use Rattle.wc_gc.specs.Liveness.{TrimInput, trim_input_for_names}
 use Rattle.wc_gc.specs.Parts.{SettingsValue}
-use Rattle.wc_gc.specs.Trimming.{IsTrimmed, IsTrimCause, IsTrimFault}
-use Rattle.wc_gc.specs.TrimmedText.{IsTrimmedRead}
+use Rattle.wc_gc.specs.Trimming.{IsTrimFault}
 use Rattle.wc_gc.specs.declared.fault.GcFault.{GcFault}
 use Rattle.wc_gc.specs.declared.fault.GcFault.TheVariants.{Memory, MissingExport}
 use Rattle.wc_calls.specs.Answers.{IsFront, failed}
 use Rattle.wc_calls.specs.FaultNumbers.{gc_fault_number}
 use Rattle.wc_calls.specs.Places.{IsTrimPlaceText}
-use Rattle.wc_calls.specs.Required.{position_of, trim_input_of}
+use Rattle.wc_calls.specs.Required.{position_of}
 use Rattle.wc_calls.specs.declared.answers.Answer.{Answer}
 
 -- how an adapter is trimmed for a main module that exports a realloc of this name, and has pages of 2^16 bytes
 abbrev pub with_realloc : List ℕ → SettingsValue
-with_realloc name = record { realloc = Some name; exponent = 16 }
+with_realloc name = record { realloc = Some name; page_size_log2 = 16 }
 
 -- arguments that can be trimmed by: there is a name at least, all of them are text, and pages have 2^16 bytes at most
 pub record AreArguments (s : SettingsValue) (names : List (List ℕ)) : Type 0 where
-  pub paged : s.exponent ≤ 16
+  pub paged : s.page_size_log2 ≤ 16
   pub realloc_is_text : IfSome s.realloc IsUtf8
   pub some : names ≢ []
   pub are_texts : All IsUtf8 names
-
--- all that `run` promises of the bytes that it answers: they are the text of the trimmed adapter, for which there is no
--- cause of a fault; they spell its image, and what is kept or added unfolds there as in the edited adapter
-pub record IsRun (s : SettingsValue) (w : TrimInput) (text : List ℕ) : Type 0 where
-  pub trimmed : IsTrimmed s w text
-  pub no_cause : (f : GcFault) → ¬ (IsTrimCause s w f)
-  pub read : IsTrimmedRead s w text
 
 -- the position of the name that a fault carries
 abbrev pub position_in : List (List ℕ) → GcFault → ℕ
@@ -61,5 +53,5 @@ IsTrimRefused w names f answer old new = (place : List ℕ) × IsTrimPlaceText w
 -- the answer is a fault that has its cause, and is not Memory; the position is that of its name
 abbrev pub IsTrimmingFault : SettingsValue → List ℕ → List (List ℕ) → Answer → List ℕ → List ℕ → Type 0
 IsTrimmingFault s wasm names answer old new =
-    (f : GcFault) × IsTrimFault s (trim_input_of wasm names) f × (f ≢ Memory) × IsPosition names f answer.position
-    × IsTrimRefused (trim_input_of wasm names) names f answer old new
+    (f : GcFault) × IsTrimFault s (trim_input_for_names wasm names) f × (f ≢ Memory) × IsPosition names f answer.position
+    × IsTrimRefused (trim_input_for_names wasm names) names f answer old new

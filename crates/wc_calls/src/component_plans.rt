@@ -6,50 +6,54 @@ ghost use Rattle.wc_calls.specs.ComponentPlans.{IsPlanAnswer};
 ghost use Rattle.wc_calls.specs.ComponentWorlds.{IsFaultOf};
 ghost use Rattle.wc_calls.specs.FaultAnswers.{IsFaultAnswered};
 ghost use Rattle.wc_calls.specs.Private.EncoderAnswers.{IsPlaceFor, IsPlanFaultFor, IsPlanFor};
+ghost use Rattle.wc_calls.specs.Private.OptionTables.{table_options};
 
 use crate::answers::{Answer, put};
-use crate::encoders::encoder_from;
+use crate::encoders::{WorldInput, world_input};
 use crate::explained::{answer_encoder_fault, answer_message_fault};
 use crate::message_fault::MessageFault;
 use std::alloc::Global;
-use wc_encoder::ComponentEncoder;
 use wc_maps::Seed;
 use wc_plan::plan_encoder;
 use wc_record::plan_to_json;
-use wc_world::PlainOptions;
 
-/// The plan of an encoder, as JSON.
-fn answer_of_encoder(alloc: Global, encoder: &ComponentEncoder) -> Result<Vec<u8>, MessageFault>
-    ensures answer { IfOk result (λ v. IsPlanFor encoder.now v.items) }
-    ensures fault { IfErr result (IsPlanFaultFor encoder.now) }
+/// The plan of an encoder and options, as JSON.
+fn answer_of_input(alloc: Global, input: &WorldInput) -> Result<Vec<u8>, MessageFault>
+    ensures answer { IfOk result (λ v. IsPlanFor (table_options input.now.options)
+        input.now.encoder v.items) }
+    ensures fault { IfErr result (IsPlanFaultFor (table_options input.now.options)
+        input.now.encoder) }
 {
-    match plan_encoder(alloc, encoder, &PlainOptions) {
+    match plan_encoder(alloc, &input.encoder, &input.options) {
         Ok(plan) => Ok(plan_to_json(alloc, &plan)?),
         Err(fault) => Err(MessageFault::from(fault)),
     }
 }
 
 /// Makes the plan of an encoder's component: `plan`.
-fn plan_for(alloc: Global, encoder: &ComponentEncoder, out: &mut [u8]) -> Answer
+fn plan_for(alloc: Global, input: &WorldInput, out: &mut [u8]) -> Answer
     ensures done { result.status ≡ done
-        → IsPut (IsPlanFor encoder.now) result.length out.old out.new }
+        → IsPut (IsPlanFor (table_options input.now.options) input.now.encoder) result.length
+        out.old out.new }
     ensures too_small { result.status ≡ too_small
-        → IsTooLong (IsPlanFor encoder.now) result.length out.old }
-    ensures fault { result.status ≡ failed → IsFaultAnswered (IsPlanFaultFor encoder.now)
-        (IsPlaceFor encoder.now) result out.old out.new }
+        → IsTooLong (IsPlanFor (table_options input.now.options) input.now.encoder)
+        result.length out.old }
+    ensures fault { result.status ≡ failed
+        → IsFaultAnswered (IsPlanFaultFor (table_options input.now.options) input.now.encoder)
+        (IsPlaceFor input.now.encoder) result out.old out.new }
     ensures module_length { result.module_length ≡ 0 }
     ensures unchanged { result.status ≢ done → result.status ≢ failed → out.new ≡ out.old }
     ensures statuses { IsTextStatus result.status }
     ensures others { AreOthersOfTextZero result }
 {
-    match answer_of_encoder(alloc, encoder) {
+    match answer_of_input(alloc, input) {
         Ok(answer) => put(&[], &answer, out),
-        Err(fault) => answer_encoder_fault(alloc, encoder, &fault, out),
+        Err(fault) => answer_encoder_fault(alloc, &input.encoder, &fault, out),
     }
 }
 
 /// Makes the plan of a component: what each function that its core modules import needs, as `plan_encoder` of `wc_plan`
-/// does with `PlainOptions`. The message and the modules are those of `world`; so is `seed`.
+/// does with the options of the message. The message and the modules are those of `world`; so is `seed`.
 ///
 /// - `DONE`: the front of `out` has the plan as JSON, as `wc_record::plan_to_json` writes it; `length` is how many bytes
 ///   that has.
@@ -73,8 +77,8 @@ pub fn plan(alloc: Global, seed: Seed, message: &[u8], modules: &[u8], out: &mut
         × (result.status ≢ bad_argument) }
     ensures others { AreOthersOfTextZero result }
 {
-    match encoder_from(alloc, seed, message, modules) {
-        Ok(encoder) => plan_for(alloc, &encoder, out),
+    match world_input(alloc, seed, message, modules) {
+        Ok(input) => plan_for(alloc, &input, out),
         Err(fault) => answer_message_fault(alloc, seed, message, &fault, out),
     }
 }

@@ -7,16 +7,16 @@ ghost use Rattle.wc_record.specs.Texts.{world_text};
 ghost use Rattle.wc_calls.specs.ComponentWorlds.{IsFaultOf, IsWorldAnswer, modules_text};
 ghost use Rattle.wc_calls.specs.FaultAnswers.{IsFaultAnswered};
 ghost use Rattle.wc_calls.specs.Private.EncoderAnswers.{IsAnswerFor, IsFaultFor, IsPlaceFor};
+ghost use Rattle.wc_calls.specs.Private.OptionTables.{table_options};
 
 use crate::answers::{Answer, put};
-use crate::encoders::encoder_from;
+use crate::encoders::{WorldInput, world_input};
 use crate::explained::{answer_encoder_fault, answer_message_fault};
 use crate::message_fault::MessageFault;
 use std::alloc::{AllocError, Global};
-use wc_encoder::ComponentEncoder;
 use wc_maps::Seed;
 use wc_record::world_to_json;
-use wc_world::{ComponentWorld, PlainOptions};
+use wc_world::ComponentWorld;
 
 /// The bytes of a component's modules, and its world as JSON.
 #[derive(Drop)]
@@ -36,13 +36,13 @@ fn modules_of(alloc: Global, world: &ComponentWorld<'_>) -> Result<Vec<u8>, Allo
     Ok(modules)
 }
 
-/// What is answered for an encoder.
-fn answer_of_encoder(alloc: Global, encoder: &ComponentEncoder) -> Result<WorldAnswer, MessageFault>
-    ensures answer { IfOk result (λ a. IsAnswerFor encoder.now
-        (length a.modules.items) (a.modules.items ++ a.json.items)) }
-    ensures fault { IfErr result (IsFaultFor encoder.now) }
+/// What is answered for an encoder and options.
+fn answer_of_input(alloc: Global, input: &WorldInput) -> Result<WorldAnswer, MessageFault>
+    ensures answer { IfOk result (λ a. IsAnswerFor (table_options input.now.options)
+        input.now.encoder (length a.modules.items) (a.modules.items ++ a.json.items)) }
+    ensures fault { IfErr result (IsFaultFor input.now.encoder) }
 {
-    match ComponentWorld::new(alloc, encoder, &PlainOptions) {
+    match ComponentWorld::new(alloc, &input.encoder, &input.options) {
         Ok(world) => answer_of_world(alloc, &world),
         Err(fault) => Err(MessageFault::from(fault)),
     }
@@ -61,25 +61,26 @@ fn answer_of_world(alloc: Global, world: &ComponentWorld<'_>) -> Result<WorldAns
 }
 
 /// Makes the world of an encoder's component: `world`.
-fn world_for(alloc: Global, encoder: &ComponentEncoder, out: &mut [u8]) -> Answer
-    ensures done { result.status ≡ done
-        → IsPut (IsAnswerFor encoder.now result.module_length) result.length out.old out.new }
+fn world_for(alloc: Global, input: &WorldInput, out: &mut [u8]) -> Answer
+    ensures done { result.status ≡ done → IsPut (IsAnswerFor (table_options input.now.options)
+        input.now.encoder result.module_length) result.length out.old out.new }
     ensures too_small { result.status ≡ too_small
-        → IsTooLong (IsAnswerFor encoder.now result.module_length) result.length out.old }
-    ensures fault { result.status ≡ failed → IsFaultAnswered (IsFaultFor encoder.now)
-        (IsPlaceFor encoder.now) result out.old out.new }
+        → IsTooLong (IsAnswerFor (table_options input.now.options) input.now.encoder
+        result.module_length) result.length out.old }
+    ensures fault { result.status ≡ failed → IsFaultAnswered (IsFaultFor input.now.encoder)
+        (IsPlaceFor input.now.encoder) result out.old out.new }
     ensures unchanged { result.status ≢ done → result.status ≢ failed → out.new ≡ out.old }
     ensures statuses { IsTextStatus result.status }
     ensures others { AreOthersOfTextZero result }
 {
-    match answer_of_encoder(alloc, encoder) {
+    match answer_of_input(alloc, input) {
         Ok(answer) => put(&answer.modules, &answer.json, out),
-        Err(fault) => answer_encoder_fault(alloc, encoder, &fault, out),
+        Err(fault) => answer_encoder_fault(alloc, &input.encoder, &fault, out),
     }
 }
 
-/// Makes the world of a component, as `ComponentWorld::new` of `wc_world` does with `PlainOptions`. The message is JSON:
-/// an object with the members
+/// Makes the world of a component, as `ComponentWorld::new` of `wc_world` does. The message is JSON: an object with the
+/// members
 ///
 /// - `resolve`: worlds, interfaces, types and packages, as `wc_json` reads them;
 /// - `world`: the index of a world, or a name as `select_world` of `wc_selection` takes it;
@@ -90,7 +91,14 @@ fn world_for(alloc: Global, encoder: &ComponentEncoder, out: &mut [u8]) -> Answe
 ///   `resolve`, or the text of an export, of an interface also without its version where one alone has it so
 ///   (`request_keys` of `wc_selection`). It may be missing, which is all keys that no adapter has to export;
 /// - `adapters`: a list of objects with `name`, `length` and `exports`, and `library_info`, missing or null for one that is
-///   no library, else as `wc_record` writes it.
+///   no library, else as `wc_record` writes it;
+/// - `options`: which canonical options lowered functions have, a list of objects with `name`, the name of functions in
+///   WIT, as `[method]output-stream.write`, and `memory`, `realloc`, `string_encoding` and `async`, true or false. A
+///   function has those of the first object of its name, in whichever interface it is and however it is imported, and
+///   `PlainOptions` of `wc_world` decides for functions that have none. The list may be missing, which is an empty one,
+///   and so may each option of an object, which is false.
+///
+/// A member that may be missing may also be null. Members that are not listed here are passed over.
 ///
 /// `modules` has the bytes of the main module and of the adapters, one after another. Repeated imports of the main module
 /// are renamed first, as by `dedupe`. `seed`: the seed of the maps that are made.
@@ -121,8 +129,8 @@ pub fn world(alloc: Global, seed: Seed, message: &[u8], modules: &[u8], out: &mu
         × (result.status ≢ bad_argument) }
     ensures others { AreOthersOfTextZero result }
 {
-    match encoder_from(alloc, seed, message, modules) {
-        Ok(encoder) => world_for(alloc, &encoder, out),
+    match world_input(alloc, seed, message, modules) {
+        Ok(input) => world_for(alloc, &input, out),
         Err(fault) => answer_message_fault(alloc, seed, message, &fault, out),
     }
 }

@@ -1,4 +1,4 @@
-//! Encoders out of messages and the bytes of their modules.
+//! Encoders out of messages and the bytes of their modules, and the options of lowered functions.
 
 ghost use Rattle.std.specs.Prelude.{◌≡◌, ◌++◌, ◌<◌, [], IfErr, IfNone, IfOk, IfSome, List, length, map, string_bytes, unwrap_or, ℕ};
 ghost use Rattle.std.specs.Cow.{cow_slice_items};
@@ -10,13 +10,15 @@ ghost use Rattle.wc_json.specs.Document.{document_view};
 ghost use Rattle.wc_resolve.specs.Views.{key_view};
 ghost use Rattle.wc_selection.specs.Keys.{AreKeysApart, named_key};
 ghost use Rattle.wc_selection.specs.Worlds.{IsSelected};
-ghost use Rattle.wc_calls.specs.Encoders.{AreAdaptersOf, AreChosen, AreExporters, IsEncoderOf, IsPartsOf, IsWorldNamed};
+ghost use Rattle.wc_calls.specs.Encoders.{AreAdaptersOf, AreChosen, AreExporters, AreOptionsOf, IsEncoderOf, IsPartsOf, IsWorldNamed};
 ghost use Rattle.wc_calls.specs.Libraries.{library_message_view};
 ghost use Rattle.wc_calls.specs.MessageFaults.{IsAdaptersCause, IsNameCause, IsNoEncoderCause, IsPartsCause, IsRenamingCause, IsWorldNameCause, of_request};
 ghost use Rattle.wc_calls.specs.Messages.{adapter_message_view, exports_view, message_view, world_name_view};
 ghost use Rattle.wc_calls.specs.Private.AskedKeys.{IsExportersCause};
+ghost use Rattle.wc_calls.specs.Private.OptionTables.{table_options};
 
 use crate::asked_keys::{adapter_keys, asked_of, named_exports};
+use crate::import_options::OptionTable;
 use crate::libraries::LibraryMessage;
 use crate::message_fault::MessageFault;
 use crate::messages::{AdapterMessage, KeyMessage, Message, WorldName};
@@ -236,6 +238,7 @@ fn encoder_for(
         length: _length,
         exports,
         adapters,
+        options: _options,
     } = message;
     let resolve = Resolve::build(alloc, document.parts)?;
     let exporters = exporters_of(alloc, seed, &resolve, world, &exports, adapters, others)?;
@@ -274,19 +277,30 @@ fn encoder_with(
     encoder_for(alloc, seed, message, world, main, others)
 }
 
-/// The encoder of the text of a message, with the bytes of its modules. `seed`: the seed of the maps that are made.
-pub(crate) fn encoder_from(
+/// What a component's world is made of.
+#[derive(Drop)]
+pub(crate) struct WorldInput {
+    pub encoder: ComponentEncoder,
+    pub options: OptionTable,
+}
+
+/// The encoder of the text of a message, with the bytes of its modules, and the options of lowered functions. `seed`: the
+/// seed of the maps that are made.
+pub(crate) fn world_input(
     alloc: Global,
     seed: Seed,
     message: &[u8],
     modules: &[u8],
-) -> Result<ComponentEncoder, MessageFault>
-    ensures encoder { IfOk result (IsEncoderOf message.now modules.now) }
+) -> Result<WorldInput, MessageFault>
+    ensures encoder { IfOk result (λ i. IsEncoderOf message.now modules.now i.encoder) }
+    ensures options { IfOk result (λ i. AreOptionsOf message.now (table_options i.options)) }
     ensures fault { IfErr result (IsNoEncoderCause message.now modules.now) }
 {
     let Ok(text) = str::from_utf8(message) else {
         return Err(MessageFault::NotText);
     };
     let message: Message = value_from_json(alloc, seed, text)?;
-    encoder_with(alloc, seed, message, modules)
+    let options = OptionTable::listed(alloc, seed, &message.options)?;
+    let encoder = encoder_with(alloc, seed, message, modules)?;
+    Ok(WorldInput { encoder, options })
 }

@@ -1,8 +1,8 @@
 //! The calls on modules as calls on slices, for a caller that shares no other types: `dedupe` renames the repeated
 //! imports of a module, `trim` cuts an adapter to what its exports reach, and `world` makes the world of a component, which
-//! is described in JSON; `plan` makes its plan, and `validate` validates one of its modules. Each writes its answer to the front of a buffer of the caller's, and returns an `Answer`, which
-//! is numbers alone. No call requires anything of its arguments. The maps of `trim` and `world` hash under a seed that is
-//! passed: whoever chooses names shouldn't know it.
+//! is described in JSON; `plan` makes its plan, and `validate` validates one of its modules. Each writes its answer to the
+//! front of a buffer of the caller's, and returns an `Answer`, which is numbers alone. No call requires anything of its
+//! arguments. The maps of all but `dedupe` hash under a seed that is passed: whoever chooses names shouldn't know it.
 //!
 //! ```rust
 //! use std::alloc::Global;
@@ -12,8 +12,9 @@
 //! /// Trims an adapter to what its export `write` reaches, for a main module that exports a realloc as
 //! /// `realloc`.
 //! pub fn trim_to_write(alloc: Global, seed: Seed, adapter: &[u8], out: &mut [u8]) -> Answer
-//!     ensures done { result.status ≡ done → IsPut (IsRun (with_realloc (codes "realloc"))
-//!         (trim_input_of adapter.now (codes "write" ∷ []))) result.length out.old out.new }
+//!     ensures done { result.status ≡ done → IsPut (IsTrimmed (with_realloc (codes "realloc"))
+//!         (trim_input_for_names adapter.now (codes "write" ∷ [])))
+//!         result.length out.old out.new }
 //!     ensures unchanged { result.status ≢ done → result.status ≢ failed → out.new ≡ out.old }
 //! {
 //!     trim(alloc, seed, adapter, &[b"write"], Some(b"realloc"), 16, out)
@@ -31,6 +32,7 @@ mod encoders;
 mod explained;
 mod fault_answers;
 mod fault_numbers;
+mod import_options;
 mod json_members;
 mod libraries;
 mod message_fault;

@@ -1,6 +1,7 @@
 //! Messages: what a component is encoded from, as JSON, but for the bytes of its modules.
 #![tactic(auto, using(wc_json::proofs::FaultLemmas::IsFaultOf_bind, wc_json::proofs::PathLemmas::Reads_at_step))]
 
+use crate::import_options::OptionsMessage;
 use crate::libraries::LibraryMessage;
 use json::Value;
 use std::alloc::Global;
@@ -107,6 +108,8 @@ pub(crate) struct Message {
     /// The keys of the world's exports that the main module has to export. None: all that no adapter has to export.
     pub exports: Option<Vec<KeyMessage>>,
     pub adapters: Vec<AdapterMessage>,
+    /// The options of lowered functions by their names. None, and functions of other names: the plain ones.
+    pub options: Option<Vec<OptionsMessage>>,
 }
 
 impl FromJson for Message {
@@ -132,6 +135,7 @@ impl FromJson for Message {
         let length = required_member(alloc, seed, value, "length")?;
         let exports = optional_member(alloc, seed, value, "exports")?;
         let adapters = required_member(alloc, seed, value, "adapters")?;
+        let options = optional_member(alloc, seed, value, "options")?;
         Ok(Message {
             document,
             world,
@@ -141,6 +145,7 @@ impl FromJson for Message {
             length,
             exports,
             adapters,
+            options,
         })
     }
 }

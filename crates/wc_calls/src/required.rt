@@ -4,8 +4,8 @@ ghost use Rattle.std.specs.Prelude.{◌≡◌, ◌↔◌, IsTrue, IfOk, IfErr, I
 ghost use Rattle.std.specs.List.{All};
 ghost use Rattle.std.specs.Option.{option_map};
 ghost use Rattle.std.specs.Str.{IsUtf8};
-ghost use Rattle.wc_gc.specs.Liveness.{names_of};
-ghost use Rattle.wc_calls.specs.Required.{texts, distinct_names, position_of};
+ghost use Rattle.wc_gc.specs.Liveness.{distinct_names, names_of};
+ghost use Rattle.wc_calls.specs.Required.{texts, position_of};
 
 use std::alloc::{AllocError, Global};
 use std::str::{self, Utf8Error};

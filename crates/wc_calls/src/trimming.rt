@@ -3,12 +3,13 @@
 ghost use Rattle.std.specs.Prelude.{◌≡◌, ◌≢◌, ◌<◌, ◌≤◌, ◌⊎◌, [], length, IfOk, IfErr};
 ghost use Rattle.std.specs.List.{All};
 ghost use Rattle.std.specs.Str.{IsUtf8};
-ghost use Rattle.wc_gc.specs.Liveness.{trim_input};
+ghost use Rattle.wc_gc.specs.Liveness.{trim_input, trim_input_for_names};
 ghost use Rattle.wc_gc.specs.Parts.{settings};
+ghost use Rattle.wc_gc.specs.TrimmedText.{IsTrimmed};
 ghost use Rattle.wc_calls.specs.Answers.{AreOthersOfTextZero, IsBytesStatus, IsFront, IsPut, IsTooLong, done, failed, too_small, same, bad_argument, out_of_memory};
 ghost use Rattle.wc_calls.specs.Places.{IsTrimPlaceText};
-ghost use Rattle.wc_calls.specs.Required.{texts, trim_input_of};
-ghost use Rattle.wc_calls.specs.Trimming.{AreArguments, IsRun, IsTrimFaultAnswer, IsTrimRefused, IsTrimmingFault, position_in};
+ghost use Rattle.wc_calls.specs.Required.{texts};
+ghost use Rattle.wc_calls.specs.Trimming.{AreArguments, IsTrimFaultAnswer, IsTrimRefused, IsTrimmingFault, position_in};
 
 use crate::answers::{Answer, BAD_ARGUMENT, FAULT, MEMORY, answer_without_bytes, put};
 use crate::fault_numbers::gc_fault_number;
@@ -45,11 +46,11 @@ pub fn trim(
     page_size_log2: u32,
     out: &mut [u8],
 ) -> Answer
-    ensures done { result.status ≡ done → IsPut (IsRun (settings realloc.entry page_size_log2)
-        (trim_input_of wasm.now (texts required.now))) result.length out.old out.new }
+    ensures done { result.status ≡ done → IsPut (IsTrimmed (settings realloc.entry page_size_log2)
+        (trim_input_for_names wasm.now (texts required.now))) result.length out.old out.new }
     ensures too_small { result.status ≡ too_small
-        → IsTooLong (IsRun (settings realloc.entry page_size_log2)
-        (trim_input_of wasm.now (texts required.now))) result.length out.old }
+        → IsTooLong (IsTrimmed (settings realloc.entry page_size_log2)
+        (trim_input_for_names wasm.now (texts required.now))) result.length out.old }
     ensures fault { result.status ≡ failed
         → IsTrimmingFault (settings realloc.entry page_size_log2) wasm.now (texts required.now)
         result out.old out.new }
@@ -84,11 +85,11 @@ fn trim_for_names(
     requires some { required.now ≢ [] }
     requires are_texts { All IsUtf8 (texts required.now) }
     requires paged { page_size_log2 ≤ 16 }
-    ensures done { result.status ≡ done → IsPut (IsRun (settings realloc.entry page_size_log2)
-        (trim_input_of wasm.now (texts required.now))) result.length out.old out.new }
+    ensures done { result.status ≡ done → IsPut (IsTrimmed (settings realloc.entry page_size_log2)
+        (trim_input_for_names wasm.now (texts required.now))) result.length out.old out.new }
     ensures too_small { result.status ≡ too_small
-        → IsTooLong (IsRun (settings realloc.entry page_size_log2)
-        (trim_input_of wasm.now (texts required.now))) result.length out.old }
+        → IsTooLong (IsTrimmed (settings realloc.entry page_size_log2)
+        (trim_input_for_names wasm.now (texts required.now))) result.length out.old }
     ensures fault { result.status ≡ failed
         → IsTrimmingFault (settings realloc.entry page_size_log2) wasm.now (texts required.now)
         result out.old out.new }

@@ -6,7 +6,7 @@ ghost use Rattle.std.specs.Option.{option_map};
 ghost use Rattle.std.specs.Str.{bytes_eq};
 ghost use Rattle.wc_encoder.specs.Adapters.{adapter_view};
 ghost use Rattle.wc_validate.specs.Imports.Map.{required_entry, required_in};
-ghost use Rattle.wc_validate.specs.Validated.{IsCause, module_record};
+ghost use Rattle.wc_validate.specs.Validated.{IsValidateCause, module_record};
 ghost use Rattle.wc_world.specs.World.{IsMainRecord};
 ghost use Rattle.wc_calls.specs.Answers.{AreOthersOfFaultZero, AreOthersOfTextZero, IsCheckStatus, IsModuleStatus, bad_argument, done, failed, out_of_memory, same, too_small};
 ghost use Rattle.wc_calls.specs.FaultAnswers.{IsFaultAnswered};
@@ -14,7 +14,7 @@ ghost use Rattle.wc_calls.specs.Private.ModuleAnswers.{IsIn, IsInputFaultAnswer,
 ghost use Rattle.wc_calls.specs.Validation.{IsModuleValid, IsNoModule, IsNoModuleOf, IsValidOf, IsValidationFaultOf};
 
 use crate::answers::{Answer, BAD_ARGUMENT, DONE, MEMORY, answer_without_bytes};
-use crate::encoders::encoder_from;
+use crate::encoders::world_input;
 use crate::explained::{answer_message_fault, world_fault_place};
 use crate::fault_answers::answer_fault;
 use crate::message_fault::MessageFault;
@@ -130,7 +130,7 @@ fn answer_input_fault(
 fn check_input(alloc: Global, input: AdapterInput<'_>) -> Result<(), ValidateFault>
     ensures valid { OnOk result (IsInputValid input.entry) }
     ensures fault { IfErr result
-        (IsCause (input_of input.entry) input.entry.adapter.now.wasm.items) }
+        (IsValidateCause (input_of input.entry) input.entry.adapter.now.wasm.items) }
 {
     let adapter = input.adapter;
     match validate_adapter_module(
@@ -347,7 +347,7 @@ fn validate_for(
 /// a name, the main module, and then the adapter or the library of this name, as `validate_adapter_module` does, for what
 /// the main module imports from it, the keys that it has to export, and its library information. That is as it is passed,
 /// and not trimmed, also where the component does not need it. The message and the modules are those of `world`; so is
-/// `seed`.
+/// `seed`. Nothing depends on the `options` of the message, which have to be as of `world` all the same.
 ///
 /// - `DONE`: the module is valid; if it is an adapter or a library, so is the main module.
 /// - `BAD_ARGUMENT`: the main module is valid; and `adapter` is no text (UTF-8), or the name of none of the message.
@@ -377,8 +377,8 @@ pub fn validate(
         × (result.status ≢ too_small) }
     ensures others { AreOthersOfFaultZero result }
 {
-    match encoder_from(alloc, seed, message, modules) {
-        Ok(encoder) => validate_for(alloc, &encoder, adapter, out),
+    match world_input(alloc, seed, message, modules) {
+        Ok(input) => validate_for(alloc, &input.encoder, adapter, out),
         Err(fault) => answer_message_fault(alloc, seed, message, &fault, out),
     }
 }

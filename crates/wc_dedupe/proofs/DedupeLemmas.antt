@@ -8,7 +8,7 @@ use Rattle.wc_read.specs.Imports.{ImportValue}
 use Rattle.wc_dedupe.specs.Renaming.{RenameValue, IsRenaming, originals, renamed_names, renamed_import, renamed_imports}
 use Rattle.wc_dedupe.specs.ParsedSections.{ParsedSectionValue, import_section, other_section, SpellsParsedSections, imports_in, imports_of, AreUnderNames, KeepsAllButNames, KeepAllButNames, renamed_section, renamed_sections, import_count, parsed_module_text, Fits, IsTooLarge}
 use Rattle.wc_dedupe.proofs.RenamedLemmas.{originals-renamed_imports}
-use Rattle.wc_dedupe.specs.Dedupe.{IsRenamedModule, IsDeduped, IsCause}
+use Rattle.wc_dedupe.specs.Dedupe.{IsRenamedModule, IsDeduped, IsDedupeCause}
 use Rattle.wc_dedupe.specs.Faults.{of_read, of_write}
 use Rattle.wc_dedupe.specs.declared.fault.DedupeFault.TheVariants.{TooLarge}
 use Rattle.wc_read.specs.declared.fault.ReadFault.{ReadFault}
@@ -82,17 +82,17 @@ pub other_bytes : (bytes out : List ℕ) (parts : List ParsedSectionValue) (impo
 other_bytes bytes out parts imports indices rs spelled same r some text fits =
     inr (renamed_sections rs parts indices, renamed_module bytes parts imports indices rs spelled same r, inr (some, text, fits))
 
-pub too_large : (bytes : List ℕ) (parts : List ParsedSectionValue) (imports : List ImportValue) (indices : List (Option ℕ)) (rs : List RenameValue) → SpellsParsedSections bytes parts → imports ≡ imports_of parts → IsRenaming imports indices rs → rs ≢ [] → Any IsTooLarge (renamed_sections rs parts indices) → IsCause bytes TooLarge
+pub too_large : (bytes : List ℕ) (parts : List ParsedSectionValue) (imports : List ImportValue) (indices : List (Option ℕ)) (rs : List RenameValue) → SpellsParsedSections bytes parts → imports ≡ imports_of parts → IsRenaming imports indices rs → rs ≢ [] → Any IsTooLarge (renamed_sections rs parts indices) → IsDedupeCause bytes TooLarge
 too_large bytes parts imports indices rs spelled same r some large =
     (renamed_sections rs parts indices, rs, renamed_module bytes parts imports indices rs spelled same r, some, large)
 
 -- the fault of a read that failed
-pub cause_of_read : (bytes : List ℕ) (f : ReadFault) → f ≢ read_component → ¬ (IsComponent bytes) → (f ≢ read_memory → (parts : List ParsedSectionValue) → ¬ (SpellsParsedSections bytes parts)) → IsCause bytes (of_read f)
+pub cause_of_read : (bytes : List ℕ) (f : ReadFault) → f ≢ read_component → ¬ (IsComponent bytes) → (f ≢ read_memory → (parts : List ParsedSectionValue) → ¬ (SpellsParsedSections bytes parts)) → IsDedupeCause bytes (of_read f)
 cause_of_read bytes read_memory other outside refused = tt
 cause_of_read bytes f other outside refused = (λ e. absurd cc, other, outside, refused (λ e. absurd cc))
 
 -- the fault of a write that failed
-pub cause_of_write : (bytes : List ℕ) (f : WriteFault) → (f ≡ write_large → IsCause bytes TooLarge) → IsCause bytes (of_write f)
+pub cause_of_write : (bytes : List ℕ) (f : WriteFault) → (f ≡ write_large → IsDedupeCause bytes TooLarge) → IsDedupeCause bytes (of_write f)
 cause_of_write bytes write_memory large = tt
 cause_of_write bytes write_large large = large refl
 

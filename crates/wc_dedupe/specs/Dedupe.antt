@@ -24,10 +24,10 @@ IsDeduped bytes out renames =
 
 -- the cause of a fault: the bytes are no component's, and spell no sections or have an import section that spells no
 -- imports; or a section of the renamed module has a content of 2^32 bytes or more
-abbrev pub IsCause : List ℕ → DedupeFault → Type 0
-IsCause bytes Memory = Unit {0}
-IsCause bytes (Read f) = (f ≢ read_memory) × (f ≢ Component) × (¬ (IsComponent bytes)) × ((parts : List ParsedSectionValue) → ¬ (SpellsParsedSections bytes parts))
-IsCause bytes TooLarge = (renamed : List ParsedSectionValue) × (renames : List RenameValue) × IsRenamedModule bytes renamed renames × (renames ≢ []) × Any IsTooLarge renamed
+abbrev pub IsDedupeCause : List ℕ → DedupeFault → Type 0
+IsDedupeCause bytes Memory = Unit {0}
+IsDedupeCause bytes (Read f) = (f ≢ read_memory) × (f ≢ Component) × (¬ (IsComponent bytes)) × ((parts : List ParsedSectionValue) → ¬ (SpellsParsedSections bytes parts))
+IsDedupeCause bytes TooLarge = (renamed : List ParsedSectionValue) × (renames : List RenameValue) × IsRenamedModule bytes renamed renames × (renames ≢ []) × Any IsTooLarge renamed
 
 -- the renames of a map, none where there is no map
 abbrev pub renames_in : Option (List RenameValue) → List RenameValue

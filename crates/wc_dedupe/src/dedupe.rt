@@ -3,7 +3,7 @@
 ghost use Rattle.std.specs.Prelude.{◌≡◌, ◌≢◌, List, [], IfOk, IfErr, IfSome, IsNone, Ok, None};
 ghost use Rattle.std.specs.Cow.{cow_slice_items};
 ghost use Rattle.wc_read.specs.Sections.{IsComponent};
-ghost use Rattle.wc_dedupe.specs.Dedupe.{IsDeduped, IsCause, renames_in};
+ghost use Rattle.wc_dedupe.specs.Dedupe.{IsDeduped, IsDedupeCause, renames_in};
 
 use crate::distinct::have_distinct_names;
 use crate::fault::DedupeFault;
@@ -47,7 +47,7 @@ impl ModuleImportMap {
         ensures some { IfOk result (λ r. IfSome r.1 (λ map. map ≢ [])) }
         ensures component { IsComponent (cow_slice_items wasm.entry)
             → result ≡ Ok (wasm.entry, None) }
-        ensures refused { IfErr result (IsCause (cow_slice_items wasm.entry)) }
+        ensures refused { IfErr result (IsDedupeCause (cow_slice_items wasm.entry)) }
     {
         match dedupe(alloc, wasm.as_slice())? {
             Some((bytes, map)) => Ok((CowSlice::Owned(bytes), Some(map))),
@@ -62,7 +62,7 @@ fn dedupe(alloc: Global, bytes: &[u8]) -> Result<Option<(Vec<u8>, ModuleImportMa
         (r.1 ≢ []) × IsDeduped bytes.now r.0.items r.1)) }
     ensures same { IfOk result (λ o. IsNone o → IsDeduped bytes.now bytes.now []) }
     ensures component { IsComponent bytes.now → result ≡ Ok None }
-    ensures refused { IfErr result (IsCause bytes.now) }
+    ensures refused { IfErr result (IsDedupeCause bytes.now) }
 {
     let parts = match parse_module(alloc, bytes) {
         Ok(parts) => parts,

@@ -6,15 +6,15 @@ use Rattle.wc_encoder.specs.Distinct.{AreInterfacesOnce, AreNamesDistinct}
 use Rattle.wc_encoder.specs.EncoderParts.{EncoderView, HasWorld, world_exports, world_imports}
 use Rattle.wc_encoder.specs.Exported.{AreKeysExported, AreNoTypes}
 
-abbrev pub IsCause : EncoderView → EncoderFault → Type 0
-IsCause e Memory = Unit {0}
-IsCause e UnknownWorld = ¬ HasWorld e
-IsCause e NotAnExport = HasWorld e × ¬ AreKeysExported e (world_exports e)
-IsCause e TypeExported = HasWorld e × AreKeysExported e (world_exports e) × ¬ AreNoTypes (world_exports e)
-IsCause e InterfaceTwice = HasWorld e × AreKeysExported e (world_exports e) × AreNoTypes (world_exports e) × ¬ AreInterfacesOnce (world_exports e)
-IsCause e DependencyLater =
+abbrev pub IsEncoderCause : EncoderView → EncoderFault → Type 0
+IsEncoderCause e Memory = Unit {0}
+IsEncoderCause e UnknownWorld = ¬ HasWorld e
+IsEncoderCause e NotAnExport = HasWorld e × ¬ AreKeysExported e (world_exports e)
+IsEncoderCause e TypeExported = HasWorld e × AreKeysExported e (world_exports e) × ¬ AreNoTypes (world_exports e)
+IsEncoderCause e InterfaceTwice = HasWorld e × AreKeysExported e (world_exports e) × AreNoTypes (world_exports e) × ¬ AreInterfacesOnce (world_exports e)
+IsEncoderCause e DependencyLater =
     HasWorld e × AreKeysExported e (world_exports e) × AreNoTypes (world_exports e) × AreInterfacesOnce (world_exports e)
     × ¬ AreDependenciesBefore e.resolve (world_exports e)
-IsCause e ImportNameClash =
+IsEncoderCause e ImportNameClash =
     HasWorld e × AreKeysExported e (world_exports e) × AreNoTypes (world_exports e) × AreInterfacesOnce (world_exports e)
     × AreDependenciesBefore e.resolve (world_exports e) × ¬ AreNamesDistinct e.resolve (world_imports e)

@@ -4,7 +4,7 @@ ghost use Rattle.std.specs.Prelude.{◌≡◌, IfErr, IfOk, map, option_copied};
 ghost use Rattle.wc_resolve.specs.Views.{key_view};
 ghost use Rattle.wc_encoder.specs.Adapters.{adapter_entry};
 ghost use Rattle.wc_encoder.specs.EncoderParts.{parts_view};
-ghost use Rattle.wc_encoder.specs.Fault.{IsCause};
+ghost use Rattle.wc_encoder.specs.Fault.{IsEncoderCause};
 ghost use Rattle.wc_encoder.specs.WellFormed.{IsWellFormed};
 
 use crate::adapters::Adapter;
@@ -57,7 +57,7 @@ impl ComponentEncoder {
     pub fn build(alloc: Global, parts: EncoderParts) -> Result<ComponentEncoder, EncoderFault>
         ensures ok { IfOk result (λ e. e ≡ parts_view parts) }
         ensures formed { IfOk result IsWellFormed }
-        ensures fault { IfErr result (IsCause (parts_view parts)) }
+        ensures fault { IfErr result (IsEncoderCause (parts_view parts)) }
     {
         check(alloc, &parts)?;
         Ok(ComponentEncoder { parts })

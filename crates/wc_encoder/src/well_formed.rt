@@ -3,7 +3,7 @@
 ghost use Rattle.std.specs.Prelude.{IfErr, IfNone, IfSome, OnOk};
 ghost use Rattle.wc_resolve.specs.Views.{world_view};
 ghost use Rattle.wc_encoder.specs.EncoderParts.{HasWorld, IsWorldOf, parts_view};
-ghost use Rattle.wc_encoder.specs.Fault.{IsCause};
+ghost use Rattle.wc_encoder.specs.Fault.{IsEncoderCause};
 ghost use Rattle.wc_encoder.specs.WellFormed.{IsWellFormed};
 
 use crate::dependencies::are_dependencies_before;
@@ -34,7 +34,7 @@ fn world_of(parts: &EncoderParts) -> Option<&World>
 /// The faults of `ComponentEncoder::build`.
 pub(crate) fn check(alloc: Global, parts: &EncoderParts) -> Result<(), EncoderFault>
     ensures formed { OnOk result (IsWellFormed (parts_view parts.now)) }
-    ensures fault { IfErr result (IsCause (parts_view parts.now)) }
+    ensures fault { IfErr result (IsEncoderCause (parts_view parts.now)) }
 {
     let resolve = &parts.metadata.resolve;
     resolve.well_formedness();

@@ -31,16 +31,16 @@ use Rattle.wc_gc.proofs.SpellableLemmas.{body_stays}
 
 -- by whether pages have one byte
 abbrev pub growing_by : Bool → ℕ → ℕ → BodyValue
-growing_by b exponent memory = record {
+growing_by b page_size_log2 memory = record {
   locals = record { count = 1; ty = I32 } ∷ [];
   operators =
       trap_unless 0 0 ++ (trap_unless 1 0 ++ (trap_unless 3 65536
-      ++ (growth (65536 / 2 ^ exponent) memory ++ ((if b then [] else const (pos exponent) ∷ plain 0x74 ∷ []) ++ (end ∷ [])))));
+      ++ (growth (65536 / 2 ^ page_size_log2) memory ++ ((if b then [] else const (pos page_size_log2) ∷ plain 0x74 ∷ []) ++ (end ∷ [])))));
 }
 
-pub growing_under : (new : Renumbering) (exponent memory : ℕ) → renumber_body new (growing_body exponent memory) ≡ growing_body exponent (new Memories memory)
+pub growing_under : (new : Renumbering) (page_size_log2 memory : ℕ) → renumber_body new (growing_body page_size_log2 memory) ≡ growing_body page_size_log2 (new Memories memory)
 unfolding growing_body
-growing_under new exponent memory = elim (nat_eq exponent 0) as (λ b. renumber_body new (growing_by b exponent memory) ≡ growing_by b exponent (new Memories memory)) [ true ↦ refl | false ↦ refl ]
+growing_under new page_size_log2 memory = elim (nat_eq page_size_log2 0) as (λ b. renumber_body new (growing_by b page_size_log2 memory) ≡ growing_by b page_size_log2 (new Memories memory)) [ true ↦ refl | false ↦ refl ]
 
 pub stack_under : (new : Renumbering) (realloc stack : ℕ) (state : Option ℕ) → renumber_body new (stack_body realloc stack state) ≡ stack_body (new Funcs realloc) (new Globals stack) (option_map (new Globals) state)
 unfolding stack_body

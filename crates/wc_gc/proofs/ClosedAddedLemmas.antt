@@ -28,10 +28,10 @@ use Rattle.wc_gc.proofs.SpelledItemLemmas.{all_joined}
 
 -- what added bodies name
 
-pub growing_names : (has : ItemIndex → Type 0) (exponent memory : ℕ) → has (Memories, memory)
-    → AllByRecursion has (body_refs (Some (growing_body exponent memory)))
+pub growing_names : (has : ItemIndex → Type 0) (page_size_log2 memory : ℕ) → has (Memories, memory)
+    → AllByRecursion has (body_refs (Some (growing_body page_size_log2 memory)))
 unfolding growing_body
-growing_names has exponent memory h = elim (nat_eq exponent 0) as (λ b. AllByRecursion has (code_body_refs (growing_by b exponent memory))) [
+growing_names has page_size_log2 memory h = elim (nat_eq page_size_log2 0) as (λ b. AllByRecursion has (code_body_refs (growing_by b page_size_log2 memory))) [
   | true ↦
       (h, tt)
   | false ↦ (h, tt)
@@ -221,7 +221,7 @@ module _ (s : SettingsValue) (m : ModuleValue) (exports : List ExportValue) (liv
     growing_closed : p.growing ≡ true → IsClosedFunc (growing_func T s p found)
     growing_closed h =
         let one = ap one_if h in
-        ((type_has (growing_position p) (omega (arith, one)), growing_names Has s.exponent (memory_of found) (memory_has (a.memory h))), refl)
+        ((type_has (growing_position p) (omega (arith, one)), growing_names Has s.page_size_log2 (memory_of found) (memory_has (a.memory h))), refl)
 
     start_closed : p.start ≡ true → IsClosedFunc (start_func T L p found)
     start_closed h =

@@ -1,7 +1,7 @@
 -- What the image of a trimmed adapter has is there and is code, and names what the image has alone.
 use Rattle.std.proofs.Common.{◌≡◌, ◌≢◌, ℕ, zero, suc, ◌+◌, ◌-◌, ◌<◌, ◌≤◌, List, [], ◌∷◌, ◌++◌, length, map, refl, sym, ◌∙◌, ap, subst, Bool, true, false, cond}
 use Rattle.std.proofs.Common.{Option, Some, None, arith, ◌⊎◌, inl, inr}
-use Rattle.std.specs.Prelude.{Contains, IfOk, IsOk, IsTrue, Result, Ok, Err, is_some, nat_lt, not, ◌&&◌, ◌||◌, filter}
+use Rattle.std.specs.Prelude.{Contains, IsTrue, is_some, nat_lt, not, ◌&&◌, ◌||◌, filter}
 use Rattle.std.specs.List.{AllByRecursion, list_any, range_with_len, slice_get}
 use Rattle.std.specs.Option.{option_map, option_map_or}
 use Rattle.std.proofs.lemmas.Bool.{false≢true, lt-ltb, ltb-false, ltb-true, and_parts}
@@ -17,7 +17,6 @@ use Rattle.wc_read.specs.Types.{FuncTypeValue}
 use Rattle.wc_read.specs.declared.operators.Space.TheVariants.{Types, Funcs, Tables, Memories, Globals}
 use Rattle.wc_read.proofs.OptionsLemmas.{some_same}
 use Rattle.wc_write.specs.BuiltValues.{def_seen, item_seen, IsWritable}
-use Rattle.wc_write.specs.Values.{AreBytes}
 use Rattle.wc_write.proofs.WritableModuleLemmas.{spelled_writable}
 use Rattle.wc_gc.specs.Causes.{DecidesLive, has_page_size_at}
 use Rattle.wc_gc.specs.Decoded.{DecodedModule, FuncCode, ItemIndex, decode, exported_item, is_in, size_of}
@@ -26,15 +25,10 @@ use Rattle.wc_gc.specs.Entries.{body_refs, code_refs, def_refs, entry_at, entry_
 use Rattle.wc_gc.specs.Entries.{type_entry, val_type_refs, func_type_refs}
 use Rattle.wc_gc.specs.Found.{FoundValue, found_in, is_empty, is_realloc, is_realloc_at, main_module}
 use Rattle.wc_gc.specs.KeptExports.{kept_exports}
-use Rattle.wc_gc.specs.Laws.{AreSettings}
-use Rattle.wc_gc.specs.Liveness.{TrimInput}
 use Rattle.wc_gc.specs.Parts.{SettingsValue, adds_growing, is_any, parts_of}
 use Rattle.wc_gc.specs.InRange.{is_item_in_range, is_body_in_range, is_def_in_range, is_entry_in_range}
-use Rattle.wc_gc.specs.TrimmedText.{IsTrimmedRead}
-use Rattle.wc_gc.specs.Trimming.{IsTrimCause, IsTrimmed}
 use Rattle.wc_gc.specs.Unfolding.{IsClosed, TrimmedIsClosed, TrimmedUnfolds, has_code, is_code, edited_module}
 use Rattle.wc_gc.specs.declared.parts.Parts.{Parts}
-use Rattle.wc_gc.specs.declared.fault.GcFault.{GcFault}
 use Rattle.wc_gc.specs.declared.fault.GcFault.TheVariants.{LiveBody, ReallocMemory}
 use Rattle.wc_gc.proofs.BuiltImageLemmas.{func_at, global_at}
 use Rattle.wc_gc.proofs.BuiltPartLemmas.{all_at, each_weaker}
@@ -51,7 +45,7 @@ use Rattle.wc_gc.proofs.LiveItemLemmas.{live_named, named_kept}
 use Rattle.wc_gc.proofs.LivenessLemmas.{export_there}
 use Rattle.wc_gc.proofs.ReachLemmas.{there_from}
 use Rattle.wc_gc.proofs.SpelledItemLemmas.{all_joined}
-use Rattle.wc_gc.proofs.TrimmedTextLemmas.{live_in_range, trimmed_text_read}
+use Rattle.wc_gc.proofs.TrimmedTextLemmas.{live_in_range}
 use Rattle.wc_gc.proofs.TypedGlobalLemmas.{get_front}
 use Rattle.wc_gc.proofs.ClosedAddedLemmas.{AreParts, AreThere, Has, IsClosedFunc, added_types_name_none, added_closed, found, func_has, growing_names, live_has}
 use Rattle.wc_gc.proofs.ClosedAddedLemmas.{memory_has, parts_are, with_added}
@@ -162,7 +156,7 @@ module _ (s : SettingsValue) (m : ModuleValue) (exports : List ExportValue) (liv
 
   replaced_names : (o : Option (List ℕ)) → (o ≡ None → InImage (Memories, memory_of found_parts))
       → AllByRecursion InImage (def_refs body_refs (option_map_or (λ name. imported main_module name) o (growing_code s found_parts)))
-  replaced_names None h = growing_names InImage s.exponent (memory_of found_parts) (h refl)
+  replaced_names None h = growing_names InImage s.page_size_log2 (memory_of found_parts) (h refl)
   replaced_names (Some name) h = tt
 
   edited_names : (d : DefValue (List ℕ)) → (is_realloc d ≡ true → s.realloc ≡ None → InImage (Memories, memory_of found_parts))
@@ -360,11 +354,11 @@ either_one true false e h = absurd (h refl)
 either_one false false e h = absurd (false≢true e)
 
 has_memory : (s : SettingsValue) (d : DecodedModule) (f : FoundValue)
-    → ¬ (IsTrue ((adds_growing s f || (not (is_some s.realloc) && is_any f.reallocs)) && not (list_any (has_page_size_at d s.exponent) f.memories)))
+    → ¬ (IsTrue ((adds_growing s f || (not (is_some s.realloc) && is_any f.reallocs)) && not (list_any (has_page_size_at d s.page_size_log2) f.memories)))
     → HasMemory s f
 has_memory s d f h none some =
-    any_if f.memories (any_passes (has_page_size_at d s.exponent) f.memories
-    (either_one (adds_growing s f || (not (is_some s.realloc) && is_any f.reallocs)) (list_any (has_page_size_at d s.exponent) f.memories)
+    any_if f.memories (any_passes (has_page_size_at d s.page_size_log2) f.memories
+    (either_one (adds_growing s f || (not (is_some s.realloc) && is_any f.reallocs)) (list_any (has_page_size_at d s.page_size_log2) f.memories)
     (grows_if (adds_growing s f) (is_some s.realloc) (is_any f.reallocs) (ap (λ (o : Option (List ℕ)). is_some o) none) some) h))
 
 pub trimmed_is_closed : TrimmedIsClosed
@@ -384,14 +378,3 @@ trimmed_is_closed s w text are all t none =
 pub trimmed_unfolds : TrimmedUnfolds
 trimmed_unfolds s w text are all t none = image_unfolds (edit s (decode t.value) (kept_exports w.required t.value.exports) t.live)
     (trimmed_is_closed s w text are all t none)
-
--- what is answered is read back, and unfolds
-pub read_answer : {T : Type 0} (items : T → List ℕ) (r : Result T GcFault) (s : SettingsValue) (w : TrimInput) → AreSettings s → AreBytes w.bytes
-    → IfOk r (λ v. IsTrimmed s w (items v)) → (IsOk r → (f : GcFault) → ¬ (IsTrimCause s w f))
-    → IfOk r (λ v. IsTrimmedRead s w (items v))
-read_answer items (Ok v) s w are all t none = record {
-  trimmed = t;
-  read = trimmed_text_read s w (items v) are all t (none refl);
-  unfolds = trimmed_unfolds s w (items v) are all t (none refl);
-}
-read_answer items (Err f) s w are all t none = t

@@ -159,8 +159,8 @@ module _ (s : SettingsValue) (m : DecodedModule) (exports : List ExportValue) (l
   found_to LocalMemory h = memories_same (λ (t : MemoryValue). is_defined t) ∙ h
   found_to ReallocType h = ap not all_called ∙ h
   found_to ReallocMemory h =
-      ap (λ b. b && not (list_any (has_page_size_at C s.exponent) g.memories)) grows_same
-      ∙ (ap (λ b. grows_memory s f && not b) (memories_same (λ (t : MemoryValue). has_page_size s.exponent t.ty)) ∙ h)
+      ap (λ b. b && not (list_any (has_page_size_at C s.page_size_log2) g.memories)) grows_same
+      ∙ (ap (λ b. grows_memory s f && not b) (memories_same (λ (t : MemoryValue). has_page_size s.page_size_log2 t.ty)) ∙ h)
   found_to x h = absurd h
 
   pub found_back : (x : GcFault) → IsFoundCause s C g x → IsFoundCause s m f x
@@ -170,8 +170,8 @@ module _ (s : SettingsValue) (m : DecodedModule) (exports : List ExportValue) (l
   found_back LocalMemory h = sym (memories_same (λ (t : MemoryValue). is_defined t)) ∙ h
   found_back ReallocType h = sym (ap not all_called) ∙ h
   found_back ReallocMemory h =
-      sym (ap (λ b. b && not (list_any (has_page_size_at C s.exponent) g.memories)) grows_same
-      ∙ ap (λ b. grows_memory s f && not b) (memories_same (λ (t : MemoryValue). has_page_size s.exponent t.ty))) ∙ h
+      sym (ap (λ b. b && not (list_any (has_page_size_at C s.page_size_log2) g.memories)) grows_same
+      ∙ ap (λ b. grows_memory s f && not b) (memories_same (λ (t : MemoryValue). has_page_size s.page_size_log2 t.ty))) ∙ h
   found_back x h = absurd h
 
 module _ (s : SettingsValue) (m : DecodedModule) (exports : List ExportValue) (live : ItemIndex → Bool) (k : AreClosed m exports live) where

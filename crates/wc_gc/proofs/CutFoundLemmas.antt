@@ -342,14 +342,14 @@ parts_same s live f g r =
 
 -- a module without a stack pointer has none of them
 
-stackless : (realloc : Option (List ℕ)) (exponent states reallocs memories : ℕ)
-    → parts_by (record { realloc = realloc; exponent = exponent }) 0 states reallocs memories
+stackless : (realloc : Option (List ℕ)) (page_size_log2 states reallocs memories : ℕ)
+    → parts_by (record { realloc = realloc; page_size_log2 = page_size_log2 }) 0 states reallocs memories
     ≡ record { import_realloc = false; lazy = false; growing = false; start = false }
-stackless None exponent states reallocs memories = refl
-stackless (Some name) exponent states reallocs memories = refl
+stackless None page_size_log2 states reallocs memories = refl
+stackless (Some name) page_size_log2 states reallocs memories = refl
 
 pub parts_stackless : (s : SettingsValue) (f : FoundValue) → length f.stacks ≡ 0 → parts_of s f
     ≡ record { import_realloc = false; lazy = false; growing = false; start = false }
 parts_stackless s f e =
     parts_counted s f ∙ (ap (λ k. parts_by s k (length f.states) (length f.reallocs) (length f.memories)) e
-    ∙ stackless s.realloc s.exponent (length f.states) (length f.reallocs) (length f.memories))
+    ∙ stackless s.realloc s.page_size_log2 (length f.states) (length f.reallocs) (length f.memories))

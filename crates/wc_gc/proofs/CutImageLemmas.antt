@@ -225,7 +225,7 @@ module _ (s : SettingsValue) (m : DecodedModule) (exports : List ExportValue) (l
 
   growing_is : def_seen (new_body D) (growing_code s g) ≡ def_seen (new_body E) (growing_code s f)
   growing_is =
-      ap local (growing_under D s.exponent (memory_of g) ∙ (ap (growing_body s.exponent) memory_is ∙ sym (growing_under E s.exponent (memory_of f))))
+      ap local (growing_under D s.page_size_log2 (memory_of g) ∙ (ap (growing_body s.page_size_log2) memory_is ∙ sym (growing_under E s.page_size_log2 (memory_of f))))
 
   three : (i i' j j' : ℕ) (o o' : Option ℕ) → i ≡ i' → j ≡ j' → o ≡ o' → stack_body i j o ≡ stack_body i' j' o'
   three i i' j j' o o' x y z = ap (λ t. stack_body t j o) x ∙ (ap (λ t. stack_body i' t o) y ∙ ap (λ t. stack_body i' j' t) z)

@@ -21,11 +21,11 @@ use Rattle.wc_gc.specs.declared.parts.Parts.{Parts}
 
 -- bodies
 
-pub growing_new : (new : Renumbering) (exponent memory : ℕ) → new Memories memory ≡ 0 → growing_body exponent 0 ≡ new_body new (Some (growing_body exponent memory))
+pub growing_new : (new : Renumbering) (page_size_log2 memory : ℕ) → new Memories memory ≡ 0 → growing_body page_size_log2 0 ≡ new_body new (Some (growing_body page_size_log2 memory))
 unfolding growing_body
-growing_new new exponent memory h = by (exponent == 0) refl
+growing_new new page_size_log2 memory h = by (page_size_log2 == 0) refl
   where
-    by : (b : Bool) → (exponent == 0) ≡ b → growing_body exponent 0 ≡ new_body new (Some (growing_body exponent memory))
+    by : (b : Bool) → (page_size_log2 == 0) ≡ b → growing_body page_size_log2 0 ≡ new_body new (Some (growing_body page_size_log2 memory))
     by true e = rw (h, e) refl
     by false e = rw (h, e) refl
 

@@ -247,9 +247,9 @@ module _ (s : SettingsValue) (m : ModuleValue) (exports : List ExportValue) (liv
   memory_new : ranks Memories (memory_of found) ≡ 0
   memory_new = memory_first (first_of found.memories) refl
 
-  growing_can : IsBody (new_body ranks (Some (growing_body s.exponent (memory_of found))))
-  growing_can = subst IsBody (sym (growing_under ranks s.exponent (memory_of found) ∙ ap (growing_body s.exponent) memory_new))
-      (growing_is_body s.exponent set.bounded_bytes).0
+  growing_can : IsBody (new_body ranks (Some (growing_body s.page_size_log2 (memory_of found))))
+  growing_can = subst IsBody (sym (growing_under ranks s.page_size_log2 (memory_of found) ∙ ap (growing_body s.page_size_log2) memory_new))
+      (growing_is_body s.page_size_log2 set.bounded_bytes).0
 
   module _ (room : length written < 2 ^ 32) where
     keeps : KeepsBits ranks

@@ -22,7 +22,7 @@ use Rattle.wc_gc.specs.Faults.{of_read}
 use Rattle.wc_gc.specs.KeptExports.{kept_exports, missing_name}
 use Rattle.wc_gc.specs.Reached.{IsReachedFrom}
 use Rattle.wc_gc.specs.InRange.{is_item_in_range}
-use Rattle.wc_gc.specs.Liveness.{IsCount, HasLiveBody, HasUnsupported, IsSupported, IsLive, IsLivenessOf, IsFaultOf, TrimInput, IsCause, IsFault}
+use Rattle.wc_gc.specs.Liveness.{IsCount, HasLiveBody, HasUnsupported, IsSupported, IsLive, IsLivenessOf, IsFaultOf, TrimInput, IsLivenessCause, IsFault}
 use Rattle.wc_gc.specs.Liveness.{order_of}
 use Rattle.wc_gc.specs.declared.fault.GcFault.{GcFault}
 use Rattle.wc_gc.specs.declared.fault.GcFault.TheVariants.{Memory, Read, MissingExport, UnsupportedSection, LiveBody}
@@ -96,17 +96,17 @@ some_or_none : {A : Type 0} {o : Option A} {x : A} → o ≡ None → o ≡ Some
 some_or_none p q = absurd (cc (p, q))
 
 module _ (w : TrimInput) (m : ModuleValue) (s : SpellsModule w.bytes m) where
-  not_missing : missing_name m.exports w.required ≡ None → (name : String Global) → ¬ (IsCause w (MissingExport name))
+  not_missing : missing_name m.exports w.required ≡ None → (name : String Global) → ¬ (IsLivenessCause w (MissingExport name))
   not_missing none name c = some_or_none none (subst (λ (v : ModuleValue). missing_name v.exports w.required ≡ Some (string_bytes name))
       (modules_one w.bytes c.0 m c.1 s) c.2)
 
-  not_unsupported : ¬ (HasUnsupported m) → ¬ (IsCause w UnsupportedSection)
+  not_unsupported : ¬ (HasUnsupported m) → ¬ (IsLivenessCause w UnsupportedSection)
   not_unsupported none c = none (subst HasUnsupported (modules_one w.bytes c.0 m c.1 s) c.2)
 
-  not_live : ¬ (HasLiveBody w.required m) → ¬ (IsCause w LiveBody)
+  not_live : ¬ (HasLiveBody w.required m) → ¬ (IsLivenessCause w LiveBody)
   not_live none c = none (subst (HasLiveBody w.required) (modules_one w.bytes c.0 m c.1 s) c.2)
 
-  before_missing : (g : GcFault) → order_of g < 2 → ¬ (IsCause w g)
+  before_missing : (g : GcFault) → order_of g < 2 → ¬ (IsLivenessCause w g)
   before_missing Memory h c = c.2
   before_missing (Read r) h c = c.0 m s
   before_missing (MissingExport name) h c = absurd (omega arith)
@@ -114,7 +114,7 @@ module _ (w : TrimInput) (m : ModuleValue) (s : SpellsModule w.bytes m) where
   before_missing LiveBody h c = absurd (omega arith)
   before_missing g h c = c.2
 
-  before_unsupported : missing_name m.exports w.required ≡ None → (g : GcFault) → order_of g < 3 → ¬ (IsCause w g)
+  before_unsupported : missing_name m.exports w.required ≡ None → (g : GcFault) → order_of g < 3 → ¬ (IsLivenessCause w g)
   before_unsupported none Memory h c = c.2
   before_unsupported none (Read r) h c = c.0 m s
   before_unsupported none (MissingExport name) h c = not_missing none name c
@@ -122,7 +122,7 @@ module _ (w : TrimInput) (m : ModuleValue) (s : SpellsModule w.bytes m) where
   before_unsupported none LiveBody h c = absurd (omega arith)
   before_unsupported none g h c = c.2
 
-  before_live : IsSupported w.required m → (g : GcFault) → order_of g < 4 → ¬ (IsCause w g)
+  before_live : IsSupported w.required m → (g : GcFault) → order_of g < 4 → ¬ (IsLivenessCause w g)
   before_live none Memory h c = c.2
   before_live none (Read r) h c = c.0 m s
   before_live none (MissingExport name) h c = not_missing none.0 name c
@@ -138,7 +138,7 @@ module _ (w : TrimInput) (m : ModuleValue) (s : SpellsModule w.bytes m) where
   fault_of LiveBody h = inr ((m, s, h.1), before_live h.0)
   fault_of f h = inl h
 
-  pub no_cause_of : IsSupported w.required m → ¬ (HasLiveBody w.required m) → (f : GcFault) → ¬ (IsCause w f)
+  pub no_cause_of : IsSupported w.required m → ¬ (HasLiveBody w.required m) → (f : GcFault) → ¬ (IsLivenessCause w f)
   no_cause_of none in_range Memory c = c.2
   no_cause_of none in_range (Read r) c = c.0 m s
   no_cause_of none in_range (MissingExport name) c = not_missing none.0 name c
@@ -148,7 +148,7 @@ module _ (w : TrimInput) (m : ModuleValue) (s : SpellsModule w.bytes m) where
 
 -- bytes that are no module
 
-not_read : (w : TrimInput) (g : GcFault) → order_of g < 1 → ¬ (IsCause w g)
+not_read : (w : TrimInput) (g : GcFault) → order_of g < 1 → ¬ (IsLivenessCause w g)
 not_read w Memory h c = c.2
 not_read w (Read r) h c = absurd (omega arith)
 not_read w (MissingExport name) h c = absurd (omega arith)

@@ -34,7 +34,7 @@ use Rattle.wc_gc.proofs.ImportOriginLemmas.{pairs_joined, zip_first, zip_joined,
 use Rattle.wc_gc.proofs.RestrictedExportLemmas as restricted
 use Rattle.wc_gc.proofs.RestrictedFuncLemmas.{AddedOrigins, added_imports, func_imports, func_part}
 use Rattle.wc_gc.proofs.RestrictedImportLemmas.{AreDistinct, HasOriginIn, IsIn, IsPart, global_kind, global_space, have_spaces, imports_mapped, memory_kind, memory_space, plain_part, table_kind, table_space}
-use Rattle.wc_gc.proofs.TrimmedTextLemmas.{edited_value_is, trimmed_text_read}
+use Rattle.wc_gc.proofs.TrimmedTextLemmas.{edited_value_is}
 
 -- an import is in one space
 
@@ -231,8 +231,8 @@ module _ (bytes : List ℕ) (required : List (List ℕ)) (v : ModuleValue) (live
   }
 
 pub trimmed_restricts : TrimmedIsRestriction
-trimmed_restricts s w text are all t none m spells =
-    let read = trimmed_text_read s w text are all t none in
+trimmed_restricts s w text all trimmed m spells =
+    let t = trimmed.image in
     let is = edited_value_is w.bytes w.required t.value t.live all t.spelled t.decides s in
-    let same = read.alone m (subst (λ z. SpellsModule z m) t.written spells) ∙ ap written_module is in
+    let same = trimmed.read.alone m (subst (λ z. SpellsModule z m) t.written spells) ∙ ap written_module is in
     subst (IsRestriction s.realloc w.required t.value) (sym same) (restricts w.bytes w.required t.value t.live all t.spelled t.decides s)

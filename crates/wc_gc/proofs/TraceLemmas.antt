@@ -18,7 +18,7 @@ use Rattle.wc_gc.specs.KeptExports.{kept_exports}
 use Rattle.wc_gc.specs.Liveness.{HasLiveBody, TrimInput}
 use Rattle.wc_gc.specs.Parts.{SettingsValue}
 use Rattle.wc_gc.specs.Traces.{AreClosed, AreTrimmedToTheSame, HasCut, HasLiveness, NoTrace, all_items}
-use Rattle.wc_gc.specs.Trimming.{IsLaterCause, IsTrimCause, IsTrimFault, IsTrimmed}
+use Rattle.wc_gc.specs.Trimming.{IsImageText, IsLaterCause, IsTrimCause, IsTrimFault}
 use Rattle.wc_gc.specs.declared.fault.GcFault.{GcFault}
 use Rattle.wc_gc.specs.declared.fault.GcFault.TheVariants.{LiveBody}
 use Rattle.wc_gc.proofs.BuiltPartLemmas.{each_weaker}
@@ -70,7 +70,7 @@ module _ (s : SettingsValue) (w : TrimInput) (c : DecodedModule) (all : AreBytes
       let decided = subst (λ z. DecidesLive w.required z live) one decides in
       subst (λ z. P h.value z) (tests_one w.required h.value live h.live decided h.decides) (subst (λ z. P z live) one k)
 
-  trimmed_to : (text : List ℕ) → IsTrimmed s w text → text ≡ cut_text
+  trimmed_to : (text : List ℕ) → IsImageText s w text → text ≡ cut_text
   trimmed_to text t =
       same_in (λ m live. text
       ≡ built_text (edited_image (edit s (decode m) (kept_exports w.required m.exports) live))) t.value t.live t.spelled t.decides t.written
@@ -97,7 +97,7 @@ module _ (s : SettingsValue) (c : DecodedModule) where
     no_cause : HasLiveness w
     cut : HasCut w c
 
-  one_text : (v w : TrimInput) → Given v → Given w → (x y : List ℕ) → IsTrimmed s v x → IsTrimmed s w y → x ≡ y
+  one_text : (v w : TrimInput) → Given v → Given w → (x y : List ℕ) → IsImageText s v x → IsImageText s w y → x ≡ y
   one_text v w a b x y t u = trimmed_to s v c a.bytes a.no_cause a.cut x t ∙ sym (trimmed_to s w c b.bytes b.no_cause b.cut y u)
 
   cause_from : (v w : TrimInput) → Given v → Given w → (f : GcFault) → IsTrimCause s v f → IsTrimCause s w f

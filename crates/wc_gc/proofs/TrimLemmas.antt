@@ -1,7 +1,7 @@
 -- The causes of faults of trimming, and their order.
 use Rattle.std.proofs.Common.{◌≡◌, ℕ, ◌<◌, ◌≤◌, ◌^◌, List, [], length, map, refl, sym, subst, Bool, true, false, Option, Some, None, ◌⊎◌, inl}
 use Rattle.std.proofs.Common.{inr, arith}
-use Rattle.std.specs.Prelude.{IsTrue, MatchOption, IfSome, Result, Ok, Err, IfOk, IfErr, IsOk}
+use Rattle.std.specs.Prelude.{IsTrue, MatchOption, IfSome, Result, Ok, Err, IfErr}
 use Rattle.std.proofs.Math.Path.{fun_ext}
 use Rattle.std.proofs.lemmas.List.{length-map}
 use Rattle.wc_read.specs.Exports.{ExportValue}
@@ -14,7 +14,6 @@ use Rattle.wc_read.specs.declared.core_module.Module.{Module}
 use Rattle.wc_read.specs.declared.operators.Space.TheVariants.{Funcs}
 use Rattle.wc_read.proofs.ModulesLemmas.{modules_one}
 use Rattle.wc_write.specs.Values.{AreBytes}
-use Rattle.wc_write.specs.ModuleText.{built_text}
 use Rattle.wc_write.proofs.ByteLemmas.{front_bytes}
 use Rattle.wc_write.proofs.ValueLemmas.{number_fits}
 use Rattle.wc_write.proofs.WritableModuleLemmas.{all_bytes, content_bytes}
@@ -26,13 +25,12 @@ use Rattle.wc_gc.specs.Edited.{edit}
 use Rattle.wc_gc.specs.EditedImage.{FitsBits, edited_image}
 use Rattle.wc_gc.specs.Parts.{SettingsValue}
 use Rattle.wc_gc.specs.KeptExports.{kept_exports}
-use Rattle.wc_gc.specs.Liveness.{IsCause, IsFault, IsFaultOf, IsLivenessOf, TrimInput, order_of}
+use Rattle.wc_gc.specs.Liveness.{IsLivenessCause, IsFault, IsLivenessOf, TrimInput, order_of}
 use Rattle.wc_gc.specs.InRange.{is_item_in_range}
-use Rattle.wc_gc.specs.Trimming.{IsLaterCause, IsLaterCauseIn, IsLaterFault, IsTrimCause, IsTrimFault, IsTrimFaultOf, IsTrimmed, IsTrimmedOf}
+use Rattle.wc_gc.specs.Trimming.{IsLaterCause, IsLaterCauseIn, IsLaterFault, IsTrimFault}
 use Rattle.wc_gc.specs.declared.fault.GcFault.{GcFault}
 use Rattle.wc_gc.specs.declared.fault.GcFault.TheVariants.{Memory, Read, MissingExport, UnsupportedSection, LiveBody, SeveralNamed, LiveTable, SeveralMemories}
 use Rattle.wc_gc.specs.declared.fault.GcFault.TheVariants.{LocalMemory, ReallocType, ReallocMemory, TooLarge}
-use Rattle.wc_gc.proofs.LivenessLemmas.{fault_of, no_cause_of}
 
 -- causes of what is found, and the one after them
 
@@ -105,31 +103,9 @@ live_in_range a required live turns l n h = by (is_item_in_range (decode (module
     by true e = refl
     by false e = absurd (l.in_range ((Funcs, n), (l.is_live (Funcs, n)).0 h, e))
 
-module _ (s : SettingsValue) (a : Module) (required : List (List ℕ)) (live : ItemIndex → Bool) (turns : ℕ)
-    (l : IsLivenessOf required (module_value a) live turns) where
-  pub trimmed_of : {T : Type 0} (items : T → List ℕ) (r : Result T GcFault)
-      → IfOk r (λ v. items v ≡ built_text (edited_image (edit s (decoded_module a) (kept_exports required (module_value a).exports) live)))
-      → (IsOk r → (f : GcFault) → ¬ (IsLaterCause s (decoded_module a) (kept_exports required (module_value a).exports) live f))
-      → IfOk r (λ v. IsTrimmedOf s required (module_value a) (items v))
-  unfolding decoded_module
-  trimmed_of items (Ok v) w none = record { live = live; decides = l.is_live; supported = l.supported; in_range = l.in_range; none = none refl; written = w }
-  trimmed_of items (Err f) w none = w
-
-  one_fault : (f : GcFault) → (f ≡ Memory) ⊎ IsLaterFault s (decoded_module a) (kept_exports required (module_value a).exports) live f
-      → IsTrimFaultOf s required (module_value a) f
-  unfolding decoded_module
-  one_fault f (inl e) = inl (subst (IsFaultOf required (module_value a)) (sym e) refl)
-  one_fault f (inr k) = inr (record { live = live; decides = l.is_live; supported = l.supported; in_range = l.in_range; fault = k })
-
-  pub later_of : {T : Type 0} (r : Result T GcFault)
-      → IfErr r (λ f. (f ≡ Memory) ⊎ IsLaterFault s (decoded_module a) (kept_exports required (module_value a).exports) live f)
-      → IfErr r (IsTrimFaultOf s required (module_value a))
-  later_of (Ok v) h = h
-  later_of (Err f) h = one_fault f h
-
 -- a fault of liveness is one of trimming
 
-cause_small : (w : TrimInput) (f : GcFault) → IsCause w f → order_of f < 5
+cause_small : (w : TrimInput) (f : GcFault) → IsLivenessCause w f → order_of f < 5
 cause_small w Memory c = omega arith
 cause_small w (Read r) c = omega arith
 cause_small w (MissingExport name) c = omega arith
@@ -161,7 +137,7 @@ pub tests_one : (required : List (List ℕ)) (m : ModuleValue) (a b : ItemIndex 
 tests_one required m a b ta tb = fun_ext (λ x. bools (a x) (b x) (λ h. (tb x).1 ((ta x).0 h)) (λ h. (ta x).1 ((tb x).0 h)))
 
 module _ (settings : SettingsValue) (w : TrimInput) (m : ModuleValue) (s : SpellsModule w.bytes m) where
-  same_later : (live : ItemIndex → Bool) → DecidesLive w.required m live → (f : GcFault) → IsLaterCauseIn settings w f
+  pub same_later : (live : ItemIndex → Bool) → DecidesLive w.required m live → (f : GcFault) → IsLaterCauseIn settings w f
       → IsLaterCause settings (decode m) (kept_exports w.required m.exports) live f
   same_later live decides f (m', live', s', decides', c) =
       let one : m' ≡ m = modules_one w.bytes m' m s' s in
@@ -169,30 +145,6 @@ module _ (settings : SettingsValue) (w : TrimInput) (m : ModuleValue) (s : Spell
       let cause = subst (λ (z : ModuleValue). IsLaterCause settings (decode z) (kept_exports w.required z.exports) live' f) one c in
       subst (λ (z : ItemIndex → Bool). IsLaterCause settings (decode m) (kept_exports w.required m.exports) z f)
       (tests_one w.required m live' live decided decides) cause
-
-  one_answer : (f : GcFault) → IsTrimFaultOf settings w.required m f → IsTrimFault settings w f
-  one_answer f (inl h) = fault_trims settings w f (fault_of w m s f h)
-  one_answer f (inr k) = inr (
-    inr (m, k.live, s, k.decides, k.fault.0),
-    λ g h c. elim c [
-      | inl a ↦ no_cause_of w m s k.supported k.in_range g a
-      | inr b ↦ k.fault.1 g h (same_later k.live k.decides g b)
-    ],
-  )
-
-  pub fault_answer : {T : Type 0} (r : Result T GcFault) → IfErr r (IsTrimFaultOf settings w.required m) → IfErr r (IsTrimFault settings w)
-  fault_answer (Ok v) h = h
-  fault_answer (Err f) h = one_answer f h
-
-  pub trimmed_answer : {T : Type 0} (items : T → List ℕ) (r : Result T GcFault) → IfOk r (λ v. IsTrimmedOf settings w.required m (items v))
-      → IfOk r (λ v. IsTrimmed settings w (items v))
-  trimmed_answer items (Ok v) h = record { value = m; live = h.live; spelled = s; decides = h.decides; written = h.written }
-  trimmed_answer items (Err f) h = h
-
-  pub no_cause_answer : {T : Type 0} (items : T → List ℕ) (r : Result T GcFault) → IfOk r (λ v. IsTrimmedOf settings w.required m (items v)) → IsOk r
-      → (f : GcFault) → ¬ (IsTrimCause settings w f)
-  no_cause_answer items (Ok v) h ok f c = elim c [ inl a ↦ no_cause_of w m s h.supported h.in_range f a | inr b ↦ h.none f (same_later h.live h.decides f b) ]
-  no_cause_answer items (Err e) h ok f c = absurd cc
 
 -- each item of a module that was read has an index of 32 bits
 

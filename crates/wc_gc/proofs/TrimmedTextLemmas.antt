@@ -30,7 +30,7 @@ use Rattle.wc_gc.specs.Parts.{SettingsValue, parts_of}
 use Rattle.wc_gc.specs.KeptExports.{kept_exports}
 use Rattle.wc_gc.specs.Liveness.{HasLiveBody, TrimInput}
 use Rattle.wc_gc.specs.InRange.{is_item_in_range}
-use Rattle.wc_gc.specs.Trimming.{IsTrimCause, IsTrimmed}
+use Rattle.wc_gc.specs.Trimming.{IsImageText, IsTrimCause}
 use Rattle.wc_gc.specs.declared.fault.GcFault.{GcFault}
 use Rattle.wc_gc.specs.declared.parts.Parts.{Parts}
 use Rattle.wc_gc.specs.declared.fault.GcFault.TheVariants.{LiveBody, TooLarge}
@@ -155,7 +155,7 @@ bits_fit b h = record {
   sizes = sizes_fit b (λ none. h (λ all. none all.sizes));
 }
 
-pub trimmed_text_read : (s : SettingsValue) (w : TrimInput) (text : List ℕ) → AreSettings s → AreBytes w.bytes → (t : IsTrimmed s w text) → ((f : GcFault) → ¬ (IsTrimCause s w f))
+pub trimmed_text_read : (s : SettingsValue) (w : TrimInput) (text : List ℕ) → AreSettings s → AreBytes w.bytes → (t : IsImageText s w text) → ((f : GcFault) → ¬ (IsTrimCause s w f))
     → IsRead (edited_image (edit s (decode t.value) (kept_exports w.required t.value.exports) t.live))
 trimmed_text_read s w text are all t none =
     edited_text_read w.bytes w.required t.value t.live all t.spelled t.decides s are (λ h. none LiveBody (inl (t.value, t.spelled, h)))

@@ -31,12 +31,13 @@ use Rattle.wc_gc.specs.Found.{FoundValue, allocation_state, found_in, is_mutable
 use Rattle.wc_gc.specs.Image.{kept_of, new_export, rank, renumber_body, kept_items, new_table}
 use Rattle.wc_gc.specs.KeptExports.{export_names, is_exported, is_required, kept_exports, missing_name}
 use Rattle.wc_gc.specs.Laws.{AreSettings}
-use Rattle.wc_gc.specs.Liveness.{HasLiveBody, HasUnsupported, IsCause, TrimInput}
+use Rattle.wc_gc.specs.Liveness.{HasLiveBody, HasUnsupported, IsLivenessCause, TrimInput, with_bytes}
 use Rattle.wc_gc.specs.Parts.{SettingsValue, is_any, is_lazy, last_of, parts_of}
 use Rattle.wc_gc.specs.Reached.{IsReached}
 use Rattle.wc_gc.specs.InRange.{is_item_in_range, is_def_in_range, is_entry_in_range}
-use Rattle.wc_gc.specs.Traces.{AddsNothing, AreClosed, IsTrimmedTo, TrimTwice, all_items, trim_input_of}
-use Rattle.wc_gc.specs.Trimming.{IsLaterCause, IsTrimCause, IsTrimmed}
+use Rattle.wc_gc.specs.Traces.{AddsNothing, AreClosed, TrimTwice, all_items}
+use Rattle.wc_gc.specs.TrimmedText.{IsTrimmed}
+use Rattle.wc_gc.specs.Trimming.{IsImageText, IsLaterCause, IsTrimCause}
 use Rattle.wc_gc.specs.Unfolding.{built_module, is_code, renumber_func, renumber_global}
 use Rattle.wc_gc.specs.declared.fault.GcFault.{GcFault}
 use Rattle.wc_gc.specs.declared.fault.GcFault.TheVariants.{Memory, Read, MissingExport, UnsupportedSection, LiveBody, SeveralNamed, LiveTable}
@@ -55,6 +56,7 @@ use Rattle.wc_gc.proofs.KeptItemLemmas.{get_some, kept_first}
 use Rattle.wc_gc.proofs.LiveItemLemmas.{contains_mapped}
 use Rattle.wc_gc.proofs.TraceLemmas.{each_in, live_closed}
 use Rattle.wc_gc.proofs.TrimLemmas.{bools, tests_one}
+use Rattle.wc_gc.proofs.TrimmedLemmas.{trimmed}
 use Rattle.wc_gc.proofs.TrimmedTextLemmas.{live_in_range, trimmed_text_read}
 use Rattle.wc_gc.proofs.TwiceImageLemmas.{IsPlain, func_names, global_names, mapped_each, no_parts, parts_none, plain, type_names, table_names}
 use Rattle.wc_gc.proofs.TwiceImageLemmas.{plain_image, plain_read}
@@ -66,18 +68,18 @@ use Rattle.wc_read.specs.declared.operators.Space.{Space}
 use Rattle.wc_gc.proofs.TwiceTextLemmas.{all_exports_kept, and_and_false, built_read, find_same, func_of, required_there, rest_false}
 
 module _ (s : SettingsValue) (w : TrimInput) (text : List ℕ) (are : AreSettings s) (all : AreBytes w.bytes) (bytes : AreBytes text)
-    (t : IsTrimmedTo s w text) (none : AddsNothing s (found_in (decode t.trimmed.value) t.trimmed.live)) where
+    (t : IsTrimmed s w text) (none : AddsNothing s (found_in (decode t.image.value) t.image.live)) where
   abbrev m : ModuleValue
-  m = t.trimmed.value
+  m = t.image.value
 
   abbrev D : DecodedModule
-  D = decode t.trimmed.value
+  D = decode t.image.value
 
   abbrev live : ItemIndex → Bool
-  live = t.trimmed.live
+  live = t.image.live
 
   abbrev ex : List ExportValue
-  ex = kept_exports w.required t.trimmed.value.exports
+  ex = kept_exports w.required t.image.value.exports
 
   abbrev C : DecodedModule
   C = cut D ex live
@@ -89,16 +91,16 @@ module _ (s : SettingsValue) (w : TrimInput) (text : List ℕ) (are : AreSetting
   g = found_in C all_items
 
   writable : IsWritable m
-  writable = spelled_writable w.bytes m all t.trimmed.spelled
+  writable = spelled_writable w.bytes m all t.image.spelled
 
   valid : IsModule m
-  valid = t.trimmed.spelled.has_sections.valid
+  valid = t.image.spelled.has_sections.valid
 
   in_range : ¬ (HasLiveBody w.required m)
-  in_range h = t.no_cause LiveBody (inl (m, t.trimmed.spelled, h))
+  in_range h = t.no_cause LiveBody (inl (m, t.image.spelled, h))
 
   closed : AreClosed D ex live
-  closed = live_closed w.required w.bytes m live all t.trimmed.spelled t.trimmed.decides in_range
+  closed = live_closed w.required w.bytes m live all t.image.spelled t.image.decides in_range
 
   -- the adapter
 
@@ -117,7 +119,7 @@ module _ (s : SettingsValue) (w : TrimInput) (text : List ℕ) (are : AreSetting
   func_coded : (n : ℕ) (x : FuncCode) → live (Funcs, n) ≡ true → slice_get D.funcs n ≡ Some x → IsTrue (is_code x.def)
   func_coded n x h at =
       coded x.def (sym (ap (λ o. is_entry_in_range D (option_map_or func_entry o no_entry)) at)
-      ∙ live_in_range w.bytes w.required m live all t.trimmed.spelled t.trimmed.decides in_range n h)
+      ∙ live_in_range w.bytes w.required m live all t.image.spelled t.image.decides in_range n h)
 
   init_coded : (n : ℕ) (x : GlobalCode) → live (Globals, n) ≡ true → slice_get D.globals n ≡ Some x → IsTrue (is_code x.def)
   init_coded n x h at =
@@ -155,13 +157,13 @@ module _ (s : SettingsValue) (w : TrimInput) (text : List ℕ) (are : AreSetting
       ∙ plain_image s D ex live is_plain g))
 
   read : IsRead b
-  read = trimmed_text_read s w text are all t.trimmed t.no_cause
+  read = trimmed_text_read s w text are all t.image t.no_cause
 
   abbrev n : ModuleValue
   n = written_module b
 
   spelled : SpellsModule text n
-  spelled = subst (λ z. SpellsModule z n) (sym t.trimmed.written) read.spelled
+  spelled = subst (λ z. SpellsModule z n) (sym t.image.written) read.spelled
 
   abbrev U : DecodedModule
   U = named_cut D ex live closed []
@@ -199,7 +201,7 @@ module _ (s : SettingsValue) (w : TrimInput) (text : List ℕ) (are : AreSetting
   reached_all : (y : ItemIndex) → IsTrue (there y) → IsReached U C.exports y
   reached_all y h =
       let x = of_item D ex live closed [] y h in subst (IsReached U C.exports) x.2
-      (reached_moved D ex live closed [] x.0 ((t.trimmed.decides x.0).0 x.1))
+      (reached_moved D ex live closed [] x.0 ((t.image.decides x.0).0 x.1))
 
   decides : DecidesLive w.required n there
   decides y = (
@@ -212,7 +214,7 @@ module _ (s : SettingsValue) (w : TrimInput) (text : List ℕ) (are : AreSetting
     where
       by : (c : Bool) → is_item_in_range D x ≡ c → c ≡ true
       by true e = refl
-      by false e = absurd (in_range (x, (t.trimmed.decides x).0 h, e))
+      by false e = absurd (in_range (x, (t.image.decides x).0 h, e))
 
   in_range_read : ¬ (HasLiveBody w.required n)
   in_range_read h =
@@ -397,7 +399,7 @@ module _ (s : SettingsValue) (w : TrimInput) (text : List ℕ) (are : AreSetting
   found_again LocalMemory h = ap (list_any (is_own_memory_at C)) (sym memories_same) ∙ h
   found_again ReallocType h = absurd (false≢true (sym (ap (λ xs. not (list_all (has_realloc_type U) xs)) called_none) ∙ h))
   found_again ReallocMemory h =
-      absurd (false≢true (sym grows_none ∙ (and_parts (grows_memory s G) (not (list_any (has_page_size_at U s.exponent) G.memories)) h).0))
+      absurd (false≢true (sym grows_none ∙ (and_parts (grows_memory s G) (not (list_any (has_page_size_at U s.page_size_log2) G.memories)) h).0))
   found_again x h = absurd h
 
   cut_image : edited_image (edit s U U.exports all_items) ≡ edited_image (edit s C C.exports all_items)
@@ -412,7 +414,7 @@ module _ (s : SettingsValue) (w : TrimInput) (text : List ℕ) (are : AreSetting
       let cut_cause = subst (λ d. IsLaterCause s d d.exports all_items x) cut_of_again ((causes_are_of_cut s U C.exports there closed_again x).0 h) in
       let old_cause = (causes_are_of_cut s D ex live closed x).1
       (subst (λ d. IsLaterCause s d d.exports all_items x) (sym (cut_is D ex live)) (later_cut x cut_cause)) in
-      t.no_cause x (inr (m, live, t.trimmed.spelled, t.trimmed.decides, old_cause))
+      t.no_cause x (inr (m, live, t.image.spelled, t.image.decides, old_cause))
 
   -- no required export is missing
 
@@ -477,17 +479,17 @@ module _ (s : SettingsValue) (w : TrimInput) (text : List ℕ) (are : AreSetting
   supported (inl h) = not_started n.start (ap start_built image_plain) h
   supported (inr h) = h refl
 
-  liveness_again : (x : GcFault) → ¬ (IsCause (trim_input_of w text) x)
+  liveness_again : (x : GcFault) → ¬ (IsLivenessCause (with_bytes w text) x)
   liveness_again Memory c = c.2
   liveness_again (Read e) c = c.0 n spelled
   liveness_again (MissingExport name) c =
       t.no_cause (MissingExport name)
-      (inl (m, t.trimmed.spelled, sym missing_same ∙ same_module (λ v. missing_name v.exports w.required ≡ Some (string_bytes name)) c.0 c.1 c.2))
+      (inl (m, t.image.spelled, sym missing_same ∙ same_module (λ v. missing_name v.exports w.required ≡ Some (string_bytes name)) c.0 c.1 c.2))
   liveness_again UnsupportedSection c = supported (same_module HasUnsupported c.0 c.1 c.2)
   liveness_again LiveBody c = in_range_read (same_module (HasLiveBody w.required) c.0 c.1 c.2)
   liveness_again x c = c.2
 
-  cause_again : (x : GcFault) → ¬ (IsTrimCause s (trim_input_of w text) x)
+  cause_again : (x : GcFault) → ¬ (IsTrimCause s (with_bytes w text) x)
   cause_again x (inl c) = liveness_again x c
   cause_again x (inr c) =
       let one : c.0 ≡ n = modules_one text c.0 n c.2 spelled in
@@ -497,21 +499,18 @@ module _ (s : SettingsValue) (w : TrimInput) (text : List ℕ) (are : AreSetting
       (subst (λ z. IsLaterCause s (decode n) (kept_exports w.required n.exports) z x) (tests_one w.required n c.1 there decided decides) cause))
 
   written_again : text ≡ built_text (edited_image (edit s (decode n) (kept_exports w.required n.exports) there))
-  written_again = t.trimmed.written ∙ ap built_text (sym (to_read (λ d es. edited_image (edit s d es there) ≡ b) image_again))
+  written_again = t.image.written ∙ ap built_text (sym (to_read (λ d es. edited_image (edit s d es there) ≡ b) image_again))
 
-  trimmed_again : IsTrimmedTo s (trim_input_of w text) text
-  trimmed_again = record {
-    trimmed = record {
-      value = n;
-      live = there;
-      spelled = spelled;
-      decides = decides;
-      written = written_again;
-    };
-    no_cause = cause_again;
+  image_text_again : IsImageText s (with_bytes w text) text
+  image_text_again = record {
+    value = n;
+    live = there;
+    spelled = spelled;
+    decides = decides;
+    written = written_again;
   }
 
-  one_again : (other : List ℕ) → IsTrimmed s (trim_input_of w text) other → other ≡ text
+  one_again : (other : List ℕ) → IsImageText s (with_bytes w text) other → other ≡ text
   one_again other o =
       let one : o.value ≡ n = modules_one text o.value n o.spelled spelled in
       let decided = subst (λ z. DecidesLive w.required z o.live) one o.decides in
@@ -520,5 +519,7 @@ module _ (s : SettingsValue) (w : TrimInput) (text : List ℕ) (are : AreSetting
       (tests_one w.required n o.live there decided decides) at_module ∙ sym written_again
 
 pub trim_twice : TrimTwice
-trim_twice s w text are all bytes t none =
-    record { answer = trimmed_again s w text are all bytes t none; alone = one_again s w text are all bytes t none }
+trim_twice s w text are all bytes t none = record {
+  answer = trimmed s (with_bytes w text) text are bytes (image_text_again s w text are all bytes t none) (cause_again s w text are all bytes t none);
+  alone = one_again s w text are all bytes t none;
+}

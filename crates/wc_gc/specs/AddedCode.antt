@@ -61,16 +61,16 @@ growth pages memory =
 
 -- a page index becomes the index of a byte: nothing, where pages have one byte
 abbrev pub shifted : ℕ → List InstrValue
-shifted exponent = if exponent == 0 then [] else const (pos exponent) ∷ plain 0x74 ∷ []
+shifted page_size_log2 = if page_size_log2 == 0 then [] else const (pos page_size_log2) ∷ plain 0x74 ∷ []
 
 -- a realloc that grows a memory whose pages have 2 ^ exponent bytes, and gives out only blocks of 65536 bytes. Its
 -- parameters are an old pointer, an old length, an alignment and a new length; local 4 is the memory's old size
 unfoldable pub growing_body : ℕ → ℕ → BodyValue
-growing_body exponent memory = record {
+growing_body page_size_log2 memory = record {
   locals = record { count = 1; ty = I32 } ∷ [];
   operators =
       trap_unless 0 0 ++ (trap_unless 1 0 ++ (trap_unless 3 65536
-      ++ (growth (65536 / 2 ^ exponent) memory ++ (shifted exponent ++ (end ∷ [])))));
+      ++ (growth (65536 / 2 ^ page_size_log2) memory ++ (shifted page_size_log2 ++ (end ∷ [])))));
 }
 
 -- the allocation of a stack

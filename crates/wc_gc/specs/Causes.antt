@@ -33,10 +33,10 @@ grows_memory s f = adds_growing s f || (not (is_some s.realloc) && is_any f.real
 
 -- a memory of 32 bits, with pages of this size; they have 2 ^ 16 bytes where the type does not say
 abbrev pub has_page_size : ℕ → MemoryType → Bool
-has_page_size exponent t = not t.memory64 && nat_eq (unwrap_or t.page_size_log2 16) exponent
+has_page_size page_size_log2 t = not t.memory64 && nat_eq (unwrap_or t.page_size_log2 16) page_size_log2
 
 abbrev pub has_page_size_at : DecodedModule → ℕ → ℕ → Bool
-has_page_size_at m exponent n = option_map_or (λ (t : MemoryValue). has_page_size exponent t.ty) (slice_get m.memories n) false
+has_page_size_at m page_size_log2 n = option_map_or (λ (t : MemoryValue). has_page_size page_size_log2 t.ty) (slice_get m.memories n) false
 
 -- two stack pointers or two states; a table; two memories; a memory of the adapter's own; a realloc of another type; no
 -- memory to grow
@@ -47,5 +47,5 @@ IsFoundCause s m f SeveralMemories = 2 ≤ length f.memories
 IsFoundCause s m f LocalMemory = IsTrue (list_any (is_own_memory_at m) f.memories)
 IsFoundCause s m f ReallocType = IsTrue (not (list_all (has_realloc_type m) (called_reallocs s f)))
 IsFoundCause s m f ReallocMemory =
-    IsTrue (grows_memory s f && not (list_any (has_page_size_at m s.exponent) f.memories))
+    IsTrue (grows_memory s f && not (list_any (has_page_size_at m s.page_size_log2) f.memories))
 IsFoundCause s m f _ = ⊥

@@ -7,8 +7,7 @@ use Rattle.wc_read.specs.Operators.{InstrValue}
 use Rattle.wc_read.specs.Bodies.{BodyValue}
 use Rattle.wc_read.specs.Decoding.{body_in, init_in}
 use Rattle.wc_read.specs.Names.{GlobalNameValue}
-use Rattle.wc_read.specs.Items.{DefValue, ItemValue, TableValue, MemoryValue, def_value, func_value, global_value}
-use Rattle.wc_read.specs.declared.items.Def.{Def}
+use Rattle.wc_read.specs.Items.{ItemValue, TableValue, MemoryValue, func_value, global_value}
 use Rattle.wc_read.specs.declared.items.Item.{Item}
 use Rattle.wc_read.specs.Modules.{ModuleValue, module_value}
 use Rattle.wc_read.specs.declared.core_module.Module.{Module}
@@ -17,7 +16,7 @@ use Rattle.wc_read.specs.declared.operators.Space.{Space}
 use Rattle.wc_read.specs.declared.operators.Space.TheVariants.{Types, Funcs, Tables, Memories, Globals}
 use Rattle.wc_read.specs.declared.exports.ExportKind.{ExportKind}
 use Rattle.wc_read.specs.declared.exports.ExportKind.TheVariants.{Func, Table, Memory, Global}
-use Rattle.wc_write.specs.BuiltValues.{def_seen, item_seen}
+use Rattle.wc_write.specs.BuiltValues.{item_seen}
 
 -- functions by the indices of their types, globals by their types
 abbrev pub FuncCode : Type 0
@@ -62,9 +61,6 @@ func_code f = item_seen body_in (func_value f)
 
 abbrev pub global_code : Item GlobalType (Bor (List ℕ)) → GlobalCode
 global_code g = item_seen init_in (global_value g)
-
-abbrev pub init_code : Def (Bor (List ℕ)) → DefValue (Option (List InstrValue))
-init_code d = def_seen init_in (def_value (λ b. b.now) d)
 
 -- an item, by its space and its index there
 abbrev pub ItemIndex : Type 0

@@ -60,7 +60,7 @@ abbrev pub import_func : ℕ → SettingsValue → FuncCode
 import_func types s = record { ty = types; def = imported main_module (unwrap_or s.realloc []) }
 
 abbrev pub growing_code : SettingsValue → FoundValue → DefValue (Option BodyValue)
-growing_code s f = local (Some (growing_body s.exponent (memory_of f)))
+growing_code s f = local (Some (growing_body s.page_size_log2 (memory_of f)))
 
 abbrev pub allocation_code : ℕ → Parts → FoundValue → DefValue (Option BodyValue)
 allocation_code funcs p f = local (Some (stack_body (called_realloc funcs p f) (stack_of f) (state_of f)))

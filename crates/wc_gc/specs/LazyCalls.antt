@@ -53,8 +53,8 @@ after_run x no_meaning = with_stop x
 
 -- without a call that waits nothing happens
 abbrev pub after_answer : ℕ → ℕ → Situation → List OpenCall → Situation
-after_answer exponent answer x [] = x
-after_answer exponent answer x (w ∷ ws) = after_run (with_open_calls x ws) (answer_outcome exponent w answer x.store)
+after_answer page_size_log2 answer x [] = x
+after_answer page_size_log2 answer x (w ∷ ws) = after_run (with_open_calls x ws) (answer_outcome page_size_log2 w answer x.store)
 
 abbrev pub after_trap : Situation → List OpenCall → Situation
 after_trap x [] = x
@@ -62,19 +62,19 @@ after_trap x (w ∷ ws) = with_stop x
 
 -- what an event does to a run of lazy code, whose state is a global
 abbrev pub after_next : ℕ → BodyValue → ℕ → Event → Situation → Situation
-after_next exponent code state begins x = after_run x (call_outcome exponent code [] x.store)
-after_next exponent code state (answers n) x = after_answer exponent n x x.open_calls
-after_next exponent code state traps x = after_trap x x.open_calls
-after_next exponent code state (writes n) x = with_store x (with_global x.store state n)
+after_next page_size_log2 code state begins x = after_run x (call_outcome page_size_log2 code [] x.store)
+after_next page_size_log2 code state (answers n) x = after_answer page_size_log2 n x x.open_calls
+after_next page_size_log2 code state traps x = after_trap x x.open_calls
+after_next page_size_log2 code state (writes n) x = with_store x (with_global x.store state n)
 
 -- after a trap nothing runs
 abbrev pub after_event : ℕ → BodyValue → ℕ → Event → Situation → Situation
-after_event exponent code state event x = if x.stopped then x else after_next exponent code state event x
+after_event page_size_log2 code state event x = if x.stopped then x else after_next page_size_log2 code state event x
 
 abbrev pub after_events : ℕ → BodyValue → ℕ → List Event → Situation → Situation
-after_events exponent code state [] x = x
-after_events exponent code state (event ∷ events) x =
-    after_events exponent code state events (after_event exponent code state event x)
+after_events page_size_log2 code state [] x = x
+after_events page_size_log2 code state (event ∷ events) x =
+    after_events page_size_log2 code state events (after_event page_size_log2 code state event x)
 
 -- events in which other code writes no 0
 abbrev pub WritesNoZero : Event → Type 0

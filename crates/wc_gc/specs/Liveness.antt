@@ -1,6 +1,7 @@
 -- What liveness answers: the reached items, or why there are none.
-use Rattle.std.specs.Prelude.{◌≡◌, ◌≢◌, ℕ, ◌<◌, List, [], length, map, Bool, false, AllPairs, IsTrue, Contains, IsSome, Some, None, String, string_bytes, ◌↔◌}
+use Rattle.std.specs.Prelude.{◌≡◌, ◌≢◌, ℕ, ◌<◌, List, [], ◌∷◌, length, map, filter, not, Bool, false, AllPairs, IsTrue, Contains, IsSome, Some, None, String, string_bytes, ◌↔◌}
 use Rattle.std.specs.Prelude.{◌⊎◌}
+use Rattle.std.specs.Str.{bytes_eq}
 use Rattle.wc_read.specs.Faults.{SpellsNothing}
 use Rattle.wc_read.specs.Sections.{IsComponent}
 use Rattle.wc_read.specs.Modules.{ModuleValue, SpellsModule}
@@ -59,11 +60,26 @@ pub record TrimInput : Type 0 where
   pub bytes : List ℕ
   pub required : List (List ℕ)
 
+-- the bytes of names
 abbrev pub names_of : {A : Type 0} → List (String A) → List (List ℕ)
 names_of names = map string_bytes names
 
+-- names without repeats, each where it is first
+abbrev pub distinct_names : List (List ℕ) → List (List ℕ)
+distinct_names [] = []
+distinct_names (name ∷ names) = name ∷ filter (λ other. not (bytes_eq name other)) (distinct_names names)
+
+-- an adapter, and the exports of a set of names
 abbrev pub trim_input : {A : Type 0} → List ℕ → List (String A) → TrimInput
 trim_input bytes names = record { bytes = bytes; required = names_of names }
+
+-- an adapter, and the exports of these names, of which some may be repeated
+abbrev pub trim_input_for_names : List ℕ → List (List ℕ) → TrimInput
+trim_input_for_names bytes names = record { bytes = bytes; required = distinct_names names }
+
+-- other bytes, of which the same exports are required
+abbrev pub with_bytes : TrimInput → List ℕ → TrimInput
+with_bytes w bytes = record w { bytes = bytes }
 
 -- these are the live items of the module that the bytes spell, and so many they are
 abbrev pub IsLiveness : TrimInput → (ItemIndex → Bool) → ℕ → Type 0
@@ -81,9 +97,9 @@ IsCauseIn w m UnsupportedSection = HasUnsupported m
 IsCauseIn w m LiveBody = HasLiveBody w.required m
 IsCauseIn w m _ = ⊥
 
-abbrev pub IsCause : TrimInput → GcFault → Type 0
-IsCause w (Read f) = IsUnread w.bytes f
-IsCause w fault = (m : ModuleValue) × SpellsModule w.bytes m × IsCauseIn w m fault
+abbrev pub IsLivenessCause : TrimInput → GcFault → Type 0
+IsLivenessCause w (Read f) = IsUnread w.bytes f
+IsLivenessCause w fault = (m : ModuleValue) × SpellsModule w.bytes m × IsCauseIn w m fault
 
 -- the order in which faults are named
 abbrev pub order_of : GcFault → ℕ
@@ -106,4 +122,4 @@ IsFirstCause Causes f = Causes f × ((g : GcFault) → order_of g < order_of f �
 
 -- Memory at any time; another fault where its cause is so, and none before it
 abbrev pub IsFault : TrimInput → GcFault → Type 0
-IsFault w f = (f ≡ Memory) ⊎ (IsCause w f × ((g : GcFault) → order_of g < order_of f → ¬ (IsCause w g)))
+IsFault w f = (f ≡ Memory) ⊎ (IsLivenessCause w f × ((g : GcFault) → order_of g < order_of f → ¬ (IsLivenessCause w g)))

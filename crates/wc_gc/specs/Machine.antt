@@ -22,21 +22,21 @@ use Rattle.wc_gc.specs.declared.machine_operators.MachineOperator.TheVariants.{U
 abbrev pub plain_operator : ℕ → Option MachineOperator
 plain_operator code =
     if code == 0x00 then Some Unreachable
-    else (if code == 0x0b then Some End
-    else (if code == 0x46 then Some I32Eq
-    else (if code == 0x47 then Some I32Ne
-    else (if code == 0x6a then Some I32Add
-    else (if code == 0x74 then Some I32Shl else None)))))
+    else if code == 0x0b then Some End
+    else if code == 0x46 then Some I32Eq
+    else if code == 0x47 then Some I32Ne
+    else if code == 0x6a then Some I32Add
+    else if code == 0x74 then Some I32Shl else None
 
 abbrev pub index_operator : ℕ → IndexKind → ℕ → Option MachineOperator
 index_operator code (In Funcs) n = if code == 0x10 then Some (Call n) else None
 index_operator code (In Globals) n =
-    if code == 0x23 then Some (GlobalGet n) else (if code == 0x24 then Some (GlobalSet n) else None)
+    if code == 0x23 then Some (GlobalGet n) else if code == 0x24 then Some (GlobalSet n) else None
 index_operator code (In Memories) n = if code == 0x40 then Some (MemoryGrow n) else None
 index_operator code (In Types) n = None
 index_operator code (In Tables) n = None
 index_operator code Local n =
-    if code == 0x20 then Some (LocalGet n) else (if code == 0x22 then Some (LocalTee n) else None)
+    if code == 0x20 then Some (LocalGet n) else if code == 0x22 then Some (LocalTee n) else None
 index_operator code Elem n = None
 index_operator code Data n = None
 index_operator code Label n = None
@@ -108,7 +108,7 @@ later_growths (g ∷ gs) = gs
 
 -- whether a growth succeeds: it is granted, and the new size is at most 2 ^ 32 bytes
 abbrev pub can_grow : ℕ → Store → ℕ → Bool
-can_grow exponent s more = is_granted s.growths && nat_le ((s.pages + more) * 2 ^ exponent) (2 ^ 32)
+can_grow page_size_log2 s more = is_granted s.growths && nat_le ((s.pages + more) * 2 ^ page_size_log2) (2 ^ 32)
 
 abbrev pub grown_store : Store → ℕ → Store
 grown_store s more = record { globals = s.globals; pages = s.pages + more; growths = later_growths s.growths }
@@ -141,29 +141,29 @@ call_step func f s = with_operand f.operands (λ d ds. with_operand ds (λ c cs.
 
 -- the answer is the old size, or -1
 abbrev pub grow_step : ℕ → Frame → Store → Step
-grow_step exponent f s = with_operand f.operands (λ more xs.
-    if can_grow exponent s more
+grow_step page_size_log2 f s = with_operand f.operands (λ more xs.
+    if can_grow page_size_log2 s more
     then goes_on (with_operands f (s.pages % 2 ^ 32 ∷ xs)) (grown_store s more)
     else goes_on (with_operands f (i32_of (negsuc 0) ∷ xs)) (grown_store s 0))
 
 unfoldable pub step : ℕ → MachineOperator → Frame → Store → Step
-step exponent Unreachable f s = traps
-step exponent If f s = with_operand f.operands (λ x xs.
+step page_size_log2 Unreachable f s = traps
+step page_size_log2 If f s = with_operand f.operands (λ x xs.
     if x == 0 then skips (with_operands f xs) s else goes_on (with_operands f xs) s)
-step exponent End f s = goes_on f s
-step exponent (Call func) f s = call_step func f s
-step exponent (LocalGet n) f s = with_item f.locals n (λ x. goes_on (push f x) s)
-step exponent (LocalTee n) f s = with_item f.locals n (λ old. with_operand f.operands (λ x xs.
+step page_size_log2 End f s = goes_on f s
+step page_size_log2 (Call func) f s = call_step func f s
+step page_size_log2 (LocalGet n) f s = with_item f.locals n (λ x. goes_on (push f x) s)
+step page_size_log2 (LocalTee n) f s = with_item f.locals n (λ old. with_operand f.operands (λ x xs.
     goes_on (record { locals = slice_set f.locals n x; operands = f.operands }) s))
-step exponent (GlobalGet n) f s = with_item s.globals n (λ x. goes_on (push f x) s)
-step exponent (GlobalSet n) f s = with_item s.globals n (λ old. with_operand f.operands (λ x xs.
+step page_size_log2 (GlobalGet n) f s = with_item s.globals n (λ x. goes_on (push f x) s)
+step page_size_log2 (GlobalSet n) f s = with_item s.globals n (λ old. with_operand f.operands (λ x xs.
     goes_on (with_operands f xs) (with_global s n x)))
-step exponent (MemoryGrow n) f s = if n == 0 then grow_step exponent f s else no_step
-step exponent (I32Const n) f s = goes_on (push f (i32_of n)) s
-step exponent I32Eq f s = with_two f s (λ x y. bool_of (x == y))
-step exponent I32Ne f s = with_two f s (λ x y. if x == y then 0 else 1)
-step exponent I32Add f s = with_two f s (λ x y. (x + y) % 2 ^ 32)
-step exponent I32Shl f s = with_two f s (λ x y. (x * 2 ^ (y % 32)) % 2 ^ 32)
+step page_size_log2 (MemoryGrow n) f s = if n == 0 then grow_step page_size_log2 f s else no_step
+step page_size_log2 (I32Const n) f s = goes_on (push f (i32_of n)) s
+step page_size_log2 I32Eq f s = with_two f s (λ x y. bool_of (x == y))
+step page_size_log2 I32Ne f s = with_two f s (λ x y. if x == y then 0 else 1)
+step page_size_log2 I32Add f s = with_two f s (λ x y. (x + y) % 2 ^ 32)
+step page_size_log2 I32Shl f s = with_two f s (λ x y. (x * 2 ^ (y % 32)) % 2 ^ 32)
 
 -- runs
 
@@ -200,19 +200,19 @@ outcome_after no_step code next = no_meaning
 
 -- operators to the end of the code, of which the first are skipped up to so many `end`s
 unfoldable pub code_outcome : ℕ → List InstrValue → ℕ → Frame → Store → Outcome
-code_outcome exponent [] zero f s = finished s f.operands
-code_outcome exponent [] (suc n) f s = no_meaning
-code_outcome exponent (i ∷ is) zero f s =
-    with_operator (operator_of i) (λ o. outcome_after (step exponent o f s) is (code_outcome exponent is))
-code_outcome exponent (i ∷ is) (suc n) f s =
-    with_operator (operator_of i) (λ o. code_outcome exponent is (ends_after o (suc n)) f s)
+code_outcome page_size_log2 [] zero f s = finished s f.operands
+code_outcome page_size_log2 [] (suc n) f s = no_meaning
+code_outcome page_size_log2 (i ∷ is) zero f s =
+    with_operator (operator_of i) (λ o. outcome_after (step page_size_log2 o f s) is (code_outcome page_size_log2 is))
+code_outcome page_size_log2 (i ∷ is) (suc n) f s =
+    with_operator (operator_of i) (λ o. code_outcome page_size_log2 is (ends_after o (suc n)) f s)
 
 -- a body is called with arguments; its own locals are 0
 unfoldable pub call_outcome : ℕ → BodyValue → List ℕ → Store → Outcome
-call_outcome exponent b args s =
+call_outcome page_size_log2 b args s =
     let locals = args ++ flat_map (λ (l : Locals). replicate l.count 0) b.locals in
-    code_outcome exponent b.operators 0 (record { locals = locals; operands = [] }) s
+    code_outcome page_size_log2 b.operators 0 (record { locals = locals; operands = [] }) s
 
 -- a call goes on after the answer
 unfoldable pub answer_outcome : ℕ → OpenCall → ℕ → Store → Outcome
-answer_outcome exponent w answer s = code_outcome exponent w.code 0 (push w.frame answer) s
+answer_outcome page_size_log2 w answer s = code_outcome page_size_log2 w.code 0 (push w.frame answer) s

@@ -11,10 +11,10 @@ use Rattle.wc_gc.specs.declared.settings.Settings.{Settings}
 -- 2 ^ exponent bytes
 pub record SettingsValue : Type 0 where
   pub realloc : Option (List ℕ)
-  pub exponent : ℕ
+  pub page_size_log2 : ℕ
 
 abbrev pub settings : Option (Bor (List ℕ)) → ℕ → SettingsValue
-settings realloc exponent = record { realloc = option_map (λ name. name.now) realloc; exponent = exponent }
+settings realloc page_size_log2 = record { realloc = option_map (λ name. name.now) realloc; page_size_log2 = page_size_log2 }
 
 abbrev pub is_any : {A : Type 0} → List A → Bool
 is_any xs = not (is_empty xs)

@@ -20,11 +20,9 @@ use Rattle.wc_read.specs.declared.types.TableType.{TableType}
 use Rattle.wc_write.specs.Values.{AreBytes}
 use Rattle.wc_gc.specs.Decoded.{ItemIndex, decode}
 use Rattle.wc_gc.specs.Found.{is_realloc_at, main_module}
-use Rattle.wc_gc.specs.Laws.{AreSettings}
 use Rattle.wc_gc.specs.Liveness.{IsLive, TrimInput}
 use Rattle.wc_gc.specs.Parts.{SettingsValue}
-use Rattle.wc_gc.specs.Trimming.{IsTrimCause, IsTrimmed}
-use Rattle.wc_gc.specs.declared.fault.GcFault.{GcFault}
+use Rattle.wc_gc.specs.TrimmedText.{IsTrimmed}
 
 -- the type of what is imported or exported
 pub data ItemType : Type 0 where
@@ -133,8 +131,7 @@ pub record IsRestriction (realloc : Option (List ℕ)) (names : List (List ℕ))
 
 -- the module that a trimmed adapter's bytes spell
 abbrev pub TrimmedIsRestriction : Type 0
-TrimmedIsRestriction = (s : SettingsValue) (w : TrimInput) (text : List ℕ) → AreSettings s → AreBytes w.bytes →
+TrimmedIsRestriction = (s : SettingsValue) (w : TrimInput) (text : List ℕ) → AreBytes w.bytes →
     (t : IsTrimmed s w text) →
-    ((f : GcFault) → ¬ (IsTrimCause s w f)) →
     (m : ModuleValue) → SpellsModule text m →
-    IsRestriction s.realloc w.required t.value m
+    IsRestriction s.realloc w.required t.image.value m

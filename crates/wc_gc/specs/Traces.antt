@@ -13,10 +13,11 @@ use Rattle.wc_gc.specs.Entries.{entry_at, entry_refs}
 use Rattle.wc_gc.specs.Found.{FoundValue, found_in}
 use Rattle.wc_gc.specs.KeptExports.{kept_exports}
 use Rattle.wc_gc.specs.Laws.{AreSettings}
-use Rattle.wc_gc.specs.Liveness.{IsCause, TrimInput}
+use Rattle.wc_gc.specs.Liveness.{IsLivenessCause, TrimInput, with_bytes}
 use Rattle.wc_gc.specs.Parts.{SettingsValue, adds_growing, adds_import, adds_start, is_lazy}
 use Rattle.wc_gc.specs.Reached.{IsReached}
-use Rattle.wc_gc.specs.Trimming.{IsLaterCause, IsTrimCause, IsTrimFault, IsTrimmed}
+use Rattle.wc_gc.specs.Trimming.{IsImageText, IsLaterCause, IsTrimCause, IsTrimFault}
+use Rattle.wc_gc.specs.TrimmedText.{IsTrimmed}
 use Rattle.wc_gc.specs.declared.fault.GcFault.{GcFault}
 
 -- Live items are in the module, and what they name is live; so is what the exports name.
@@ -62,11 +63,11 @@ pub record HasCut (w : TrimInput) (c : DecodedModule) : Type 0 where
 -- Liveness finds no fault: the bytes are a module, no required export is missing, nothing is unsupported, and the
 -- bodies that are reached are code.
 abbrev pub HasLiveness : TrimInput → Type 0
-HasLiveness w = (f : GcFault) → ¬ (IsCause w f)
+HasLiveness w = (f : GcFault) → ¬ (IsLivenessCause w f)
 
 -- Two adapters are trimmed to the same text, or have the same fault.
 pub record AreTrimmedToTheSame (s : SettingsValue) (v w : TrimInput) : Type 0 where
-  pub texts : (a b : List ℕ) → IsTrimmed s v a → IsTrimmed s w b → a ≡ b
+  pub texts : (a b : List ℕ) → IsImageText s v a → IsImageText s w b → a ≡ b
   pub causes : (f : GcFault) → IsTrimCause s v f ↔ IsTrimCause s w f
   pub faults : (f : GcFault) → IsTrimFault s v f ↔ IsTrimFault s w f
 
@@ -87,23 +88,14 @@ pub record AddsNothing (s : SettingsValue) (f : FoundValue) : Type 0 where
   pub start : adds_start s f ≡ false
   pub reallocs : f.reallocs ≡ []
 
--- other bytes, of which the same exports are required
-abbrev pub trim_input_of : TrimInput → List ℕ → TrimInput
-trim_input_of w bytes = record { bytes = bytes; required = w.required }
-
--- Memory aside, trimming answers this text: it is the trimmed one, and no fault has a cause.
-pub record IsTrimmedTo (s : SettingsValue) (w : TrimInput) (text : List ℕ) : Type 0 where
-  pub trimmed : IsTrimmed s w text
-  pub no_cause : (f : GcFault) → ¬ (IsTrimCause s w f)
-
 -- Memory aside, trimming a text again answers the text, and no other.
 pub record IsTrimmedToItself (s : SettingsValue) (w : TrimInput) (text : List ℕ) : Type 0 where
-  pub answer : IsTrimmedTo s (trim_input_of w text) text
-  pub alone : (other : List ℕ) → IsTrimmed s (trim_input_of w text) other → other ≡ text
+  pub answer : IsTrimmed s (with_bytes w text) text
+  pub alone : (other : List ℕ) → IsImageText s (with_bytes w text) other → other ≡ text
 
 -- What an adapter was trimmed to without an addition is trimmed to itself.
 abbrev pub TrimTwice : Type 0
 TrimTwice = (s : SettingsValue) (w : TrimInput) (text : List ℕ) → AreSettings s → AreBytes w.bytes → AreBytes text →
-    (t : IsTrimmedTo s w text) →
-    AddsNothing s (found_in (decode t.trimmed.value) t.trimmed.live) →
+    (t : IsTrimmed s w text) →
+    AddsNothing s (found_in (decode t.image.value) t.image.live) →
     IsTrimmedToItself s w text

@@ -1,15 +1,18 @@
--- What trimming answers is read back, and unfolds as the edited adapter does.
+-- What trimming answers: a text that is read back, and unfolds as the edited adapter does.
 use Rattle.std.specs.Prelude.{ℕ, List}
 use Rattle.wc_write.specs.BuiltValues.{IsRead}
 use Rattle.wc_gc.specs.EditedImage.{edited_image}
 use Rattle.wc_gc.specs.Liveness.{TrimInput}
 use Rattle.wc_gc.specs.Parts.{SettingsValue}
-use Rattle.wc_gc.specs.Trimming.{IsTrimmed}
+use Rattle.wc_gc.specs.Trimming.{IsImageText, IsTrimCause}
 use Rattle.wc_gc.specs.Unfolding.{UnfoldsInImage, edited_from}
+use Rattle.wc_gc.specs.declared.fault.GcFault.{GcFault}
 
--- the text of an image, which spells it and no other module; the same of its bodies and initialisers. What is kept or
--- added is in the image what it is in the edited adapter, to every depth
-pub record IsTrimmedRead (s : SettingsValue) (w : TrimInput) (text : List ℕ) : Type 0 where
-  pub trimmed : IsTrimmed s w text
-  pub read : IsRead (edited_image (edited_from s w text trimmed))
-  pub unfolds : UnfoldsInImage (edited_from s w text trimmed)
+-- All that trimming promises of the text that it answers. No fault has a cause. The text is that of an image; it spells
+-- the image and no other module, and so it is with the texts of the image's bodies and initialisers. What is kept or added
+-- is in the image what it is in the edited adapter, to every depth.
+pub record IsTrimmed (s : SettingsValue) (w : TrimInput) (text : List ℕ) : Type 0 where
+  pub image : IsImageText s w text
+  pub no_cause : (f : GcFault) → ¬ (IsTrimCause s w f)
+  pub read : IsRead (edited_image (edited_from s w text image))
+  pub unfolds : UnfoldsInImage (edited_from s w text image)

@@ -1,8 +1,7 @@
 -- What trimming answers: the text of the image, or why there is none.
-use Rattle.std.specs.Prelude.{◌≡◌, ℕ, ◌<◌, List, Bool, ◌⊎◌, String}
+use Rattle.std.specs.Prelude.{◌≡◌, ℕ, ◌<◌, List, Bool, ◌⊎◌}
 use Rattle.wc_read.specs.Exports.{ExportValue}
-use Rattle.wc_read.specs.Modules.{ModuleValue, SpellsModule, module_value}
-use Rattle.wc_read.specs.declared.core_module.Module.{Module}
+use Rattle.wc_read.specs.Modules.{ModuleValue, SpellsModule}
 use Rattle.wc_write.specs.ModuleText.{built_text}
 use Rattle.wc_gc.specs.Decoded.{DecodedModule, ItemIndex, decode}
 use Rattle.wc_gc.specs.Causes.{IsFoundCause, DecidesLive}
@@ -10,7 +9,7 @@ use Rattle.wc_gc.specs.Found.{found_in}
 use Rattle.wc_gc.specs.Edited.{edit}
 use Rattle.wc_gc.specs.EditedImage.{FitsBits, edited_image}
 use Rattle.wc_gc.specs.KeptExports.{kept_exports}
-use Rattle.wc_gc.specs.Liveness.{IsCause, IsFaultOf, IsSupported, HasLiveBody, TrimInput, names_of, order_of}
+use Rattle.wc_gc.specs.Liveness.{IsLivenessCause, TrimInput, order_of}
 use Rattle.wc_gc.specs.Parts.{SettingsValue}
 use Rattle.wc_gc.specs.declared.fault.GcFault.{GcFault}
 use Rattle.wc_gc.specs.declared.fault.GcFault.TheVariants.{Memory, TooLarge}
@@ -28,46 +27,22 @@ IsLaterCauseIn s w f =
 
 -- the cause of each fault but Memory, by itself
 abbrev pub IsTrimCause : SettingsValue → TrimInput → GcFault → Type 0
-IsTrimCause s w f = IsCause w f ⊎ IsLaterCauseIn s w f
+IsTrimCause s w f = IsLivenessCause w f ⊎ IsLaterCauseIn s w f
 
 -- Memory at any time; another fault where its cause is so, and none before it
 abbrev pub IsTrimFault : SettingsValue → TrimInput → GcFault → Type 0
 IsTrimFault s w f =
     (f ≡ Memory) ⊎ (IsTrimCause s w f × ((g : GcFault) → order_of g < order_of f → ¬ (IsTrimCause s w g)))
 
--- the exports of an adapter that are kept for these names
-abbrev pub wanted_exports : {A : Type 0} → List (String A) → Module → List ExportValue
-wanted_exports names adapter = kept_exports (names_of names) (module_value adapter).exports
-
 -- the text of the image of the module that the bytes spell, with its kept exports, after it was edited
-pub record IsTrimmed (s : SettingsValue) (w : TrimInput) (text : List ℕ) : Type 0 where
+pub record IsImageText (s : SettingsValue) (w : TrimInput) (text : List ℕ) : Type 0 where
   pub value : ModuleValue
   pub live : ItemIndex → Bool
   pub spelled : SpellsModule w.bytes value
   pub decides : DecidesLive w.required value live
   pub written : text ≡ built_text (edited_image (edit s (decode value) (kept_exports w.required value.exports) live))
 
--- the text of the image of a module with its kept exports, after it was edited, by what is live in it
-
-pub record IsTrimmedOf (s : SettingsValue) (required : List (List ℕ)) (m : ModuleValue) (text : List ℕ) : Type 0 where
-  pub live : ItemIndex → Bool
-  pub decides : DecidesLive required m live
-  pub supported : IsSupported required m
-  pub in_range : ¬ (HasLiveBody required m)
-  pub none : (f : GcFault) → ¬ (IsLaterCause s (decode m) (kept_exports required m.exports) live f)
-  pub written : text ≡ built_text (edited_image (edit s (decode m) (kept_exports required m.exports) live))
-
 -- a fault of what comes after liveness, and no such cause before it
 abbrev pub IsLaterFault : SettingsValue → DecodedModule → List ExportValue → (ItemIndex → Bool) → GcFault → Type 0
 IsLaterFault s m exports live f =
     IsLaterCause s m exports live f × ((g : GcFault) → order_of g < order_of f → ¬ (IsLaterCause s m exports live g))
-
-pub record IsLaterFaultOf (s : SettingsValue) (required : List (List ℕ)) (m : ModuleValue) (f : GcFault) : Type 0 where
-  pub live : ItemIndex → Bool
-  pub decides : DecidesLive required m live
-  pub supported : IsSupported required m
-  pub in_range : ¬ (HasLiveBody required m)
-  pub fault : IsLaterFault s (decode m) (kept_exports required m.exports) live f
-
-abbrev pub IsTrimFaultOf : SettingsValue → List (List ℕ) → ModuleValue → GcFault → Type 0
-IsTrimFaultOf s required m f = IsFaultOf required m f ⊎ IsLaterFaultOf s required m f

@@ -22,9 +22,9 @@ ghost use Rattle.wc_gc.specs.NewBodies.{body_written};
 ghost use Rattle.wc_gc.specs.NewIndices.{new_of};
 ghost use Rattle.wc_gc.specs.InRange.{is_item_in_range};
 
-use crate::edit::{Edit, NewFunc};
+use crate::edit::{Edit, EditSource, NewFunc};
 use crate::func_groups::FuncGroups;
-use crate::live::{LiveSet, LiveSets};
+use crate::live::LiveSet;
 use crate::live_items::exported_item;
 use crate::new_bodies::NewBody;
 use crate::new_indices::NewIndices;
@@ -32,8 +32,7 @@ use crate::parts::Parts;
 use crate::rewrite::new_init;
 use std::alloc::{AllocError, Global};
 use wc_read::{
-    Def, Export, Func, FuncType, Global as ModuleGlobal, GlobalType, Init, Item, Module, Table,
-    ValType,
+    Def, Export, Func, FuncType, Global as ModuleGlobal, GlobalType, Init, Item, Table, ValType,
 };
 use wc_write::Built;
 
@@ -41,25 +40,27 @@ use wc_write::Built;
 /// indices.
 pub fn image<'a, 'n, L: LiveSet>(
     alloc: Global,
-    adapter: &Module<'a>,
-    exports: &[Export<'a>],
-    live: &LiveSets<L>,
+    source: &EditSource<'_, 'a, L>,
     groups: &FuncGroups<L>,
     edit: Edit<'a, 'n>,
 ) -> Result<Built<'a, NewBody<'a, 'n>>, AllocError>
-    requires bounded { ItemCountsFitU32 adapter.now }
-    requires groups { AreGroups L.has (settings_of edit) adapter.now.funcs.items
-        (L.has live.now.funcs) (map export_value exports.now) groups.now }
-    requires in_range { (n : ℕ) → IsTrue (L.has live.now.funcs n)
-        → is_item_in_range (decoded_module adapter.now) (Funcs, n) ≡ true }
-    requires types { types_of edit ≡ length adapter.now.types.items }
-    requires funcs { funcs_of edit ≡ length adapter.now.funcs.items }
-    requires indices { new_indices edit ≡ edited_rank (edited_of edit
-        (decoded_module adapter.now) (map export_value exports.now) (has_item L.has live.now)) }
-    ensures { IfOk result (λ b. built_value_by body_written b
+    requires bounded { ItemCountsFitU32 source.now.adapter.now }
+    requires groups { AreGroups L.has (settings_of edit) source.now.adapter.now.funcs.items
+        (L.has source.now.live.now.funcs) (map export_value source.now.exports.now) groups.now }
+    requires in_range { (n : ℕ) → IsTrue (L.has source.now.live.now.funcs n)
+        → is_item_in_range (decoded_module source.now.adapter.now) (Funcs, n) ≡ true }
+    requires types { types_of edit ≡ length source.now.adapter.now.types.items }
+    requires funcs { funcs_of edit ≡ length source.now.adapter.now.funcs.items }
+    requires indices { let s = source.now in new_indices edit ≡ edited_rank (edited_of edit
+        (decoded_module s.adapter.now) (map export_value s.exports.now)
+        (has_item L.has s.live.now)) }
+    ensures { let s = source.now in IfOk result (λ b. built_value_by body_written b
         ≡ edited_image (edited_of edit.entry
-        (decoded_module adapter.now) (map export_value exports.now) (has_item L.has live.now))) }
+        (decoded_module s.adapter.now) (map export_value s.exports.now)
+        (has_item L.has s.live.now))) }
 {
+    let adapter = source.adapter;
+    let live = source.live;
     let types = new_types(alloc, &live.types, &adapter.types, edit)?;
     let funcs = new_funcs(alloc, &adapter.funcs, groups, edit)?;
     let mut tables = kept_items(alloc, &live.tables, &adapter.tables)?;
@@ -67,7 +68,7 @@ pub fn image<'a, 'n, L: LiveSet>(
     let memories = kept_items(alloc, &live.memories, &adapter.memories)?;
     let globals = kept_items(alloc, &live.globals, &adapter.globals)?;
     let globals = new_globals(alloc, &globals, edit.new)?;
-    let exports = new_exports(alloc, exports, edit.new)?;
+    let exports = new_exports(alloc, source.exports, edit.new)?;
     Ok(Built {
         types,
         funcs,

@@ -15,15 +15,24 @@ ghost use Rattle.wc_gc.specs.NewBodies.{body_written, call_added, is_coded};
 ghost use Rattle.wc_gc.specs.NewIndices.{new_of};
 
 use crate::found::{Found, MAIN_MODULE, imports_realloc};
+use crate::live::{LiveSet, LiveSets};
 use crate::new_bodies::{GrowingBody, NewBody, OldBody, StackBody};
 use crate::new_indices::NewIndices;
 use crate::parts::Parts;
 use crate::settings::Settings;
 use std::alloc::AllocError;
-use wc_read::{Def, Func, Item, Space};
+use wc_read::{Def, Export, Func, Item, Module, Space};
 
 /// A function of the image.
 pub type NewFunc<'a, 'n> = Item<'a, u32, NewBody<'a, 'n>>;
+
+/// What is edited: an adapter, the exports that are kept of it, and the items that these reach.
+#[derive(Drop)]
+pub struct EditSource<'m, 'a, L: LiveSet> {
+    pub adapter: &'m Module<'a>,
+    pub exports: &'m [Export<'a>],
+    pub live: &'m LiveSets<L>,
+}
 
 /// What functions are edited and added by.
 #[derive(Clone, Copy)]
@@ -101,7 +110,7 @@ impl<'a, 'n> Edit<'a, 'n> {
     /// The body of a realloc that grows memory.
     fn growing_body(self) -> NewBody<'a, 'n>
         ensures { body_written result ≡ new_body (new_indices self.entry) (Some (growing_body
-            (settings_of self.entry).exponent (memory_of (found_of self.entry)))) }
+            (settings_of self.entry).page_size_log2 (memory_of (found_of self.entry)))) }
     {
         NewBody::Growing(GrowingBody {
             page_size_log2: self.settings.page_size_log2,

@@ -16,7 +16,7 @@ ghost use Rattle.wc_gc.specs.Parts.{settings_value};
 ghost use Rattle.wc_gc.specs.InRange.{is_item_in_range};
 
 use crate::assemble::image;
-use crate::edit::Edit;
+use crate::edit::{Edit, EditSource};
 use crate::fault::GcFault;
 use crate::found::Found;
 use crate::func_groups::FuncGroups;
@@ -25,35 +25,35 @@ use crate::new_indices::{Counts, NewIndices, SpaceRanks};
 use crate::parts::Parts;
 use crate::settings::Settings;
 use std::alloc::Global;
-use wc_read::{Export, Module};
+use wc_read::Module;
 use wc_write::write_module_of;
 
 /// The text of the image of an adapter with some of its exports, edited for what is found among its live items.
 pub fn edited_text<L: LiveSet>(
     alloc: Global,
-    adapter: &Module<'_>,
-    exports: &[Export<'_>],
-    live: &LiveSets<L>,
+    source: &EditSource<'_, '_, L>,
     settings: Settings<'_>,
     found: &Found,
 ) -> Result<Vec<u8>, GcFault>
-    requires bounded { ItemCountsFitU32 adapter.now }
-    requires in_range { (n : ℕ) → IsTrue (L.has live.now.funcs n)
-        → is_item_in_range (decoded_module adapter.now) (Funcs, n) ≡ true }
-    requires found { found_value found.now
-        ≡ found_in (decoded_module adapter.now) (has_item L.has live.now) }
-    ensures written { IfOk result (λ v. v.items ≡ built_text (edited_image
-        (edit (settings_value settings.entry) (decoded_module adapter.now)
-        (map export_value exports.now) (has_item L.has live.now)))) }
-    ensures fits { IsOk result → FitsBits (edited_image
-        (edit (settings_value settings.entry) (decoded_module adapter.now)
-        (map export_value exports.now) (has_item L.has live.now))) }
-    ensures fault { IfErr result (IsImageFault (edited_image
-        (edit (settings_value settings.entry) (decoded_module adapter.now)
-        (map export_value exports.now) (has_item L.has live.now)))) }
+    requires bounded { ItemCountsFitU32 source.now.adapter.now }
+    requires in_range { (n : ℕ) → IsTrue (L.has source.now.live.now.funcs n)
+        → is_item_in_range (decoded_module source.now.adapter.now) (Funcs, n) ≡ true }
+    requires found { found_value found.now ≡ found_in
+        (decoded_module source.now.adapter.now) (has_item L.has source.now.live.now) }
+    ensures written { let s = source.now in IfOk result (λ v. v.items ≡ built_text (edited_image
+        (edit (settings_value settings.entry) (decoded_module s.adapter.now)
+        (map export_value s.exports.now) (has_item L.has s.live.now)))) }
+    ensures fits { let s = source.now in IsOk result → FitsBits (edited_image
+        (edit (settings_value settings.entry) (decoded_module s.adapter.now)
+        (map export_value s.exports.now) (has_item L.has s.live.now))) }
+    ensures fault { let s = source.now in IfErr result (IsImageFault (edited_image
+        (edit (settings_value settings.entry) (decoded_module s.adapter.now)
+        (map export_value s.exports.now) (has_item L.has s.live.now)))) }
 {
+    let adapter = source.adapter;
+    let live = source.live;
     let parts = Parts::of(settings, found);
-    let groups = FuncGroups::new(alloc, &adapter.funcs, &live.funcs, exports, settings)?;
+    let groups = FuncGroups::new(alloc, &adapter.funcs, &live.funcs, source.exports, settings)?;
     let new = new_indices(alloc, live, &groups, counts(adapter, parts, found))?;
     let edit = Edit {
         settings,
@@ -61,7 +61,7 @@ pub fn edited_text<L: LiveSet>(
         found,
         new: &new,
     };
-    let built = image(alloc, adapter, exports, live, &groups, edit)?;
+    let built = image(alloc, source, &groups, edit)?;
     Ok(write_module_of(alloc, &built)?)
 }
 

@@ -1,10 +1,11 @@
 //! The exports that are kept.
 
-ghost use Rattle.std.specs.Prelude.{◌≡◌, ◌≢◌, ◌<◌, ℕ, map, length, AllPairs, None, IfErr, IfOk, IsOk, String, string_bytes};
+ghost use Rattle.std.specs.Prelude.{◌≡◌, ◌≢◌, ◌<◌, ℕ, map, length, AllPairs, None, IfErr, IfOk, IsOk};
 ghost use Rattle.std.specs.List.{range_with_len, swap_remove};
 ghost use Rattle.std.specs.Option.{option_map};
 ghost use Rattle.wc_read.specs.Exports.{export_value};
 ghost use Rattle.wc_gc.specs.KeptExports.{AreNamed, IsMissingFault, by_name, export_entries, export_names, kept_exports, missing_name};
+ghost use Rattle.wc_gc.specs.Liveness.{names_of};
 ghost use Rattle.wc_gc.specs.Private.Places.{IsPlaced};
 
 use crate::fault::GcFault;
@@ -21,11 +22,11 @@ pub fn required_exports<'a>(
 ) -> Result<Vec<Export<'a>>, GcFault>
     requires { AllPairs (λ x y. x ≢ y) (export_names (map export_value exports.now)) }
     ensures kept { IfOk result (λ v. map export_value v.items
-        ≡ kept_exports (map string_bytes required.now.keys) (map export_value exports.now)) }
+        ≡ kept_exports (names_of required.now.keys) (map export_value exports.now)) }
     ensures none { IsOk result → missing_name (map export_value exports.now)
-        (map string_bytes required.now.keys) ≡ None }
+        (names_of required.now.keys) ≡ None }
     ensures fault { IfErr result (IsMissingFault (map export_value exports.now)
-        (map string_bytes required.now.keys)) }
+        (names_of required.now.keys)) }
 {
     let kept = kept_exports(alloc, exports, required)?;
     check_required(alloc, exports, &kept, required)?;
@@ -40,7 +41,7 @@ fn kept_exports<'a>(
 ) -> Result<Vec<Export<'a>>, AllocError>
     requires { AllPairs (λ x y. x ≢ y) (export_names (map export_value exports.now)) }
     ensures { IfOk result (λ v. map export_value v.items
-        ≡ kept_exports (map string_bytes required.now.keys) (map export_value exports.now)) }
+        ≡ kept_exports (names_of required.now.keys) (map export_value exports.now)) }
 {
     let mut kept = Vec::from_slice(alloc, exports)?;
     let mut places = Places::of_all(alloc, exports.len())?;
@@ -60,7 +61,7 @@ fn drop_exports<'a>(
     requires order { places.old.order.items ≡ range_with_len 0 (length exports.now) }
     requires placed { (n : ℕ) → n < length exports.now → IsPlaced places.old n }
     ensures { map export_value kept.new.items
-        ≡ kept_exports (map string_bytes required.now.keys) (map export_value exports.now) }
+        ≡ kept_exports (names_of required.now.keys) (map export_value exports.now) }
 {
     let mut index = 0;
     for export in exports {
@@ -88,11 +89,11 @@ fn check_required(
 ) -> Result<(), GcFault>
     requires distinct { AllPairs (λ x y. x ≢ y) (export_names (map export_value exports.now)) }
     requires kept { map export_value kept.now
-        ≡ kept_exports (map string_bytes required.now.keys) (map export_value exports.now) }
+        ≡ kept_exports (names_of required.now.keys) (map export_value exports.now) }
     ensures none { IsOk result → missing_name (map export_value exports.now)
-        (map string_bytes required.now.keys) ≡ None }
+        (names_of required.now.keys) ≡ None }
     ensures fault { IfErr result (IsMissingFault (map export_value exports.now)
-        (map string_bytes required.now.keys)) }
+        (names_of required.now.keys)) }
 {
     // The names of exports are distinct, so if as many are kept as are required, none is missing.
     if kept.len() == required.len() {
@@ -122,7 +123,7 @@ fn exports_by_name<'a>(
 fn missing_name<'a>(exports: &Map<&str, Export<'_>>, required: &'a Set<String>) -> Option<&'a str>
     requires { AreNamed exports.now.entries }
     ensures { option_map (λ name. name.now) result
-        ≡ missing_name (export_entries exports.now.entries) (map string_bytes required.now.keys) }
+        ≡ missing_name (export_entries exports.now.entries) (names_of required.now.keys) }
 {
     for name in required {
         if !exports.contains_key(name.as_str()) {
@@ -140,9 +141,9 @@ fn check_named(
 ) -> Result<(), GcFault>
     requires { AreNamed exports.now.entries }
     ensures none { IsOk result → missing_name (export_entries exports.now.entries)
-        (map string_bytes required.now.keys) ≡ None }
+        (names_of required.now.keys) ≡ None }
     ensures fault { IfErr result (IsMissingFault (export_entries exports.now.entries)
-        (map string_bytes required.now.keys)) }
+        (names_of required.now.keys)) }
 {
     match missing_name(exports, required) {
         None => Ok(()),

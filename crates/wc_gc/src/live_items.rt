@@ -7,7 +7,7 @@ ghost use Rattle.wc_gc.specs.Bits.{bit_of};
 ghost use Rattle.wc_gc.specs.Decoded.{ItemIndex, exported_item};
 ghost use Rattle.wc_gc.specs.KeptExports.{kept_exports};
 ghost use Rattle.wc_gc.specs.LiveSets.{has_item};
-ghost use Rattle.wc_gc.specs.Liveness.{HasUnsupported, IsCause, IsFault, IsFaultOf, IsLiveness, IsLivenessOf, IsSupported, names_of, trim_input};
+ghost use Rattle.wc_gc.specs.Liveness.{HasUnsupported, IsLivenessCause, IsFault, IsFaultOf, IsLiveness, IsLivenessOf, IsSupported, names_of, trim_input};
 
 use crate::exports::required_exports;
 use crate::fault::GcFault;
@@ -52,7 +52,7 @@ pub fn liveness_counted(
     ensures fault { IfErr result (IsFault (trim_input wasm.now required.now.keys)) }
     // Without a fault there is no cause.
     ensures no_cause { IsOk result →
-        (f : GcFault) → ¬ (IsCause (trim_input wasm.now required.now.keys) f) }
+        (f : GcFault) → ¬ (IsLivenessCause (trim_input wasm.now required.now.keys) f) }
 {
     find_live::<RangeSet>(alloc, wasm, required)
 }
@@ -67,7 +67,7 @@ fn find_live<L: LiveSet>(
         IsLiveness (trim_input wasm.now required.now.keys) (has_item L.has l.live) l.turns) }
     ensures fault { IfErr result (IsFault (trim_input wasm.now required.now.keys)) }
     ensures no_cause { IsOk result →
-        (f : GcFault) → ¬ (IsCause (trim_input wasm.now required.now.keys) f) }
+        (f : GcFault) → ¬ (IsLivenessCause (trim_input wasm.now required.now.keys) f) }
 {
     let adapter = read_module(alloc, wasm)?;
     let (_, found) = find_live_in(alloc, &adapter, required)?;

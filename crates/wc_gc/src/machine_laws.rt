@@ -9,8 +9,8 @@ ghost use Rattle.wc_gc.specs.AddedCodeRuns.{IsGrowingRealloc, IsSpellable, IsSta
 /// The bodies of `realloc_via_memory_grow` and `allocate_stack_via_realloc` can be spelled, as
 /// `wc_write::laws::body_text_read` asks. So the bytes that these answer spell them, and no other bodies.
 pub fn added_bodies_are_spellable()
-    ensures growing { (exponent : ℕ) → exponent ≤ 16 →
-        IsSpellable (growing_body exponent 0) }
+    ensures growing { (page_size_log2 : ℕ) → page_size_log2 ≤ 16 →
+        IsSpellable (growing_body page_size_log2 0) }
     ensures stack { (realloc stack : ℕ) (state : Option ℕ) → IsU32 realloc → IsU32 stack →
         IfSome state IsU32 → IsSpellable (stack_body realloc stack state) }
 {}
@@ -20,8 +20,8 @@ pub fn added_bodies_are_spellable()
 /// traps where growth is refused. Else it answers the old size in bytes, and the memory has the pages of 65536 bytes
 /// more.
 pub fn growing_body_grows()
-    ensures { (exponent : ℕ) → exponent ≤ 16 →
-        IsGrowingRealloc exponent (growing_body exponent 0) }
+    ensures { (page_size_log2 : ℕ) → page_size_log2 ≤ 16 →
+        IsGrowingRealloc page_size_log2 (growing_body page_size_log2 0) }
 {}
 
 /// The body of `allocate_stack_via_realloc`, for every state. It asks the realloc for 65536 bytes, and where that

@@ -1,23 +1,25 @@
 //! Trimming, from bytes to bytes.
 
-ghost use Rattle.std.specs.Prelude.{◌≡◌, ◌≢◌, ◌≤◌, ◌⊎◌, ℕ, [], map, true, IsTrue, IfOk, IfErr, IsOk};
+ghost use Rattle.std.specs.Prelude.{◌≡◌, ◌≢◌, ◌≤◌, ◌⊎◌, ℕ, List, [], map, true, IsTrue, IfOk, IfErr, IsOk};
 ghost use Rattle.wc_read.specs.Exports.{export_value};
-ghost use Rattle.wc_read.specs.Modules.{IsModule, module_value};
+ghost use Rattle.wc_read.specs.Modules.{IsModule, SpellsModule, module_value};
 ghost use Rattle.wc_read.specs.declared.operators.Space.TheVariants.{Funcs};
 ghost use Rattle.wc_write.specs.ModuleText.{built_text};
+ghost use Rattle.wc_write.specs.Values.{AreBytes};
 ghost use Rattle.wc_gc.specs.Decoded.{decoded_module};
 ghost use Rattle.wc_gc.specs.Private.ItemCounts.{ItemCountsFitU32};
 ghost use Rattle.wc_gc.specs.Edited.{edit};
 ghost use Rattle.wc_gc.specs.EditedImage.{edited_image};
 ghost use Rattle.wc_gc.specs.Laws.{AreSettings};
-ghost use Rattle.wc_gc.specs.Liveness.{names_of, trim_input};
+ghost use Rattle.wc_gc.specs.Liveness.{trim_input};
 ghost use Rattle.wc_gc.specs.LiveSets.{has_item};
 ghost use Rattle.wc_gc.specs.Parts.{settings, settings_value};
 ghost use Rattle.wc_gc.specs.InRange.{is_item_in_range};
-ghost use Rattle.wc_gc.specs.TrimmedText.{IsTrimmedRead};
-ghost use Rattle.wc_gc.specs.Trimming.{IsLaterCause, IsLaterFault, IsTrimCause, IsTrimFault, IsTrimFaultOf, IsTrimmed, IsTrimmedOf};
+ghost use Rattle.wc_gc.specs.TrimmedText.{IsTrimmed};
+ghost use Rattle.wc_gc.specs.Trimming.{IsLaterCause, IsLaterFault, IsTrimFault};
 
 use crate::causes::check_parts;
+use crate::edit::EditSource;
 use crate::edited_text::edited_text;
 use crate::fault::GcFault;
 use crate::found::find_parts;
@@ -79,22 +81,14 @@ pub fn run(
 ) -> Result<Vec<u8>, GcFault>
     requires some { required.now.keys ≢ [] }
     requires paged { page_size_log2 ≤ 16 }
-    // What is answered is the text of the image.
+    // What is answered spells the image, and no other module. What is kept or added unfolds in it as in the edited
+    // adapter. No fault has a cause.
     ensures trimmed { IfOk result (λ v. IsTrimmed
         (settings main_module_realloc.entry page_size_log2)
         (trim_input wasm.now required.now.keys) v.items) }
     // A fault has its cause, and no fault before it has.
     ensures fault { IfErr result (IsTrimFault (settings main_module_realloc.entry page_size_log2)
         (trim_input wasm.now required.now.keys)) }
-    // Without a fault there is no cause.
-    ensures no_cause { IsOk result → (f : GcFault) →
-        ¬ (IsTrimCause (settings main_module_realloc.entry page_size_log2)
-        (trim_input wasm.now required.now.keys) f) }
-    // What is answered spells the image, and no other module. What is kept or added unfolds in it as in the edited
-    // adapter.
-    ensures read { IfOk result (λ v. IsTrimmedRead
-        (settings main_module_realloc.entry page_size_log2)
-        (trim_input wasm.now required.now.keys) v.items) }
 {
     let settings = Settings {
         realloc: main_module_realloc,
@@ -114,12 +108,7 @@ fn trim(
         (trim_input wasm.now required.now.keys) v.items) }
     ensures fault { IfErr result
         (IsTrimFault (settings_value settings.entry) (trim_input wasm.now required.now.keys)) }
-    ensures no_cause { IsOk result → (f : GcFault) → ¬ (IsTrimCause
-        (settings_value settings.entry) (trim_input wasm.now required.now.keys) f) }
-    ensures read { IfOk result (λ v. IsTrimmedRead (settings_value settings.entry)
-        (trim_input wasm.now required.now.keys) v.items) }
 {
-    settings_are_valid(settings);
     // So a vector has fewer than 2^32 items.
     slices_are_bytes(wasm);
     let adapter = read_module(alloc, wasm)?;
@@ -135,11 +124,14 @@ fn trim_module(
 ) -> Result<Vec<u8>, GcFault>
     requires valid { IsModule (module_value adapter.now) }
     requires bounded { ItemCountsFitU32 adapter.now }
-    ensures trimmed { IfOk result (λ v. IsTrimmedOf (settings_value settings.entry)
-        (names_of required.now.keys) (module_value adapter.now) v.items) }
-    ensures fault { IfErr result (IsTrimFaultOf (settings_value settings.entry)
-        (names_of required.now.keys) (module_value adapter.now)) }
+    ensures trimmed { IfOk result (λ v. (bytes : List ℕ) → AreBytes bytes
+        → SpellsModule bytes (module_value adapter.now) → IsTrimmed
+        (settings_value settings.entry) (trim_input bytes required.now.keys) v.items) }
+    ensures fault { IfErr result (λ f. (bytes : List ℕ)
+        → SpellsModule bytes (module_value adapter.now) → IsTrimFault
+        (settings_value settings.entry) (trim_input bytes required.now.keys) f) }
 {
+    settings_are_valid(settings);
     let (exports, found) = find_live_in(alloc, adapter, required)?;
     image_text(alloc, adapter, &exports, &found.live, settings)
 }
@@ -172,7 +164,12 @@ fn image_text<L: LiveSet>(
 {
     let found = find_parts(alloc, adapter, live)?;
     check_parts(adapter, settings, &found)?;
-    edited_text(alloc, adapter, exports, live, settings, &found)
+    let source = EditSource {
+        adapter,
+        exports,
+        live,
+    };
+    edited_text(alloc, &source, settings, &found)
 }
 
 /// A realloc's name is text, and pages have 2^16 bytes at most. A call does nothing when it runs.

@@ -48,8 +48,8 @@ IsDocument read d = IsSomeAnd read (λ j. HasUniqueKeys j × (document_of j ≡ 
 
 -- memory ran out; or the text is not JSON; or its value has an object that repeats a member; or the value is without
 -- these, and this is its first fault
-abbrev pub IsCause : Option Json → JsonFault → Type 0
-IsCause read Memory = ⊤
-IsCause read NotJson = read ≡ None
-IsCause read RepeatedMember = IsSomeAnd read (λ j. ¬ HasUniqueKeys j)
-IsCause read (Wrong path problem) = IsSomeAnd read (λ j. HasUniqueKeys j × HasFault (Wrong path problem) (document_of j))
+abbrev pub IsJsonCause : Option Json → JsonFault → Type 0
+IsJsonCause read Memory = ⊤
+IsJsonCause read NotJson = read ≡ None
+IsJsonCause read RepeatedMember = IsSomeAnd read (λ j. ¬ HasUniqueKeys j)
+IsJsonCause read (Wrong path problem) = IsSomeAnd read (λ j. HasUniqueKeys j × HasFault (Wrong path problem) (document_of j))

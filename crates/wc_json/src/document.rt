@@ -3,7 +3,7 @@
 ghost use Rattle.std.specs.Prelude.{◌≡◌, IfErr, IfOk, map};
 ghost use Rattle.json.specs.Json.{document};
 ghost use Rattle.json.specs.Value.{value_view};
-ghost use Rattle.wc_json.specs.Document.{IsCause, IsDocument, document_of, document_view};
+ghost use Rattle.wc_json.specs.Document.{IsJsonCause, IsDocument, document_of, document_view};
 ghost use Rattle.wc_json.specs.Faults.{Reads};
 
 use crate::JsonFault;
@@ -101,7 +101,7 @@ impl FromJson for Document {
 /// - `Memory`: an allocation failed. It may come in place of any other.
 pub fn document_from_json(alloc: Global, seed: Seed, text: &str) -> Result<Document, JsonFault>
     ensures ok { IfOk result (IsDocument (document text.now)) }
-    ensures fault { IfErr result (IsCause (document text.now)) }
+    ensures fault { IfErr result (IsJsonCause (document text.now)) }
 {
     let mut scratch = Scratch::new(alloc);
     let value = Value::parse_strict(alloc, text, &mut scratch)?;

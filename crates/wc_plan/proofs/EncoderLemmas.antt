@@ -1,7 +1,7 @@
 -- The plan of an encoder's world, and the faults of that world and its plan, are those of the encoder.
 use Rattle.std.proofs.Common.{◌≡◌, ◌⊎◌, inl, inr, Result, Ok, Err, IfErr, IfOk, OnOk, refl, sym, subst, ◌∙◌}
 use Rattle.wc_encoder.specs.EncoderParts.{EncoderView}
-use Rattle.wc_world.specs.Causes.{HasNoCause, IsCause, IsMemory}
+use Rattle.wc_world.specs.Causes.{HasNoCause, IsComponentWorldCause, IsMemory}
 use Rattle.wc_world.specs.Options.{OptionsOf}
 use Rattle.wc_world.specs.Views.{ComponentWorldView}
 use Rattle.wc_world.specs.World.{IsWorldOf}
@@ -23,7 +23,7 @@ each_fault P Q g (Ok x) h = tt
 each_fault P Q g (Err f) h = g f h
 
 module _ (options : OptionsOf) (e : EncoderView) where
-  pub world_fault : (f : WorldFault) → IsMemory e f ⊎ IsCause e f → IsEncoderFault options e (of_world f)
+  pub world_fault : (f : WorldFault) → IsMemory e f ⊎ IsComponentWorldCause e f → IsEncoderFault options e (of_world f)
   world_fault world_memory h = tt
   world_fault (Main v) h = (λ (is : Main v ≡ world_memory). cc is, h)
   world_fault (Adapter name v) h = (λ (is : Adapter name v ≡ world_memory). cc is, h)
@@ -33,11 +33,11 @@ module _ (options : OptionsOf) (e : EncoderView) where
 
   -- where there is a world, its maker can have answered no fault but that an allocation failed
   module _ (w : ComponentWorldView) (none : HasNoCause e) where
-    memory_alone : (f : WorldFault) → IsMemory e f ⊎ IsCause e f → IsMemory e f
+    memory_alone : (f : WorldFault) → IsMemory e f ⊎ IsComponentWorldCause e f → IsMemory e f
     memory_alone f (inl h) = h
     memory_alone f (inr h) = absurd (none f h)
 
-    pub world_fault_with : (f : WorldFault) → IsMemory e f ⊎ IsCause e f → IsFaultWith e w (of_world f)
+    pub world_fault_with : (f : WorldFault) → IsMemory e f ⊎ IsComponentWorldCause e f → IsFaultWith e w (of_world f)
     world_fault_with world_memory h = tt
     world_fault_with (Main v) h = (λ (is : Main v ≡ world_memory). cc is, memory_alone (Main v) h)
     world_fault_with (Adapter name v) h = (λ (is : Adapter name v ≡ world_memory). cc is, memory_alone (Adapter name v) h)

@@ -9,6 +9,7 @@ use Rattle.wc_names.specs.Views.{ImportView, interface_func, world_func}
 use Rattle.wc_validate.specs.Exports.Map.{ExportRecord}
 use Rattle.wc_validate.specs.Imports.Map.{imports_in}
 use Rattle.wc_world.specs.FunctionsLowered.{IsLoweredIn}
+use Rattle.wc_world.specs.Options.{memory_flag, realloc_flag}
 use Rattle.wc_world.specs.Slots.{all_imports, imports_of}
 use Rattle.wc_world.specs.Views.{ComponentWorldView, ImportMapView, LoweringView, NamedWorldAdapter}
 use Rattle.wc_plan.specs.Calls.{IsNameable, Wanted, all_wanted, call_eq, call_of, firsts, wanted, wanted_by}
@@ -85,7 +86,7 @@ module _ (w : ComponentWorldView) where
 
   not_missing : (x : Wanted) (l : Option LoweringView) → IsSome l → lowered_fault w x l ≡ Some no_lowering → ⊥
   not_missing x None some h = cc some
-  not_missing x (Some l) some h = two_faults (needs 1 l && not (has_memory w.info)) (needs 2 l && is_none (import_realloc x.1)) h
+  not_missing x (Some l) some h = two_faults (needs memory_flag l && not (has_memory w.info)) (needs realloc_flag l && is_none (import_realloc x.1)) h
 
   not_first : (name : String Global) (kind : UseFault) (p : IsFirstFault w (NoLowering name)) → p.kind ≡ kind → AreLowered w → ⊥
   not_first name no_lowering p is h =

@@ -60,10 +60,10 @@ module _ (e : EncoderView) (unique : RecordsUnique e) (one : HasOneValue SpellsM
     same_text : (y z : WorldAdapterView) → IsTrimmedAdapter e main x y → IsTrimmedAdapter e main x z → y.wasm ≡ z.wasm
     same_text y z a b =
         let first = unique (validation_input_of e main x) x.1.wasm a.first b.first refl a.original b.original in
-        let values = one x.1.wasm a.trimmed.trimmed.value b.trimmed.trimmed.value a.trimmed.trimmed.spelled b.trimmed.trimmed.spelled in
-        let live : a.trimmed.trimmed.live ≡ b.trimmed.trimmed.live =
-        λ k i. same_test (a.trimmed.trimmed.live i) (b.trimmed.trimmed.live i) _ (rw (first, values) at (a.trimmed.trimmed.decides i)) (b.trimmed.trimmed.decides i) k in
-        (rw (first, values, live) at a.trimmed.trimmed.written) ∙ sym b.trimmed.trimmed.written
+        let values = one x.1.wasm a.trimmed.image.value b.trimmed.image.value a.trimmed.image.spelled b.trimmed.image.spelled in
+        let live : a.trimmed.image.live ≡ b.trimmed.image.live =
+        λ k i. same_test (a.trimmed.image.live i) (b.trimmed.image.live i) _ (rw (first, values) at (a.trimmed.image.decides i)) (b.trimmed.image.decides i) k in
+        (rw (first, values, live) at a.trimmed.image.written) ∙ sym b.trimmed.image.written
 
     same_adapter : (y z : NamedWorldAdapter) (o : Option LibraryView) → y.0 ≡ z.0 → y.1.library_info ≡ o → z.1.library_info ≡ o → IsTrimmedOrLibrary e main x y.1 o
         → IsTrimmedOrLibrary e main x z.1 o → IsSameAdapter y z

@@ -1,7 +1,7 @@
 -- Why an encoder has no plan.
 use Rattle.std.specs.Prelude.{◌≢◌, ◌⊎◌}
 use Rattle.wc_encoder.specs.EncoderParts.{EncoderView}
-use Rattle.wc_world.specs.Causes.{IsCause, IsMemory}
+use Rattle.wc_world.specs.Causes.{IsComponentWorldCause, IsMemory}
 use Rattle.wc_world.specs.Options.{OptionsOf}
 use Rattle.wc_world.specs.Views.{ComponentWorldView}
 use Rattle.wc_world.specs.World.{IsWorldOf}
@@ -18,7 +18,7 @@ of_world f = World f
 
 -- the component has no world, for this cause: one of the encoder, or that memory ran out in it
 abbrev pub IsWorldCause : EncoderView → WorldFault → Type 0
-IsWorldCause e f = (f ≢ world_memory) × (IsMemory e f ⊎ IsCause e f)
+IsWorldCause e f = (f ≢ world_memory) × (IsMemory e f ⊎ IsComponentWorldCause e f)
 
 -- an allocation failed; or there is no world; or its plan has a fault
 abbrev pub IsEncoderFault : OptionsOf → EncoderView → PlanFault → Type 0

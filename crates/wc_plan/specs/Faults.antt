@@ -1,5 +1,6 @@
 -- Why a component's world has no plan.
 use Rattle.std.specs.Prelude.{◌≡◌, ℕ, List, ◌∷◌, ◌++◌, not, ◌&&◌, All, Option, Some, None, is_none, cond, string_bytes}
+use Rattle.wc_world.specs.Options.{memory_flag, realloc_flag}
 use Rattle.wc_world.specs.Slots.{all_imports, imports_of}
 use Rattle.wc_world.specs.Views.{ComponentWorldView, LoweringView}
 use Rattle.wc_plan.specs.Calls.{IsNameable, Wanted, wanted}
@@ -18,8 +19,8 @@ pub data UseFault : Type 0 where
 abbrev pub lowered_fault : ComponentWorldView → Wanted → Option LoweringView → Option UseFault
 lowered_fault w x None = Some no_lowering
 lowered_fault w x (Some l) =
-    cond (needs 1 l && not (has_memory w.info)) (Some no_memory)
-    (cond (needs 2 l && is_none (import_realloc x.1)) (Some no_realloc) None)
+    cond (needs memory_flag l && not (has_memory w.info)) (Some no_memory)
+    (cond (needs realloc_flag l && is_none (import_realloc x.1)) (Some no_realloc) None)
 
 abbrev pub fault_of : ComponentWorldView → Wanted → Option UseFault
 fault_of w x = lowered_fault w x (lowering_of w x.0)

@@ -6,6 +6,7 @@ use Rattle.wc_validate.specs.Exports.Map.{ExportRecord, first_name, first_that, 
 use Rattle.wc_validate.specs.Imports.Map.{memory_in}
 use Rattle.wc_validate.specs.Validated.{ModuleRecord}
 use Rattle.wc_world.specs.FunctionsLowered.{lowering_at}
+use Rattle.wc_world.specs.Options.{realloc_flag}
 use Rattle.wc_world.specs.Views.{ComponentWorldView, LoweringView, direct, indirect, resource_drop}
 use Rattle.wc_plan.specs.Calls.{Wanted, wanted}
 use Rattle.wc_plan.specs.Views.{CallView, UseView}
@@ -14,12 +15,13 @@ use Rattle.wc_plan.specs.Views.{CallView, UseView}
 abbrev pub lowering_of : ComponentWorldView → CallView → Option LoweringView
 lowering_of w c = lowering_at w.import_map c.interface c.name c.abi
 
--- the options of a lowering, as bits: memory is 1, realloc 2
+-- the options of a lowering, as bits
 abbrev pub options_of : LoweringView → ℕ
 options_of (direct options) = options
 options_of (indirect sig options) = options
 options_of (resource_drop t) = 0
 
+-- a lowering has the option of this flag
 abbrev pub needs : ℕ → LoweringView → Bool
 needs bit l = bit_and (options_of l) bit == bit
 
@@ -35,7 +37,7 @@ abbrev pub import_realloc : ExportRecord → Option (List ℕ)
 import_realloc exports = own_or_general (first_name is_import_realloc exports) exports
 
 abbrev pub realloc_of : ComponentWorldView → Wanted → Option (List ℕ)
-realloc_of w x = cond (option_map_or (needs 2) (lowering_of w x.0) false) (import_realloc x.1) None
+realloc_of w x = cond (option_map_or (needs realloc_flag) (lowering_of w x.0) false) (import_realloc x.1) None
 
 -- what a function needs, after so many that others stand in for
 abbrev pub use_of : ComponentWorldView → ℕ → Wanted → UseView

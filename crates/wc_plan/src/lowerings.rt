@@ -3,6 +3,7 @@
 ghost use Rattle.std.specs.Prelude.{◌≡◌, string_bytes};
 ghost use Rattle.std.specs.Option.{option_map};
 ghost use Rattle.wc_world.specs.FunctionsLowered.{lowering_at};
+ghost use Rattle.wc_world.specs.Options.{memory_flag, realloc_flag};
 ghost use Rattle.wc_world.specs.WorldViews.{import_map_view, lowering_view};
 ghost use Rattle.wc_plan.specs.Plans.{is_indirect, needs, options_of};
 
@@ -35,21 +36,21 @@ fn options_of(lowering: &Lowering) -> RequiredOptions
     }
 }
 
-/// Whether these have a memory.
-pub(crate) fn needs_memory(lowering: &Lowering) -> bool
-    ensures { result ≡ needs 1 (lowering_view lowering.now) }
+/// Whether the options of a lowering have a memory.
+pub(crate) fn has_memory_option(lowering: &Lowering) -> bool
+    ensures { result ≡ needs memory_flag (lowering_view lowering.now) }
 {
     options_of(lowering).contains(RequiredOptions::MEMORY)
 }
 
-/// Whether these have a realloc.
-pub(crate) fn needs_realloc(lowering: &Lowering) -> bool
-    ensures { result ≡ needs 2 (lowering_view lowering.now) }
+/// Whether the options of a lowering have a realloc.
+pub(crate) fn has_realloc_option(lowering: &Lowering) -> bool
+    ensures { result ≡ needs realloc_flag (lowering_view lowering.now) }
 {
     options_of(lowering).contains(RequiredOptions::REALLOC)
 }
 
-/// Whether another function stands in for the lowered one.
+/// Whether a shim stands in for the lowered function.
 pub(crate) fn is_indirect(lowering: &Lowering) -> bool
     ensures { result ≡ is_indirect (lowering_view lowering.now) }
 {

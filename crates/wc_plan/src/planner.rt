@@ -5,6 +5,7 @@ ghost use Rattle.std.specs.List.{cons_option};
 ghost use Rattle.std.specs.Option.{option_map};
 ghost use Rattle.wc_names.specs.Views.{import_view};
 ghost use Rattle.wc_validate.specs.Validated.{module_record};
+ghost use Rattle.wc_world.specs.Options.{realloc_flag};
 ghost use Rattle.wc_world.specs.WorldViews.{lowering_view, world_view};
 ghost use Rattle.wc_plan.specs.Calls.{IsNameable, all_wanted, wanted_by};
 ghost use Rattle.wc_plan.specs.Plans.{has_memory, import_realloc, needs, plan_of, use_of};
@@ -15,7 +16,7 @@ ghost use Rattle.wc_plan.specs.Progress.{AreModuleNameable, IsCallFault, IsConte
 
 use crate::calls::{Call, call_of};
 use crate::fault::PlanFault;
-use crate::lowerings::{is_indirect, lowering_of, needs_memory, needs_realloc};
+use crate::lowerings::{has_memory_option, has_realloc_option, is_indirect, lowering_of};
 use crate::uses::{Owner, Plan, Use};
 use std::alloc::{AllocError, AllocFailed, Global};
 use wc_maps::Set;
@@ -85,9 +86,9 @@ fn realloc_for(
     lowering: &Lowering,
 ) -> Result<Option<String>, AllocError>
     ensures { IfOk result (λ r. option_map string_bytes r
-        ≡ cond (needs 2 (lowering_view lowering.now)) (import_realloc exports.now) None) }
+        ≡ cond (needs realloc_flag (lowering_view lowering.now)) (import_realloc exports.now) None) }
 {
-    if !needs_realloc(lowering) {
+    if !has_realloc_option(lowering) {
         return Ok(None);
     }
     match exports.import_realloc_for(None, "") {
@@ -116,11 +117,11 @@ fn use_of(
         return Err(PlanFault::NoLowering(call.1.0));
     };
     let (interface, (name, abi)) = call;
-    if needs_memory(lowering) && !context.has_memory {
+    if has_memory_option(lowering) && !context.has_memory {
         return Err(PlanFault::NoMemory(name));
     }
     let realloc = realloc_for(alloc, importer.exports, lowering)?;
-    if needs_realloc(lowering) && realloc.is_none() {
+    if has_realloc_option(lowering) && realloc.is_none() {
         return Err(PlanFault::NoRealloc(name));
     }
     let slot = if is_indirect(lowering) {

@@ -201,7 +201,7 @@ of_implied false l f = refl
 
 -- the exponent of a page size
 IsPageSize : Option ℕ → Type 0
-IsPageSize o = IfSome o (λ exponent. (exponent ≡ 0) ⊎ (exponent ≡ 16))
+IsPageSize o = IfSome o (λ page_size_log2. (page_size_log2 ≡ 0) ⊎ (page_size_log2 ≡ 16))
 
 page_size : (o : Option ℕ) → is_page_size o ≡ true → IsPageSize o
 unfolding IsPageSize
@@ -274,10 +274,10 @@ memory_to bytes m j =
     ≡ flags_code j.0 = rw (b.there, e.1.0.1) refl in
     rw e.2 (record {
       bounds = k.1;
-      exponent = k.2;
+      page_size_log2 = k.2;
       cut = j.3 ∙ rw (j.4.0, k.3, flags) refl;
       has_bounds = b.spelled;
-      has_exponent = e.1.0.0;
+      has_page_size_log2 = e.1.0.0;
       is_memory = record {
         ordered = b.ordered;
         maximum_if_shared = λ shared. b.there ∙ implied j.0.shared j.0.has_maximum j.4.1 shared;
@@ -292,16 +292,16 @@ unfolding has_maximum_if_shared made_memory IsPageSize
 memory_from bytes m s = (
   memory_flags m,
   flags_code (memory_flags m) ∷ [],
-  s.bounds ++ s.exponent,
+  s.bounds ++ s.page_size_log2,
   s.cut,
   (refl, of_implied m.shared (is_some m.maximum) s.is_memory.maximum_if_shared),
   (
     (m.initial, m.maximum),
     s.bounds,
-    s.exponent,
+    s.page_size_log2,
     refl,
     record { spelled = s.has_bounds; there = refl; ordered = s.is_memory.ordered },
-    (m.page_size_log2, ((s.has_exponent, refl), page_size_back m.page_size_log2 s.is_memory.known_page_size), refl, fits_from m s.is_memory),
+    (m.page_size_log2, ((s.has_page_size_log2, refl), page_size_back m.page_size_log2 s.is_memory.known_page_size), refl, fits_from m s.is_memory),
   ),
 )
 

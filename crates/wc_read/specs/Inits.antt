@@ -15,19 +15,19 @@ unfoldable pub constant_byte : ℕ → Option Constant
 constant_byte b =
     -- i32.const, i64.const, f32.const, f64.const
     if b == 0x41 then Some (Value I32)
-    else (if b == 0x42 then Some (Value I64)
-    else (if b == 0x43 then Some (Value F32)
-    else (if b == 0x44 then Some (Value F64)
+    else if b == 0x42 then Some (Value I64)
+    else if b == 0x43 then Some (Value F32)
+    else if b == 0x44 then Some (Value F64)
     -- ref.null
-    else (if b == 0xd0 then Some Null
+    else if b == 0xd0 then Some Null
     -- ref.func
-    else (if b == 0xd2 then Some Func
+    else if b == 0xd2 then Some Func
     -- global.get
-    else (if b == 0x23 then Some Global
+    else if b == 0x23 then Some Global
     -- i32.add, i32.sub, i32.mul
-    else (if is_between 0x6a 0x6c b then Some (Integer I32)
+    else if is_between 0x6a 0x6c b then Some (Integer I32)
     -- i64.add, i64.sub, i64.mul
-    else (if is_between 0x7c 0x7e b then Some (Integer I64) else None))))))))
+    else if is_between 0x7c 0x7e b then Some (Integer I64) else None
 
 abbrev pub constant_of : Opcode → Option Constant
 constant_of (Byte b) = constant_byte b

@@ -13,10 +13,10 @@ byte_token b =
     -- block, loop
     if b == 0x02 || b == 0x03 then Block
     -- if
-    else (if b == 0x04 then If
+    else if b == 0x04 then If
     -- else
-    else (if b == 0x05 then Else
-    else (if b == end_code then End else Plain)))
+    else if b == 0x05 then Else
+    else if b == end_code then End else Plain
 
 abbrev pub token_of : Opcode → Token
 token_of (Byte b) = byte_token b

@@ -35,76 +35,76 @@ byte_form b =
     -- unreachable, nop, else, end, return, drop, select
     if b == 0x00 || b == 0x01 || b == 0x05 || b == 0x0b || b == 0x0f || b == 0x1a || b == 0x1b then Some form_none
     -- block, loop, if
-    else (if is_between 0x02 0x04 b then Some form_block
+    else if is_between 0x02 0x04 b then Some form_block
     -- br, br_if, br_on_null, br_on_non_null
-    else (if b == 0x0c || b == 0x0d || b == 0xd5 || b == 0xd6 then Some (form_index Label)
+    else if b == 0x0c || b == 0x0d || b == 0xd5 || b == 0xd6 then Some (form_index Label)
     -- br_table
-    else (if b == 0x0e then Some form_labels
+    else if b == 0x0e then Some form_labels
     -- call, return_call, ref.func
-    else (if b == 0x10 || b == 0x12 || b == 0xd2 then Some (form_index (In Funcs))
+    else if b == 0x10 || b == 0x12 || b == 0xd2 then Some (form_index (In Funcs))
     -- call_indirect, return_call_indirect
-    else (if b == 0x11 || b == 0x13 then Some (form_indices (In Types) (In Tables))
+    else if b == 0x11 || b == 0x13 then Some (form_indices (In Types) (In Tables))
     -- call_ref, return_call_ref
-    else (if b == 0x14 || b == 0x15 then Some (form_index (In Types))
+    else if b == 0x14 || b == 0x15 then Some (form_index (In Types))
     -- select, with the types of its values
-    else (if b == 0x1c then Some form_val_types
+    else if b == 0x1c then Some form_val_types
     -- local.get, local.set, local.tee
-    else (if is_between 0x20 0x22 b then Some (form_index Local)
+    else if is_between 0x20 0x22 b then Some (form_index Local)
     -- global.get, global.set
-    else (if b == 0x23 || b == 0x24 then Some (form_index (In Globals))
+    else if b == 0x23 || b == 0x24 then Some (form_index (In Globals))
     -- table.get, table.set
-    else (if b == 0x25 || b == 0x26 then Some (form_index (In Tables))
+    else if b == 0x25 || b == 0x26 then Some (form_index (In Tables))
     -- i32.load to i64.store32
-    else (if is_between 0x28 0x3e b then Some form_mem_arg
+    else if is_between 0x28 0x3e b then Some form_mem_arg
     -- memory.size, memory.grow
-    else (if b == 0x3f || b == 0x40 then Some (form_index (In Memories))
+    else if b == 0x3f || b == 0x40 then Some (form_index (In Memories))
     -- i32.const
-    else (if b == 0x41 then Some form_i32
+    else if b == 0x41 then Some form_i32
     -- i64.const
-    else (if b == 0x42 then Some form_i64
+    else if b == 0x42 then Some form_i64
     -- f32.const
-    else (if b == 0x43 then Some (form_bytes 4)
+    else if b == 0x43 then Some (form_bytes 4)
     -- f64.const
-    else (if b == 0x44 then Some (form_bytes 8)
+    else if b == 0x44 then Some (form_bytes 8)
     -- i32.eqz to i64.extend32_s, ref.is_null, ref.as_non_null
-    else (if is_between 0x45 0xc4 b || b == 0xd1 || b == 0xd4 then Some form_none
+    else if is_between 0x45 0xc4 b || b == 0xd1 || b == 0xd4 then Some form_none
     -- ref.null
-    else (if b == 0xd0 then Some form_ref_type else None))))))))))))))))))
+    else if b == 0xd0 then Some form_ref_type else None
 
 unfoldable pub misc_form : ℕ → Option Form
 misc_form n =
     -- i32.trunc_sat_f32_s to i64.trunc_sat_f64_u
     if nat_le n 7 then Some form_none
     -- memory.init
-    else (if n == 8 then Some (form_indices Data (In Memories))
+    else if n == 8 then Some (form_indices Data (In Memories))
     -- data.drop
-    else (if n == 9 then Some (form_index Data)
+    else if n == 9 then Some (form_index Data)
     -- memory.copy
-    else (if n == 10 then Some (form_indices (In Memories) (In Memories))
+    else if n == 10 then Some (form_indices (In Memories) (In Memories))
     -- memory.fill
-    else (if n == 11 then Some (form_index (In Memories))
+    else if n == 11 then Some (form_index (In Memories))
     -- table.init
-    else (if n == 12 then Some (form_indices Elem (In Tables))
+    else if n == 12 then Some (form_indices Elem (In Tables))
     -- elem.drop
-    else (if n == 13 then Some (form_index Elem)
+    else if n == 13 then Some (form_index Elem)
     -- table.copy
-    else (if n == 14 then Some (form_indices (In Tables) (In Tables))
+    else if n == 14 then Some (form_indices (In Tables) (In Tables))
     -- table.grow, table.size, table.fill
-    else (if is_between 15 17 n then Some (form_index (In Tables)) else None))))))))
+    else if is_between 15 17 n then Some (form_index (In Tables)) else None
 
 unfoldable pub vector_form : ℕ → Option Form
 vector_form n =
     -- v128.load to v128.store, v128.load32_zero, v128.load64_zero
     if nat_le n 11 || n == 92 || n == 93 then Some form_mem_arg
     -- v128.const, i8x16.shuffle
-    else (if n == 12 || n == 13 then Some (form_bytes 16)
+    else if n == 12 || n == 13 then Some (form_bytes 16)
     -- i8x16.extract_lane_s to f64x2.replace_lane
-    else (if is_between 21 34 n then Some form_lane
+    else if is_between 21 34 n then Some form_lane
     -- v128.load8_lane to v128.store64_lane
-    else (if is_between 84 91 n then Some form_mem_arg_lane
+    else if is_between 84 91 n then Some form_mem_arg_lane
     -- i8x16.swizzle to i32x4.relaxed_dot_i8x16_i7x16_add_s; those between that are not assigned
     -- count as operators
-    else (if nat_le n 0x113 then Some form_none else None))))
+    else if nat_le n 0x113 then Some form_none else None
 
 unfoldable pub atomic_form : ℕ → Option Form
 atomic_form n =
@@ -112,7 +112,7 @@ atomic_form n =
     -- i32.atomic.load to i64.atomic.rmw32.cmpxchg_u
     if nat_le n 2 || is_between 0x10 0x4e n then Some form_mem_arg
     -- atomic.fence
-    else (if n == 3 then Some form_zero else None)
+    else if n == 3 then Some form_zero else None
 
 abbrev pub form_of : Opcode → Option Form
 form_of (Byte b) = byte_form b

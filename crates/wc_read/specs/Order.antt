@@ -8,7 +8,7 @@ use Rattle.wc_read.specs.Sections.{SectionValue, custom_id, code_id, data_id, da
 -- the position of a section by its id: the data count is before the code, and the data last
 abbrev pub section_position : ℕ → ℕ
 section_position id =
-    if id == data_count_id then 10 else (if id == code_id then 11 else (if id == data_id then 12 else id))
+    if id == data_count_id then 10 else if id == code_id then 11 else if id == data_id then 12 else id
 
 -- the section at the front is before the other; custom sections may occur anywhere
 abbrev pub ComesBefore : SectionValue → SectionValue → Type 0

@@ -38,7 +38,7 @@ plain_pass_kind (Some form_mem_arg) = MemArg
 plain_pass_kind (Some form_mem_arg_lane) = Never
 plain_pass_kind (Some form_i32) = ConstI32
 plain_pass_kind (Some form_i64) = ConstI64
-plain_pass_kind (Some (form_bytes n)) = if n == 4 then FourBytes else (if n == 8 then EightBytes else Never)
+plain_pass_kind (Some (form_bytes n)) = if n == 4 then FourBytes else if n == 8 then EightBytes else Never
 plain_pass_kind (Some form_lane) = Never
 plain_pass_kind (Some form_zero) = Never
 

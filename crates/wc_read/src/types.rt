@@ -2,7 +2,7 @@
 //! value types and of types of globals.
 
 ghost use Rattle.std.specs.Prelude.{◌≡◌, ◌≢◌, ◌-◌, ◌^◌, ◌<◌, ◌≤◌};
-ghost use Rattle.wc_read.specs.Limits.{page_exponent};
+ghost use Rattle.wc_read.specs.Limits.{page_size_log2_of};
 ghost use Rattle.wc_read.specs.Reading.Bytes.{Gives, GivesWithoutMemory, vector_at};
 ghost use Rattle.wc_read.specs.Types.{func_ref, extern_ref, is_reference};
 ghost use Rattle.wc_read.specs.Reading.Types.{type_index_at, reference_at, val_type_at, mutable_at, global_at};
@@ -55,19 +55,19 @@ pub struct MemoryType {
 }
 
 /// The exponent of a page's bytes, where a memory type gives none.
-pub const DEFAULT_PAGE_EXPONENT: u32 = 16;
+pub const DEFAULT_PAGE_SIZE_LOG2: u32 = 16;
 
 impl MemoryType {
     /// The bytes in a page (proposal custom page sizes): 2 to the exponent, 65536 where none is given. An exponent past
     /// 63, which no module spells, gives `u64::MAX`.
     pub fn page_size(&self) -> u64
-        ensures exponent { page_exponent self.now.page_size_log2 < 64
-            → result ≡ 2 ^ page_exponent self.now.page_size_log2 }
-        ensures past { 64 ≤ page_exponent self.now.page_size_log2 → result ≡ 2 ^ 64 - 1 }
+        ensures page_size_log2 { page_size_log2_of self.now.page_size_log2 < 64
+            → result ≡ 2 ^ page_size_log2_of self.now.page_size_log2 }
+        ensures past { 64 ≤ page_size_log2_of self.now.page_size_log2 → result ≡ 2 ^ 64 - 1 }
     {
-        let exponent = self.page_size_log2.unwrap_or(DEFAULT_PAGE_EXPONENT);
-        if exponent < u64::BITS {
-            1 << exponent
+        let page_size_log2 = self.page_size_log2.unwrap_or(DEFAULT_PAGE_SIZE_LOG2);
+        if page_size_log2 < u64::BITS {
+            1 << page_size_log2
         } else {
             u64::MAX
         }

@@ -10,7 +10,7 @@ use Rattle.wc_resolve.specs.declared.explain.Part.TheVariants.{World, Interface,
 use Rattle.wc_resolve.specs.declared.validate.order.OrderFault.{OrderFault}
 use Rattle.wc_resolve.specs.declared.validate.order.OrderFault.TheVariants.{Memory as NoMemory, Cycle as OnCycle}
 use Rattle.wc_resolve.specs.Places.{IsFirstBreach, IsBreach, DoAllFollow, IsExplained, IsPlaceOnCycle}
-use Rattle.wc_resolve.specs.Faults.{IsCause, IsOrderCause}
+use Rattle.wc_resolve.specs.Faults.{IsResolveCause, IsOrderCause}
 use Rattle.wc_resolve.specs.Ranges.{AreIdsInRange}
 use Rattle.wc_resolve.specs.WellFormed.{AreNamed, KeysMatch, AreNamesSpelled, HasNoResourceByValue, IsFree}
 use Rattle.wc_resolve.specs.World.{ResolveView, DoAllTypesPass, Leads, children}

@@ -9,17 +9,17 @@ use Rattle.wc_resolve.specs.Views.{TypeView}
 use Rattle.wc_resolve.specs.World.{ResolveView, HasCycle, Leads, children}
 use Rattle.wc_resolve.specs.WellFormed.{AreNamed, KeysMatch, ArePackagesDistinct, AreNamesSpelled, HasNoResourceByValue, HasNoEmptyType}
 
-abbrev pub IsCause : ResolveView → ResolveFault → Type 0
-IsCause r Memory = Unit {0}
-IsCause r IdRange = ¬ AreIdsInRange r
-IsCause r Cycle = AreIdsInRange r × HasCycle r.types
-IsCause r Unnamed = AreIdsInRange r × (¬ HasCycle r.types) × ¬ AreNamed r
-IsCause r KeyMismatch = AreIdsInRange r × (¬ HasCycle r.types) × AreNamed r × ¬ KeysMatch r
-IsCause r NameClash = AreIdsInRange r × (¬ HasCycle r.types) × AreNamed r × KeysMatch r × ¬ ArePackagesDistinct r
-IsCause r BadCharacter = AreIdsInRange r × (¬ HasCycle r.types) × AreNamed r × KeysMatch r × ArePackagesDistinct r × ¬ AreNamesSpelled r
-IsCause r ByValueResource =
+abbrev pub IsResolveCause : ResolveView → ResolveFault → Type 0
+IsResolveCause r Memory = Unit {0}
+IsResolveCause r IdRange = ¬ AreIdsInRange r
+IsResolveCause r Cycle = AreIdsInRange r × HasCycle r.types
+IsResolveCause r Unnamed = AreIdsInRange r × (¬ HasCycle r.types) × ¬ AreNamed r
+IsResolveCause r KeyMismatch = AreIdsInRange r × (¬ HasCycle r.types) × AreNamed r × ¬ KeysMatch r
+IsResolveCause r NameClash = AreIdsInRange r × (¬ HasCycle r.types) × AreNamed r × KeysMatch r × ¬ ArePackagesDistinct r
+IsResolveCause r BadCharacter = AreIdsInRange r × (¬ HasCycle r.types) × AreNamed r × KeysMatch r × ArePackagesDistinct r × ¬ AreNamesSpelled r
+IsResolveCause r ByValueResource =
     AreIdsInRange r × (¬ HasCycle r.types) × AreNamed r × KeysMatch r × ArePackagesDistinct r × AreNamesSpelled r × ¬ HasNoResourceByValue r
-IsCause r Empty =
+IsResolveCause r Empty =
     AreIdsInRange r × (¬ HasCycle r.types) × AreNamed r × KeysMatch r × ArePackagesDistinct r × AreNamesSpelled r × HasNoResourceByValue r × ¬ HasNoEmptyType r
 
 -- why there is no order of the types

@@ -6,7 +6,7 @@ use Rattle.wc_resolve.specs.declared.validate.order.OrderFault.{OrderFault}
 use Rattle.wc_resolve.specs.declared.validate.order.OrderFault.TheVariants.{Cycle as OnCycle}
 use Rattle.wc_resolve.specs.declared.explain.Part.{Part}
 use Rattle.wc_resolve.specs.declared.explain.Part.TheVariants.{World, Interface, TypeDef, Package}
-use Rattle.wc_resolve.specs.Faults.{IsCause}
+use Rattle.wc_resolve.specs.Faults.{IsResolveCause}
 use Rattle.wc_resolve.specs.Ranges.{IsWorldIn, IsInterfaceIn, IsTypeDefIn, IsPackageIn}
 use Rattle.wc_resolve.specs.Resources.{AreResourceFlags}
 use Rattle.wc_resolve.specs.Views.{WorldView, InterfaceView, TypeView, PackageView}
@@ -100,7 +100,7 @@ IsPlace r f p = IsBreach r f p
 -- a fault that is about no part: memory, or one whose cause does not stand
 abbrev pub IsUnplaced : ResolveView → ResolveFault → Type 0
 IsUnplaced r Memory = Unit {0}
-IsUnplaced r f = ¬ IsCause r f
+IsUnplaced r f = ¬ IsResolveCause r f
 
 abbrev pub IsExplained : ResolveView → ResolveFault → Option Part → Type 0
 IsExplained r f (Some p) = IsPlace r f p

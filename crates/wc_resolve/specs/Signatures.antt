@@ -46,7 +46,7 @@ first_as_pointer params = params
 -- the core parameters, but for a pointer to the result
 abbrev pub passed_types : AbiVariant → FunctionKind → List WasmType → List WasmType
 passed_types abi kind params =
-    if nat_lt (max_flat_params_of abi) (length params) then Pointer ∷ [] else (if is_exported_method kind abi then first_as_pointer params else params)
+    if nat_lt (max_flat_params_of abi) (length params) then Pointer ∷ [] else if is_exported_method kind abi then first_as_pointer params else params
 
 -- whether the result is passed indirectly
 abbrev pub has_indirect_result : AbiVariant → List WasmType → Bool → Bool

@@ -6,7 +6,7 @@ ghost use Rattle.semver.specs.Identifiers.{parts_text};
 ghost use Rattle.wc_resolve.specs.Contents.{holds_string, holds_string_or_list};
 ghost use Rattle.wc_resolve.specs.Views.{function_view, interface_view, item_view, key_view, package_name_view, package_view, type_view, world_view};
 ghost use Rattle.wc_resolve.specs.Dependencies.{AddsDependencies, aliased_at, dependency, direct_dependencies, id_of_interface, interface_ids, other_owner};
-ghost use Rattle.wc_resolve.specs.Faults.{IsCause};
+ghost use Rattle.wc_resolve.specs.Faults.{IsResolveCause};
 ghost use Rattle.wc_resolve.specs.Flat.{flat_of, flat_rule};
 ghost use Rattle.wc_resolve.specs.TypeRules.{Follows};
 ghost use Rattle.wc_resolve.specs.Futures.{IsFuturesEntry, entry_view, futures_of, futures_rule};
@@ -86,7 +86,7 @@ impl Resolve {
     pub fn build(alloc: Global, parts: Parts) -> Result<Resolve, ResolveFault>
         ensures ok { IfOk result (λ r. r ≡ parts_view parts) }
         ensures formed { IfOk result IsWellFormed }
-        ensures fault { IfErr result (IsCause (parts_view parts)) }
+        ensures fault { IfErr result (IsResolveCause (parts_view parts)) }
     {
         let kept = check(alloc, &parts)?;
         Ok(Resolve { parts, kept })

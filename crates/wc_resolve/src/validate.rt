@@ -3,7 +3,7 @@
 ghost use Rattle.std.specs.Prelude.{IfErr, IfOk, false, map, true};
 ghost use Rattle.wc_resolve.specs.ResolveParts.{parts_view};
 ghost use Rattle.wc_resolve.specs.Contents.{AreTextFlags};
-ghost use Rattle.wc_resolve.specs.Faults.{IsCause, IsOrderCause};
+ghost use Rattle.wc_resolve.specs.Faults.{IsResolveCause, IsOrderCause};
 ghost use Rattle.wc_resolve.specs.Flat.{AreFlattened, lists};
 ghost use Rattle.wc_resolve.specs.Futures.{AreFuturesEntries, entry_view};
 ghost use Rattle.wc_resolve.specs.Tables.{AreTables, IsOrder};
@@ -127,7 +127,7 @@ fn texts_of_parts(alloc: Global, parts: &Parts, order: &[usize]) -> Result<Vec<b
 /// The faults of `Resolve::build`.
 pub(crate) fn check(alloc: Global, parts: &Parts) -> Result<Tables, ResolveFault>
     ensures kept { IfOk result (AreTables (parts_view parts.now)) }
-    ensures fault { IfErr result (IsCause (parts_view parts.now)) }
+    ensures fault { IfErr result (IsResolveCause (parts_view parts.now)) }
 {
     if !are_ids_in_range(alloc, parts)? {
         return Err(ResolveFault::IdRange);

@@ -1,4 +1,4 @@
-//! The texts of faults: whether `Display` writes the text that is proved of `FaultText`.
+//! The texts of faults: whether `Display` writes the text that is proved of `Printable`.
 
 use crate::lines::Lines;
 use crate::rows::Row;
@@ -8,9 +8,10 @@ use std::alloc::{AllocError, Global};
 use std::fmt::Display;
 use wc_dedupe::DedupeFault;
 use wc_gc::GcFault;
+use wc_program::Printable;
 use wc_read::ReadFault;
-use wc_tool::{FaultText, ToolFault};
 use wc_write::{PutFailed, WriteFault, WriterSink};
+use wctrim_command::ToolFault;
 
 #[derive(Clone, Copy)]
 enum Call {
@@ -43,7 +44,7 @@ pub fn answer(alloc: Global, row: &Row<'_>, out: &mut Lines) -> Result<bool, All
 }
 
 /// The text that `Display` writes of a fault, and after it the bytes of the proved text, where that is another one.
-fn put_text<F: FaultText + Display>(alloc: Global, fault: &F, out: &mut Lines) {
+fn put_text<F: Printable + Display>(alloc: Global, fault: &F, out: &mut Lines) {
     let mut shown = Lines::new(alloc);
     write!(shown, "{fault}");
     let mut sink = WriterSink::new(Vec::new(alloc));

@@ -93,7 +93,14 @@ fn answer_on_names(
         Call::Liveness => put_answer(liveness_counted(alloc, bytes, names), out),
         Call::Trim => answer_trim(alloc, bytes, names, None, Some(16), out),
         Call::TrimFor => {
-            answer_trim(alloc, bytes, names, realloc_of(row), exponent_of(row), out);
+            answer_trim(
+                alloc,
+                bytes,
+                names,
+                realloc_of(row),
+                page_size_log2_in(row),
+                out,
+            );
         }
         Call::Explain => answer_explain(alloc, bytes, names, out),
     }
@@ -111,14 +118,14 @@ fn answer_trim(
     bytes: &[u8],
     names: &Set<String>,
     realloc: Option<&str>,
-    page: Option<u32>,
+    page_size_log2: Option<u32>,
     out: &mut Lines,
 )
-    requires { IfSome page (λ p. p ≤ 16) }
+    requires { IfSome page_size_log2 (λ p. p ≤ 16) }
 {
-    match page {
-        Some(page) if !names.is_empty() => {
-            put_trimmed(run(alloc, bytes, names, realloc, page), out);
+    match page_size_log2 {
+        Some(page_size_log2) if !names.is_empty() => {
+            put_trimmed(run(alloc, bytes, names, realloc, page_size_log2), out);
         }
         _ => {
             let _ = bad_row(out, "no names or no exponent", "");
@@ -132,11 +139,15 @@ fn realloc_of<'a>(row: &Row<'a>) -> Option<&'a str> {
 }
 
 /// The exponent that is the second argument, 16 at most.
-fn exponent_of(row: &Row<'_>) -> Option<u32>
-    ensures { IfSome result (λ page. page ≤ 16) }
+fn page_size_log2_in(row: &Row<'_>) -> Option<u32>
+    ensures { IfSome result (λ page_size_log2. page_size_log2 ≤ 16) }
 {
-    let page = row.arguments.get(1)?.parse::<u32>().ok()?;
-    if page > 16 { None } else { Some(page) }
+    let page_size_log2 = row.arguments.get(1)?.parse::<u32>().ok()?;
+    if page_size_log2 > 16 {
+        None
+    } else {
+        Some(page_size_log2)
+    }
 }
 
 fn answer_explain(alloc: Global, bytes: &[u8], names: &Set<String>, out: &mut Lines) {

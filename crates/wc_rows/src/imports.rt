@@ -123,17 +123,17 @@ fn parse_type_ref(nullable: bool, index: &str) -> Option<ValType> {
 struct Bounds {
     initial: Option<u64>,
     maximum: Option<u64>,
-    exponent: Option<u64>,
+    page_size_log2: Option<u64>,
 }
 
 fn parse_bounds(text: &str) -> Option<Bounds> {
     let (initial, rest) = cut_number(text, "min ")?;
     let (maximum, rest) = cut_number(rest, "max ")?;
-    let (exponent, rest) = cut_number(rest, "page ")?;
+    let (page_size_log2, rest) = cut_number(rest, "page ")?;
     let bounds = Bounds {
         initial,
         maximum,
-        exponent,
+        page_size_log2,
     };
     if rest.is_empty() { Some(bounds) } else { None }
 }
@@ -163,8 +163,8 @@ fn parse_memory_type(text: &str) -> Option<ImportType> {
 
 fn memory_type(memory64: bool, shared: bool, bounds: Bounds) -> Option<ImportType> {
     let initial = bounds.initial?;
-    let page_size_log2 = match bounds.exponent {
-        Some(exponent) => Some(u32::try_from(exponent).ok()?),
+    let page_size_log2 = match bounds.page_size_log2 {
+        Some(page_size_log2) => Some(u32::try_from(page_size_log2).ok()?),
         None => None,
     };
     Some(ImportType::Memory(MemoryType {

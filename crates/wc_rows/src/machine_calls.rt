@@ -67,8 +67,8 @@ fn number(word: &str, out: &mut Lines) -> u32 {
 /// `EXPONENT`: the growing realloc over pages of 2^EXPONENT bytes.
 fn growing_body(alloc: Global, words: &[&str], out: &mut Lines) -> Option<Vec<u8>> {
     let word = words.first().copied().unwrap_or("");
-    let exponent = number(word, out).min(16);
-    made(realloc_via_memory_grow(alloc, exponent), out)
+    let page_size_log2 = number(word, out).min(16);
+    made(realloc_via_memory_grow(alloc, page_size_log2), out)
 }
 
 /// `REALLOC STACK-POINTER [STATE]`: the allocation of a stack.

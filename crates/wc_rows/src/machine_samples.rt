@@ -91,19 +91,19 @@ fn growing_samples(alloc: Global, numbers: &mut Numbers, count: u32, out: &mut L
 /// Whether the growing realloc traps, or answers and grows the memory, as it has to, in a state and with arguments that
 /// are mostly those of a request for a stack.
 fn growing_agrees(alloc: Global, numbers: &mut Numbers, out: &mut Lines) -> bool {
-    let exponent = numbers.next() % 17;
+    let page_size_log2 = numbers.next() % 17;
     let args = [
         numbers.mostly(0),
         numbers.mostly(0),
         numbers.next(),
         numbers.mostly(STACK),
     ];
-    let old = some_pages(numbers, exponent);
+    let old = some_pages(numbers, page_size_log2);
     let is_granted = numbers.next() % 4 != 0;
-    let (outcome, pages) = grown(alloc, exponent, old, is_granted, &args);
+    let (outcome, pages) = grown(alloc, page_size_log2, old, is_granted, &args);
     keep(outcome, out);
-    if is_granted && is_stack_request(&args) && has_room(old, exponent) {
-        is_grown(outcome, pages, old, exponent)
+    if is_granted && is_stack_request(&args) && has_room(old, page_size_log2) {
+        is_grown(outcome, pages, old, page_size_log2)
     } else {
         matches!(outcome, Outcome::Trapped)
     }
@@ -118,9 +118,9 @@ fn keep(outcome: Outcome, out: &mut Lines) {
 }
 
 /// Whether the realloc answered with the end of a memory of so many pages, which it made larger.
-fn is_grown(outcome: Outcome, pages: u64, old: u64, exponent: u32) -> bool {
-    let bytes = ((old << exponent.min(16)) % (1 << 32)) as u32;
-    let grown = old.saturating_add(u64::from(STACK >> exponent.min(16)));
+fn is_grown(outcome: Outcome, pages: u64, old: u64, page_size_log2: u32) -> bool {
+    let bytes = ((old << page_size_log2.min(16)) % (1 << 32)) as u32;
+    let grown = old.saturating_add(u64::from(STACK >> page_size_log2.min(16)));
     match outcome {
         Outcome::Finished(Some(value)) => value == bytes && pages == grown,
         _ => false,
@@ -130,12 +130,12 @@ fn is_grown(outcome: Outcome, pages: u64, old: u64, exponent: u32) -> bool {
 /// What the growing realloc answers, and the size of the memory then.
 fn grown(
     alloc: Global,
-    exponent: u32,
+    page_size_log2: u32,
     pages: u64,
     is_granted: bool,
     args: &[u32],
 ) -> (Outcome, u64) {
-    let mut machine = Machine::new(alloc, exponent);
+    let mut machine = Machine::new(alloc, page_size_log2);
     machine.pages = pages;
     let outcome = if machine.grants.push(is_granted).is_ok() {
         growing_outcome(alloc, &mut machine, args)
@@ -165,14 +165,15 @@ fn is_stack_request(args: &[u32]) -> bool {
 }
 
 /// Whether a memory has room for a stack within 2^32 bytes.
-fn has_room(pages: u64, exponent: u32) -> bool {
-    pages.saturating_add(u64::from(STACK >> exponent.min(16))) <= (1 << 32) >> exponent.min(32)
+fn has_room(pages: u64, page_size_log2: u32) -> bool {
+    pages.saturating_add(u64::from(STACK >> page_size_log2.min(16)))
+        <= (1 << 32) >> page_size_log2.min(32)
 }
 
 /// The size of a memory, often such that it has no room for a stack, or just has.
-fn some_pages(numbers: &mut Numbers, exponent: u32) -> u64 {
-    let most = (1u64 << 32) >> exponent.min(32);
-    let stack = u64::from(STACK >> exponent.min(16)).max(1);
+fn some_pages(numbers: &mut Numbers, page_size_log2: u32) -> u64 {
+    let most = (1u64 << 32) >> page_size_log2.min(32);
+    let stack = u64::from(STACK >> page_size_log2.min(16)).max(1);
     let number = u64::from(numbers.next());
     match number % 4 {
         0 => most.saturating_sub(stack),

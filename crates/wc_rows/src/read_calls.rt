@@ -259,8 +259,8 @@ fn put_forms(out: &mut Lines, first: Opcode, last: Opcode, form: Option<Form>) {
 
 /// The bytes in a page of the exponent that is the argument, or of none.
 fn answer_page_size(row: &Row<'_>, out: &mut Lines) {
-    let exponent = argument(row, 0).parse::<u32>().ok();
-    if exponent.is_none() && !row.arguments.is_empty() {
+    let page_size_log2 = argument(row, 0).parse::<u32>().ok();
+    if page_size_log2.is_none() && !row.arguments.is_empty() {
         let _ = bad_row(out, "no exponent", argument(row, 0));
         return;
     }
@@ -269,7 +269,7 @@ fn answer_page_size(row: &Row<'_>, out: &mut Lines) {
         shared: false,
         initial: 1,
         maximum: None,
-        page_size_log2: exponent,
+        page_size_log2: page_size_log2,
     };
     out.number("", ty.page_size());
     out.end();

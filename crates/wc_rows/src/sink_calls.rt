@@ -1,6 +1,6 @@
 //! Calls of sinks that fail: `WriterSink` over a writer that fails, and commands over a sink that does.
 
-ghost use Rattle.wc_tool.specs.Command.{IsExecutable, command_value};
+ghost use Rattle.wctrim_command.specs.Command.{IsExecutable, command_value};
 
 use crate::input::{bad_row, bytes_of};
 use crate::lines::Lines;
@@ -10,8 +10,8 @@ use crate::table::named;
 use crate::tool_calls::{named_command, put_answer};
 use std::alloc::{AllocError, Global};
 use std::io::{self, Write};
-use wc_tool::{Command, execute};
 use wc_write::{PutFailed, Sink, WriterSink};
+use wctrim_command::{Command, execute};
 
 #[derive(Clone, Copy)]
 enum Call {

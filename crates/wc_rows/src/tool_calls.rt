@@ -1,7 +1,7 @@
-//! Calls of `wc_tool`.
+//! Calls of `wctrim_command`.
 
 ghost use Rattle.std.specs.Prelude.{IfSome, None};
-ghost use Rattle.wc_tool.specs.Command.{IsExecutable, command_value};
+ghost use Rattle.wctrim_command.specs.Command.{IsExecutable, command_value};
 
 use crate::input::{bad_row, bytes_of};
 use crate::lines::Lines;
@@ -11,8 +11,9 @@ use crate::table::named;
 use crate::values::{put_bytes_lines, put_fault};
 use std::alloc::{AllocError, Global};
 use std::{io, str};
-use wc_tool::{Command, FileStore, Output, ToolFault, execute, parse, run};
+use wc_program::{FileStore, Output, Shell};
 use wc_write::{PutFailed, Sink, WriterSink};
+use wctrim_command::{Command, ToolFault, execute, parse, run};
 
 /// Bytes of room for what is printed and written, made before a command runs. So memory runs out in the command alone.
 const ROOM: usize = 4096;
@@ -32,7 +33,7 @@ const CALLS: [(&str, Call); 3] = [
     ("run_program", Call::Program),
 ];
 
-/// Appends the answer of a call of `wc_tool`, and says whether the row's is one.
+/// Appends the answer of a call of `wctrim_command`, and says whether the row's is one.
 pub fn answer(alloc: Global, row: &Row<'_>, out: &mut Lines) -> Result<bool, AllocError> {
     match named(&CALLS, row.call) {
         Some(Call::Parse) => answer_parse(alloc, row, out),
@@ -79,12 +80,12 @@ fn put_options(out: &mut Lines, command: &Command<'_>) {
     match command {
         Command::Trim {
             realloc,
-            page,
+            page_size_log2,
             exports,
             ..
         } => {
             put_realloc(out, *realloc);
-            out.number("\npage ", *page as u64);
+            out.number("\npage ", *page_size_log2 as u64);
             out.end();
             put_exports(out, exports);
         }
@@ -184,7 +185,7 @@ fn put_trim_to(alloc: Global, exports: &[String], input: &[u8], out: &mut Lines)
         source: "in.wasm",
         target: "out.wasm",
         realloc: None,
-        page: 16,
+        page_size_log2: 16,
         exports,
     };
     put_executed(alloc, &command, input, out);
@@ -308,34 +309,34 @@ fn answer_program(alloc: Global, row: &Row<'_>, input: &[u8], out: &mut Lines) {
 }
 
 fn answer_files(alloc: Global, row: &Row<'_>, input: &[u8], output: Vec<u8>, out: &mut Lines) {
-    let mut files = RowFiles {
+    let files = RowFiles {
         alloc,
         input,
         output,
         is_written: false,
     };
     match Vec::with_capacity(alloc, ROOM) {
-        Ok(bytes) => answer_run(alloc, row, &mut files, bytes, out),
+        Ok(bytes) => answer_run(alloc, row, files, bytes, out),
         Err(_) => out.lack_memory(),
     }
 }
 
-fn answer_run(
-    alloc: Global,
-    row: &Row<'_>,
-    files: &mut RowFiles<'_>,
-    bytes: Vec<u8>,
-    out: &mut Lines,
-) {
-    let mut printed = Printed {
-        bytes,
-        failed: false,
+fn answer_run(alloc: Global, row: &Row<'_>, files: RowFiles<'_>, bytes: Vec<u8>, out: &mut Lines) {
+    let mut shell = Shell {
+        alloc,
+        seed: row_seed(),
+        files,
+        out: Printed {
+            bytes,
+            failed: false,
+        },
+        err: (),
     };
     match arguments_of(alloc, &row.arguments) {
         Ok(arguments) => {
-            let status = run(alloc, row_seed(), &Ok(arguments), files, &mut printed);
-            put_program(out, &printed.bytes, status);
-            put_output(out, files);
+            let status = run(&Ok(arguments), &mut shell);
+            put_program(out, &shell.out.bytes, status);
+            put_output(out, &shell.files);
         }
         Err(_) => out.lack_memory(),
     }

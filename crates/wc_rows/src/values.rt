@@ -115,7 +115,7 @@ pub fn put_memory_type(out: &mut Lines, ty: &MemoryType) {
     }
     put_bounds(out, ty.initial, ty.maximum);
     match ty.page_size_log2 {
-        Some(exponent) => out.number(" page ", exponent as u64),
+        Some(page_size_log2) => out.number(" page ", page_size_log2 as u64),
         None => {}
     }
 }

@@ -7,21 +7,21 @@ use Rattle.wc_gc.specs.KeptExports.{kept_exports}
 use Rattle.wc_gc.specs.Liveness.{TrimInput}
 use Rattle.wc_gc.specs.Parts.{SettingsValue}
 use Rattle.wc_gc.specs.Traces.{AddsNothing}
-use Rattle.wc_gc.specs.TrimmedText.{IsTrimmedRead}
-use Rattle.wc_gc.specs.Trimming.{IsTrimmed}
+use Rattle.wc_gc.specs.TrimmedText.{IsTrimmed}
+use Rattle.wc_gc.specs.Trimming.{IsImageText}
 use Rattle.wc_gc.specs.Unfolding.{UnfoldsAs, built_module, edited_from, in_image}
 
 -- the adapter that the bytes spell, with its kept exports and without a start function
-abbrev pub own : (s : SettingsValue) (w : TrimInput) (text : List ℕ) → IsTrimmed s w text → DecodedModule
+abbrev pub own : (s : SettingsValue) (w : TrimInput) (text : List ℕ) → IsImageText s w text → DecodedModule
 own s w text t = record (decode t.value) { exports = kept_exports w.required t.value.exports; start = None }
 
 -- what the image has is to every depth what it is in the adapter itself
-abbrev pub UnfoldsAsOwn : (s : SettingsValue) (w : TrimInput) (text : List ℕ) → IsTrimmed s w text → Type 0
+abbrev pub UnfoldsAsOwn : (s : SettingsValue) (w : TrimInput) (text : List ℕ) → IsImageText s w text → Type 0
 UnfoldsAsOwn s w text t =
     let edited = edited_from s w text t in
     UnfoldsAs (built_module (edited_image edited)) (own s w text t) (edited_rank edited) (in_image edited)
 
 -- the text of a trimmed adapter, and, if nothing is added, that of items of its own
 pub record IsTrimmedOwn (s : SettingsValue) (w : TrimInput) (text : List ℕ) : Type 0 where
-  pub read : IsTrimmedRead s w text
-  pub own : AddsNothing s (found_in (decode read.trimmed.value) read.trimmed.live) → UnfoldsAsOwn s w text read.trimmed
+  pub trimmed : IsTrimmed s w text
+  pub own : AddsNothing s (found_in (decode trimmed.image.value) trimmed.image.live) → UnfoldsAsOwn s w text trimmed.image

@@ -30,7 +30,7 @@ use wc_rows::rows::Row;
 use wc_rows::seeds::row_seed;
 use wc_rows::table::named;
 use wc_rows::values::{put_bytes_lines, put_fault};
-use wc_tool::ToolFault;
+use wctrim_command::ToolFault;
 
 /// Appends the answer of an example, and says whether the row's call is one.
 pub(crate) fn answer(alloc: Global, row: &Row<'_>, out: &mut Lines) -> Result<bool, AllocError> {

@@ -63,7 +63,7 @@ fn put_trimmed(
     buffer: Vec<u8>,
     out: &mut Lines,
 ) -> Result<(), Stop> {
-    let Some(page) = exponent_of(row) else {
+    let Some(page_size_log2) = page_size_log2_in(row) else {
         return Err(bad_row(out, "no exponent", row.call));
     };
     let Some((realloc, required)) = names.split_first() else {
@@ -77,7 +77,15 @@ fn put_trimmed(
     };
     let mut buffer = buffer;
     let seed = row_seed();
-    let answer = trim(alloc, seed, wasm, &required, realloc, page, &mut buffer);
+    let answer = trim(
+        alloc,
+        seed,
+        wasm,
+        &required,
+        realloc,
+        page_size_log2,
+        &mut buffer,
+    );
     put_answer(&answer, &buffer, out);
     Ok(())
 }
@@ -156,7 +164,7 @@ fn text_of(alloc: Global, lines: &[&str]) -> Result<String, AllocError> {
     Ok(text)
 }
 
-fn exponent_of(row: &Row<'_>) -> Option<u32> {
+fn page_size_log2_in(row: &Row<'_>) -> Option<u32> {
     row.arguments.get(1)?.parse::<u32>().ok()
 }
 

@@ -1,20 +1,20 @@
-//! Calls of `wc_plan_tool`.
+//! Calls of `wcplan_command`.
 
 use std::alloc::{AllocError, Global};
 use std::{io, str};
-use wc_plan_tool::{Command, DirectoryStore, NoCommand, parse, run};
+use wc_program::{DirectoryStore, FileStore, Output, Shell};
 use wc_rows::input::{Stop, answered, bad_row, bytes_of};
 use wc_rows::lines::Lines;
 use wc_rows::rows::Row;
 use wc_rows::seeds::row_seed;
 use wc_rows::values::put_bytes_lines;
-use wc_tool::{FileStore, Output};
 use wc_write::{PutFailed, Sink};
+use wcplan_command::{Command, NoCommand, parse, run};
 
 /// Bytes of room for what is printed, made before the program runs. So memory runs out in the program alone.
 const ROOM: usize = 4096;
 
-/// Appends the answer of a call of `wc_plan_tool`, and says whether the row's is one.
+/// Appends the answer of a call of `wcplan_command`, and says whether the row's is one.
 pub(crate) fn answer(alloc: Global, row: &Row<'_>, out: &mut Lines) -> Result<bool, AllocError> {
     answered(answer_call(alloc, row, out))
 }
@@ -291,20 +291,20 @@ fn answer_program(
     for line in &row.input {
         files.add(line, out)?;
     }
-    let mut printed = screen(alloc, calls.0)?;
-    let mut faults = screen(alloc, calls.1)?;
-    let status = run(
+    let printed = screen(alloc, calls.0)?;
+    let faults = screen(alloc, calls.1)?;
+    let mut shell = Shell {
         alloc,
-        row_seed(),
-        &arguments,
-        &mut files,
-        &mut printed,
-        &mut faults,
-    );
-    put_printed(out, "printed", &printed.bytes);
-    put_faults(out, &faults.bytes, &files)?;
+        seed: row_seed(),
+        files,
+        out: printed,
+        err: faults,
+    };
+    let status = run(&arguments, &mut shell);
+    put_printed(out, "printed", &shell.out.bytes);
+    put_faults(out, &shell.err.bytes, &shell.files)?;
     writeln!(out, "status {status}");
-    put_files(out, &files);
+    put_files(out, &shell.files);
     Ok(())
 }
 

@@ -26,7 +26,7 @@ use Rattle.wc_validate.specs.Laws.{RecordsExcludeFaults}
 use Rattle.wc_validate.specs.Exports.Record.{AreExports, HasMismatch, IsExportEntry, IsExportsFault, IsMismatched, core_exports}
 use Rattle.wc_validate.specs.Requirements.{AreMet, IsFirstUnmet, IsUnmetFault, Requirement, requirements}
 use Rattle.wc_validate.specs.Imports.Classify.{HasSignature, IsNameFault}
-use Rattle.wc_validate.specs.Validated.{HasNoCause, IsCause, IsExportsCause, IsExportsRecord, IsImportsCause, IsImportsRecord, IsModuleCause, IsRecordOf, IsImportScopeFor, ValidationInput, ModuleRecord, module_record}
+use Rattle.wc_validate.specs.Validated.{HasNoCause, IsValidateCause, IsExportsCause, IsExportsRecord, IsImportsCause, IsImportsRecord, IsModuleCause, IsRecordOf, IsImportScopeFor, ValidationInput, ModuleRecord, module_record}
 use Rattle.wc_validate.specs.declared.validate.ValidatedModule.{ValidatedModule}
 use Rattle.wc_validate.specs.declared.fault.ValidateFault.{ValidateFault}
 use Rattle.wc_validate.specs.declared.fault.ValidateFault.TheVariants.{Memory, Read, NotAModule, SignatureMismatch}
@@ -162,7 +162,7 @@ pub no_component : (bytes : List ℕ) (m : ModuleValue) → SpellsModule bytes m
 no_component bytes m s c = let fifth : 1 ≡ 13 = ap (λ z. get_or z 4 0) (sym s.has_frames.1 ∙ c.1) in absurd (omega (arith, fifth))
 
 no_fault : (e : EncoderView) → MeaningsUnique e.resolve → ExportsUnique → HasOneValue SpellsModule
-    → (j : ValidationInput) (bytes : List ℕ) (r : ModuleRecord) (f : ValidateFault) → j.encoder ≡ e → IsRecordOf j bytes r → IsCause j bytes f → f ≡ Memory
+    → (j : ValidationInput) (bytes : List ℕ) (r : ModuleRecord) (f : ValidateFault) → j.encoder ≡ e → IsRecordOf j bytes r → IsValidateCause j bytes f → f ≡ Memory
 no_fault e unique unique_exports one j bytes r Memory is p h = refl
 no_fault e unique unique_exports one j bytes r (Read f) is p h = absurd (h.2 p.value p.spelled)
 no_fault e unique unique_exports one j bytes r NotAModule is p h = absurd (no_component bytes p.value p.spelled h)

@@ -21,7 +21,7 @@ use Rattle.wc_validate.specs.Exports.Record.{AreExports, HasMismatch, IsMismatch
 use Rattle.wc_validate.specs.Laws.{PlacesAreCauses}
 use Rattle.wc_validate.specs.Places.{IsExportPlace, IsFirstLacking, IsFirstUnexported, IsImportPlace, IsMissingPlace, IsModulePlace, IsOfImport, PlaceView}
 use Rattle.wc_validate.specs.Requirements.{IsFirstUnmet, IsShortfall, IsUnmetFault, Requirement, callbacks, interface_functions, is_called_back, key_requirements, one_memory, requirements, type_requirement, typed_function, world_function}
-use Rattle.wc_validate.specs.Validated.{IsCause, IsCauseOfExports, IsCauseOfImports, IsImportScopeFor, IsModuleCause, IsNameScopeOf, ValidationInput}
+use Rattle.wc_validate.specs.Validated.{IsValidateCause, IsCauseOfExports, IsCauseOfImports, IsImportScopeFor, IsModuleCause, IsNameScopeOf, ValidationInput}
 use Rattle.wc_validate.proofs.PlaceLemmas.{fault_of_import}
 use Rattle.wc_validate.proofs.MissingLemmas.{keys_cut, not_all, two_memories}
 use Rattle.wc_validate.proofs.RequirementLemmas.{first_left, first_right}
@@ -189,7 +189,7 @@ module _ (j : ValidationInput) (m : ModuleValue) (f : ValidateFault) (p : PlaceV
       )
 
 cause_in : (j : ValidationInput) (bytes : List ℕ) (m : ModuleValue) (f : ValidateFault) → SpellsModule bytes m → IsModuleCause j m f → IsOfModule f
-    → IsCause j bytes f
+    → IsValidateCause j bytes f
 cause_in j bytes m Memory spelled h k = tt
 cause_in j bytes m (Read g) spelled h k = absurd k
 cause_in j bytes m NotAModule spelled h k = absurd k

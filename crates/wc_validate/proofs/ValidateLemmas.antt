@@ -56,7 +56,7 @@ use Rattle.wc_validate.specs.Exports.Record.{AreExports, AreRecordedBy, AreRefus
 use Rattle.wc_validate.specs.Requirements.{IsFirstUnmet, IsShortfall, IsUnmetFault, Requirement, callbacks, interface_functions, one_memory, requirements, typed_function, world_function}
 use Rattle.wc_validate.specs.Private.ValidationInputs.{HasRecordedExports, HasRefusedExports}
 use Rattle.wc_validate.specs.Private.RequiredExports.{AreMetBy, IsUnmetBy}
-use Rattle.wc_validate.specs.Validated.{IsCause, IsExportsRecord, IsImportsCause, IsImportsRecord, IsModuleCause, IsRecordOf, IsImportScopeFor, IsNameScopeOf, ValidationInput, module_record}
+use Rattle.wc_validate.specs.Validated.{IsValidateCause, IsExportsRecord, IsImportsCause, IsImportsRecord, IsModuleCause, IsRecordOf, IsImportScopeFor, IsNameScopeOf, ValidationInput, module_record}
 
 -- what names are looked up in, for an encoder
 names_are : (es : List (String Global × Adapter)) → map adapter_name es ≡ map (λ (a : List ℕ × AdapterView). a.0) (map adapter_entry es)
@@ -173,7 +173,7 @@ module_component : (j : ValidationInput) (m : ModuleValue) → ¬ IsModuleCause 
 module_component j m (inl h) = fault_not h.0 [] m.imports NotAModule (λ e a bad. bad) component_entry h.2
 module_component j m (inr h) = exports_component h.2.0 (core_exports m m.exports) j.keys (requirements (h.2.0).world.exports j.keys j.required) h.2.2
 
-cause_at : (j : ValidationInput) (bytes : List ℕ) (m : ModuleValue) (f : ValidateFault) → SpellsModule bytes m → IsModuleCause j m f → IsCause j bytes f
+cause_at : (j : ValidationInput) (bytes : List ℕ) (m : ModuleValue) (f : ValidateFault) → SpellsModule bytes m → IsModuleCause j m f → IsValidateCause j bytes f
 cause_at j bytes m Memory spelled h = tt
 cause_at j bytes m (Read f) spelled h = absurd (module_read j m f h)
 cause_at j bytes m NotAModule spelled h = absurd (module_component j m h)
@@ -187,13 +187,13 @@ record_of (Err f) j bytes m spelled imports exports = tt
 
 pub cause_of : (r : Result ValidatedModule ValidateFault) (j : ValidationInput) (bytes : List ℕ) (m : ModuleValue) → SpellsModule bytes m
     → IfErr r (IsModuleCause j m)
-    → IfErr r (IsCause j bytes)
+    → IfErr r (IsValidateCause j bytes)
 cause_of (Ok v) j bytes m spelled h = tt
 cause_of (Err f) j bytes m spelled h = cause_at j bytes m f spelled h
 
 -- why bytes are not read
 pub read_cause : {T : Type 0} (j : ValidationInput) (bytes : List ℕ) (r : Result T ReadFault) (f : ReadFault) → r ≡ Err f
-    → (f ≢ read.Memory → SpellsNothing SpellsModule bytes) → IsErrOf r read.Component ↔ IsComponent bytes → IsCause j bytes (of_read f)
+    → (f ≢ read.Memory → SpellsNothing SpellsModule bytes) → IsErrOf r read.Component ↔ IsComponent bytes → IsValidateCause j bytes (of_read f)
 read_cause j bytes r read.Memory at refused component = tt
 read_cause j bytes r read.Component at refused component = component.0 at
 read_cause j bytes r f at refused component =

@@ -17,7 +17,7 @@ use Rattle.wc_validate.specs.Imports.Record.{ImportScope, IsCoreImport, IsEntry,
 use Rattle.wc_validate.specs.NameScopes.{HasItsWorld}
 use Rattle.wc_validate.specs.Places.{IsPlace}
 use Rattle.wc_validate.specs.PlaceViews.{PlaceView}
-use Rattle.wc_validate.specs.Validated.{HasNoCause, IsCause, IsRecordOf, IsImportScopeFor, ValidationInput, ModuleRecord}
+use Rattle.wc_validate.specs.Validated.{HasNoCause, IsValidateCause, IsRecordOf, IsImportScopeFor, ValidationInput, ModuleRecord}
 use Rattle.wc_validate.specs.declared.fault.ValidateFault.{ValidateFault}
 
 -- of a module there is one record at most, for one validation input
@@ -69,4 +69,4 @@ RecordedExportsInRange e =
 
 -- where a fault has a place in the module that bytes spell, it has a cause there
 abbrev pub PlacesAreCauses : Type 0
-PlacesAreCauses = (j : ValidationInput) (bytes : List ℕ) (f : ValidateFault) (p : PlaceView) → IsPlace j bytes f p → IsCause j bytes f
+PlacesAreCauses = (j : ValidationInput) (bytes : List ℕ) (f : ValidateFault) (p : PlaceView) → IsPlace j bytes f p → IsValidateCause j bytes f

@@ -135,12 +135,12 @@ IsModuleCause j m f =
     ⊎ ((imports : Records) × IsRecordOfImports j m imports × IsCauseOfExports j m f)
 
 -- the cause of each fault: the bytes spell no module; they are a component; or it is the fault of the module
-abbrev pub IsCause : ValidationInput → List ℕ → ValidateFault → Type 0
-IsCause j bytes Memory = Unit {0}
-IsCause j bytes (Read f) = (of_read f ≡ Read f) × (¬ IsComponent bytes) × SpellsNothing SpellsModule bytes
-IsCause j bytes NotAModule = IsComponent bytes
-IsCause j bytes f = (m : ModuleValue) × SpellsModule bytes m × IsModuleCause j m f
+abbrev pub IsValidateCause : ValidationInput → List ℕ → ValidateFault → Type 0
+IsValidateCause j bytes Memory = Unit {0}
+IsValidateCause j bytes (Read f) = (of_read f ≡ Read f) × (¬ IsComponent bytes) × SpellsNothing SpellsModule bytes
+IsValidateCause j bytes NotAModule = IsComponent bytes
+IsValidateCause j bytes f = (m : ModuleValue) × SpellsModule bytes m × IsModuleCause j m f
 
 -- no fault but Memory has a cause
 abbrev pub HasNoCause : ValidationInput → List ℕ → Type 0
-HasNoCause j bytes = (f : ValidateFault) → f ≢ Memory → ¬ IsCause j bytes f
+HasNoCause j bytes = (f : ValidateFault) → f ≢ Memory → ¬ IsValidateCause j bytes f

@@ -6,7 +6,7 @@ ghost use Rattle.wc_resolve.specs.Views.{key_view};
 ghost use Rattle.wc_validate.specs.Private.Imports.Contexts.{HasLibrary, HasTypedImports};
 ghost use Rattle.wc_validate.specs.Exports.Contexts.{IsExportContext};
 ghost use Rattle.wc_validate.specs.NameScopes.{AreInterfacesOf, name_scope_of};
-ghost use Rattle.wc_validate.specs.Validated.{HasNoCause, IsCause, IsCauseOfExports, IsCauseOfImports, IsModuleCause, IsNameScopeOf, IsRecordOf, IsRecordOfExports, IsRecordOfImports, adapter_input_of, library_of, main_input, module_record};
+ghost use Rattle.wc_validate.specs.Validated.{HasNoCause, IsValidateCause, IsCauseOfExports, IsCauseOfImports, IsModuleCause, IsNameScopeOf, IsRecordOf, IsRecordOfExports, IsRecordOfImports, adapter_input_of, library_of, main_input, module_record};
 ghost use Rattle.wc_validate.specs.Private.ValidationInputs.{main_input_requiring, validation_input_of, AreExportsRecorded, AreExportsRefused};
 
 use crate::ValidateFault;
@@ -219,7 +219,8 @@ fn validate_bytes(
     ensures recorded { IfOk result
         (λ v. IsRecordOf (validation_input_of validation_input.entry) bytes.now
         (module_record v)) }
-    ensures fault { IfErr result (IsCause (validation_input_of validation_input.entry) bytes.now) }
+    ensures fault { IfErr result
+        (IsValidateCause (validation_input_of validation_input.entry) bytes.now) }
     ensures no_cause { OnOk result
         (HasNoCause (validation_input_of validation_input.entry) bytes.now) }
 {
@@ -257,7 +258,7 @@ fn validate_main<'a>(
 ) -> Result<ValidatedModule, ValidateFault>
     ensures recorded { IfOk result (λ v. IsRecordOf (main_input_requiring encoder.now
         (option_copied import_map.entry) functions.now.entries) bytes.now (module_record v)) }
-    ensures fault { IfErr result (IsCause (main_input_requiring encoder.now
+    ensures fault { IfErr result (IsValidateCause (main_input_requiring encoder.now
         (option_copied import_map.entry) functions.now.entries) bytes.now) }
     ensures no_cause { OnOk result (HasNoCause (main_input_requiring encoder.now
         (option_copied import_map.entry) functions.now.entries) bytes.now) }
@@ -306,7 +307,7 @@ pub fn validate_module(
 ) -> Result<ValidatedModule, ValidateFault>
     ensures recorded { IfOk result (λ v. IsRecordOf (main_input encoder.now
         (option_copied import_map.entry)) bytes.now (module_record v)) }
-    ensures fault { IfErr result (IsCause (main_input encoder.now
+    ensures fault { IfErr result (IsValidateCause (main_input encoder.now
         (option_copied import_map.entry)) bytes.now) }
     // Without a fault there is no cause.
     ensures no_cause { OnOk result (HasNoCause (main_input encoder.now
@@ -345,7 +346,7 @@ pub fn validate_adapter_module<'a>(
     ensures recorded { IfOk result (λ v. IsRecordOf (adapter_input_of encoder.now library_info.entry
         exports.now.keys required_by_import.now.entries)
         bytes.now (module_record v)) }
-    ensures fault { IfErr result (IsCause (adapter_input_of encoder.now library_info.entry
+    ensures fault { IfErr result (IsValidateCause (adapter_input_of encoder.now library_info.entry
         exports.now.keys required_by_import.now.entries)
         bytes.now) }
     // Without a fault there is no cause.

@@ -18,10 +18,10 @@ use Rattle.wc_encoder.specs.Adapters.{adapter_entry as input_entry}
 use Rattle.wc_encoder.specs.EncoderParts.{EncoderView, world_exports}
 use Rattle.wc_encoder.specs.Entries.{Entries}
 use Rattle.wc_validate.specs.Imports.Map.{required_in}
-use Rattle.wc_validate.specs.Validated.{IsCause as IsModuleCause, IsRecordOf, ModuleRecord, main_input}
+use Rattle.wc_validate.specs.Validated.{IsValidateCause, IsRecordOf, ModuleRecord, main_input}
 use Rattle.wc_validate.specs.declared.fault.ValidateFault.{ValidateFault}
 use Rattle.wc_world.specs.Adapters.{HasOtherName, NamedAdapter, is_adapter_needed, is_needed, needed_adapters}
-use Rattle.wc_world.specs.Causes.{IsCause, IsFaultOf, IsFirst, IsFirstFault, IsFirstStop, IsNeededStop, IsMemory, IsMemoryOf, IsReachedMemory, IsValidAdapter, IsStopOf}
+use Rattle.wc_world.specs.Causes.{IsComponentWorldCause, IsFaultOf, IsFirst, IsFirstFault, IsFirstStop, IsNeededStop, IsMemory, IsMemoryOf, IsReachedMemory, IsValidAdapter, IsStopOf}
 use Rattle.wc_world.specs.Views.{NamedWorldAdapter}
 use Rattle.wc_world.specs.World.{AreAdaptersAmong, IsAdapterOf}
 use Rattle.wc_world.specs.WorldViews.{adapter_entry}
@@ -169,7 +169,7 @@ needed_or_memory e main x f needed (inl memory) = inl memory
 needed_or_memory e main x f needed (inr fault) = inr (needed, fault)
 
 -- the fault of the adapters has its cause, the main module being valid
-pub adapters_cause : (e : EncoderView) (main : ModuleRecord) (f : WorldFault) → IsRecordOf (main_input e e.module_import_map) e.module_bytes main → IsFirstFault e main f → IsCause e f
+pub adapters_cause : (e : EncoderView) (main : ModuleRecord) (f : WorldFault) → IsRecordOf (main_input e e.module_import_map) e.module_bytes main → IsFirstFault e main f → IsComponentWorldCause e f
 adapters_cause e main (Main v) h first = absurd first.here
 adapters_cause e main f h first = record { main = main; recorded = h; first = first }
 
@@ -186,7 +186,7 @@ first_cases e main xs P Q h =
       | inr q ↦ inr (record { front = h.front; adapter = h.adapter; back = h.back; cut = h.cut; are_valid = h.are_valid; here = q })
     ]
 
-pub first_or_memory : (e : EncoderView) (main : ModuleRecord) (f : WorldFault) → IsRecordOf (main_input e e.module_import_map) e.module_bytes main → (f ≡ Memory) ⊎ IsFirstStop e main f → IsMemory e f ⊎ IsCause e f
+pub first_or_memory : (e : EncoderView) (main : ModuleRecord) (f : WorldFault) → IsRecordOf (main_input e e.module_import_map) e.module_bytes main → (f ≡ Memory) ⊎ IsFirstStop e main f → IsMemory e f ⊎ IsComponentWorldCause e f
 first_or_memory e main f h (inl memory) = inl (subst (IsMemory e) (sym memory) tt)
 first_or_memory e main f h (inr stop) =
     elim (first_cases e main (needed_adapters e main) (λ x. IsFaultOf e main x f) (λ x. IsMemoryOf e main x f) stop) [
@@ -195,7 +195,7 @@ first_or_memory e main f h (inr stop) =
     ]
 
 -- the main module is refused
-pub main_refused : (e : EncoderView) (f : ValidateFault) → IsModuleCause (main_input e e.module_import_map) e.module_bytes f → IsMemory e (Main f) ⊎ IsCause e (Main f)
+pub main_refused : (e : EncoderView) (f : ValidateFault) → IsValidateCause (main_input e e.module_import_map) e.module_bytes f → IsMemory e (Main f) ⊎ IsComponentWorldCause e (Main f)
 main_refused e f h = refused_or_memory (main_input e e.module_import_map) e.module_bytes f h
 
 -- of an adapter that the walk has come to, under the name that was read

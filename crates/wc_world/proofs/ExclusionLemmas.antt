@@ -15,7 +15,7 @@ use Rattle.wc_gc.specs.EditedImage.{edited_image}
 use Rattle.wc_gc.specs.KeptExports.{kept_exports}
 use Rattle.wc_gc.specs.Liveness.{IsLive, TrimInput}
 use Rattle.wc_gc.specs.Parts.{SettingsValue}
-use Rattle.wc_gc.specs.Trimming.{IsTrimCause, IsTrimFault, IsTrimmed}
+use Rattle.wc_gc.specs.Trimming.{IsImageText, IsTrimCause, IsTrimFault}
 use Rattle.wc_gc.specs.declared.fault.GcFault.{GcFault}
 use Rattle.wc_gc.specs.declared.fault.GcFault.TheVariants.{Memory as trim_memory}
 use Rattle.wc_validate.specs.Imports.Map.{memory_in}
@@ -27,7 +27,7 @@ use Rattle.wc_world.specs.Causes.{IsAdaptersCause, IsFaultOf, IsFirstFault, IsMi
 use Rattle.wc_world.specs.Laws.{WorldsExcludeFaults}
 use Rattle.wc_world.specs.Options.{OptionsOf}
 use Rattle.wc_world.specs.Views.{ComponentWorldView, NamedWorldAdapter, WorldAdapterView}
-use Rattle.wc_world.specs.World.{IsAdapterOf, IsTrimmedOrLibrary, IsTrimmedAdapter, IsWorldOf, settings_of, trim_input_of}
+use Rattle.wc_world.specs.World.{IsAdapterOf, IsTrimmedOrLibrary, IsTrimmedAdapter, IsWorldOf, settings_of, adapter_trim_input}
 use Rattle.wc_world.specs.declared.fault.WorldFault.{WorldFault}
 use Rattle.wc_world.specs.declared.fault.WorldFault.TheVariants.{Memory, Main, Adapter, Trim, Minimized, PageSize}
 
@@ -55,7 +55,7 @@ same_live required m n a b same p q =
     let at : (x : ItemIndex) → a x ≡ b x = λ x. same_test (a x) (b x) (IsLive required n x) (subst (λ z. IsTrue (a x) ↔ IsLive required z x) same (p x)) (q x) in
     λ k x. at x k
 
-same_text : HasOneValue SpellsModule → (s : SettingsValue) (w : TrimInput) (text other : List ℕ) → IsTrimmed s w text → IsTrimmed s w other → text ≡ other
+same_text : HasOneValue SpellsModule → (s : SettingsValue) (w : TrimInput) (text other : List ℕ) → IsImageText s w text → IsImageText s w other → text ≡ other
 same_text one s w text other p q =
     let values = one w.bytes p.value q.value p.spelled q.spelled in
     p.written ∙ (ap (λ m. image_text s w.required m p.live) values ∙ (ap (image_text s w.required q.value) (same_live w.required p.value q.value p.live q.live values p.decides q.decides) ∙ sym q.written))
@@ -82,22 +82,22 @@ module _ (e : EncoderView) (unique : RecordsUnique e) (excludes : RecordsExclude
 
     -- an adapter that is trimmed
     module _ (y : WorldAdapterView) (a : IsTrimmedAdapter e main x y) where
-      text_of : (first : ModuleRecord) (text : List ℕ) → IsRecordOf (validation_input_of e main x) x.1.wasm first → IsTrimmed (settings_of e main first) (trim_input_of main x first) text → text ≡ y.wasm
+      text_of : (first : ModuleRecord) (text : List ℕ) → IsRecordOf (validation_input_of e main x) x.1.wasm first → IsImageText (settings_of e main first) (adapter_trim_input main x first) text → text ≡ y.wasm
       text_of first text original h =
           let same = same_record x.1.wasm x.1.wasm first a.first refl original a.original in
-          same_text one (settings_of e main a.first) (trim_input_of main x a.first) text y.wasm (subst (λ z. IsTrimmed (settings_of e main z) (trim_input_of main x z) text) same h) a.trimmed.trimmed
+          same_text one (settings_of e main a.first) (adapter_trim_input main x a.first) text y.wasm (subst (λ z. IsImageText (settings_of e main z) (adapter_trim_input main x z) text) same h) a.trimmed.image
 
       not_untrimmed : (f : GcFault) → ¬ IsUntrimmed e main x f
       not_untrimmed f h =
           let same = same_record x.1.wasm x.1.wasm h.valid.first a.first refl h.valid.original a.original in
-          let stopped = subst (λ z. IsTrimFault (settings_of e main z) (trim_input_of main x z) f) same h.stopped in
-          no_trim_fault (settings_of e main a.first) (trim_input_of main x a.first) f stopped h.no_memory a.no_cause
+          let stopped = subst (λ z. IsTrimFault (settings_of e main z) (adapter_trim_input main x z) f) same h.stopped in
+          no_trim_fault (settings_of e main a.first) (adapter_trim_input main x a.first) f stopped h.no_memory a.trimmed.no_cause
 
       not_minimized : (f : ValidateFault) → ¬ IsMinimizedFault e main x f
-      not_minimized f h = not_refused (validation_input_of e main x) y.wasm y.info f refl a.last (subst (λ z. IsRefused (validation_input_of e main x) z f) (text_of h.reached.valid.first h.reached.text h.reached.valid.original h.reached.trimmed.trimmed) h.refused)
+      not_minimized f h = not_refused (validation_input_of e main x) y.wasm y.info f refl a.last (subst (λ z. IsRefused (validation_input_of e main x) z f) (text_of h.reached.valid.first h.reached.text h.reached.valid.original h.reached.trimmed.image) h.refused)
 
     same_info : (y z : WorldAdapterView) (o : Option LibraryView) → IsTrimmedOrLibrary e main x y o → IsTrimmedOrLibrary e main x z o → y.info ≡ z.info
-    same_info y z None a b = same_record y.wasm z.wasm y.info z.info (text_of z b a.first y.wasm a.original a.trimmed.trimmed) a.last b.last
+    same_info y z None a b = same_record y.wasm z.wasm y.info z.info (text_of z b a.first y.wasm a.original a.trimmed.image) a.last b.last
     same_info y z (Some library) a b = same_record y.wasm z.wasm y.info z.info (a.same_bytes ∙ sym b.same_bytes) a.recorded b.recorded
 
     not_other_pages : (y : NamedWorldAdapter) (own mains : ℕ) → IsAdapterOf e main x y → ¬ IsPageFault e main x own mains

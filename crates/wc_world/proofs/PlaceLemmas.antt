@@ -17,7 +17,7 @@ use Rattle.wc_gc.specs.TrimPlaces.{IsExplained as IsTrimExplained, IsPlace as Is
 use Rattle.wc_gc.specs.declared.fault.GcFault.{GcFault}
 use Rattle.wc_gc.specs.declared.trim_place.TrimPlace.{TrimPlace}
 use Rattle.wc_validate.specs.Places.{IsExplained, IsUnplaced}
-use Rattle.wc_validate.specs.Validated.{IsCause as IsModuleCause, ModuleRecord, ValidationInput, main_input}
+use Rattle.wc_validate.specs.Validated.{IsValidateCause, ModuleRecord, ValidationInput, main_input}
 use Rattle.wc_validate.specs.declared.fault.ValidateFault.{ValidateFault}
 use Rattle.wc_validate.specs.declared.fault.ValidateFault.TheVariants as validate
 use Rattle.wc_validate.specs.declared.place.Place.{Place}
@@ -25,7 +25,7 @@ use Rattle.wc_world.specs.Adapters.{NamedAdapter, is_adapter_needed, required_na
 use Rattle.wc_world.specs.Places.{IsMainRefused, IsNeededUnder, IsNotTrimmed, IsTrimUnreached, IsValidationPlace, IsWorldExplained}
 use Rattle.wc_world.specs.Private.AdapterInput.{IsInputFault, IsInputRecord, IsInputTrimmedText, IsNeeded, main_of, named_adapter, required_of}
 use Rattle.wc_world.specs.Private.Explained.{IsAdapterAnswer, IsIn, IsInputAnswer, IsInputMinimized, IsMinimizedAnswer, IsNamedAnswer, IsRefusal, IsTrimAnswer, IsTrimRefusal, IsUnderAnswer, IsValidationAnswer, input_of}
-use Rattle.wc_world.specs.World.{IsMainRecord, trim_input_of}
+use Rattle.wc_world.specs.World.{IsMainRecord, adapter_trim_input}
 use Rattle.wc_world.specs.declared.adapters.AdapterInput.{AdapterInput}
 use Rattle.wc_world.specs.declared.fault.WorldFault.{WorldFault}
 use Rattle.wc_world.specs.declared.fault.WorldFault.TheVariants.{Memory, Main, Adapter, Trim, Minimized, PageSize}
@@ -41,9 +41,9 @@ unlike b P law is p = let t : true ≡ false = sym (law.1 p) ∙ is in let bad :
 
 -- the main module is refused
 pub main_refused_by : (e : EncoderView) (f : ValidateFault) (renames : Option (List RenameValue)) (bytes : List ℕ) → renames ≡ e.module_import_map → bytes ≡ e.module_bytes → f ≢ validate.Memory
-    → IsModuleCause (main_input e renames) bytes f → IsMainRefused e
+    → IsValidateCause (main_input e renames) bytes f → IsMainRefused e
 main_refused_by e f renames bytes same is other h =
-    (f, (other, subst (λ b. IsModuleCause (main_input e e.module_import_map) b f) is (subst (λ z. IsModuleCause (main_input e z) bytes f) same h)))
+    (f, (other, subst (λ b. IsValidateCause (main_input e e.module_import_map) b f) is (subst (λ z. IsValidateCause (main_input e z) bytes f) same h)))
 
 -- a place in it
 pub main_answer : (e : EncoderView) (f : ValidateFault) (renames : Option (List RenameValue)) (bytes : List ℕ) (o : Option Place) → renames ≡ e.module_import_map → bytes ≡ e.module_bytes
@@ -94,7 +94,6 @@ minimized_input g first text h = (
     valid = record { first = first; trims = h.no_library; original = h.original };
     text = text;
     trimmed = h.trimmed;
-    no_cause = h.no_cause;
   },
   refl,
 )
@@ -111,7 +110,7 @@ abbrev trim_input_by : List ℕ → List (List ℕ) → TrimInput
 trim_input_by b ns = record { bytes = b; required = ns }
 
 module _ (g : AdapterInput) (needed : IsNeeded g) (first : ModuleRecord) (bytes : List ℕ) (names : List (String Global)) where
-  pub trim_input_is : bytes ≡ g.adapter.now.wasm.items → names_of names ≡ required_names (required_of g) first.exports → trim_input bytes names ≡ trim_input_of (main_of g) (named_adapter g) first
+  pub trim_input_is : bytes ≡ g.adapter.now.wasm.items → names_of names ≡ required_names (required_of g) first.exports → trim_input bytes names ≡ adapter_trim_input (main_of g) (named_adapter g) first
   trim_input_is is are =
       ap (λ b. trim_input_by b (names_of names)) is
       ∙ ap (trim_input_by g.adapter.now.wasm.items) (are ∙ ap (λ r. required_names r first.exports) needed.required)

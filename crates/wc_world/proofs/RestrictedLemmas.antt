@@ -21,14 +21,11 @@ use Rattle.wc_names.specs.ExportViews.{ExportView}
 use Rattle.wc_names.specs.SameButIndices.{without_indices}
 use Rattle.wc_names.specs.Imports.{ExternType, func_type, global_type, memory_type, table_type}
 use Rattle.wc_gc.specs.EditedImage.{edited_image}
-use Rattle.wc_gc.specs.Laws.{AreSettings}
 use Rattle.wc_gc.specs.Liveness.{TrimInput}
 use Rattle.wc_gc.specs.Parts.{SettingsValue}
 use Rattle.wc_gc.specs.Restriction as trimming
-use Rattle.wc_gc.specs.TrimmedText.{IsTrimmedRead}
-use Rattle.wc_gc.specs.Trimming.{IsTrimCause}
+use Rattle.wc_gc.specs.TrimmedText.{IsTrimmed}
 use Rattle.wc_gc.specs.Unfolding.{edited_from}
-use Rattle.wc_gc.specs.declared.fault.GcFault.{GcFault}
 use Rattle.wc_gc.proofs.ImportOriginLemmas.{zip_weaker}
 use Rattle.wc_validate.specs.Imports.Entries.{first_occurrences}
 use Rattle.wc_validate.specs.Imports.Record.{extern_type}
@@ -43,7 +40,7 @@ use Rattle.wc_validate.proofs.ExclusionLemmas.{no_component}
 use Rattle.wc_validate.proofs.InstanceLemmas.{same}
 use Rattle.wc_world.specs.Adapters.{NamedAdapter, validation_input_of, required_names}
 use Rattle.wc_world.specs.Restricted.{IsCollision, IsTrimFor, RefusedAsCollision, TrimmedIsRestricted}
-use Rattle.wc_world.specs.World.{settings_of, trim_input_of}
+use Rattle.wc_world.specs.World.{settings_of, adapter_trim_input}
 
 -- the types of items, as they are recorded
 
@@ -124,20 +121,20 @@ recorded one j bytes r m h s = subst (λ z. IsModuleRecord j z r) (one bytes h.v
 module _ (e : EncoderView) (restriction : trimming.TrimmedIsRestriction) (one : HasOneValue SpellsModule) where
   module _ (j : ValidationInput) (s : SettingsValue) (w : TrimInput) (text : List ℕ) (first : ModuleRecord) (t : IsTrimFor e j s w text first) where
     abbrev adapter : ModuleValue
-    adapter = t.trimmed.trimmed.value
+    adapter = t.trimmed.image.value
 
     restricted : (m : ModuleValue) → SpellsModule text m → trimming.IsRestriction s.realloc w.required adapter m
-    restricted = restriction s w text t.settings t.bytes t.trimmed.trimmed t.no_cause
+    restricted = restriction s w text t.bytes t.trimmed
 
     original : IsModuleRecord j adapter first
-    original = recorded one j w.bytes first adapter t.original t.trimmed.trimmed.spelled
+    original = recorded one j w.bytes first adapter t.original t.trimmed.image.spelled
 
     -- the module that is read of the trimmed adapter
     abbrev image : ModuleValue
-    image = written_module (edited_image (edited_from s w text t.trimmed.trimmed))
+    image = written_module (edited_image (edited_from s w text t.trimmed.image))
 
     spelled : SpellsModule text image
-    spelled = subst (λ z. SpellsModule z image) (sym t.trimmed.trimmed.written) t.trimmed.read.spelled
+    spelled = subst (λ z. SpellsModule z image) (sym t.trimmed.image.written) t.trimmed.read.spelled
 
   pub trimmed_restricted : RestrictionsRecorded e → TrimmedIsRestricted e
   trimmed_restricted law j s w text first last t r =
@@ -146,7 +143,7 @@ module _ (e : EncoderView) (restriction : trimming.TrimmedIsRestriction) (one : 
       record {
         adapter = adapter j s w text first t;
         trimmed = m;
-        spells_adapter = t.trimmed.trimmed.spelled;
+        spells_adapter = t.trimmed.image.spelled;
         spells_trimmed = r.spelled;
         restriction = of;
         records = law j (adapter j s w text first t) m first last w.required t.encoder t.no_library t.no_renames (original j s w text first t) t.needed (restricts s.realloc w.required (adapter j s w text first t) m of) (recorded one j text last m r r.spelled);
@@ -200,17 +197,15 @@ needed_names j r =
     }
 
 -- an adapter of an encoder, trimmed as a component's world has it
-pub trimmed_for : (e : EncoderView) (main : ModuleRecord) (x : NamedAdapter) (first : ModuleRecord) (text : List ℕ) → x.1.library_info ≡ None → AreSettings (settings_of e main first) → AreBytes x.1.wasm
-    → IsRecordOf (validation_input_of e main x) x.1.wasm first → IsTrimmedRead (settings_of e main first) (trim_input_of main x first) text → ((f : GcFault) → ¬ (IsTrimCause (settings_of e main first) (trim_input_of main x first) f))
-    → IsTrimFor e (validation_input_of e main x) (settings_of e main first) (trim_input_of main x first) text first
-trimmed_for e main x first text none settings bytes original trimmed no_cause = record {
+pub trimmed_for : (e : EncoderView) (main : ModuleRecord) (x : NamedAdapter) (first : ModuleRecord) (text : List ℕ) → x.1.library_info ≡ None → AreBytes x.1.wasm
+    → IsRecordOf (validation_input_of e main x) x.1.wasm first → IsTrimmed (settings_of e main first) (adapter_trim_input main x first) text
+    → IsTrimFor e (validation_input_of e main x) (settings_of e main first) (adapter_trim_input main x first) text first
+trimmed_for e main x first text none bytes original trimmed = record {
   encoder = refl;
   no_library = none;
   no_renames = refl;
-  settings = settings;
   bytes = bytes;
   original = original;
   trimmed = trimmed;
-  no_cause = no_cause;
   needed = needed_names (validation_input_of e main x) first;
 }

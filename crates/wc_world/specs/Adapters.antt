@@ -6,7 +6,7 @@ use Rattle.std.specs.Str.{bytes_eq}
 use Rattle.std.specs.String.{string_eq}
 use Rattle.std.specs.declared.alloc.Global.{Global}
 use Rattle.wc_read.specs.declared.types.MemoryType.{MemoryType}
-use Rattle.wc_read.specs.Limits.{page_exponent}
+use Rattle.wc_read.specs.Limits.{page_size_log2_of}
 use Rattle.wc_read.specs.Types.{FuncTypeValue}
 use Rattle.wc_resolve.specs.Views.{ItemView, KeyView, function_item, interface_item, type_item}
 use Rattle.wc_resolve.specs.World.{ResolveView}
@@ -65,12 +65,12 @@ abbrev pub main_realloc : Bool → ExportRecord → Option (List ℕ)
 main_realloc grows exports = cond grows None (own_or_general (first_name is_adapter_realloc exports) exports)
 
 -- the exponent of the pages of the memory that an adapter imports; no module spells more than 16
-abbrev pub trim_exponent : Option MemoryType → ℕ
-trim_exponent memory = min (option_map_or (λ (t : MemoryType). page_exponent t.page_size_log2) memory 16) 16
+abbrev pub trim_page_size_log2 : Option MemoryType → ℕ
+trim_page_size_log2 memory = min (option_map_or (λ (t : MemoryType). page_size_log2_of t.page_size_log2) memory 16) 16
 
 -- the bytes in a page of a memory, in 64 bits
 abbrev pub page_size : MemoryType → ℕ
-page_size t = if nat_lt (page_exponent t.page_size_log2) 64 then 2 ^ page_exponent t.page_size_log2 else 2 ^ 64 - 1
+page_size t = if nat_lt (page_size_log2_of t.page_size_log2) 64 then 2 ^ page_size_log2_of t.page_size_log2 else 2 ^ 64 - 1
 
 -- the bytes in a page of the main module's memory; 65536, where it exports none
 abbrev pub exported_memory : ExportRecord → Option (List ℕ × MemoryType)

@@ -4,18 +4,18 @@ use Rattle.std.specs.Prelude.{◌≡◌, ◌≢◌, ◌⊎◌, ℕ, List, ◌∷
 use Rattle.std.specs.declared.alloc.Global.{Global}
 use Rattle.wc_read.specs.declared.types.MemoryType.{MemoryType}
 use Rattle.wc_encoder.specs.EncoderParts.{EncoderView}
-use Rattle.wc_gc.specs.TrimmedText.{IsTrimmedRead}
-use Rattle.wc_gc.specs.Trimming.{IsTrimCause, IsTrimFault}
+use Rattle.wc_gc.specs.TrimmedText.{IsTrimmed}
+use Rattle.wc_gc.specs.Trimming.{IsTrimFault}
 use Rattle.wc_gc.specs.declared.fault.GcFault.{GcFault}
 use Rattle.wc_gc.specs.declared.fault.GcFault.TheVariants.{Memory as trim_memory}
 use Rattle.wc_validate.specs.Imports.Map.{memory_in}
-use Rattle.wc_validate.specs.Validated.{IsCause as IsModuleCause, IsRecordOf, ValidationInput, ModuleRecord, main_input}
+use Rattle.wc_validate.specs.Validated.{IsValidateCause, IsRecordOf, ValidationInput, ModuleRecord, main_input}
 use Rattle.wc_validate.specs.declared.fault.ValidateFault.{ValidateFault}
 use Rattle.wc_validate.specs.declared.fault.ValidateFault.TheVariants.{Memory as module_memory}
 use Rattle.wc_world.specs.Adapters.{NamedAdapter, is_adapter_needed, validation_input_of, needed_adapters, main_page_size, page_size}
 use Rattle.wc_world.specs.Restricted.{IsCollision}
 use Rattle.wc_world.specs.Views.{NamedWorldAdapter, WorldAdapterView}
-use Rattle.wc_world.specs.World.{IsAdapterOf, IsTrimmedOrLibrary, settings_of, trim_input_of}
+use Rattle.wc_world.specs.World.{IsAdapterOf, IsTrimmedOrLibrary, settings_of, adapter_trim_input}
 use Rattle.wc_world.specs.declared.fault.WorldFault.{WorldFault}
 use Rattle.wc_world.specs.declared.fault.WorldFault.TheVariants.{Memory, Main, Adapter, Trim, Minimized, PageSize}
 
@@ -25,7 +25,7 @@ IsNamed make name f = (f ≡ Memory) ⊎ ((s : String Global) × (string_bytes s
 
 -- a module is refused by a fault other than Memory
 abbrev pub IsRefused : ValidationInput → List ℕ → ValidateFault → Type 0
-IsRefused j bytes f = (f ≢ module_memory) × IsModuleCause j bytes f
+IsRefused j bytes f = (f ≢ module_memory) × IsValidateCause j bytes f
 
 -- an adapter is to be trimmed: it is no library, and valid
 pub record IsTrimReached (e : EncoderView) (main : ModuleRecord) (x : NamedAdapter) : Type 0 where
@@ -33,17 +33,16 @@ pub record IsTrimReached (e : EncoderView) (main : ModuleRecord) (x : NamedAdapt
   pub trims : x.1.library_info ≡ None
   pub original : IsRecordOf (validation_input_of e main x) x.1.wasm first
 
--- an adapter is trimmed, and no fault of trimming has a cause
+-- an adapter is trimmed
 pub record IsMinimizedReached (e : EncoderView) (main : ModuleRecord) (x : NamedAdapter) : Type 0 where
   pub valid : IsTrimReached e main x
   pub text : List ℕ
-  pub trimmed : IsTrimmedRead (settings_of e main valid.first) (trim_input_of main x valid.first) text
-  pub no_cause : (f : GcFault) → ¬ IsTrimCause (settings_of e main valid.first) (trim_input_of main x valid.first) f
+  pub trimmed : IsTrimmed (settings_of e main valid.first) (adapter_trim_input main x valid.first) text
 
 -- an adapter that is valid is not trimmed
 pub record IsUntrimmed (e : EncoderView) (main : ModuleRecord) (x : NamedAdapter) (f : GcFault) : Type 0 where
   pub valid : IsTrimReached e main x
-  pub stopped : IsTrimFault (settings_of e main valid.first) (trim_input_of main x valid.first) f
+  pub stopped : IsTrimFault (settings_of e main valid.first) (adapter_trim_input main x valid.first) f
   pub no_memory : f ≢ trim_memory
 
 -- an adapter that is valid is trimmed, and its bytes are refused: they import one name of the main module twice
@@ -119,9 +118,9 @@ pub record IsAdaptersCause (e : EncoderView) (f : WorldFault) : Type 0 where
   pub first : IsFirstFault e main f
 
 -- the cause of each fault but those of memory: the main module is refused, or else an adapter
-abbrev pub IsCause : EncoderView → WorldFault → Type 0
-IsCause e (Main f) = IsRefused (main_input e e.module_import_map) e.module_bytes f
-IsCause e f = IsAdaptersCause e f
+abbrev pub IsComponentWorldCause : EncoderView → WorldFault → Type 0
+IsComponentWorldCause e (Main f) = IsRefused (main_input e e.module_import_map) e.module_bytes f
+IsComponentWorldCause e f = IsAdaptersCause e f
 
 -- an allocation failed at a step of an adapter, the main module being valid
 pub record IsAdaptersMemory (e : EncoderView) (f : WorldFault) : Type 0 where
@@ -137,4 +136,4 @@ IsMemory e f = IsAdaptersMemory e f
 
 -- no fault but those of memory has a cause
 abbrev pub HasNoCause : EncoderView → Type 0
-HasNoCause e = (f : WorldFault) → ¬ IsCause e f
+HasNoCause e = (f : WorldFault) → ¬ IsComponentWorldCause e f

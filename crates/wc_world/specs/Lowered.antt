@@ -18,7 +18,7 @@ use Rattle.wc_names.specs.Keys.{resource_at}
 use Rattle.wc_names.specs.Views.{ImportView, imported_resource_drop, interface_func, world_func}
 use Rattle.wc_validate.specs.Imports.Map.{memory_in}
 use Rattle.wc_validate.specs.Validated.{ModuleRecord}
-use Rattle.wc_world.specs.Options.{OptionsOf, signature_of}
+use Rattle.wc_world.specs.Options.{memory_flag, OptionsOf, realloc_flag, signature_of}
 use Rattle.wc_world.specs.Slots.{all_imports, imports_of}
 use Rattle.wc_world.specs.Views.{ImportMapView, ImportedView, LoweringKey, LoweringView, NamedWorldAdapter, direct, indirect, resource_drop}
 
@@ -55,11 +55,11 @@ abbrev pub lowerer_of : ResolveView → OptionsOf → Bool → List ImportView �
 lowerer_of r options has_memory imports = record { resolve = r; options = options; imports = imports; has_memory = has_memory }
 
 -- options with a memory or a realloc need the main module's memory
-abbrev pub needs_memory : ℕ → Bool
-needs_memory options = (bit_and options 1 == 1) || (bit_and options 2 == 2)
+abbrev pub needs_main_memory : ℕ → Bool
+needs_main_memory options = (bit_and options memory_flag == memory_flag) || (bit_and options realloc_flag == realloc_flag)
 
 abbrev pub lowered_with : Lowerer → FunctionView → AbiVariant → ℕ → LoweringView
-lowered_with l f abi options = cond (l.has_memory || not (needs_memory options)) (direct options) (indirect (signature_of l.resolve abi f) options)
+lowered_with l f abi options = cond (l.has_memory || not (needs_main_memory options)) (direct options) (indirect (signature_of l.resolve abi f) options)
 
 abbrev pub lowered_function : Lowerer → FunctionView → AbiVariant → LoweringView
 lowered_function l f abi = lowered_with l f abi (l.options l.resolve f abi)

@@ -16,12 +16,25 @@ use Rattle.wc_resolve.specs.World.{ResolveView}
 abbrev pub OptionsOf : Type 0
 OptionsOf = ResolveView → FunctionView → AbiVariant → ℕ
 
--- memory is 1, realloc 2, the encoding of strings 4, async 8
+-- the flags of the options
+abbrev pub memory_flag : ℕ
+memory_flag = 1
+
+abbrev pub realloc_flag : ℕ
+realloc_flag = 2
+
+abbrev pub string_encoding_flag : ℕ
+string_encoding_flag = 4
+
+abbrev pub async_flag : ℕ
+async_flag = 8
+
 abbrev pub bit_if : ℕ → Bool → ℕ
 bit_if bit b = if b then bit else 0
 
 abbrev pub option_bits : Bool → Bool → Bool → Bool → ℕ
-option_bits memory realloc encoding is_async = bit_if 1 memory + (bit_if 2 realloc + (bit_if 4 encoding + bit_if 8 is_async))
+option_bits memory realloc encoding is_async =
+    bit_if memory_flag memory + (bit_if realloc_flag realloc + (bit_if string_encoding_flag encoding + bit_if async_flag is_async))
 
 -- one of the parameters of a function passes a test; its result passes a test
 abbrev pub any_param : (WitType → Bool) → FunctionView → Bool

@@ -15,7 +15,7 @@ use Rattle.wc_validate.specs.Validated.{ModuleRecord, ValidationInput, main_inpu
 use Rattle.wc_validate.specs.declared.fault.ValidateFault.{ValidateFault}
 use Rattle.wc_world.specs.Adapters.{NamedAdapter, is_adapter_needed, validation_input_of}
 use Rattle.wc_world.specs.Causes.{IsMinimizedReached, IsRefused, IsTrimReached, IsUntrimmed}
-use Rattle.wc_world.specs.World.{IsMainRecord, trim_input_of}
+use Rattle.wc_world.specs.World.{IsMainRecord, adapter_trim_input}
 use Rattle.wc_world.specs.declared.fault.WorldFault.{WorldFault}
 use Rattle.wc_world.specs.declared.fault.WorldFault.TheVariants.{Main, Adapter, Trim, Minimized}
 use Rattle.wc_world.specs.declared.places.ModulePlace.{ModulePlace}
@@ -64,12 +64,12 @@ IsOriginalUnplaced e f main x = IsUnplaced (validation_input_of e main x) x.1.wa
 
 -- the same as it is to be trimmed
 abbrev pub IsTrimPlace : EncoderView → GcFault → ModulePlace → ModuleRecord → NamedAdapter → Type 0
-IsTrimPlace e f p main x = (reached : IsTrimReached e main x) × IsTrimmingPlace (trim_input_of main x reached.first) f p
+IsTrimPlace e f p main x = (reached : IsTrimReached e main x) × IsTrimmingPlace (adapter_trim_input main x reached.first) f p
 
 abbrev pub IsTrimUnplaced : EncoderView → GcFault → ModuleRecord → NamedAdapter → Type 0
 IsTrimUnplaced e f main x =
     IsTrimUnreached e main x
-    ⊎ ((reached : IsTrimReached e main x) × ((p : TrimPlace) → ¬ IsPlaceOfTrim (trim_input_of main x reached.first) f p))
+    ⊎ ((reached : IsTrimReached e main x) × ((p : TrimPlace) → ¬ IsPlaceOfTrim (adapter_trim_input main x reached.first) f p))
 
 -- the same as it is trimmed
 abbrev pub IsMinimizedPlace : EncoderView → ValidateFault → ModulePlace → ModuleRecord → NamedAdapter → Type 0

@@ -4,15 +4,12 @@ use Rattle.std.specs.Prelude.{◌≡◌, ◌≢◌, ℕ, List, None}
 use Rattle.wc_read.specs.Modules.{ModuleValue, SpellsModule}
 use Rattle.wc_write.specs.Values.{AreBytes}
 use Rattle.wc_encoder.specs.EncoderParts.{EncoderView}
-use Rattle.wc_gc.specs.Laws.{AreSettings}
 use Rattle.wc_gc.specs.Liveness.{TrimInput}
 use Rattle.wc_gc.specs.Parts.{SettingsValue}
 use Rattle.wc_gc.specs.Restriction.{IsRestriction}
-use Rattle.wc_gc.specs.TrimmedText.{IsTrimmedRead}
-use Rattle.wc_gc.specs.Trimming.{IsTrimCause}
-use Rattle.wc_gc.specs.declared.fault.GcFault.{GcFault}
+use Rattle.wc_gc.specs.TrimmedText.{IsTrimmed}
 use Rattle.wc_validate.specs.Restriction.{AreNeeded, HasCollision, IsRestrictedRecord}
-use Rattle.wc_validate.specs.Validated.{IsCause, IsRecordOf, ValidationInput, ModuleRecord}
+use Rattle.wc_validate.specs.Validated.{IsValidateCause, IsRecordOf, ValidationInput, ModuleRecord}
 use Rattle.wc_validate.specs.declared.fault.ValidateFault.{ValidateFault}
 use Rattle.wc_validate.specs.declared.fault.ValidateFault.TheVariants.{DuplicateImport, Memory}
 
@@ -33,17 +30,15 @@ pub record IsCollision (text : List ℕ) (f : ValidateFault) : Type 0 where
   pub spelled : SpellsModule text trimmed
   pub collides : HasCollision trimmed
 
--- an adapter, no library, that is valid for a validation input, and its text trimmed without a fault; the exports that
--- are recorded and those that the validation input requires are required
+-- an adapter, no library, that is valid for a validation input, and its trimmed text; the exports that are recorded and
+-- those that the validation input requires are required
 pub record IsTrimFor (e : EncoderView) (j : ValidationInput) (s : SettingsValue) (w : TrimInput) (text : List ℕ) (first : ModuleRecord) : Type 0 where
   pub encoder : j.encoder ≡ e
   pub no_library : j.library ≡ None
   pub no_renames : j.renames ≡ None
-  pub settings : AreSettings s
   pub bytes : AreBytes w.bytes
   pub original : IsRecordOf j w.bytes first
-  pub trimmed : IsTrimmedRead s w text
-  pub no_cause : (f : GcFault) → ¬ (IsTrimCause s w f)
+  pub trimmed : IsTrimmed s w text
   pub needed : AreNeeded j first w.required
 
 -- the record of a trimmed adapter is that of the adapter, restricted
@@ -57,4 +52,4 @@ TrimmedIsRestricted e =
 abbrev pub RefusedAsCollision : EncoderView → Type 0
 RefusedAsCollision e =
     (j : ValidationInput) (s : SettingsValue) (w : TrimInput) (text : List ℕ) (first : ModuleRecord) (f : ValidateFault)
-    → IsTrimFor e j s w text first → f ≢ Memory → IsCause j text f → IsCollision text f
+    → IsTrimFor e j s w text first → f ≢ Memory → IsValidateCause j text f → IsCollision text f

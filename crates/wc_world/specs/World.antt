@@ -6,12 +6,10 @@ use Rattle.wc_encoder.specs.Adapters.{LibraryView}
 use Rattle.wc_encoder.specs.EncoderParts.{EncoderView, world_exports}
 use Rattle.wc_gc.specs.Liveness.{TrimInput}
 use Rattle.wc_gc.specs.Parts.{SettingsValue}
-use Rattle.wc_gc.specs.TrimmedText.{IsTrimmedRead}
-use Rattle.wc_gc.specs.Trimming.{IsTrimCause}
-use Rattle.wc_gc.specs.declared.fault.GcFault.{GcFault}
+use Rattle.wc_gc.specs.TrimmedText.{IsTrimmed}
 use Rattle.wc_validate.specs.Imports.Map.{memory_in, required_in}
 use Rattle.wc_validate.specs.Validated.{IsRecordOf, ModuleRecord, main_input}
-use Rattle.wc_world.specs.Adapters.{NamedAdapter, is_adapter_needed, validation_input_of, main_page_size, main_realloc, page_size, required_names, trim_exponent, HasOtherName}
+use Rattle.wc_world.specs.Adapters.{NamedAdapter, is_adapter_needed, validation_input_of, main_page_size, main_realloc, page_size, required_names, trim_page_size_log2, HasOtherName}
 use Rattle.wc_world.specs.Live.{AreLive}
 use Rattle.wc_world.specs.Lowered.{lowered}
 use Rattle.wc_world.specs.Options.{OptionsOf}
@@ -24,25 +22,24 @@ abbrev pub IsMainRecord : EncoderView → ModuleRecord → Type 0
 IsMainRecord e r = IsRecordOf (main_input e e.module_import_map) e.module_bytes r
 
 -- what an adapter is trimmed by: its bytes, and the exports that are required of it
-abbrev pub trim_input_of : ModuleRecord → NamedAdapter → ModuleRecord → TrimInput
-trim_input_of main x first = record { bytes = x.1.wasm; required = required_names (required_in main.imports x.0) first.exports }
+abbrev pub adapter_trim_input : ModuleRecord → NamedAdapter → ModuleRecord → TrimInput
+adapter_trim_input main x first = record { bytes = x.1.wasm; required = required_names (required_in main.imports x.0) first.exports }
 
 -- how an adapter is trimmed: by the main module's realloc, and by the pages of the memory that the adapter imports
 abbrev pub settings_of : EncoderView → ModuleRecord → ModuleRecord → SettingsValue
 settings_of e main first = record {
   realloc = main_realloc e.realloc_via_memory_grow main.exports;
-  exponent = trim_exponent (memory_in first.imports);
+  page_size_log2 = trim_page_size_log2 (memory_in first.imports);
 }
 
--- an adapter that is trimmed: it is valid, its bytes are trimmed, so that each item unfolds as before, no fault of trimming
--- has a cause, and these bytes are valid; what is recorded of them is what is recorded of the adapter, restricted
+-- an adapter that is trimmed: it is valid, its bytes are trimmed, so that each item unfolds as before, and these bytes are
+-- valid; what is recorded of them is what is recorded of the adapter, restricted
 pub record IsTrimmedAdapter (e : EncoderView) (main : ModuleRecord) (x : NamedAdapter) (w : WorldAdapterView) : Type 0 where
   pub first : ModuleRecord
   pub original : IsRecordOf (validation_input_of e main x) x.1.wasm first
-  pub trimmed : IsTrimmedRead (settings_of e main first) (trim_input_of main x first) w.wasm
-  pub no_cause : (f : GcFault) → ¬ IsTrimCause (settings_of e main first) (trim_input_of main x first) f
+  pub trimmed : IsTrimmed (settings_of e main first) (adapter_trim_input main x first) w.wasm
   pub last : IsRecordOf (validation_input_of e main x) w.wasm w.info
-  pub restricted : IsRestrictedTrim (settings_of e main first) (trim_input_of main x first) w.wasm first w.info
+  pub restricted : IsRestrictedTrim (settings_of e main first) (adapter_trim_input main x first) w.wasm first w.info
 
 -- a library in the world of a component: its bytes are those of the encoder, borrowed, and valid
 pub record IsBorrowedLibrary (e : EncoderView) (main : ModuleRecord) (x : NamedAdapter) (w : WorldAdapterView) : Type 0 where

@@ -15,9 +15,9 @@ ghost use Rattle.wc_world.specs.WorldViews.{adapter_view, adapters_view};
 
 use crate::adapter::WorldAdapter;
 use crate::fault::WorldFault;
-use crate::restricted::{settings_are_valid, trimmed_is_restricted};
+use crate::restricted::trimmed_is_restricted;
 use crate::trimming::{
-    is_needed, main_page_size, main_realloc, page_size, required_names, trim_exponent,
+    is_needed, main_page_size, main_realloc, page_size, required_names, trim_page_size_log2,
 };
 use std::alloc::Global;
 use std::borrow::CowSlice;
@@ -27,6 +27,13 @@ use wc_maps::{Map, Set};
 use wc_read::FuncType;
 use wc_validate::{ValidateFault, ValidatedModule, validate_adapter_module};
 use wc_write::laws::slices_are_bytes;
+
+/// An encoder, and what its main module imports and exports.
+#[derive(Clone, Copy)]
+pub(crate) struct MainContext<'a, 'b> {
+    pub(crate) encoder: &'a ComponentEncoder,
+    pub(crate) main: &'b ValidatedModule,
+}
 
 /// An adapter or a library, and the main module for which it is trimmed.
 #[derive(Clone, Copy)]
@@ -111,11 +118,10 @@ fn trim_to(
     ensures fault { IfErr result (IsInputFault input.now) }
 {
     let realloc = main_realloc(input.encoder, input.main);
-    let exponent = trim_exponent(first.imports.imported_memory());
+    let page_size_log2 = trim_page_size_log2(first.imports.imported_memory());
     let wasm: &[u8] = &input.adapter.wasm;
-    settings_are_valid(realloc, exponent);
     slices_are_bytes(wasm);
-    match run(alloc, wasm, names, realloc, exponent) {
+    match run(alloc, wasm, names, realloc, page_size_log2) {
         Ok(bytes) => Ok(bytes),
         Err(fault) => Err(trim_fault(alloc, input.name, fault)),
     }
@@ -284,20 +290,21 @@ fn add_input<'a>(
 /// Adds an adapter or a library, if a component has it.
 fn add_adapter<'a>(
     alloc: Global,
-    encoder: &'a ComponentEncoder,
-    main: &ValidatedModule,
+    context: MainContext<'a, '_>,
     name: &'a str,
     adapter: &'a Adapter,
     found: &mut Map<&'a str, WorldAdapter<'a>>,
 ) -> Result<(), WorldFault>
-    ensures is_adapter { AddsAdapterOnOk result encoder.now (module_record main.now)
-        (name.now, input_view adapter.now) (adapters_view found.old) (adapters_view found.new) }
-    ensures fault { IfErr result (λ f. (f ≡ Memory) ⊎ IsNeededStop encoder.now
-        (module_record main.now) (name.now, input_view adapter.now) f) }
+    ensures is_adapter { let c = context.entry in AddsAdapterOnOk result c.encoder.now
+        (module_record c.main.now) (name.now, input_view adapter.now)
+        (adapters_view found.old) (adapters_view found.new) }
+    ensures fault { let c = context.entry in IfErr result (λ f. (f ≡ Memory) ⊎ IsNeededStop
+        c.encoder.now (module_record c.main.now) (name.now, input_view adapter.now) f) }
 {
+    let main = context.main;
     let required = main.imports.required_from_adapter(alloc, name)?;
     let input = AdapterInput {
-        encoder,
+        encoder: context.encoder,
         main,
         required: &required,
         name,
@@ -320,7 +327,8 @@ pub(crate) fn adapters_of<'a>(
     let adapters = encoder.adapters();
     let mut found = Map::with_hasher(alloc, *adapters.hasher());
     for (name, adapter) in adapters.iter() {
-        add_adapter(alloc, encoder, main, name, adapter, &mut found)?;
+        let context = MainContext { encoder, main };
+        add_adapter(alloc, context, name, adapter, &mut found)?;
     }
     Ok(found)
 }

@@ -27,6 +27,14 @@ use wc_validate::ValidatedModule;
 /// What is imported, by its name; `None` for the world itself.
 type ImportEntries = Map<Option<String>, ImportedInterface>;
 
+/// An interface that a world imports.
+#[derive(Clone, Copy)]
+pub(crate) struct InterfaceImport<'a> {
+    key: &'a WorldKey,
+    item: &'a WorldItem,
+    id: InterfaceId,
+}
+
 /// Lowerings by their keys, in order. `seed` is that of the map.
 pub(crate) fn by_keys(
     alloc: Global,
@@ -47,29 +55,30 @@ pub(crate) fn by_keys(
 pub(crate) fn imported_interface<O: ImportOptions>(
     alloc: Global,
     context: &Lowerings<'_, O>,
-    key: &WorldKey,
-    item: &WorldItem,
-    id: InterfaceId,
+    import: InterfaceImport<'_>,
 ) -> Result<ImportedInterface, AllocError>
-    requires there { id.0 < length context.now.resolve.now.interfaces }
-    requires item { IsItemIn context.now.resolve.now (item_view item.now) }
+    requires there { import.id.0 < length context.now.resolve.now.interfaces }
+    requires item { IsItemIn context.now.resolve.now (item_view import.item.now) }
     ensures lowerings { ForLowerer O.options_of context.now (λ l. IfOk result (λ i.
-        (imported_view i).lowerings ≡ lowerings_of_interface l id.0)) }
-    ensures interface { IfOk result (λ i. (imported_view i).interface ≡ Some id.0) }
+        (imported_view i).lowerings ≡ lowerings_of_interface l import.entry.id.0)) }
+    ensures interface { IfOk result (λ i.
+        (imported_view i).interface ≡ Some import.entry.id.0) }
     ensures implements { IfOk result (λ i. (imported_view i).implements
-        ≡ implemented context.now.resolve.now (key_view key.now) (item_view item.now)) }
+        ≡ implemented context.now.resolve.now
+        (key_view import.entry.key.now) (item_view import.entry.item.now)) }
     ensures external { IfOk result (λ i. (imported_view i).external_id
-        ≡ external_id (item_view item.now)) }
+        ≡ external_id (item_view import.entry.item.now)) }
 {
-    distinct_keys(context.resolve, id);
+    let resolve = context.resolve;
+    distinct_keys(resolve, import.id);
     let mut found = Vec::new(alloc);
-    push_interface(alloc, context, &mut found, id)?;
-    let external_id = context.resolve.external_id_value(alloc, key, item)?;
+    push_interface(alloc, context, &mut found, import.id)?;
+    let external_id = resolve.external_id_value(alloc, import.key, import.item)?;
     let lowerings = by_keys(alloc, context.seed, found)?;
     Ok(ImportedInterface {
         lowerings,
-        interface: Some(id),
-        implements: context.resolve.implements_interface(key, item),
+        interface: Some(import.id),
+        implements: resolve.implements_interface(import.key, import.item),
         external_id,
     })
 }
@@ -125,18 +134,17 @@ fn add_interface<O: ImportOptions>(
     alloc: Global,
     context: &Lowerings<'_, O>,
     entries: &mut ImportEntries,
-    key: &WorldKey,
-    item: &WorldItem,
-    id: InterfaceId,
+    import: InterfaceImport<'_>,
 ) -> Result<(), AllocError>
-    requires item { IsImportable context.now.resolve.now (world_entry (key.now, item.now)) }
-    requires interface { item_interface (item_view item.now) ≡ Some id.0 }
+    requires item { IsImportable context.now.resolve.now
+        (world_entry (import.key.now, import.item.now)) }
+    requires interface { item_interface (item_view import.item.now) ≡ Some import.id.0 }
     ensures { ForLowerer O.options_of context.now (λ l. (e : ImportEntry)
-        → interface_entry l (world_entry (key.now, item.now)) ≡ Some e
+        → interface_entry l (world_entry (import.entry.key.now, import.entry.item.now)) ≡ Some e
         → AddsEntryOnOk result entries.old entries.new e) }
 {
-    let name = context.resolve.name_world_key(alloc, key)?;
-    let imported = imported_interface(alloc, context, key, item, id)?;
+    let name = context.resolve.name_world_key(alloc, import.key)?;
+    let imported = imported_interface(alloc, context, import)?;
     put_entry(entries, Some(name), imported)
 }
 
@@ -172,7 +180,8 @@ fn import_entries<O: ImportOptions>(
     let mut has_own = false;
     for (key, item) in items.iter() {
         if let Some(id) = interface_of(item) {
-            add_interface(alloc, context, &mut entries, key, item, id)?;
+            let import = InterfaceImport { key, item, id };
+            add_interface(alloc, context, &mut entries, import)?;
         } else if !has_own {
             add_own(alloc, context, &mut entries, items)?;
             has_own = true;

@@ -11,7 +11,8 @@ pub enum Lowering {
     Direct {
         options: RequiredOptions,
     },
-    /// A function of this signature stands in for the lowered one, which needs what the core module makes.
+    /// A *shim*, a function of this signature, stands in for the lowered one until there is the memory that its options
+    /// need: the main module makes it.
     Indirect {
         sig: WasmSignature,
         options: RequiredOptions,

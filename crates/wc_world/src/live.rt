@@ -32,6 +32,13 @@ use wc_resolve::{
 };
 use wc_validate::{ImportMap, ValidatedModule};
 
+/// A `Resolve`, and the exported interfaces that exported interfaces of its world use.
+#[derive(Clone, Copy)]
+pub(crate) struct LiveContext<'a> {
+    resolve: &'a Resolve,
+    used: &'a HashMap<InterfaceId, HashSet<InterfaceId>>,
+}
+
 /// The interface that owns a type.
 fn interface_owning(resolve: &Resolve, ty: TypeId) -> Option<InterfaceId>
     requires { ty.0 < length resolve.now.types }
@@ -324,56 +331,53 @@ fn add_from_elsewhere(
 /// Adds the live types of an exported interface that are from elsewhere.
 fn add_interface(
     alloc: Global,
-    resolve: &Resolve,
-    used: &HashMap<InterfaceId, HashSet<InterfaceId>>,
+    context: &LiveContext<'_>,
     id: InterfaceId,
     item: &WorldItem,
     live: &mut LiveTypes,
 ) -> Result<(), AllocError>
-    requires { IsItemIn resolve.now (item_view item.now) }
-    ensures { OnOk result (AddsListings resolve.now live.old live.new
-        (elsewhere_from resolve.now (used_view used.now) id.0
-        (item_roots resolve.now (item_view item.now)))) }
+    requires { IsItemIn context.now.resolve.now (item_view item.now) }
+    ensures { let r = context.now.resolve.now in OnOk result (AddsListings r live.old live.new
+        (elsewhere_from r (used_view context.now.used.now) id.0 (item_roots r (item_view item.now)))) }
 {
+    let resolve = context.resolve;
     resolve.well_formedness();
     let mut types = LiveTypes::new(alloc);
     types.add_world_item(resolve, item)?;
-    add_from_elsewhere(resolve, used, id, &types, live)
+    add_from_elsewhere(resolve, context.used, id, &types, live)
 }
 
 /// Adds the types of an export.
 fn add_export(
     alloc: Global,
-    resolve: &Resolve,
-    used: &HashMap<InterfaceId, HashSet<InterfaceId>>,
+    context: &LiveContext<'_>,
     item: &WorldItem,
     live: &mut LiveTypes,
 ) -> Result<(), AllocError>
-    requires { IsItemIn resolve.now (item_view item.now) }
-    ensures { OnOk result (AddsListings resolve.now live.old live.new
-        (export_roots resolve.now (used_view used.now) (item_view item.now))) }
+    requires { IsItemIn context.now.resolve.now (item_view item.now) }
+    ensures { let r = context.now.resolve.now in OnOk result (AddsListings r live.old live.new
+        (export_roots r (used_view context.now.used.now) (item_view item.now))) }
 {
     match item {
-        WorldItem::Interface { id, .. } => add_interface(alloc, resolve, used, *id, item, live),
-        WorldItem::Function(_) => live.add_world_item(resolve, item),
-        WorldItem::TypeItem { .. } => live.add_world_item(resolve, item),
+        WorldItem::Interface { id, .. } => add_interface(alloc, context, *id, item, live),
+        WorldItem::Function(_) => live.add_world_item(context.resolve, item),
+        WorldItem::TypeItem { .. } => live.add_world_item(context.resolve, item),
     }
 }
 
 /// Adds the types of exports.
 fn add_exports(
     alloc: Global,
-    resolve: &Resolve,
-    used: &HashMap<InterfaceId, HashSet<InterfaceId>>,
+    context: &LiveContext<'_>,
     exports: &Map<WorldKey, WorldItem>,
     live: &mut LiveTypes,
 ) -> Result<(), AllocError>
-    requires { AreItemsIn resolve.now (entries_of exports.now) }
-    ensures { OnOk result (AddsListings resolve.now live.old live.new
-        (exports_roots resolve.now (used_view used.now) (entries_of exports.now))) }
+    requires { AreItemsIn context.now.resolve.now (entries_of exports.now) }
+    ensures { let r = context.now.resolve.now in OnOk result (AddsListings r live.old live.new
+        (exports_roots r (used_view context.now.used.now) (entries_of exports.now))) }
 {
     for (_key, item) in exports.iter() {
-        add_export(alloc, resolve, used, item, live)?;
+        add_export(alloc, context, item, live)?;
     }
     Ok(())
 }
@@ -381,23 +385,24 @@ fn add_exports(
 /// The live types of a world: those of the main module, of adapters, and of exports.
 fn live_types<'a>(
     alloc: Global,
-    resolve: &Resolve,
+    context: &LiveContext<'_>,
     world: &World,
-    used: &HashMap<InterfaceId, HashSet<InterfaceId>>,
     main: &ValidatedModule,
     adapters: &Map<&'a str, WorldAdapter<'a>>,
 ) -> Result<LiveTypes, AllocError>
-    requires { AreRootsIn resolve.now (world_view world.now) (module_record main.now)
+    requires { AreRootsIn context.now.resolve.now (world_view world.now) (module_record main.now)
         (adapters_view adapters.now) }
-    ensures live { IfOk result (λ live. live ≡ live_types_of resolve.now (used_view used.now)
+    ensures live { IfOk result (λ live. live
+        ≡ live_types_of context.now.resolve.now (used_view context.now.used.now)
         (world_view world.now) (module_record main.now) (adapters_view adapters.now)) }
-    ensures listed { IfOk result (AreListed resolve.now) }
+    ensures listed { IfOk result (AreListed context.now.resolve.now) }
 {
+    let resolve = context.resolve;
     resolve.well_formedness();
     let mut live = LiveTypes::new(alloc);
     add_module(resolve, world, &main.imports, &mut live)?;
     add_adapters(resolve, world, adapters, &mut live)?;
-    add_exports(alloc, resolve, used, &world.exports, &mut live)?;
+    add_exports(alloc, context, &world.exports, &mut live)?;
     Ok(live)
 }
 
@@ -472,6 +477,7 @@ pub(crate) fn live_type_imports<'a>(
     let resolve = &metadata.resolve;
     resolve.well_formedness();
     let world = resolve.world(metadata.world);
-    let live = live_types(alloc, resolve, world, used, main, adapters)?;
+    let context = LiveContext { resolve, used };
+    let live = live_types(alloc, &context, world, main, adapters)?;
     by_owner(alloc, resolve, &live)
 }

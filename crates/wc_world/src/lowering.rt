@@ -4,8 +4,9 @@ ghost use Rattle.std.specs.Prelude.{◌≡◌, ◌<◌, All, IfOk, OnOk, Some, l
 ghost use Rattle.wc_resolve.specs.Views.{function_entry, function_view, item_view, type_entry};
 ghost use Rattle.wc_resolve.specs.WellFormed.{IsUsable};
 ghost use Rattle.wc_encoder.specs.Entries.{entries_of};
-ghost use Rattle.wc_world.specs.Lowered.{AreKeysDistinct, IsLowerable, Lowerer, called_lowering, function_lowerings, item_lowerings, lowerings_of_functions, lowerings_of_interface, lowerings_of_types, needs_memory, own_lowerings, resource_name, type_lowerings};
-ghost use Rattle.wc_world.specs.Private.Required.{import_abi, interface_index};
+ghost use Rattle.wc_names.specs.Imports.{import_abi};
+ghost use Rattle.wc_world.specs.Lowered.{AreKeysDistinct, IsLowerable, Lowerer, called_lowering, function_lowerings, item_lowerings, lowerings_of_functions, lowerings_of_interface, lowerings_of_types, needs_main_memory, own_lowerings, resource_name, type_lowerings};
+ghost use Rattle.wc_world.specs.Private.Required.{interface_index};
 ghost use Rattle.wc_world.specs.WorldViews.{lowering_entry, lowering_view};
 ghost use Rattle.wc_world.specs.Private.LoweringContext.{AddsLowerings, ForLowerer, lowered_in};
 
@@ -32,12 +33,19 @@ pub(crate) struct Lowerings<'a, O: ImportOptions> {
     pub(crate) seed: Seed,
 }
 
+/// A function that may be imported, and the interface that it is of; without one it is of the world.
+#[derive(Clone, Copy)]
+struct Callee<'a> {
+    interface: Option<InterfaceId>,
+    function: &'a Function,
+}
+
 /// A lowering, by its name and by how the function is called.
 pub(crate) type KeyedLowering = ((String, AbiVariant), Lowering);
 
 /// Whether options need the main module's memory.
-fn needs_memory(options: RequiredOptions) -> bool
-    ensures { result ≡ needs_memory options.0 }
+fn needs_main_memory(options: RequiredOptions) -> bool
+    ensures { result ≡ needs_main_memory options.0 }
 {
     options.contains(RequiredOptions::MEMORY) || options.contains(RequiredOptions::REALLOC)
 }
@@ -79,7 +87,7 @@ fn lower_function<O: ImportOptions>(
     let options = context
         .options
         .for_import(alloc, context.resolve, function, abi)?;
-    if context.has_memory || !needs_memory(options) {
+    if context.has_memory || !needs_main_memory(options) {
         return Ok(Lowering::Direct { options });
     }
     let sig = context.resolve.wasm_signature(alloc, abi, function)?;
@@ -91,19 +99,19 @@ fn push_call<O: ImportOptions>(
     alloc: Global,
     context: &Lowerings<'_, O>,
     lowerings: &mut Vec<KeyedLowering>,
-    interface: Option<InterfaceId>,
-    function: &Function,
+    callee: Callee<'_>,
     is_async: bool,
 ) -> Result<(), AllocError>
-    requires { IsUsable context.now.resolve.now (function_view function.now) }
+    requires { IsUsable context.now.resolve.now (function_view callee.function.now) }
     ensures { ForLowerer O.options_of context.now (λ l.
         OnOk result (AddsLowerings lowerings.old lowerings.new
-        (called_lowering l (interface_index interface) (function_view function.now)
-        (import_abi is_async)))) }
+        (called_lowering l (interface_index callee.entry.interface)
+        (function_view callee.entry.function.now) (import_abi is_async)))) }
 {
+    let function = callee.function;
     if !context
         .required
-        .has_function(alloc, interface, &function.name, is_async)?
+        .has_function(alloc, callee.interface, &function.name, is_async)?
     {
         return Ok(());
     }
@@ -127,8 +135,12 @@ pub(crate) fn push_function<O: ImportOptions>(
         OnOk result (AddsLowerings lowerings.old lowerings.new
         (function_lowerings l (interface_index interface) (function_view function.now)))) }
 {
-    push_call(alloc, context, lowerings, interface, function, false)?;
-    push_call(alloc, context, lowerings, interface, function, true)
+    let callee = Callee {
+        interface,
+        function,
+    };
+    push_call(alloc, context, lowerings, callee, false)?;
+    push_call(alloc, context, lowerings, callee, true)
 }
 
 /// Adds a type, if it is a resource whose drop is imported.

@@ -141,7 +141,7 @@ fn passes_text(resolve: &Resolve, function: &Function, lists: bool) -> bool
 }
 
 /// Whether something is passed in memory.
-fn needs_memory(signature: &WasmSignature, passes_text: bool) -> bool
+fn passes_in_memory(signature: &WasmSignature, passes_text: bool) -> bool
     ensures { result ≡ (signature.now.indirect_params || (signature.now.retptr || passes_text)) }
 {
     signature.indirect_params || signature.retptr || passes_text
@@ -193,7 +193,7 @@ impl ImportOptions for PlainOptions {
         abi: AbiVariant,
     ) -> Result<RequiredOptions, AllocError> {
         let signature = resolve.wasm_signature(alloc, abi, function)?;
-        let memory = needs_memory(&signature, passes_text(resolve, function, true));
+        let memory = passes_in_memory(&signature, passes_text(resolve, function, true));
         let realloc = optional_holds_text(resolve, function.result, true);
         let encoding = passes_text(resolve, function, false);
         Ok(required(memory, realloc, encoding, is_async_import(abi)))

@@ -11,7 +11,7 @@ ghost use Rattle.wc_world.specs.Private.AdapterInput.{IsInputRecord, IsNeeded, m
 ghost use Rattle.wc_world.specs.Private.Explained.{IsAdapterAnswer, IsFirstFound, IsIn, IsInputAnswer, IsMainFound, IsMinimizedAnswer, IsNamedAnswer, IsRefusal, IsTrimAnswer, IsTrimRefusal, IsTrimmedFound, IsUnderAnswer, IsValidationAnswer, input_of};
 ghost use Rattle.wc_world.specs.World.{IsMainRecord};
 
-use crate::adapters::{AdapterInput, input_record, is_input_needed, trimmed_bytes};
+use crate::adapters::{AdapterInput, MainContext, input_record, is_input_needed, trimmed_bytes};
 use crate::fault::WorldFault;
 use crate::trimming::required_names;
 use std::alloc::{AllocError, Global};
@@ -307,20 +307,20 @@ fn place_if_needed(
 /// What a fault of this adapter or library is about, by what its main module imports.
 fn place_by_main(
     alloc: Global,
-    encoder: &ComponentEncoder,
-    main: &ValidatedModule,
+    context: MainContext<'_, '_>,
     name: &str,
     adapter: &Adapter,
     fault: AdapterFault<'_>,
 ) -> Result<Option<ModulePlace>, AllocError>
-    requires main { IsMainRecord encoder.now (module_record main.now) }
-    requires there { lookup (bytes_eq name.now) encoder.now.adapters
+    requires main { IsMainRecord context.encoder.now (module_record context.main.now) }
+    requires there { lookup (bytes_eq name.now) context.encoder.now.adapters
         ≡ Some (adapter_view adapter.now) }
-    ensures { IfOk result (IsAdapterAnswer fault.entry encoder.now name.now) }
+    ensures { IfOk result (IsAdapterAnswer fault.entry context.entry.encoder.now name.now) }
 {
+    let main = context.main;
     let required = main.imports.required_from_adapter(alloc, name)?;
     let input = AdapterInput {
-        encoder,
+        encoder: context.encoder,
         main,
         required: &required,
         name,
@@ -341,8 +341,12 @@ fn adapter_place(
     let Some(main) = main_found(alloc, encoder)? else {
         return Ok(None);
     };
+    let context = MainContext {
+        encoder,
+        main: &main,
+    };
     match encoder.adapters().get(name) {
-        Some(adapter) => place_by_main(alloc, encoder, &main, name, adapter, fault),
+        Some(adapter) => place_by_main(alloc, context, name, adapter, fault),
         None => Ok(None),
     }
 }

@@ -4,13 +4,14 @@ ghost use Rattle.std.specs.Prelude.{◌≡◌, ◌++◌, ◌∷◌, [], IfOk, On
 ghost use Rattle.std.specs.List.{list_any};
 ghost use Rattle.std.specs.Option.{option_map};
 ghost use Rattle.wc_resolve.specs.Roots.{id_index};
+ghost use Rattle.wc_names.specs.Imports.{import_abi};
 ghost use Rattle.wc_names.specs.Views.{ImportView, import_view};
 ghost use Rattle.wc_validate.specs.Imports.Map.{imports_in};
 ghost use Rattle.wc_validate.specs.Validated.{module_record};
 ghost use Rattle.wc_world.specs.Lowered.{is_drop_of, is_imported};
 ghost use Rattle.wc_world.specs.Slots.{all_imports, imports_of};
 ghost use Rattle.wc_world.specs.WorldViews.{adapters_view};
-ghost use Rattle.wc_world.specs.Private.Required.{AddsImportsOnOk, AreCalled, AreRequired, ForCalled, ForRequired, IsCall, call_view, called_function, dropped_resource, import_abi, interface_index};
+ghost use Rattle.wc_world.specs.Private.Required.{AddsImportsOnOk, AreCalled, AreRequired, ForCalled, ForRequired, IsCall, call_view, called_function, dropped_resource, interface_index};
 
 use crate::adapter::WorldAdapter;
 use std::alloc::{AllocError, Global};

@@ -1,9 +1,6 @@
 //! Laws of what trimming leaves of an adapter's imports and exports: contracts of functions that do nothing when they
 //! run.
 
-ghost use Rattle.std.specs.Prelude.{◌≤◌};
-ghost use Rattle.wc_gc.specs.Laws.{AreSettings};
-ghost use Rattle.wc_gc.specs.Parts.{settings};
 ghost use Rattle.wc_world.specs.Restricted.{RefusedAsCollision, TrimmedIsRestricted};
 
 use wc_encoder::ComponentEncoder;
@@ -23,9 +20,3 @@ pub(crate) fn trimmed_is_restricted(encoder: &ComponentEncoder)
     restrictions_valid(encoder);
     restrictions_recorded(encoder);
 }
-
-/// A realloc's name is text, and pages have 2^16 bytes at most. It does nothing when it runs.
-pub(crate) fn settings_are_valid(realloc: Option<&str>, page_size_log2: u32)
-    requires { page_size_log2 ≤ 16 }
-    ensures { AreSettings (settings realloc.entry page_size_log2) }
-{}

@@ -7,7 +7,7 @@ ghost use Rattle.wc_resolve.specs.Ranges.{IsItemIn};
 ghost use Rattle.wc_encoder.specs.Adapters.{adapter_view};
 ghost use Rattle.wc_encoder.specs.Dependencies.{AreItemsIn};
 ghost use Rattle.wc_encoder.specs.Entries.{entries_of};
-ghost use Rattle.wc_world.specs.Adapters.{HasNames, exports_function, has_function, is_needed, main_page_size, main_realloc, page_size, required_names, trim_exponent};
+ghost use Rattle.wc_world.specs.Adapters.{HasNames, exports_function, has_function, is_needed, main_page_size, main_realloc, page_size, required_names, trim_page_size_log2};
 ghost use Rattle.wc_gc.specs.Liveness.{names_of};
 ghost use Rattle.wc_world.specs.WorldViews.{required_view};
 
@@ -19,7 +19,7 @@ use wc_resolve::{Resolve, WorldItem, WorldKey};
 use wc_validate::{ExportMap, ValidatedModule};
 
 /// The greatest exponent of a page's bytes that adapters are trimmed with, and that of a memory that gives none.
-const MAX_PAGE_EXPONENT: u32 = 16;
+const MAX_PAGE_SIZE_LOG2: u32 = 16;
 
 /// The bytes in a page of the main module's memory, where it exports none.
 const DEFAULT_PAGE_SIZE: u64 = 65536;
@@ -52,15 +52,15 @@ pub(crate) fn main_realloc<'a>(
 }
 
 /// The exponent of the pages of the memory that an adapter imports, at most 16; 16, where it imports none.
-pub(crate) fn trim_exponent(memory: Option<MemoryType>) -> u32
-    ensures { result ≡ trim_exponent memory }
+pub(crate) fn trim_page_size_log2(memory: Option<MemoryType>) -> u32
+    ensures { result ≡ trim_page_size_log2 memory }
 {
     match memory {
         Some(memory) => memory
             .page_size_log2
-            .unwrap_or(MAX_PAGE_EXPONENT)
-            .min(MAX_PAGE_EXPONENT),
-        None => MAX_PAGE_EXPONENT,
+            .unwrap_or(MAX_PAGE_SIZE_LOG2)
+            .min(MAX_PAGE_SIZE_LOG2),
+        None => MAX_PAGE_SIZE_LOG2,
     }
 }
 

@@ -5,7 +5,7 @@ ghost use Rattle.std.specs.List.{list_any};
 ghost use Rattle.wc_encoder.specs.EncoderParts.{world_exports};
 ghost use Rattle.wc_names.specs.Views.{import_view};
 ghost use Rattle.wc_validate.specs.Validated.{module_record};
-ghost use Rattle.wc_world.specs.Causes.{HasNoCause, IsCause, IsMemory};
+ghost use Rattle.wc_world.specs.Causes.{HasNoCause, IsComponentWorldCause, IsMemory};
 ghost use Rattle.wc_world.specs.Live.{AreLive};
 ghost use Rattle.wc_world.specs.Lowered.{lowered};
 ghost use Rattle.wc_world.specs.Slots.{IsSlot1Used, module_uses_slot_1, uses_slot_1};
@@ -91,7 +91,8 @@ fn adapter_uses_slot_1<'a>(adapters: &Map<&'a str, WorldAdapter<'a>>) -> bool
 /// What the main module of an encoder imports and exports.
 fn main_record(alloc: Global, encoder: &ComponentEncoder) -> Result<ValidatedModule, WorldFault>
     ensures recorded { IfOk result (λ v. IsMainRecord encoder.now (module_record v)) }
-    ensures fault { IfErr result (λ f. IsMemory encoder.now f ⊎ IsCause encoder.now f) }
+    ensures fault { IfErr result
+        (λ f. IsMemory encoder.now f ⊎ IsComponentWorldCause encoder.now f) }
 {
     match validate_module(
         alloc,
@@ -197,7 +198,8 @@ impl<'a> ComponentWorld<'a> {
     ) -> Result<ComponentWorld<'a>, WorldFault>
         ensures world { IfOk result (λ w.
             IsWorldOf (O.options_of options.now) encoder.now (world_view w)) }
-        ensures fault { IfErr result (λ f. IsMemory encoder.now f ⊎ IsCause encoder.now f) }
+        ensures fault { IfErr result
+            (λ f. IsMemory encoder.now f ⊎ IsComponentWorldCause encoder.now f) }
         // Without a fault there is no cause.
         ensures no_cause { OnOk result (HasNoCause encoder.now) }
     {

@@ -47,10 +47,10 @@ table_shortest bytes t s all =
 
 pub memory_shortest : (bytes : List ℕ) (m : MemoryType) → SpellsMemory bytes m → AreBytes bytes → length (memory_text m) ≤ length bytes
 memory_shortest bytes m s all =
-    let parts = tail_bytes (flags_code (memory_flags m)) (s.bounds ++ s.exponent) (rw s.cut at all) in
-    let rest = joined (bounds_text m.initial m.maximum) (optional_text m.page_size_log2) s.bounds s.exponent
-    (bounds_shortest m.memory64 m.initial m.maximum s.bounds s.has_bounds (front_bytes s.bounds s.exponent parts))
-    (optional_shortest 32 m.page_size_log2 s.exponent s.has_exponent (back_bytes s.bounds s.exponent parts)) in
+    let parts = tail_bytes (flags_code (memory_flags m)) (s.bounds ++ s.page_size_log2) (rw s.cut at all) in
+    let rest = joined (bounds_text m.initial m.maximum) (optional_text m.page_size_log2) s.bounds s.page_size_log2
+    (bounds_shortest m.memory64 m.initial m.maximum s.bounds s.has_bounds (front_bytes s.bounds s.page_size_log2 parts))
+    (optional_shortest 32 m.page_size_log2 s.page_size_log2 s.has_page_size_log2 (back_bytes s.bounds s.page_size_log2 parts)) in
     rw s.cut (omega arith)
 
 pub global_type_shortest : (bytes : List ℕ) (g : GlobalType) → SpellsGlobal bytes g → AreBytes bytes → length (global_text g) ≤ length bytes

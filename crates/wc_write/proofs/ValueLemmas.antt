@@ -55,8 +55,8 @@ table_is bytes t s all =
 
 pub memory_is : (bytes : List ℕ) (m : MemoryType) → SpellsMemory bytes m → AreBytes bytes → IsMemory m × AreBounds m.memory64 m.initial m.maximum
 memory_is bytes m s all =
-    let parts = tail_bytes (flags_code (memory_flags m)) (s.bounds ++ s.exponent) (rw s.cut at all) in
-    (s.is_memory, bounds_are m.memory64 m.initial m.maximum s.bounds s.has_bounds (front_bytes s.bounds s.exponent parts))
+    let parts = tail_bytes (flags_code (memory_flags m)) (s.bounds ++ s.page_size_log2) (rw s.cut at all) in
+    (s.is_memory, bounds_are m.memory64 m.initial m.maximum s.bounds s.has_bounds (front_bytes s.bounds s.page_size_log2 parts))
 
 pub global_type_is : (bytes : List ℕ) (g : GlobalType) → SpellsGlobal bytes g → AreBytes bytes → IsValType g.content_type
 global_type_is bytes g s all = val_type_is s.0 g.content_type s.2 (front_bytes s.0 (mutable_code g.mutable ∷ []) (rw s.1 at all))

@@ -4,9 +4,9 @@
 use crate::error::Error;
 use crate::heap::counts::{add, fail_after, held, may_allocate};
 use crate::{
-    Adapter, ComponentEncoder, ComponentWorld, ExportKind, Instance, Item, LibraryInfo,
-    MainOrAdapter, ModuleImportMap, Plan, Resolved, World, gc, validate_adapter_module,
-    validate_module,
+    Adapter, ComponentEncoder, ComponentWorld, ExportKind, ImportOptions, Instance, Item,
+    LibraryInfo, MainOrAdapter, ModuleImportMap, Plan, RequiredOptions, Resolved, World, gc,
+    validate_adapter_module, validate_module,
 };
 use std::alloc::{GlobalAlloc, Layout, System};
 use std::borrow::Cow;
@@ -151,6 +151,9 @@ fn encoder() -> ComponentEncoder<'static> {
         which: which.clone(),
         name: "c\n".to_owned(),
     };
+    encoder
+        .import_options
+        .push(ImportOptions::new("hello \"", RequiredOptions::MEMORY));
     let mut library = Adapter::new("library", LIBRARY);
     library.library_info = Some(LibraryInfo {
         arguments: vec![

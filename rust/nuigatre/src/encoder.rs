@@ -6,6 +6,7 @@ use crate::json::{Value, put_list, put_string};
 use crate::memory::{OutOfMemory, Text, concat};
 use crate::read::{Read, Unread, list, member};
 use crate::resolved::Worlds;
+use crate::world::RequiredOptions;
 use std::borrow::Cow;
 
 /// The main module, or the adapter of this name.
@@ -75,6 +76,24 @@ impl<'a> Adapter<'a> {
     }
 }
 
+/// The canonical options of functions of a name where they are lowered.
+#[derive(Clone, Copy, Debug, PartialEq, Eq)]
+#[non_exhaustive]
+pub struct ImportOptions<'a> {
+    /// The functions' name in WIT, in whichever interfaces they are: `[method]output-stream.write`.
+    pub name: &'a str,
+    /// Their options, also where they are imported asynchronously.
+    pub options: RequiredOptions,
+}
+
+impl<'a> ImportOptions<'a> {
+    /// These options for the functions of this name.
+    #[must_use]
+    pub fn new(name: &'a str, options: RequiredOptions) -> Self {
+        ImportOptions { name, options }
+    }
+}
+
 /// Which world a component is encoded for.
 #[derive(Clone, Copy, Debug, PartialEq, Eq, Hash)]
 #[non_exhaustive]
@@ -128,6 +147,9 @@ pub struct ComponentEncoder<'a> {
     pub realloc_via_memory_grow: bool,
     /// The name of the export that is the task hook, if one may be.
     pub task_hook: Option<&'a str>,
+    /// Functions that have other options where they are lowered than those that their parameters and results need. Of
+    /// several entries of one name the first counts, and an entry of no function's name says nothing.
+    pub import_options: Vec<ImportOptions<'a>>,
 }
 
 impl<'a> ComponentEncoder<'a> {
@@ -149,6 +171,7 @@ impl<'a> ComponentEncoder<'a> {
             reject_legacy_names: false,
             realloc_via_memory_grow: false,
             task_hook: None,
+            import_options: Vec::new(),
         }
     }
 
@@ -182,6 +205,10 @@ impl<'a> ComponentEncoder<'a> {
         }
         out.put(",\"adapters\":")?;
         put_list(out, &self.adapters, put_adapter)?;
+        if !self.import_options.is_empty() {
+            out.put(",\"options\":")?;
+            put_list(out, &self.import_options, put_options)?;
+        }
         out.put("}")
     }
 
@@ -195,6 +222,19 @@ impl<'a> ComponentEncoder<'a> {
             std::iter::once(self.module).chain(adapters),
         )?))
     }
+}
+
+fn put_options(out: &mut Text, of: &ImportOptions<'_>) -> Result<(), OutOfMemory> {
+    out.put("{\"name\":")?;
+    put_string(out, of.name)?;
+    let has = |option| of.options.contains(option);
+    out.put_args(format_args!(
+        ",\"memory\":{},\"realloc\":{},\"string_encoding\":{},\"async\":{}}}",
+        has(RequiredOptions::MEMORY),
+        has(RequiredOptions::REALLOC),
+        has(RequiredOptions::STRING_ENCODING),
+        has(RequiredOptions::ASYNC)
+    ))
 }
 
 fn put_length(out: &mut Text, module: &[u8]) -> Result<(), OutOfMemory> {

@@ -38,7 +38,7 @@ const BAD_ARGUMENT: u32 = 4;
 const MEMORY: u32 = 5;
 
 /// The form of the calls, of messages and of answers that this crate knows: the archive's own number has to be this one.
-const ABI: u32 = 2;
+const ABI: u32 = 3;
 
 unsafe extern "C" {
     safe fn nuigatre_abi() -> u32;

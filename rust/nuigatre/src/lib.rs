@@ -68,7 +68,9 @@ mod world_error;
 mod allocation_tests;
 
 pub use core_types::{ExportKind, FuncType, MemoryType, ValType, WasmSignature, WasmType};
-pub use encoder::{Adapter, ComponentEncoder, Instance, Item, LibraryInfo, MainOrAdapter, World};
+pub use encoder::{
+    Adapter, ComponentEncoder, ImportOptions, Instance, Item, LibraryInfo, MainOrAdapter, World,
+};
 pub use error::Error;
 pub use exports::{Export, ExportMap};
 pub use faults::{DedupeFault, GcFault, ReadFault, TrimError};

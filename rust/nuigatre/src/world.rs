@@ -142,7 +142,8 @@ pub struct ComponentWorld {
 impl ComponentWorld {
     /// The world of a component, made of what an encoder has: its main module is validated; adapters that are needed
     /// are validated, trimmed to what is wanted of them, and validated again; libraries are validated alone. The options
-    /// of lowered functions are those that their parameters and results need.
+    /// of lowered functions are those that their parameters and results need, unless the encoder has others
+    /// ([`ComponentEncoder::import_options`]).
     ///
     /// ```no_run
     /// use nuigatre::{Adapter, ComponentEncoder, ComponentWorld};

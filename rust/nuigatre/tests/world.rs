@@ -2,9 +2,10 @@
 
 use nuigatre::{
     AbiVariant, Adapter, ComponentEncoder, ComponentWorld, DedupeFault, EncoderFault, Error,
-    FuncType, Import, ImportInstance, InterfaceId, JsonFault, Lowering, MainOrAdapter,
-    ModuleImportMap, Plan, PlanFault, Problem, ReadFault, ResolveFault, ValidateFault, World,
-    WorldFault, WorldKey, validate_adapter_module, validate_module,
+    FuncType, Import, ImportInstance, ImportOptions, InterfaceId, JsonFault, Lowering,
+    MainOrAdapter, ModuleImportMap, Plan, PlanFault, Problem, ReadFault, RequiredOptions,
+    ResolveFault, ValidateFault, World, WorldFault, WorldKey, validate_adapter_module,
+    validate_module,
 };
 use std::thread;
 
@@ -306,6 +307,68 @@ fn libraries() {
     assert_eq!(made.library_info, Some(library));
     let imports: Vec<_> = made.info.imports.imports().collect();
     assert_eq!(imports, [("old", "b", &Import::Item(item))]);
+}
+
+/// Options that the encoder has for functions of a name: those of the first entry of it, all that are not in them left out. A
+/// function that needs a memory or a realloc is lowered indirectly.
+#[test]
+fn import_options() {
+    let lowered = |options: &[ImportOptions<'static>]| {
+        let mut encoder = encoder();
+        encoder.import_options = options.to_vec();
+        let world = ComponentWorld::new(&encoder).expect("a world");
+        let key = ("hello", AbiVariant::GuestImport);
+        match &world.import_map[&Some("my:demo/host")].lowerings[&key] {
+            Lowering::Direct { options } => (*options, false),
+            Lowering::Indirect { options, .. } => (*options, true),
+            other => panic!("no function: {other:?}"),
+        }
+    };
+    let all = RequiredOptions::MEMORY
+        | RequiredOptions::REALLOC
+        | RequiredOptions::STRING_ENCODING
+        | RequiredOptions::ASYNC;
+    let none = RequiredOptions::default();
+    assert_eq!(lowered(&[]), (none, false));
+    let others = ["other", "", "Hello", "hello \"\\\u{1}"];
+    assert_eq!(
+        lowered(&others.map(|name| ImportOptions::new(name, all))),
+        (none, false)
+    );
+    for (options, indirect) in [
+        (RequiredOptions::MEMORY, true),
+        (RequiredOptions::REALLOC, true),
+        (RequiredOptions::STRING_ENCODING, false),
+        (RequiredOptions::ASYNC, false),
+        (all, true),
+        (none, false),
+    ] {
+        let [first, second] = [options, all].map(|it| ImportOptions::new("hello", it));
+        assert_eq!(lowered(&[first, second]), (options, indirect));
+    }
+}
+
+/// A plan and a validation take the same options.
+#[test]
+fn plan_by_import_options() {
+    let mut encoder = encoder();
+    encoder.import_options = vec![ImportOptions::new("hello", RequiredOptions::MEMORY)];
+    match Plan::new(&encoder) {
+        Err(Error::World(error)) => {
+            assert_eq!(*error.fault(), WorldFault::Plan(PlanFault::NoMemory));
+        }
+        answer => panic!("no fault: {answer:?}"),
+    }
+    validate_module(&encoder).expect("a valid module");
+    let worlds = WORLDS.replace("u32", "string");
+    let main =
+        b"\0asm\x01\0\0\0\x01\x06\x01\x60\x02\x7f\x7f\0\x02\x16\x01\x0cmy:demo/host\x05hello\0\0";
+    let mut encoder = ComponentEncoder::new(&worlds, World::Name("demo"), main);
+    encoder
+        .import_options
+        .push(ImportOptions::new("hello", RequiredOptions::default()));
+    let plan = Plan::new(&encoder).expect("a plan");
+    assert_eq!(plan.uses[0].slot, None);
 }
 
 #[test]

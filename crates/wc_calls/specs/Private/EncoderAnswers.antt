@@ -6,7 +6,7 @@ use Rattle.wc_plan.specs.EncoderFaults.{IsWorldCause}
 use Rattle.wc_plan.specs.Faults.{HasNoFault, IsFirstFault}
 use Rattle.wc_plan.specs.Plans.{plan_of}
 use Rattle.wc_record.specs.Texts.{plan_text, world_text}
-use Rattle.wc_world.specs.Options.{plain_options}
+use Rattle.wc_world.specs.Options.{OptionsOf}
 use Rattle.wc_world.specs.Views.{ComponentWorldView}
 use Rattle.wc_world.specs.World.{IsWorldOf}
 use Rattle.wc_calls.specs.ComponentWorlds.{modules_text}
@@ -14,10 +14,10 @@ use Rattle.wc_calls.specs.Places.{IsPartPlaceText, IsWorldPlaceText}
 use Rattle.wc_calls.specs.declared.message_fault.MessageFault.{MessageFault}
 use Rattle.wc_calls.specs.declared.message_fault.MessageFault.TheVariants.{Memory, Resolve, World, Plan}
 
--- the modules of the world that plain options make of an encoder, of this length, and then the world as JSON
-pub record IsAnswerFor (e : EncoderView) (module_length : ℕ) (text : List ℕ) : Type 0 where
+-- the modules of the world that options make of an encoder, of this length, and then the world as JSON
+pub record IsAnswerFor (options : OptionsOf) (e : EncoderView) (module_length : ℕ) (text : List ℕ) : Type 0 where
   pub world : ComponentWorldView
-  pub made : IsWorldOf plain_options e world
+  pub made : IsWorldOf options e world
   pub size : module_length ≡ length (modules_text world)
   pub whole : text ≡ modules_text world ++ world_text world
 
@@ -37,16 +37,16 @@ abbrev pub IsPartPlaceFor : List ℕ → MessageFault → List ℕ → Type 0
 IsPartPlaceFor message (Resolve f) text = IsPartPlaceText message f text
 IsPartPlaceFor message f text = text ≡ []
 
--- the plan as JSON of the world that plain options make of an encoder
-pub record IsPlanFor (e : EncoderView) (text : List ℕ) : Type 0 where
+-- the plan as JSON of the world that options make of an encoder
+pub record IsPlanFor (options : OptionsOf) (e : EncoderView) (text : List ℕ) : Type 0 where
   pub world : ComponentWorldView
-  pub made : IsWorldOf plain_options e world
+  pub made : IsWorldOf options e world
   pub servable : HasNoFault world
   pub is : text ≡ plan_text (plan_of world)
 
 -- why there is none
-abbrev pub IsPlanFaultFor : EncoderView → MessageFault → Type 0
-IsPlanFaultFor e Memory = ⊤
-IsPlanFaultFor e (World f) = IsWorldCause e f
-IsPlanFaultFor e (Plan f) = (w : ComponentWorldView) × IsWorldOf plain_options e w × IsFirstFault w f
-IsPlanFaultFor e f = ⊥
+abbrev pub IsPlanFaultFor : OptionsOf → EncoderView → MessageFault → Type 0
+IsPlanFaultFor options e Memory = ⊤
+IsPlanFaultFor options e (World f) = IsWorldCause e f
+IsPlanFaultFor options e (Plan f) = (w : ComponentWorldView) × IsWorldOf options e w × IsFirstFault w f
+IsPlanFaultFor options e f = ⊥

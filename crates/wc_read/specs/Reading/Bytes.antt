@@ -69,7 +69,7 @@ unfoldable pub number_at : ℕ → Read ℕ
 number_at bits [] = None
 number_at bits (b ∷ bytes) =
     if nat_lt b 128 then (if nat_lt b (2 ^ bits) then Some (b, bytes) else None)
-    else (if nat_lt 7 bits then number_at (bits - 7) bytes >>= (λ high. Some (b - 128 + 128 * high.0, high.1)) else None)
+    else if nat_lt 7 bits then number_at (bits - 7) bytes >>= (λ high. Some (b - 128 + 128 * high.0, high.1)) else None
 
 unfoldable pub name_at : Read (List ℕ)
 name_at bytes = do

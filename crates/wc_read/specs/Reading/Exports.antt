@@ -8,7 +8,7 @@ use Rattle.wc_read.specs.declared.exports.ExportKind.TheVariants.{Func, Table, M
 use Rattle.wc_read.specs.declared.exports.Export.{Export}
 
 abbrev pub export_kind_of : ℕ → Option ExportKind
-export_kind_of b = if b == 0 then Some Func else (if b == 1 then Some Table else (if b == 2 then Some Memory else (if b == 3 then Some Global else None)))
+export_kind_of b = if b == 0 then Some Func else if b == 1 then Some Table else if b == 2 then Some Memory else if b == 3 then Some Global else None
 
 unfoldable pub export_kind_at : Read ExportKind
 export_kind_at bytes = coded_at export_kind_of bytes

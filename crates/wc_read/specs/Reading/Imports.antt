@@ -12,9 +12,9 @@ unfoldable pub import_type_at : Read ImportType
 import_type_at bytes = do
   kind ← byte_at bytes
   if kind.0 == 0 then number_at 32 kind.1 >>= (λ index. Some (Func index.0, index.1))
-      else (if kind.0 == 1 then table_at kind.1 >>= (λ t. Some (Table t.0, t.1))
-      else (if kind.0 == 2 then memory_at kind.1 >>= (λ m. Some (Memory m.0, m.1))
-      else (if kind.0 == 3 then global_at kind.1 >>= (λ g. Some (Global g.0, g.1)) else None)))
+      else if kind.0 == 1 then table_at kind.1 >>= (λ t. Some (Table t.0, t.1))
+      else if kind.0 == 2 then memory_at kind.1 >>= (λ m. Some (Memory m.0, m.1))
+      else if kind.0 == 3 then global_at kind.1 >>= (λ g. Some (Global g.0, g.1)) else None
 
 unfoldable pub import_at : Read ImportValue
 import_at bytes = do

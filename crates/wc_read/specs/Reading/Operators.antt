@@ -18,8 +18,8 @@ use Rattle.wc_read.specs.declared.operators.Form.TheVariants.{None as form_none,
 abbrev pub opcode_after : ℕ → Read Opcode
 opcode_after b bytes =
     if b == 0xfc then number_at 32 bytes >>= as_made Misc
-    else (if b == 0xfd then number_at 32 bytes >>= as_made Vector
-    else (if b == 0xfe then number_at 32 bytes >>= as_made Atomic else Some (Byte b, bytes)))
+    else if b == 0xfd then number_at 32 bytes >>= as_made Vector
+    else if b == 0xfe then number_at 32 bytes >>= as_made Atomic else Some (Byte b, bytes)
 
 unfoldable pub opcode_at : Read Opcode
 opcode_at bytes = do
@@ -35,7 +35,7 @@ is_value b = nat_lt 0x40 b && nat_lt b 0x80
 abbrev pub block_type_after : ℕ → Read BlockType
 block_type_after b bytes =
     if b == 0x40 then byte_at bytes >>= as_made (λ _. Empty)
-    else (if is_value b then val_type_at bytes >>= as_made Value else type_index_at bytes >>= as_made FuncType)
+    else if is_value b then val_type_at bytes >>= as_made Value else type_index_at bytes >>= as_made FuncType
 
 unfoldable pub block_type_at : Read BlockType
 block_type_at bytes = do

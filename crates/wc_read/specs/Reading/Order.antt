@@ -9,4 +9,4 @@ use Rattle.wc_read.specs.Reading.Bytes.{name_at}
 unfoldable pub next_position : ℕ → SectionValue → Option ℕ
 next_position position s =
     if s.id == custom_id then (name_at s.content >>= λ _. Some position)
-    else (if nat_lt data_count_id s.id then None else (if nat_lt position (section_position s.id) then Some (section_position s.id) else None))
+    else if nat_lt data_count_id s.id then None else if nat_lt position (section_position s.id) then Some (section_position s.id) else None

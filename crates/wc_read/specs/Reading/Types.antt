@@ -11,8 +11,8 @@ use Rattle.wc_read.specs.declared.types.GlobalType.{GlobalType}
 
 abbrev pub val_type_of : ℕ → Option ValType
 val_type_of b =
-    if b == 0x7f then Some I32 else (if b == 0x7e then Some I64 else (if b == 0x7d then Some F32 else (if b == 0x7c then Some F64
-    else (if b == 0x7b then Some V128 else (if b == 0x70 then Some FuncRef else (if b == 0x6f then Some ExternRef else None))))))
+    if b == 0x7f then Some I32 else if b == 0x7e then Some I64 else if b == 0x7d then Some F32 else if b == 0x7c then Some F64
+    else if b == 0x7b then Some V128 else if b == 0x70 then Some FuncRef else if b == 0x6f then Some ExternRef else None
 
 -- the index of a type
 abbrev pub natural : ℤ → Option ℕ
@@ -29,8 +29,8 @@ type_ref nullable index = TypeRef nullable index
 abbrev pub reference_after : Bool → ℕ → Read ValType
 reference_after nullable b bytes =
     if b == 0x70 then byte_at bytes >>= as_made (λ _. func_ref nullable)
-    else (if b == 0x6f then byte_at bytes >>= as_made (λ _. extern_ref nullable)
-    else type_index_at bytes >>= as_made (type_ref nullable))
+    else if b == 0x6f then byte_at bytes >>= as_made (λ _. extern_ref nullable)
+    else type_index_at bytes >>= as_made (type_ref nullable)
 
 unfoldable pub reference_at : Bool → Read ValType
 reference_at nullable bytes = do
@@ -41,7 +41,7 @@ reference_at nullable bytes = do
 abbrev pub val_type_after : ℕ → Read ValType
 val_type_after b bytes =
     if b == 0x63 then reference_at true bytes
-    else (if b == 0x64 then reference_at false bytes else val_type_of b >>= λ t. Some (t, bytes))
+    else if b == 0x64 then reference_at false bytes else val_type_of b >>= λ t. Some (t, bytes)
 
 unfoldable pub val_type_at : Read ValType
 val_type_at bytes = do
@@ -49,7 +49,7 @@ val_type_at bytes = do
   val_type_after b.0 b.1
 
 abbrev pub mutable_of : ℕ → Option Bool
-mutable_of b = if b == 0 then Some false else (if b == 1 then Some true else None)
+mutable_of b = if b == 0 then Some false else if b == 1 then Some true else None
 
 unfoldable pub mutable_at : Read Bool
 mutable_at bytes = coded_at mutable_of bytes

@@ -1,14 +1,14 @@
-//! An example of `wc_tool`.
+//! An example of `wctrim_command`.
 
 ghost use Rattle.std.specs.Prelude.{ℕ, IfNone, IfOk, IfSome, List, Option};
 ghost use Rattle.std.specs.Prelude.{map, string_bytes};
-ghost use Rattle.wc_tool.specs.Command.{CommandValue, IsCommandLine};
-ghost use Rattle.wc_tool.specs.Execution.{Runs};
+ghost use Rattle.wctrim_command.specs.Command.{CommandValue, IsCommandLine};
+ghost use Rattle.wctrim_command.specs.Execution.{Runs};
 
 use std::alloc::Global;
 use wc_maps::Seed;
-use wc_tool::{ToolFault, execute, parse};
 use wc_write::WriterSink;
+use wctrim_command::{ToolFault, execute, parse};
 
 /// The lines that a command prints for the bytes of a module. `None` where the arguments are
 /// those of no command. `seed`: the seed of the maps that are made, which a program draws by

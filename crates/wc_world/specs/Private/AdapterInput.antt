@@ -8,7 +8,7 @@ use Rattle.wc_world.specs.Adapters.{NamedAdapter, is_adapter_needed, validation_
 use Rattle.wc_world.specs.Causes.{IsStopOf}
 use Rattle.wc_world.specs.Restricted.{IsTrimFor}
 use Rattle.wc_world.specs.Views.{WorldAdapterView}
-use Rattle.wc_world.specs.World.{IsAdapterOf, IsTrimmedOrLibrary, settings_of, trim_input_of, IsTrimmedAdapter}
+use Rattle.wc_world.specs.World.{IsAdapterOf, IsTrimmedOrLibrary, settings_of, adapter_trim_input, IsTrimmedAdapter}
 use Rattle.wc_world.specs.declared.adapters.AdapterInput.{AdapterInput}
 use Rattle.wc_world.specs.declared.fault.WorldFault.{WorldFault}
 use Rattle.wc_world.specs.declared.fault.WorldFault.TheVariants.{Memory}
@@ -36,7 +36,7 @@ IsInputRecord g bytes r = IsRecordOf (validation_input_of g.encoder.now (main_of
 abbrev pub IsInputTrimmedText : AdapterInput → ModuleRecord → List ℕ → Type 0
 IsInputTrimmedText g first text =
     IsTrimFor g.encoder.now (validation_input_of g.encoder.now (main_of g) (named_adapter g)) (settings_of g.encoder.now (main_of g) first)
-    (trim_input_of (main_of g) (named_adapter g) first) text first
+    (adapter_trim_input (main_of g) (named_adapter g) first) text first
 
 -- what the adapter is in the world of a component, trimmed
 abbrev pub IsTrimmedInput : AdapterInput → WorldAdapterView → Type 0

@@ -1,5 +1,5 @@
 -- Which functions and drops core modules import, as sets.
-use Rattle.std.specs.Prelude.{◌≡◌, ◌==◌, ◌&&◌, nat_eq, ℕ, List, Bool, true, false, Option, Some, None, String, ◌++◌, Result, OnOk}
+use Rattle.std.specs.Prelude.{◌≡◌, ◌==◌, ◌&&◌, nat_eq, ℕ, List, Bool, Option, Some, None, String, ◌++◌, Result, OnOk}
 use Rattle.std.specs.List.{list_any}
 use Rattle.std.specs.Option.{option_eq, option_map}
 use Rattle.std.specs.Str.{bytes_eq}
@@ -56,11 +56,6 @@ ForRequired r P = (imports : List ImportView) → AreRequired imports r → P im
 -- on success the functions and drops are those of these imports too
 abbrev pub AddsImportsOnOk : {T E : Type 0} → Result T E → Required → Required → List ImportView → Type 0
 AddsImportsOnOk result old new more = ForRequired old (λ imports. OnOk result (AreRequired (imports ++ more) new))
-
--- how a function is called that is imported asynchronously, or else synchronously
-abbrev pub import_abi : Bool → AbiVariant
-import_abi true = GuestImportAsync
-import_abi false = GuestImport
 
 -- a function by its interface, if it has one, and its name, and how it is called
 abbrev pub call_view : Option InterfaceId × Bor (List ℕ) × AbiVariant → (Option ℕ × List ℕ) × AbiVariant

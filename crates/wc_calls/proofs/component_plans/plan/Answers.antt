@@ -1,23 +1,28 @@
 use Rattle.wc_calls.specs.ComponentPlans.{IsPlanAnswer}
 use Rattle.wc_calls.specs.Private.EncoderAnswers.{IsPlanFor}
+use Rattle.wc_calls.specs.Private.OptionTables.{table_options}
 use Rattle.wc_calls.proofs.ComponentPlanLemmas.{planned_to}
 use Rattle.wc_calls.proofs.FaultAnswerLemmas.{message_refused, plan_refused, put_by, too_long_by}
 use Rattle.wc_calls.proofs.component_plans.plan.Goals as goal
 
 pub returns-in-Ok-clause-done : goal.returns-in-Ok-clause-done
 returns-in-Ok-clause-done c = λ is.
-    put_by (IsPlanFor c.in-Ok.encoder) (IsPlanAnswer c.args.message.now c.args.modules.now) c.plan_for.result.length c.args.out.now c.plan_for.new.out
-    (planned_to c.args.message.now c.args.modules.now c.in-Ok.encoder c.in-Ok.ensures.encoder) (c.plan_for.ensures.done is)
+    let options = table_options c.in-Ok.input.options in
+    let e = c.in-Ok.input.encoder in
+    put_by (IsPlanFor options e) (IsPlanAnswer c.args.message.now c.args.modules.now) c.plan_for.result.length c.args.out.now c.plan_for.new.out
+    (planned_to c.args.message.now c.args.modules.now options e c.in-Ok.ensures.encoder c.in-Ok.ensures.options) (c.plan_for.ensures.done is)
 
 pub returns-in-Ok-clause-too_small : goal.returns-in-Ok-clause-too_small
 returns-in-Ok-clause-too_small c = λ is.
-    too_long_by (IsPlanFor c.in-Ok.encoder) (IsPlanAnswer c.args.message.now c.args.modules.now) c.plan_for.result.length c.args.out.now
-    (planned_to c.args.message.now c.args.modules.now c.in-Ok.encoder c.in-Ok.ensures.encoder) (c.plan_for.ensures.too_small is)
+    let options = table_options c.in-Ok.input.options in
+    let e = c.in-Ok.input.encoder in
+    too_long_by (IsPlanFor options e) (IsPlanAnswer c.args.message.now c.args.modules.now) c.plan_for.result.length c.args.out.now
+    (planned_to c.args.message.now c.args.modules.now options e c.in-Ok.ensures.encoder c.in-Ok.ensures.options) (c.plan_for.ensures.too_small is)
 
 pub returns-in-Ok-clause-fault : goal.returns-in-Ok-clause-fault
 returns-in-Ok-clause-fault c = λ is.
-    plan_refused c.args.message.now c.args.modules.now c.in-Ok.encoder c.plan_for.result c.args.out.now c.plan_for.new.out c.in-Ok.ensures.encoder
-    (c.plan_for.ensures.fault is)
+    plan_refused c.args.message.now c.args.modules.now (table_options c.in-Ok.input.options) c.in-Ok.input.encoder c.plan_for.result c.args.out.now
+    c.plan_for.new.out c.in-Ok.ensures.encoder c.in-Ok.ensures.options (c.plan_for.ensures.fault is)
 
 pub returns-in-Err-clause-fault : goal.returns-in-Err-clause-fault
 returns-in-Err-clause-fault c = λ is.

@@ -1,5 +1,6 @@
 use Rattle.wc_calls.specs.ComponentWorlds.{IsWorldAnswer}
 use Rattle.wc_calls.specs.Private.EncoderAnswers.{IsAnswerFor}
+use Rattle.wc_calls.specs.Private.OptionTables.{table_options}
 use Rattle.wc_calls.proofs.ComponentWorldLemmas.{answered_to}
 use Rattle.wc_calls.proofs.FaultAnswerLemmas.{message_refused, put_by, too_long_by, world_refused}
 use Rattle.wc_calls.proofs.component_worlds.world.Goals as goal
@@ -7,19 +8,25 @@ use Rattle.wc_calls.proofs.component_worlds.world.Goals as goal
 pub returns-in-Ok-clause-done : goal.returns-in-Ok-clause-done
 returns-in-Ok-clause-done c = λ is.
     let r = c.world_for.result in
-    put_by (IsAnswerFor c.in-Ok.encoder r.module_length) (IsWorldAnswer c.args.message.now c.args.modules.now r.module_length) r.length c.args.out.now
-    c.world_for.new.out (answered_to c.args.message.now c.args.modules.now c.in-Ok.encoder r.module_length c.in-Ok.ensures.encoder) (c.world_for.ensures.done is)
+    let options = table_options c.in-Ok.input.options in
+    let e = c.in-Ok.input.encoder in
+    put_by (IsAnswerFor options e r.module_length) (IsWorldAnswer c.args.message.now c.args.modules.now r.module_length) r.length c.args.out.now
+    c.world_for.new.out (answered_to c.args.message.now c.args.modules.now options e r.module_length c.in-Ok.ensures.encoder c.in-Ok.ensures.options)
+    (c.world_for.ensures.done is)
 
 pub returns-in-Ok-clause-too_small : goal.returns-in-Ok-clause-too_small
 returns-in-Ok-clause-too_small c = λ is.
     let r = c.world_for.result in
-    too_long_by (IsAnswerFor c.in-Ok.encoder r.module_length) (IsWorldAnswer c.args.message.now c.args.modules.now r.module_length) r.length c.args.out.now
-    (answered_to c.args.message.now c.args.modules.now c.in-Ok.encoder r.module_length c.in-Ok.ensures.encoder) (c.world_for.ensures.too_small is)
+    let options = table_options c.in-Ok.input.options in
+    let e = c.in-Ok.input.encoder in
+    too_long_by (IsAnswerFor options e r.module_length) (IsWorldAnswer c.args.message.now c.args.modules.now r.module_length) r.length c.args.out.now
+    (answered_to c.args.message.now c.args.modules.now options e r.module_length c.in-Ok.ensures.encoder c.in-Ok.ensures.options)
+    (c.world_for.ensures.too_small is)
 
 pub returns-in-Ok-clause-fault : goal.returns-in-Ok-clause-fault
 returns-in-Ok-clause-fault c = λ is.
-    world_refused c.args.message.now c.args.modules.now c.in-Ok.encoder c.world_for.result c.args.out.now c.world_for.new.out c.in-Ok.ensures.encoder
-    (c.world_for.ensures.fault is)
+    world_refused c.args.message.now c.args.modules.now c.in-Ok.input.encoder c.world_for.result c.args.out.now c.world_for.new.out
+    c.in-Ok.ensures.encoder (c.world_for.ensures.fault is)
 
 pub returns-in-Err-clause-fault : goal.returns-in-Err-clause-fault
 returns-in-Err-clause-fault c = λ is.

@@ -1,6 +1,6 @@
 use Rattle.std.proofs.Common.{◌≡◌, take}
-use Rattle.wc_gc.specs.Liveness.{names_of}
-use Rattle.wc_calls.specs.Required.{texts, distinct_names}
+use Rattle.wc_gc.specs.Liveness.{distinct_names, names_of}
+use Rattle.wc_calls.specs.Required.{texts}
 use Rattle.wc_calls.proofs.required.name_set.Given as goal
 
 abbrev pub invariant-loop-bytes : goal.invariant-loop-bytes

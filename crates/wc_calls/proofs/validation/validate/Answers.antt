@@ -4,7 +4,7 @@ use Rattle.wc_calls.proofs.validation.validate.Goals as goal
 
 pub returns-in-Ok-clause-fault : goal.returns-in-Ok-clause-fault
 returns-in-Ok-clause-fault c = λ is.
-    validation_refused c.args.message.now c.args.modules.now (option_map (λ n. n.now) c.args.adapter) c.in-Ok.encoder c.validate_for.result c.args.out.now
+    validation_refused c.args.message.now c.args.modules.now (option_map (λ n. n.now) c.args.adapter) c.in-Ok.input.encoder c.validate_for.result c.args.out.now
     c.validate_for.new.out c.in-Ok.ensures.encoder (c.validate_for.ensures.fault is)
 
 pub returns-in-Err-clause-fault : goal.returns-in-Err-clause-fault

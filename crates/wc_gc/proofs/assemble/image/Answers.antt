@@ -11,15 +11,15 @@ use Rattle.wc_gc.proofs.assemble.image.Goals as goal
 
 pub new_funcs-requires-clause-imports : goal.new_funcs-requires-clause-imports
 new_funcs-requires-clause-imports g c =
-    rw c.deref-2.ensures.value (group_coded c.args.adapter.now (g.L.LiveSet.has c.args.live.now.funcs) (is_in_group (settings_of c.args.edit) true) (g.L.LiveSet.has c.args.groups.now.imports) c.requires.in_range c.requires.groups.imports)
+    rw c.deref-2.ensures.value (group_coded c.args.source.now.adapter.now (g.L.LiveSet.has c.args.source.now.live.now.funcs) (is_in_group (settings_of c.args.edit) true) (g.L.LiveSet.has c.args.groups.now.imports) c.requires.in_range c.requires.groups.imports)
 
 pub new_funcs-requires-clause-defined : goal.new_funcs-requires-clause-defined
 new_funcs-requires-clause-defined g c =
-    rw c.deref-2.ensures.value (group_coded c.args.adapter.now (g.L.LiveSet.has c.args.live.now.funcs) (is_in_group (settings_of c.args.edit) false) (g.L.LiveSet.has c.args.groups.now.defined) c.requires.in_range c.requires.groups.defined)
+    rw c.deref-2.ensures.value (group_coded c.args.source.now.adapter.now (g.L.LiveSet.has c.args.source.now.live.now.funcs) (is_in_group (settings_of c.args.edit) false) (g.L.LiveSet.has c.args.groups.now.defined) c.requires.in_range c.requires.groups.defined)
 
 pub returns : goal.returns
 returns g c =
-    edited_image_is c.args.edit c.args.adapter.now (map export_value c.args.exports.now) (has_item g.L.LiveSet.has c.args.live.now) c.requires.indices c.requires.types c.requires.funcs g.L.LiveSet.has c.args.groups.now c.requires.groups
+    edited_image_is c.args.edit c.args.source.now.adapter.now (map export_value c.args.source.now.exports.now) (has_item g.L.LiveSet.has c.args.source.now.live.now) c.requires.indices c.requires.types c.requires.funcs g.L.LiveSet.has c.args.groups.now c.requires.groups
     _ (rw c.deref.ensures.value at c.in_ok-types.ensures)
     _ (rw c.deref-2.ensures.value at c.in_ok-funcs.ensures)
     (with_items c.in_ok-tables.tables c.renumber_tables.new.tables).items c.in_ok-tables.tables.items (rw c.deref-3.ensures.value at c.in_ok-tables.ensures)

@@ -19,9 +19,9 @@ use Rattle.wc_gc.proofs.edited_text.edited_text.Goals as goal
 
 pub returns-in_err-new-clause-fault : goal.returns-in_err-new-clause-fault
 returns-in_err-new-clause-fault g c =
-    let a = c.args.adapter.now in
-    let live = has_item g.L.LiveSet.has c.args.live.now in
-    let exports = map export_value c.args.exports.now in
+    let a = c.args.source.now.adapter.now in
+    let live = has_item g.L.LiveSet.has c.args.source.now.live.now in
+    let exports = map export_value c.args.source.now.exports.now in
     let s = settings_value c.args.settings in
     let f = found_value c.args.found.now in
     let funcs = c.deref.ensures.value in
@@ -41,15 +41,15 @@ invariant_of-edit g c = record {
   types = ap (λ k. k.added_types) c.in_ok-new.ensures.counts ∙ c.counts.ensures.added_types;
   imports = ap (λ k. k.added_imports) c.in_ok-new.ensures.counts ∙ c.counts.ensures.added_imports;
   funcs = ap (λ k. k.added_funcs) c.in_ok-new.ensures.counts ∙ c.counts.ensures.added_funcs;
-  memory = memory_first c.in_ok-new.new (decoded_module c.args.adapter.now) (has_item g.L.LiveSet.has c.args.live.now)
+  memory = memory_first c.in_ok-new.new (decoded_module c.args.source.now.adapter.now) (has_item g.L.LiveSet.has c.args.source.now.live.now)
       (found_value c.args.found.now) c.requires.found c.in_ok-new.ensures.ranks.memories;
 }
 
 pub image-requires-clause-indices : goal.image-requires-clause-indices
 image-requires-clause-indices g c =
-    let a = c.args.adapter.now in
-    let live = has_item g.L.LiveSet.has c.args.live.now in
-    let exports = map export_value c.args.exports.now in
+    let a = c.args.source.now.adapter.now in
+    let live = has_item g.L.LiveSet.has c.args.source.now.live.now in
+    let exports = map export_value c.args.source.now.exports.now in
     let s = settings_value c.args.settings in
     let f = found_value c.args.found.now in
     let funcs = c.deref.ensures.value in
@@ -64,26 +64,26 @@ image-requires-clause-indices g c =
 
 pub returns-in_err-write_module_of-clause-fault : goal.returns-in_err-write_module_of-clause-fault
 returns-in_err-write_module_of-clause-fault g c =
-    let same = edit_is (settings_value c.args.settings) (decoded_module c.args.adapter.now) (map export_value c.args.exports.now)
-    (has_item g.L.LiveSet.has c.args.live.now) c.of-parts.result (found_value c.args.found.now) c.requires.found c.of-parts.ensures in
+    let same = edit_is (settings_value c.args.settings) (decoded_module c.args.source.now.adapter.now) (map export_value c.args.source.now.exports.now)
+    (has_item g.L.LiveSet.has c.args.source.now.live.now) c.of-parts.result (found_value c.args.found.now) c.requires.found c.of-parts.ensures in
     let is = c.in_ok-built.ensures ∙ ap edited_image same in
     let p = err_from_is_err_and c.from_residual-in_err-write_module_of.result c.from_residual-in_err-write_module_of.ensures.1 in
     rw (p.1, p.2) (not_written (FitsBits
-    (edited_image (edit (settings_value c.args.settings) (decoded_module c.args.adapter.now) (map export_value c.args.exports.now)
-    (has_item g.L.LiveSet.has c.args.live.now)))) (built_value_by body_written c.in_ok-built.built)
+    (edited_image (edit (settings_value c.args.settings) (decoded_module c.args.source.now.adapter.now) (map export_value c.args.source.now.exports.now)
+    (has_item g.L.LiveSet.has c.args.source.now.live.now)))) (built_value_by body_written c.in_ok-built.built)
     (λ b. subst SizesFit (sym is) b.sizes) _ c.in_err-write_module_of.ensures.too_large)
 
 pub returns-clause-written : goal.returns-clause-written
 returns-clause-written g c =
-    let same = edit_is (settings_value c.args.settings) (decoded_module c.args.adapter.now) (map export_value c.args.exports.now)
-    (has_item g.L.LiveSet.has c.args.live.now) c.of-parts.result (found_value c.args.found.now) c.requires.found c.of-parts.ensures in
+    let same = edit_is (settings_value c.args.settings) (decoded_module c.args.source.now.adapter.now) (map export_value c.args.source.now.exports.now)
+    (has_item g.L.LiveSet.has c.args.source.now.live.now) c.of-parts.result (found_value c.args.found.now) c.requires.found c.of-parts.ensures in
     c.in_ok-write_module_of.ensures.written ∙ ap built_text (c.in_ok-built.ensures ∙ ap edited_image same)
 
 pub returns-clause-fits : goal.returns-clause-fits
 returns-clause-fits g c =
-    let a = c.args.adapter.now in
-    let live = has_item g.L.LiveSet.has c.args.live.now in
-    let exports = map export_value c.args.exports.now in
+    let a = c.args.source.now.adapter.now in
+    let live = has_item g.L.LiveSet.has c.args.source.now.live.now in
+    let exports = map export_value c.args.source.now.exports.now in
     let s = settings_value c.args.settings in
     let f = found_value c.args.found.now in
     let funcs = c.deref.ensures.value in

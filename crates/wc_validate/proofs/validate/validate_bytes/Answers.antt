@@ -1,6 +1,6 @@
 use Rattle.std.proofs.Common.{refl}
 use Rattle.wc_read.specs.Modules.{module_value}
-use Rattle.wc_validate.specs.Validated.{IsCause}
+use Rattle.wc_validate.specs.Validated.{IsValidateCause}
 use Rattle.wc_validate.proofs.ExclusionLemmas.{answered}
 use Rattle.wc_validate.proofs.RecorderLemmas.{passed}
 use Rattle.wc_validate.proofs.ValidateLemmas.{cause_of, read_cause, record_of, typed_imports}
@@ -9,7 +9,7 @@ use Rattle.wc_validate.proofs.validate.validate_bytes.Goals as goal
 
 pub returns-in_err-module-clause-fault : goal.returns-in_err-module-clause-fault
 returns-in_err-module-clause-fault c =
-    passed (IsCause (validation_input_of c.args.validation_input) c.args.bytes.now) _ _ c.from_residual.ensures.1
+    passed (IsValidateCause (validation_input_of c.args.validation_input) c.args.bytes.now) _ _ c.from_residual.ensures.1
     (read_cause (validation_input_of c.args.validation_input) c.args.bytes.now _ _ refl c.in_err-module.ensures.refused c.in_err-module.ensures.component)
 
 pub validate_read-requires-clause-typed : goal.validate_read-requires-clause-typed

@@ -2,7 +2,7 @@ use Rattle.std.proofs.Common.{subst, sym}
 use Rattle.wc_validate.specs.Validated.{module_record}
 use Rattle.wc_world.specs.Adapters.{validation_input_of}
 use Rattle.wc_world.specs.Private.AdapterInput.{IsInputFault, IsInputRecord, IsInputTrimmedText, main_of, named_adapter}
-use Rattle.wc_world.specs.World.{settings_of, trim_input_of}
+use Rattle.wc_world.specs.World.{settings_of, adapter_trim_input}
 use Rattle.wc_world.proofs.FaultLemmas.{passed_on}
 use Rattle.wc_world.proofs.adapters.trim_adapter.Goals as goal
 
@@ -19,11 +19,10 @@ returns-clause-is_adapter c = record {
   first = module_record c.args.first.now;
   original = c.requires.original;
   trimmed = c.in_ok-bytes.ensures.trimmed.trimmed;
-  no_cause = c.in_ok-bytes.ensures.trimmed.no_cause;
   last = subst (λ b. IsInputRecord c.args.input.now b (module_record c.in_ok-info.info)) c.deref.ensures.value c.in_ok-info.ensures.recorded;
   restricted =
       c.trimmed_is_restricted.ensures.restricted (validation_input_of c.args.input.now.encoder.now (main_of c.args.input.now) (named_adapter c.args.input.now))
-      (settings_of c.args.input.now.encoder.now (main_of c.args.input.now) (module_record c.args.first.now)) (trim_input_of (main_of c.args.input.now) (named_adapter c.args.input.now) (module_record c.args.first.now))
+      (settings_of c.args.input.now.encoder.now (main_of c.args.input.now) (module_record c.args.first.now)) (adapter_trim_input (main_of c.args.input.now) (named_adapter c.args.input.now) (module_record c.args.first.now))
       c.in_ok-bytes.bytes.items (module_record c.args.first.now) (module_record c.in_ok-info.info) c.in_ok-bytes.ensures.trimmed
       (subst (λ b. IsInputRecord c.args.input.now b (module_record c.in_ok-info.info)) c.deref.ensures.value c.in_ok-info.ensures.recorded);
 }

@@ -1,25 +1,25 @@
-use Rattle.std.proofs.Common.{ap, ◌∙◌, refl}
+use Rattle.std.proofs.Common.{ap, ◌∙◌}
 use Rattle.std.specs.Option.{option_map}
 use Rattle.wc_encoder.specs.Adapters.{library_view}
 use Rattle.wc_validate.specs.Validated.{module_record}
-use Rattle.wc_world.specs.Adapters.{trim_exponent}
-use Rattle.wc_world.proofs.FaultLemmas.{exponent_small, some_names, input_trimmed_text, trim_refused}
+use Rattle.wc_world.specs.Adapters.{trim_page_size_log2}
+use Rattle.wc_world.proofs.FaultLemmas.{page_size_log2_small, some_names, input_trimmed_text, trim_refused}
 use Rattle.wc_world.proofs.adapters.trim_to.Goals as goal
 
 pub run-requires-clause-some : goal.run-requires-clause-some
 run-requires-clause-some c =
-    some_names c.args.input.now c.requires.needed (module_record c.args.first.now) c.main_realloc-realloc.result c.trim_exponent-exponent.result c.deref-wasm.result.now c.args.names.now.keys c.main_realloc-realloc.ensures (c.trim_exponent-exponent.ensures ∙ ap trim_exponent c.imported_memory.ensures) c.deref-wasm.ensures.value c.requires.names
+    some_names c.args.input.now c.requires.needed (module_record c.args.first.now) c.main_realloc-realloc.result c.trim_page_size_log2-page_size_log2.result c.deref-wasm.result.now c.args.names.now.keys c.main_realloc-realloc.ensures (c.trim_page_size_log2-page_size_log2.ensures ∙ ap trim_page_size_log2 c.imported_memory.ensures) c.deref-wasm.ensures.value c.requires.names
     (ap (option_map library_view) c.requires.trims) c.requires.original
 
 pub run-requires-clause-paged : goal.run-requires-clause-paged
-run-requires-clause-paged c = exponent_small c.imported_memory.result c.trim_exponent-exponent.result c.trim_exponent-exponent.ensures
+run-requires-clause-paged c = page_size_log2_small c.imported_memory.result c.trim_page_size_log2-page_size_log2.result c.trim_page_size_log2-page_size_log2.ensures
 
 pub returns-in-Ok-clause-trimmed : goal.returns-in-Ok-clause-trimmed
 returns-in-Ok-clause-trimmed c =
-    input_trimmed_text c.args.input.now c.requires.needed (module_record c.args.first.now) c.main_realloc-realloc.result c.trim_exponent-exponent.result c.deref-wasm.result.now c.args.names.now.keys c.main_realloc-realloc.ensures (c.trim_exponent-exponent.ensures ∙ ap trim_exponent c.imported_memory.ensures) c.deref-wasm.ensures.value c.requires.names
-    c.in-Ok.bytes.items (ap (option_map library_view) c.requires.trims) c.requires.original c.settings_are_valid.ensures c.slices_are_bytes.ensures c.in-Ok.ensures.read (c.in-Ok.ensures.no_cause refl)
+    input_trimmed_text c.args.input.now c.requires.needed (module_record c.args.first.now) c.main_realloc-realloc.result c.trim_page_size_log2-page_size_log2.result c.deref-wasm.result.now c.args.names.now.keys c.main_realloc-realloc.ensures (c.trim_page_size_log2-page_size_log2.ensures ∙ ap trim_page_size_log2 c.imported_memory.ensures) c.deref-wasm.ensures.value c.requires.names
+    c.in-Ok.bytes.items (ap (option_map library_view) c.requires.trims) c.requires.original c.slices_are_bytes.ensures c.in-Ok.ensures.trimmed
 
 pub returns-in-Err-clause-fault : goal.returns-in-Err-clause-fault
 returns-in-Err-clause-fault c =
-    trim_refused c.args.input.now c.requires.needed (module_record c.args.first.now) c.main_realloc-realloc.result c.trim_exponent-exponent.result c.deref-wasm.result.now c.args.names.now.keys c.main_realloc-realloc.ensures (c.trim_exponent-exponent.ensures ∙ ap trim_exponent c.imported_memory.ensures) c.deref-wasm.ensures.value c.requires.names
+    trim_refused c.args.input.now c.requires.needed (module_record c.args.first.now) c.main_realloc-realloc.result c.trim_page_size_log2-page_size_log2.result c.deref-wasm.result.now c.args.names.now.keys c.main_realloc-realloc.ensures (c.trim_page_size_log2-page_size_log2.ensures ∙ ap trim_page_size_log2 c.imported_memory.ensures) c.deref-wasm.ensures.value c.requires.names
     c.in-Err.fault c.trim_fault.result (ap (option_map library_view) c.requires.trims) c.requires.original c.in-Err.ensures.fault c.trim_fault.ensures

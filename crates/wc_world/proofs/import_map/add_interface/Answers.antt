@@ -16,7 +16,7 @@ name_world_key-requires-clause-named g c = c.requires.item.named
 
 pub imported_interface-requires-clause-there : goal.imported_interface-requires-clause-there
 imported_interface-requires-clause-there g c =
-    interface_there c.args.context.now.resolve.now (item_view c.args.item.now) c.args.id.0 c.requires.interface c.requires.item.item_in
+    interface_there c.args.context.now.resolve.now (item_view c.args.import.item.now) c.args.import.id.0 c.requires.interface c.requires.item.item_in
 
 pub imported_interface-requires-clause-item : goal.imported_interface-requires-clause-item
 imported_interface-requires-clause-item g c = c.requires.item.item_in
@@ -26,7 +26,7 @@ returns g c = λ imports a e is distinct.
     let l : Lowerer = lowerer_in g.O.ImportOptions.options_of c.args.context.now imports in
     let own : ImportEntry = imported_entry (Some c.in_ok-name.name, c.in_ok-imported.imported) in
     let same : own ≡ e =
-    same_Some own e (sym (interface_is l (key_view c.args.key.now) (item_view c.args.item.now) c.args.id.0
+    same_Some own e (sym (interface_is l (key_view c.args.import.key.now) (item_view c.args.import.item.now) c.args.import.id.0
     (string_bytes c.in_ok-name.name) own.1 c.requires.interface c.in_ok-name.ensures
     (c.in_ok-imported.ensures.lowerings imports a) c.in_ok-imported.ensures.interface c.in_ok-imported.ensures.implements
     c.in_ok-imported.ensures.external) ∙ is) in

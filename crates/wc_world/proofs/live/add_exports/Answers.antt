@@ -8,20 +8,20 @@ use Rattle.wc_world.proofs.live.add_exports.Goals as goal
 
 pub loop-key-init : goal.loop-key-init
 loop-key-init c =
-    live_start c.args.resolve.now (λ (x : KeyView × ItemView). export_roots c.args.resolve.now (used_view c.args.used.now) x.1) (map world_entry c.args.exports.now.entries) (map world_entry c.into_iter-key-iterator.result) [] c.args.live.now c.args.live.now
-    (ap (map world_entry) (c.into_iter-key-iterator.ensures.into_iter_gives ∙ c.iter-key-items.ensures.rest)) (adds_none c.args.resolve.now c.args.live.now)
+    live_start c.args.context.now.resolve.now (λ (x : KeyView × ItemView). export_roots c.args.context.now.resolve.now (used_view c.args.context.now.used.now) x.1) (map world_entry c.args.exports.now.entries) (map world_entry c.into_iter-key-iterator.result) [] c.args.live.now c.args.live.now
+    (ap (map world_entry) (c.into_iter-key-iterator.ensures.into_iter_gives ∙ c.iter-key-items.ensures.rest)) (adds_none c.args.context.now.resolve.now c.args.live.now)
 
 pub add_export-requires : goal.add_export-requires
 add_export-requires c =
-    live_has c.args.resolve.now (λ (x : KeyView × ItemView). export_roots c.args.resolve.now (used_view c.args.used.now) x.1) (map world_entry c.args.exports.now.entries) (map world_entry c.loop-key._key-iterator) [] c.args.live.now
-    (λ (x : KeyView × ItemView). IsItemIn c.args.resolve.now x.1) (map world_entry c.next.new.self) (world_entry (c.in-Some._key.now, c.in-Some.item.now)) c.loop-key.live (ap (map world_entry) c.in-Some.ensures.steps) c.requires c.loop-key.invariant
+    live_has c.args.context.now.resolve.now (λ (x : KeyView × ItemView). export_roots c.args.context.now.resolve.now (used_view c.args.context.now.used.now) x.1) (map world_entry c.args.exports.now.entries) (map world_entry c.loop-key._key-iterator) [] c.args.live.now
+    (λ (x : KeyView × ItemView). IsItemIn c.args.context.now.resolve.now x.1) (map world_entry c.next.new.self) (world_entry (c.in-Some._key.now, c.in-Some.item.now)) c.loop-key.live (ap (map world_entry) c.in-Some.ensures.steps) c.requires c.loop-key.invariant
 
 pub loop-key-preserved : goal.loop-key-preserved
 loop-key-preserved c =
-    live_next c.args.resolve.now (λ (x : KeyView × ItemView). export_roots c.args.resolve.now (used_view c.args.used.now) x.1) (map world_entry c.args.exports.now.entries) (map world_entry c.loop-key._key-iterator) [] c.args.live.now
+    live_next c.args.context.now.resolve.now (λ (x : KeyView × ItemView). export_roots c.args.context.now.resolve.now (used_view c.args.context.now.used.now) x.1) (map world_entry c.args.exports.now.entries) (map world_entry c.loop-key._key-iterator) [] c.args.live.now
     (map world_entry c.next.new.self) (world_entry (c.in-Some._key.now, c.in-Some.item.now)) c.loop-key.live c.add_export.new.live (ap (map world_entry) c.in-Some.ensures.steps) c.in_ok-add_export.ensures c.loop-key.invariant
 
 pub returns : goal.returns
 returns c =
-    live_end c.args.resolve.now (λ (x : KeyView × ItemView). export_roots c.args.resolve.now (used_view c.args.used.now) x.1) (map world_entry c.args.exports.now.entries) (map world_entry c.loop-key._key-iterator) [] c.args.live.now c.loop-key.live
+    live_end c.args.context.now.resolve.now (λ (x : KeyView × ItemView). export_roots c.args.context.now.resolve.now (used_view c.args.context.now.used.now) x.1) (map world_entry c.args.exports.now.entries) (map world_entry c.loop-key._key-iterator) [] c.args.live.now c.loop-key.live
     (ap (map world_entry) c.in-None.ensures.steps.0) c.loop-key.invariant

@@ -6,4 +6,4 @@ use Rattle.wc_world.proofs.LiveWalkLemmas.{LiveWalk}
 use Rattle.wc_world.proofs.live.add_exports.Given as goal
 
 abbrev pub invariant-loop-key : goal.invariant-loop-key
-invariant-loop-key l = LiveWalk l.resolve (λ (x : KeyView × ItemView). export_roots l.resolve (used_view l.used) x.1) (map world_entry l.exports.entries) (map world_entry l._key-iterator) [] l.fn.live l.live
+invariant-loop-key l = LiveWalk l.context.resolve.now (λ (x : KeyView × ItemView). export_roots l.context.resolve.now (used_view l.context.used.now) x.1) (map world_entry l.exports.entries) (map world_entry l._key-iterator) [] l.fn.live l.live

@@ -10,17 +10,17 @@ use Rattle.wc_world.proofs.live.live_types.Goals as goal
 
 pub returns-clause-live : goal.returns-clause-live
 returns-clause-live c =
-    live_found c.args.resolve.now c.new-live.result c.add_module.new.live c.add_adapters.new.live c.add_exports.new.live
-    (module_roots c.args.resolve.now (world_view c.args.world.now).imports (module_record c.args.main.now).imports) (adapter_roots c.args.resolve.now (world_view c.args.world.now).imports (map adapter_entry c.args.adapters.now.entries))
-    (exports_roots c.args.resolve.now (used_view c.args.used.now) (world_view c.args.world.now).exports) c.new-live.ensures c.in_ok-add_module.ensures c.in_ok-add_adapters.ensures c.in_ok-add_exports.ensures
+    live_found c.args.context.now.resolve.now c.new-live.result c.add_module.new.live c.add_adapters.new.live c.add_exports.new.live
+    (module_roots c.args.context.now.resolve.now (world_view c.args.world.now).imports (module_record c.args.main.now).imports) (adapter_roots c.args.context.now.resolve.now (world_view c.args.world.now).imports (map adapter_entry c.args.adapters.now.entries))
+    (exports_roots c.args.context.now.resolve.now (used_view c.args.context.now.used.now) (world_view c.args.world.now).exports) c.new-live.ensures c.in_ok-add_module.ensures c.in_ok-add_adapters.ensures c.in_ok-add_exports.ensures
 
 pub returns-clause-listed : goal.returns-clause-listed
 returns-clause-listed c =
-    live_listed c.args.resolve.now (world_roots c.args.resolve.now (used_view c.args.used.now) (world_view c.args.world.now).imports (world_view c.args.world.now).exports (module_record c.args.main.now) (map adapter_entry c.args.adapters.now.entries)) c.add_exports.new.live
-    c.well_formedness.ensures.in_range (roots_in c.args.resolve.now (used_view c.args.used.now) (world_view c.args.world.now) (module_record c.args.main.now) (map adapter_entry c.args.adapters.now.entries) c.well_formedness.ensures.in_range c.requires)
-    (live_found c.args.resolve.now c.new-live.result c.add_module.new.live c.add_adapters.new.live c.add_exports.new.live
-    (module_roots c.args.resolve.now (world_view c.args.world.now).imports (module_record c.args.main.now).imports) (adapter_roots c.args.resolve.now (world_view c.args.world.now).imports (map adapter_entry c.args.adapters.now.entries))
-    (exports_roots c.args.resolve.now (used_view c.args.used.now) (world_view c.args.world.now).exports) c.new-live.ensures c.in_ok-add_module.ensures c.in_ok-add_adapters.ensures c.in_ok-add_exports.ensures)
+    live_listed c.args.context.now.resolve.now (world_roots c.args.context.now.resolve.now (used_view c.args.context.now.used.now) (world_view c.args.world.now).imports (world_view c.args.world.now).exports (module_record c.args.main.now) (map adapter_entry c.args.adapters.now.entries)) c.add_exports.new.live
+    c.well_formedness.ensures.in_range (roots_in c.args.context.now.resolve.now (used_view c.args.context.now.used.now) (world_view c.args.world.now) (module_record c.args.main.now) (map adapter_entry c.args.adapters.now.entries) c.well_formedness.ensures.in_range c.requires)
+    (live_found c.args.context.now.resolve.now c.new-live.result c.add_module.new.live c.add_adapters.new.live c.add_exports.new.live
+    (module_roots c.args.context.now.resolve.now (world_view c.args.world.now).imports (module_record c.args.main.now).imports) (adapter_roots c.args.context.now.resolve.now (world_view c.args.world.now).imports (map adapter_entry c.args.adapters.now.entries))
+    (exports_roots c.args.context.now.resolve.now (used_view c.args.context.now.used.now) (world_view c.args.world.now).exports) c.new-live.ensures c.in_ok-add_module.ensures c.in_ok-add_adapters.ensures c.in_ok-add_exports.ensures)
 
 pub add_module-requires-clause-items : goal.add_module-requires-clause-items
 add_module-requires-clause-items c = c.requires.imports

@@ -10,11 +10,11 @@ pub returns : goal.returns
 returns c =
     let s = settings None 16 in
     let w = trim_input c.args.adapter.now c.args.required.now.keys in
-    let read = c.in_ok-trimmed.ensures.read in
-    let t = read.trimmed in
+    let trimmed = c.in_ok-trimmed.ensures.trimmed in
+    let t = trimmed.image in
     let e = edited_from s w c.in_ok-trimmed.trimmed.items t in
     record {
-      read = read;
+      trimmed = trimmed;
       own = λ nothing. subst (λ m. UnfoldsAs (built_module (edited_image e)) m (edited_rank e) (in_image e))
-          (c.nothing_is_edited.ensures (original_of s w t.value t.live) nothing) read.unfolds;
+          (c.nothing_is_edited.ensures (original_of s w t.value t.live) nothing) trimmed.unfolds;
     }

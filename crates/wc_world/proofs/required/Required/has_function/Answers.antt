@@ -1,7 +1,8 @@
 use Rattle.std.proofs.Common.{◌≡◌, IfOk, subst, sym}
 use Rattle.wc_resolve.specs.declared.functions.AbiVariant.TheVariants.{GuestImport, GuestImportAsync}
 use Rattle.wc_world.specs.Lowered.{is_imported}
-use Rattle.wc_world.specs.Private.Required.{import_abi, interface_index}
+use Rattle.wc_names.specs.Imports.{import_abi}
+use Rattle.wc_world.specs.Private.Required.{interface_index}
 use Rattle.wc_world.proofs.required.Required.has_function.Goals as goal
 
 pub returns-then-is_async : goal.returns-then-is_async

@@ -1,0 +1,444 @@
+#!/usr/bin/env python3
+"""Checks all pages of the repository (README.md, docs/, the pages of the crates and of the other folders) against it.
+
+    checks/check-docs.py
+
+It prints a line for each thing that is wrong, and ends with status 1 where there is one. Checked are:
+
+- links: the file of each relative link is there, and has a heading for the anchor;
+- sentences: none has more than 40 words. A text in backquotes is one word. Code, headings and quotations (lines that
+  begin with `>`) are left out; cells of tables, and items of lists, are texts of their own;
+- names in backquotes: paths of files are there. The words of a name, of a path of names (`a::b`) and of a call
+  (`a.b(c)`) occur in the sources, comments aside; so do names of two words and more with hyphens, as those of edits;
+- README.md: its lines have at most 120 columns, and KIT is one line;
+- a crate's README: under "Copying it" its line of crates.txt; under "Clauses" each function is one of the crate, and has
+  the clauses of its rows, and each public function of a library has a row; under "What functions require" is each
+  function with a `requires`, and no other; under "Files" each file that a row names is there, and each file of src/ has
+  a row.
+"""
+
+import functools
+import glob
+import os
+import re
+import sys
+
+TOP = os.path.dirname(os.path.dirname(os.path.abspath(__file__)))
+MOST_WORDS = 40
+# crates of the tests, and the program: their functions promise nothing to others
+TESTS = {"wc_rows", "wc_fixtures", "wc_module_rows", "wc_tests"}
+NO_LIBRARIES = TESTS | {"wctrim", "wcplan", "nuigatre"}
+# parts of paths of files that are made, and may be missing
+MADE = ("out/", "bench/data", "checks/data", "lang/antt/", "target/", "rust/unproved")
+# files that programs and scripts write
+WRITTEN = {"out.wasm", "main.wasm", "adapter.wasm", "no-repeats.wasm", "one-repeat.wasm", "repeats-10000.wasm",
+           "repeats-100000.wasm"}
+# names of other crates, of the kit and of other tools, which no source of the repository has
+FOREIGN = {"TypeRef", "Default", "Dec", "ValidatedAdapter", "wasm-component-ld", "wasm-encoder", "wasmparser", "wit-parser",
+           "anyhow", "BUILD", "bazel", "serde", "serde_json", "escape_debug", "deps", "Cargo", "toml", "_start", "unfold", "nice"}
+
+faults = []
+
+
+def fault(document, number, text):
+    faults.append(f"{os.path.relpath(document, TOP)}:{number}: {text}")
+
+
+def read(path):
+    with open(path, encoding="utf-8", errors="replace") as file:
+        return file.read()
+
+
+def files(*pattern):
+    return sorted(glob.glob(os.path.join(TOP, *pattern), recursive=True))
+
+
+def documents():
+    folders = ("docs", "crates", "checks", "bench", "edits", "examples", "rust")
+    found = files("*.md") + [path for folder in folders for path in files(folder, "**", "*.md")]
+    return [path for path in found if not re.search(r"/(data|out|target)/", os.path.relpath(path, TOP))]
+
+
+# Documents: their texts, links, sentences and names.
+
+
+def texts_of(document):
+    """The texts of a document, without code: (number of the first line, kind, text). A kind is `heading`, `cell`,
+    `quotation` or `text`; the cells of one row have one number."""
+    found = []
+    paragraph, first, is_fenced = [], 0, False
+
+    def end():
+        if paragraph:
+            kind = "quotation" if paragraph[0].startswith(">") else "text"
+            found.append((first, kind, " ".join(paragraph)))
+            paragraph.clear()
+
+    for number, line in enumerate(read(document).split("\n"), 1):
+        text = line.strip()
+        item = re.match(r"([-*]|\d+\.) +", text)
+        if text.startswith("```"):
+            end()
+            is_fenced = not is_fenced
+        elif is_fenced or (line.startswith("    ") and not paragraph and not item):
+            continue
+        elif not text:
+            end()
+        elif text.startswith("#"):
+            end()
+            found.append((number, "heading", text.lstrip("# ")))
+        elif text.startswith("|"):
+            end()
+            cells = re.split(r"(?<!\\)\|", text.strip("|"))
+            if not all(re.fullmatch(r"\s*:?-+:?\s*", cell) for cell in cells):
+                found.extend((number, "cell", cell.strip().replace("\\|", "|")) for cell in cells)
+        else:
+            if item:
+                end()
+                text = text[item.end() :]
+            first = first if paragraph else number
+            paragraph.append(text)
+    end()
+    return found
+
+
+def rows_of(document):
+    """The rows of a document's tables: (number, cells)."""
+    rows = {}
+    for number, kind, text in texts_of(document):
+        if kind == "cell":
+            rows.setdefault(number, []).append(text)
+    return sorted(rows.items())
+
+
+@functools.cache
+def anchors_of(document):
+    """The anchors of a document's headings, as GitHub makes them."""
+    counts, anchors = {}, set()
+    for _, kind, text in texts_of(document):
+        if kind == "heading":
+            text = re.sub(r"\[([^\]]*)\]\([^)]*\)", r"\1", text)
+            anchor = re.sub(r"[^\w\- ]", "", text.lower()).replace(" ", "-")
+            anchors.add(f"{anchor}-{counts[anchor]}" if anchor in counts else anchor)
+            counts[anchor] = counts.get(anchor, 0) + 1
+    return anchors
+
+
+def check_links(document):
+    for number, _, text in texts_of(document):
+        # a link's text may be in backquotes, and what is in other backquotes is no link
+        text = re.sub(r"(`+)(.+?)\1(?!\])", " code ", text)
+        for target in re.findall(r"\[[^\]]*\]\(([^)\s]*)\)", text):
+            if re.match(r"[a-z]+:", target):
+                continue
+            path, _, anchor = target.partition("#")
+            file = os.path.normpath(os.path.join(os.path.dirname(document), path)) if path else document
+            if not os.path.exists(file):
+                fault(document, number, f"no file for the link {target}")
+            elif anchor and anchor not in anchors_of(file):
+                fault(document, number, f"no heading for the link {target}")
+
+
+def check_sentences(document):
+    for number, kind, text in texts_of(document):
+        if kind in ("heading", "quotation"):
+            continue
+        plain = re.sub(r"(`+)(?:.+?)\1", " code ", text)
+        plain = re.sub(r"\[([^\]]*)\]\([^)]*\)", r"\1", plain)
+        for sentence in re.split(r"(?<=[.!?])[)\"*]* +(?=[\"(*]*[A-Z0-9`]|code\b)| · ", plain):
+            words = [word for word in sentence.split() if re.search(r"\w", word)]
+            if len(words) > MOST_WORDS:
+                fault(document, number, f"a sentence of {len(words)} words: {' '.join(words[:8])} ..")
+
+
+def code_of(path):
+    """The text of a source without its comments; of another file all of it."""
+    if path.endswith(".antt"):
+        return re.sub(r"--.*", "", read(path))
+    if path.endswith((".rt", ".rs")):
+        return re.sub(r"(?<!:)//.*", "", read(path))
+    return read(path)
+
+
+def words_of_sources():
+    """All words of the sources, of scripts and of examples, comments aside, words with hyphens among them."""
+    words = set()
+    sources = [path for part in ("src", "specs", "proofs", "data", "must-fail")
+               for path in files("crates", "*", part, "**", "*")]
+    others = [path for part in ("edits", "examples", "checks", "bench") for path in files(part, "**", "*")]
+    others += files("rust", "*") + [path for part in ("src", "tests", "examples")
+                                    for path in files("rust", "nuigatre", part, "**", "*.rs")]
+    for path in [*sources, *others, *files("crates.txt"), *files("HANDLES"), *files("wctrim")]:
+        is_text = not path.endswith((".wasm", ".md", "check-docs.py")) and "/data/" not in path.replace("/wc_tests/data/", "/")
+        if os.path.isfile(path) and is_text:
+            for text in (code_of(path), os.path.relpath(path, TOP)):
+                words.update(re.findall(r"\w+", text))
+                words.update(re.findall(r"[a-z]+(?:-[a-z]+)+", text))
+    return words
+
+
+@functools.cache
+def names_in_crates():
+    return {os.path.basename(path) for path in files("crates", "**", "*")}
+
+
+@functools.cache
+def folders_of_crates():
+    return [TOP, *files("crates"), *files("crates", "*"), *files("crates", "*", "*")]
+
+
+def is_file(document, name):
+    """Whether a path is that of a file: from the top, from the document's folder, or in a crate."""
+    is_pattern = "*" in name or any(part.isupper() for part in name.split("/"))
+    if name.startswith("/") or is_pattern or name in WRITTEN or any(made in name for made in MADE):
+        return True
+    folders = [os.path.dirname(document), *folders_of_crates()]
+    for ending in ("", ".rt", ".antt"):
+        if any(os.path.exists(os.path.join(folder, name.rstrip("/") + ending)) for folder in folders):
+            return True
+    return "/" not in name and name in names_in_crates()
+
+
+PATH = r"[\w.-]+(/[\w.-]+)+/?|[\w-]+\.(rt|antt|rows|py|sh|md|wasm|wat|edit|txt|c)"
+
+
+def names_in(text):
+    """The names of a text in backquotes: a path of names, each of which may be called."""
+    call = re.fullmatch(r"(?:\w+(?:::<[^>]*>)?(?:::|\.))*\w+(?:::<[^>]*>)?(\(.*)?", text)
+    if not call:
+        return []
+    head = text.split("(")[0]
+    return [name for name in re.findall(r"\w+", re.sub(r"<[^>]*>", "", head)) if re.search(r"[A-Za-z]", name)]
+
+
+def check_names(document, words):
+    heading = ""
+    for number, kind, text in texts_of(document):
+        heading = text if kind == "heading" else heading
+        # what a version removed is in no source
+        if heading == "Removed":
+            continue
+        for name in re.findall(r"(?<!`)`([^`]+)`(?!`)", text):
+            if re.fullmatch(PATH, name):
+                if not is_file(document, name):
+                    fault(document, number, f"no file {name}")
+            elif re.fullmatch(r"[a-z]+(-[a-z]+)+", name):
+                if name not in words and name not in FOREIGN:
+                    fault(document, number, f"no {name} in the sources")
+            else:
+                for word in names_in(name):
+                    # `R_drop`, `NAME_drop`, `tN`: the capitals are no part of a name; `8b9dc47`: a commit
+                    is_pattern = re.match(r"[A-Z]+_|[a-z][A-Z]$|[0-9a-f]{7}$", word)
+                    if word not in words and word not in FOREIGN and not is_pattern:
+                        fault(document, number, f"no {word} in the sources")
+
+
+# Crates: what is public in them, and the clauses of their functions.
+
+
+class Crate:
+    """A crate's source files, the heads of its functions by their names, its types, the functions in their blocks, its
+    public functions, and those of them that have a `requires`."""
+
+    def __init__(self, folder):
+        self.name = os.path.basename(folder)
+        self.source = os.path.join(folder, "src")
+        self.files = files(self.source, "**", "*.rt")
+        exports = re.findall(r"pub use [\w:]+::(\{[^}]*\}|\w+)", self.text("lib"))
+        self.exported = {word for names in exports for word in re.findall(r"\w+", names)}
+        self.heads, self.types, self.members = {}, set(), set()
+        self.public, self.required = set(), set()
+        for file in self.files:
+            self.add_file(file)
+
+    def text(self, module):
+        path = os.path.join(self.source, module + ".rt")
+        return read(path) if os.path.exists(path) else ""
+
+    def path_of(self, file):
+        return os.path.relpath(file, self.source)[: -len(".rt")]
+
+    def public_module(self, file):
+        """The path of a file's module, as `laws::x`, where it is public."""
+        parts = self.path_of(file).split("/")
+        for depth, part in enumerate(parts):
+            if f"pub mod {part};" not in self.text("/".join(parts[:depth]) or "lib"):
+                return None
+        return "::".join(parts)
+
+    def add_file(self, file):
+        lines = read(file).split("\n")
+        module = self.public_module(file)
+        owner, is_open, is_of_trait = None, False, False
+        for number, line in enumerate(lines):
+            self.types.update(re.findall(r"^pub (?:struct|enum|trait|type|const) (\w+)", line))
+            block = re.match(r"impl(?:<.*?>)? (\w+(?:<.*?>)? for )?&?(\w+)", line)
+            trait = re.match(r"pub trait (\w+)", line)
+            if block:
+                owner, is_open, is_of_trait = block.group(2), False, block.group(1) is not None
+            elif trait:
+                owner, is_open, is_of_trait = trait.group(1), True, False
+            function = re.match(r"( *)(pub )?fn (\w+)", line)
+            if function:
+                head = head_at(lines, number)
+                indent, is_marked, name = function.groups()
+                self.heads.setdefault(name, []).append(head)
+                if indent:
+                    # what an `impl` of a trait promises is said at the trait
+                    is_public = owner in self.exported and (is_marked or is_open) and not is_of_trait
+                    path = f"{owner}::{name}"
+                    self.members.add(path)
+                else:
+                    is_public = is_marked and (module or name in self.exported)
+                    path = f"{module}::{name}" if module else name
+                if is_public:
+                    self.public.add(path)
+                    if re.search(r"^\s*requires\b", head, re.M):
+                        self.required.add(path)
+
+    def has(self, parts):
+        """Whether the crate has a function, a type, or a public module of this path."""
+        if len(parts) > 1 and parts[-2] in self.types and parts[-1] not in self.types:
+            return f"{parts[-2]}::{parts[-1]}" in self.members
+        modules = {self.public_module(file) for file in self.files}
+        return parts[-1] in self.heads or parts[-1] in self.types or "::".join(parts) in modules
+
+    def has_clause(self, functions, clause):
+        """Whether one of the functions has the clause; or it is a law, or what an `impl` says of a trait."""
+        heads = [head for name in functions for head in self.heads.get(name, [])]
+        return (clause in self.heads or any(re.search(rf"\b(ensures|requires) {clause}\b", head) for head in heads)
+                or any(re.search(rf"\bghost {clause}\b", read(file)) for file in self.files))
+
+
+def head_at(lines, number):
+    """The head of the function that begins at this line, with its clauses."""
+    head = []
+    for line in lines[number:]:
+        head.append(line)
+        is_clause = "ensures" in line or "requires" in line
+        if line.strip() == "{" or line.endswith(";") or (not is_clause and line.endswith(("{", "{}"))):
+            break
+    return "\n".join(head)
+
+
+# The pages of the crates.
+
+
+def section_rows(document, heading):
+    """The rows of the tables under a heading: (number, cells)."""
+    rows, is_in = {}, False
+    for number, kind, text in texts_of(document):
+        if kind == "heading":
+            is_in = text == heading
+        elif kind == "cell" and is_in:
+            rows.setdefault(number, []).append(text)
+    return sorted(rows.items())
+
+
+def paths_in(cell):
+    """The functions that a cell names, as lists of names. A name is beside the one before it: `A::f`, `g`, `B::h`."""
+    paths = []
+    for name in re.findall(r"`([\w:]+)`", cell):
+        parts = name.split("::")
+        paths.append(parts if len(parts) > 1 or not paths else [*paths[-1][:-1], *parts])
+    return paths
+
+
+def check_copying(document, crate, line):
+    if f"`{line}`" not in read(document):
+        fault(document, 1, f"no line of crates.txt: {line}")
+
+
+def check_clauses(document, crate):
+    listed, paths = set(), []
+    for number, cells in section_rows(document, "Clauses"):
+        if cells[0] == "Function":
+            continue
+        # a row of some types goes on with the function before it
+        is_of_types = cells[0].startswith("of ")
+        paths = (not is_of_types and paths_in(cells[0].removeprefix("`Display` of "))) or paths
+        clauses = re.findall(r"`(\w+)`", cells[1] + ("" if cells[1] else cells[2]))
+        for path in paths:
+            listed.add(path[-1])
+            listed.update(clauses)
+            if not crate.has(path):
+                fault(document, number, f"no {'::'.join(path)}")
+        for clause in clauses if cells[1] else ():
+            if not crate.has_clause([path[-1] for path in paths], clause):
+                fault(document, number, f"no clause {clause} of {'::'.join(paths[0])}")
+    for path in sorted(crate.public):
+        if path.split("::")[-1] not in listed:
+            fault(document, 1, f"no row for {path}")
+    requirements = {}
+    for number, cells in section_rows(document, "What functions require"):
+        requirements.update(("::".join(path), number) for path in paths_in(cells[0]))
+    for path in sorted(crate.required - set(requirements)):
+        fault(document, 1, f"{path} has a `requires`, and is not in the table of requirements")
+    for path in sorted(set(requirements) - crate.required):
+        fault(document, requirements[path], f"{path} is in the table of requirements, and has no `requires`")
+
+
+def check_files(document, crate):
+    named = {"lib"}
+    for number, cells in section_rows(document, "Files"):
+        if len(cells) != 3 or cells[0] == "`src/`":
+            continue
+        for name in re.findall(r"`([\w/]+)`", cells[0]) + re.findall(r"`(examples/\w+)`", cells[1]):
+            named.add(name)
+            if not os.path.exists(os.path.join(crate.source, name + ".rt")):
+                fault(document, number, f"no src/{name}")
+        folder = None
+        for name in re.findall(r"`([\w/]+)`", cells[2]):
+            first, _, rest = name.partition("/")
+            if first in ("specs", "proofs"):
+                folder, name = first, rest
+            is_there = os.path.exists(os.path.join(TOP, "crates", name + ".antt"))
+            if folder and name and not is_there and not files("crates", crate.name, folder, name + ".antt"):
+                fault(document, number, f"no {folder}/{name}")
+    for path in map(crate.path_of, crate.files):
+        # of a crate of the tests a row of a folder is enough
+        if path not in named and not (crate.name in TESTS and path.split("/")[0] in named):
+            fault(document, 1, f"no row for src/{path}")
+
+
+def check_crate(crate, line):
+    document = os.path.join(TOP, "crates", crate.name, "README.md")
+    if not os.path.exists(document):
+        fault(document, 1, "no page")
+        return
+    if crate.name != "wc_tests":
+        check_copying(document, crate, line)
+    if crate.name not in NO_LIBRARIES:
+        check_clauses(document, crate)
+    check_files(document, crate)
+
+
+def check_top():
+    document = os.path.join(TOP, "README.md")
+    for number, line in enumerate(read(document).split("\n"), 1):
+        if len(line) > 120:
+            fault(document, number, f"a line of {len(line)} columns")
+    if not re.fullmatch(r"rattle-kit-\S+ logic \w+\n", read(os.path.join(TOP, "KIT"))):
+        fault(os.path.join(TOP, "KIT"), 1, "is no line of `rt version`")
+
+
+def main():
+    crates = [Crate(folder) for folder in files("crates", "*") if os.path.isdir(folder)]
+    lines = {re.split(r"[: ]", line)[0]: line for line in read(os.path.join(TOP, "crates.txt")).split("\n")
+             if line and not line.startswith("#")}
+    words = words_of_sources()
+    for document in documents():
+        check_links(document)
+        check_sentences(document)
+        check_names(document, words)
+    check_top()
+    for crate in crates:
+        check_crate(crate, lines.get(crate.name, ""))
+    for line in faults:
+        print(line)
+    print("all as wanted" if not faults else f"{len(faults)} not as wanted")
+    return 1 if faults else 0
+
+
+if __name__ == "__main__":
+    sys.exit(main())

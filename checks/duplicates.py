@@ -1,0 +1,252 @@
+#!/usr/bin/env python3
+"""Finds product code that stands twice: lines of sources and specs, and definitions of specs.
+
+    checks/duplicates.py [--all] [CRATE ..]
+
+Lines: each text of ten lines or more that stands in two places, or more, of crates/*/src and crates/*/specs. Comments,
+blank lines, `use` lines and lines of brackets alone don't count, nor does how far a line is indented; and ten lines of
+which fewer than five differ are a table. Definitions: each `abbrev`, `record` and `data` of specs/ whose body is that of
+another one, but for its own name, the names of its variables, and names under which things are imported; in one crate, or
+of other types, a body has to have ten words, else six.
+
+The crates are those of crates.txt but for the tests', or those that are named. Left out is what BOILERPLATE and
+ALIKE name, each with its reason; --all prints that too. The status is 1 where anything else is found, or where an entry of
+these lists fits nothing any more.
+"""
+import argparse
+import collections
+import itertools
+import pathlib
+import re
+import sys
+
+TOP = pathlib.Path(__file__).resolve().parent.parent
+TESTS = {"wc_rows", "wc_fixtures", "wc_module_rows", "wc_tests"}
+LEAST_LINES, LEAST_DIFFERENT = 10, 5
+# the words of a body that has the types of another one in another crate, and of one that has not
+LEAST_WORDS, LEAST_ALIKE = 6, 10
+
+# Texts that may stand twice: their places, as a regular expression on how they are printed, and why.
+BOILERPLATE = [
+    (r"wc_calls/src/\w+\.rt:\S+ \((\w+)\), nuigatre/src/lib\.rt:\S+ \(nuigatre_\1\)$",
+     "clauses: an exported function has those of the call that it makes"),
+    (r"wc_calls/src/validation\.rt:\S+ \((\w+)\), wc_calls/src/validation\.rt:\S+ \((\w+)\)$",
+     "clauses: a function that finds the module has those of the one that validates it"),
+    (r"wc_validate/src/explain/missing\.rt:\S+ \(unmet_place\), wc_validate/src/explain/missing\.rt:\S+ \(missing_place\)$",
+     "a head: the function that looks for memories and callbacks first has that of the one that it calls"),
+]
+# Definitions that may be alike: their names, with the crates, and why.
+ALIKE = [
+    ("wc_encoder::argument_view wc_validate::instance_entry wc_calls::argument_message_view",
+     "a name and a view: the views are different definitions of different types"),
+    ("wc_read::func_value wc_read::global_value", "one for each kind of item, at its types"),
+    ("wc_read::table_value wc_read::memory_value", "one for each kind of item, at its types"),
+    ("wc_resolve::type_entry wc_resolve::interface_entry", "one for each kind of id"),
+    ("wc_validate::AreSameTypesButIndices wc_gc::AreSameTypesButIndices", "types of imports in the one, of items in the other"),
+    ("wc_read::GlobalNameValue wc_record::UsedInterface", "an index and a name: of a global, of an interface"),
+    ("wc_validate::core_import wc_validate::imported_function", "records of two types: of any import, of a function's"),
+]
+
+
+def crates():
+    """The crates of crates.txt, but those of tests."""
+    for line in (TOP / "crates.txt").read_text(encoding="utf-8").splitlines():
+        head, colon, _ = line.partition("#")[0].partition(":")
+        if colon and head.split()[0] not in TESTS:
+            yield head.split()[0]
+
+
+def files(crate, part, ending):
+    return sorted((TOP / "crates" / crate / part).rglob("*" + ending))
+
+
+# Lines
+
+
+def counted(path):
+    """The lines of a file that count, with their numbers."""
+    found, is_use = [], False
+    for number, line in enumerate(path.read_text(encoding="utf-8").split("\n"), 1):
+        text = re.sub(r"\s+(//|--)\s.*", "", line).strip()
+        is_use = is_use or bool(re.match(r"(pub(\([^)]*\))? )?(ghost )?use\b", text))
+        if text and not is_use and not text.startswith(("//", "--")) and not re.fullmatch(r"[\[\](){},;]*", text):
+            found.append((number, text))
+        is_use = is_use and path.suffix == ".rt" and not text.endswith(";")
+    return found
+
+
+def matches(sources):
+    """The longest texts that stand twice: the lines, and the places, each a path and the numbers of its first and last
+    line."""
+    windows = collections.defaultdict(list)
+    for path, lines in sources.items():
+        for at in range(len(lines) - LEAST_LINES + 1):
+            window = tuple(text for _, text in lines[at : at + LEAST_LINES])
+            if len(set(window)) >= LEAST_DIFFERENT:
+                windows[window].append((path, at))
+    found = {}
+    for places in windows.values():
+        for (path, at), (other, there) in itertools.combinations(places, 2):
+            one, two = sources[path], sources[other]
+            if at and there and one[at - 1][1] == two[there - 1][1]:
+                continue
+            length = LEAST_LINES
+            while at + length < len(one) and there + length < len(two) and one[at + length][1] == two[there + length][1]:
+                length += 1
+            if path == other and abs(at - there) < length:
+                continue
+            text = tuple(it for _, it in one[at : at + length])
+            of = found.setdefault(text, [])
+            for file, start in (path, at), (other, there):
+                place = file, sources[file][start][0], sources[file][start + length - 1][0]
+                of += [] if place in of else [place]
+    return sorted(found.items(), key=lambda it: (-len(it[0]), str(it[1])))
+
+
+def owner(path, number):
+    """The function or the definition in which a line is."""
+    lines = path.read_text(encoding="utf-8").split("\n")[:number]
+    head = re.compile(r"\s*(?:pub(?:\([^)]*\))? )?(?:const |extern \"C\" |unsafe )*fn (\w+)|(?:static|const) (\w+)" if path.suffix == ".rt"
+                      else r"(?:pub |abbrev |unfoldable |record |data |ruleset )*(\S+) ")
+    for line in reversed(lines):
+        name = head.match(line)
+        if name and not line.startswith((" " if path.suffix == ".antt" else "\0", "--", "use ")):
+            return next(it for it in name.groups() if it)
+    return ""
+
+
+# Definitions
+
+WORD = re.compile(r"\"[^\"]*\"|[\w'◌]+|[^\w\s'◌]")
+HEAD = re.compile(r"((?:pub |abbrev |unfoldable |ruleset )*(?:record |data )?)(\S+)")
+
+
+def parts_of(text):
+    """The top-level parts of a file, without comments."""
+    lines = [re.sub(r"(^|\s)--(\s.*|$)", "", line).rstrip() for line in text.split("\n")]
+    part = []
+    for line in lines:
+        if line and not line.startswith(" ") and part:
+            yield part
+            part = []
+        if line:
+            part.append(line)
+    if part:
+        yield part
+
+
+def imported(text):
+    """What the names that a file imports under other names are called where they come from."""
+    names = {}
+    for module, line in re.findall(r"^(?:pub )?use (\S+)\.\{(.*)\}", text, re.M):
+        for it in line.split(","):
+            real, _, alias = it.strip().partition(" as ")
+            names[alias or real] = real
+    return names
+
+
+class Definition:
+    """A definition: its type, and its body, as words, with its own name and its variables made alike."""
+
+    def __init__(self, path, kind, name, signature, body, names, known):
+        self.path, self.kind, self.name = path, kind, name
+        self.crate = path.relative_to(TOP / "crates").parts[0]
+        # what is bound on the left of `=`, by `λ x.`, and in `(x : T)`
+        lefts = [line.split(" = ")[0].removesuffix(" =") for line in body if line.startswith(name + " ")]
+        texts = [*lefts, *re.findall(r"λ ([^.]*)\.", " ".join(body)), *re.findall(r"[({]([\w' ]+) : ", signature + " ".join(body))]
+        self.bound = {word for text in texts for word in re.findall(r"[\w']+", text)} - known - set(names) - {name}
+        self.type = self.words(signature.partition(name)[2], names)
+        self.key = kind, self.words(" ".join(body), names)
+
+    def words(self, text, names):
+        variables, found, before, words = {}, [], "", WORD.findall(text)
+        for word, after in zip(words, words[1:] + [""]):
+            is_field = before == "." or before in ("{", ";") and after == "="
+            if word in self.bound and not is_field:
+                word = variables.setdefault(word, "v%d" % len(variables))
+            elif not is_field:
+                word = "·" if word == self.name else names.get(word, word)
+            found.append(word)
+            before = word
+        return tuple(found)
+
+
+def definitions(crate):
+    for path in files(crate, "specs", ".antt"):
+        text = path.read_text(encoding="utf-8")
+        names, parts = imported(text), list(parts_of(text))
+        known = {HEAD.match(part[0])[2] for part in parts if not part[0].startswith(("use ", "mod ", "pub mod "))}
+        at = 0
+        while at < len(parts):
+            head = HEAD.match(parts[at][0])
+            kind, name = head[1].replace("pub ", "").replace("unfoldable ", "").strip(), head[2]
+            if kind in ("record", "data"):
+                first, *rest = parts[at]
+                if not rest:
+                    first, _, body = first.partition(" where ")
+                    rest = [body]
+                # a record's fields and a data's constructors are names that callers use, so they count
+                fields = set(re.findall(r"^\s*(?:pub )?(\w+) :", "\n".join(rest), re.M))
+                yield Definition(path, kind, name, first, rest, names, known | fields)
+            elif head[1].strip() and ":" in parts[at][0].split(" = ")[0]:
+                signature, body = " ".join(parts[at]), []
+                while at + 1 < len(parts) and parts[at + 1][0].split(" ")[0] == name:
+                    at += 1
+                    body += parts[at]
+                yield Definition(path, "abbrev", name, signature, body, names, known)
+            at += 1
+
+
+def alike(found):
+    """The definitions that have one body, in groups: those of one type, where they are of different crates, or else long."""
+    groups, kept = collections.defaultdict(list), []
+    for it in found:
+        if len(it.key[1]) >= LEAST_WORDS:
+            groups[it.key].append(it)
+    for (_, body), its in groups.items():
+        if len(body) < LEAST_ALIKE:
+            by_type = collections.defaultdict(list)
+            for it in its:
+                by_type[it.type].append(it)
+            kept += [of for of in by_type.values() if len({it.crate for it in of}) > 1]
+        elif len(its) > 1:
+            kept.append(its)
+    return sorted(kept, key=lambda its: -len(its[0].key[1]))
+
+
+def main():
+    parser = argparse.ArgumentParser()
+    parser.add_argument("--all", action="store_true")
+    parser.add_argument("crates", nargs="*", metavar="CRATE")
+    given = parser.parse_args()
+    chosen = given.crates or list(crates())
+    found, used = 0, set()
+    paths = [path for crate in chosen for path in files(crate, "src", ".rt") + files(crate, "specs", ".antt")]
+    show = lambda path: path.relative_to(TOP / "crates")
+    for text, places in matches({path: counted(path) for path in paths}):
+        where = ", ".join("%s:%d-%d (%s)" % (show(path), first, last, owner(path, first)) for path, first, last in places)
+        reasons = [n for n, (line, _) in enumerate(BOILERPLATE) if re.match(line, where)]
+        used |= {("lines", n) for n in reasons}
+        found += not reasons
+        if given.all or not reasons:
+            print("%d lines: %s%s" % (len(text), where, "; left out: " + BOILERPLATE[reasons[0]][1] if reasons else ""))
+    for its in alike([it for crate in chosen for it in definitions(crate)]):
+        names = {"%s::%s" % (it.crate, it.name) for it in its}
+        reasons = [n for n, (of, _) in enumerate(ALIKE) if names <= set(of.split())]
+        used |= {("alike", n) for n in reasons}
+        found += not reasons
+        if given.all or not reasons:
+            same = "" if len({it.type for it in its}) == 1 else " (other types)"
+            where = ", ".join("%s (%s)" % ("%s::%s" % (it.crate, it.name), show(it.path)) for it in its)
+            print("%s of %d words%s: %s%s" % (its[0].kind, len(its[0].key[1]), same, where, "; left out: " + ALIKE[reasons[0]][1] if reasons else ""))
+    stale = [("lines", n) for n in range(len(BOILERPLATE))] + [("alike", n) for n in range(len(ALIKE))]
+    for kind, n in stale if not given.crates else []:
+        if (kind, n) not in used:
+            print("fits nothing any more: %s" % (BOILERPLATE if kind == "lines" else ALIKE)[n][0])
+            found += 1
+    print("%d found in %d crates" % (found, len(chosen)))
+    return 1 if found else 0
+
+
+if __name__ == "__main__":
+    sys.exit(main())

@@ -1,0 +1,427 @@
+#!/usr/bin/env python3
+"""Runs each row of tests with the first, second, .. allocation of the program of rows failing, until none fails.
+
+    failing-allocations.py [--program PROGRAM] [--most N] [--jobs N] [--table] [--who] [FILE.rows[:ROW] ..]
+
+The files are those of crates/wc_tests/data; all of them where none is named, all rows of a file where no row is. PROGRAM is
+crates/wc_tests/out/wc_tests unless another is named: `rt run` in crates/wc_tests builds it, once it is proved. Each row is
+written into a file of its own, with the fixtures that it uses. The allocations are failed by a library that is loaded
+before the C library, so a C compiler, cc, has to be there: it starts the program over by `fork`, one process for each
+allocation. `--jobs` rows are run at once.
+
+Of a row with more than N allocations, 30,000 unless another number is given, 1,000 are failed, evenly spread, and it has a
+line of its own; of all other rows each is failed.
+
+A run is one of these:
+
+    memory   the row's answer has a line that says that memory ran out. What comes before that line are lines that the row
+             wants; of a call of WHOLE there are none, so nothing partial is handed out. Where a row has a line for each of
+             several calls, the line of one of them says so
+    rows     the row is answered as ever: what failed was room that was asked for ahead, and that the library did without
+    program  the program of rows itself ended for want of memory: outside of the calls, or where a call answers AllocError
+    wrong    anything else, and a run that hung or was killed
+
+For each wrong run its number is printed, and how it ended, and the rows that differ. For each file a line counts the runs,
+with --table a line of a table; the status is 1 where one was wrong. With --who it is printed who asked for the memory that
+was refused: in the runs of the kind `rows` the innermost function of a library of this repository, and what it called, and
+in those of the kind `program` the outermost; how often, and in which calls. The program has to have symbols and frame pointers for that.
+"""
+import argparse
+import bisect
+import collections
+import concurrent.futures
+import os
+import pathlib
+import re
+import subprocess
+import sys
+import tempfile
+
+TOP = pathlib.Path(__file__).resolve().parent.parent
+CRATE = TOP / "crates" / "wc_tests"
+SECONDS = 60
+# How many allocations of a large row are failed.
+SPREAD = 1000
+KINDS = ("memory", "rows", "program", "wrong")
+
+# Calls with one answer, which is all there or not at all.
+WHOLE = {
+    "frames", "read_imports", "read_module", "read_body", "read_init", "write_import_section", "append_import_section",
+    "rewrite_import_section", "write_body", "write_module", "raw_section", "append_raw_section", "dedupe",
+    "dedupe_owned", "read_deduped", "dedupe_imports", "execute", "run_program", "liveness_counted", "trim", "trim_for",
+    "realloc_via_memory_grow", "allocate_stack_via_realloc", "component_world", "plan", "validate_module",
+    "validate_adapter_module", "resolve_build", "encoder_build", "live_types", "document", "wcplan", "wcplan_mute",
+}
+
+# Calls that run wcplan. Where memory runs out for what a fault is about, the fault's line is alone; where it runs out in
+# the store of files, which is the row's, a directory can't be made, or a file can't be written.
+PROGRAMS = {"wcplan", "wcplan_failing", "wcplan_mute"}
+STORE = ("error wcplan: cannot make directory ", "error wcplan: cannot write ")
+
+# What else calls answer where memory ran out: one of many runs of samples does not agree, and a body that could not be
+# read is no code.
+UNCOUNTED = [
+    ("growing_samples", ["agree 1999"]),
+    ("lazy_samples", ["agree 1999"]),
+    ("machine", ['bad row: no code ""']),
+]
+
+# Calls of wc_calls on messages: their fault is World, and it carries Main, Adapter, Trim or Minimized, which carry Memory.
+CARRIED = re.compile(r"status 1 fault (265|521|777|1033) ")
+
+# Runs the program over and over, in processes of its own, with the first, second, .. allocation failing, and writes into
+# REPORT_FILE a record for each: `run NUMBER STATUS ALLOCATIONS LENGTH BASE ADDRESS..`, and so many bytes that it printed.
+# The number of the first is 0: none fails.
+LIBRARY = r"""
+#define _GNU_SOURCE
+#include <signal.h>
+#include <stdio.h>
+#include <stdlib.h>
+#include <string.h>
+#include <sys/auxv.h>
+#include <sys/mman.h>
+#include <sys/wait.h>
+#include <unistd.h>
+
+#define DEPTH 60
+
+extern void *__libc_malloc(size_t size);
+extern void *__libc_calloc(size_t count, size_t size);
+extern void *__libc_realloc(void *old, size_t size);
+
+struct seen {
+    long made;
+    long depth;
+    unsigned long callers[DEPTH];
+};
+
+static struct seen none;
+static struct seen *seen = &none;
+static long failing = -1;
+
+static void note_callers(void) {
+    unsigned long *frame = __builtin_frame_address(0);
+    char *low = (char *)frame;
+    while (seen->depth < DEPTH && (char *)frame >= low && (char *)frame < low + (1 << 22) && frame[1]) {
+        seen->callers[seen->depth++] = frame[1];
+        if (frame[0] <= (unsigned long)frame)
+            break;
+        frame = (unsigned long *)frame[0];
+    }
+}
+
+static int fails(void) {
+    seen->made += 1;
+    if (seen->made != failing)
+        return 0;
+    note_callers();
+    return 1;
+}
+
+void *malloc(size_t size) { return fails() ? NULL : __libc_malloc(size); }
+void *calloc(size_t count, size_t size) { return fails() ? NULL : __libc_calloc(count, size); }
+void *realloc(void *old, size_t size) { return fails() ? NULL : __libc_realloc(old, size); }
+
+static void report(FILE *file, long number, int status, char *printed, size_t length) {
+    fprintf(file, "run %ld %d %ld %zu %lx", number, status, seen->made, length, getauxval(AT_PHDR) - 0x40);
+    for (long depth = 0; depth < seen->depth; depth++)
+        fprintf(file, " %lx", seen->callers[depth]);
+    fprintf(file, "\n");
+    fwrite(printed, 1, length, file);
+}
+
+/* A run with the allocation of this number failing: the child returns, and does it. */
+static int run(FILE *file, long number) {
+    int ends[2], status = 0;
+    size_t length = 0, room = 1 << 20;
+    ssize_t got;
+    memset(seen, 0, sizeof *seen);
+    if (pipe(ends))
+        _exit(2);
+    pid_t child = fork();
+    if (child == 0) {
+        dup2(ends[1], 1);
+        dup2(ends[1], 2);
+        close(ends[0]);
+        close(ends[1]);
+        alarm(SECONDS);
+        failing = number;
+        return 1;
+    }
+    close(ends[1]);
+    char *printed = __libc_malloc(room);
+    while ((got = read(ends[0], printed + length, room - length)) > 0)
+        length += got;
+    close(ends[0]);
+    waitpid(child, &status, 0);
+    report(file, number, status, printed, length);
+    free(printed);
+    return 0;
+}
+
+__attribute__((constructor)) static void begin(void) {
+    const char *name = getenv("REPORT_FILE");
+    if (!name)
+        return;
+    long most = atol(getenv("MOST")), spread = atol(getenv("SPREAD"));
+    unsetenv("REPORT_FILE");
+    FILE *file = fopen(name, "w");
+    seen = mmap(NULL, sizeof *seen, PROT_READ | PROT_WRITE, MAP_SHARED | MAP_ANONYMOUS, -1, 0);
+    setvbuf(file, __libc_malloc(1 << 16), _IOFBF, 1 << 16);
+    fflush(file);
+    if (run(file, 0))
+        return;
+    long count = seen->made, step = count > most ? (count + spread - 1) / spread : 1;
+    for (long number = 1; number <= count; number += step) {
+        fflush(file);
+        if (run(file, number))
+            return;
+    }
+    fclose(file);
+    _exit(0);
+}
+"""
+
+
+def build(folder):
+    """The library that fails allocations."""
+    source, library = folder / "failing.c", folder / "failing.so"
+    source.write_text(LIBRARY.replace("SECONDS", str(SECONDS)))
+    subprocess.run(["cc", "-O1", "-fno-omit-frame-pointer", "-fPIC", "-shared", "-o", library, source], check=True)
+    return library
+
+
+class Row:
+    """A row of a file, alone: its name, its call, and the text of a file that has it and the fixtures that it uses."""
+
+    def __init__(self, name, call, text):
+        self.name, self.call, self.text = name, call, text
+
+
+def paragraphs(text):
+    """Each row and fixture of a file: the first word, the name and the lines."""
+    begun = []
+    for line in text.splitlines(keepends=True):
+        word, _, rest = line.rstrip("\n").partition(" ")
+        if word in ("row", "fixture"):
+            begun.append((word, rest, [line]))
+        elif begun:
+            begun[-1][2].append(line)
+    return begun
+
+
+def used(lines, fixtures):
+    """The lines of the fixtures that lines use, those before that they use."""
+    found = []
+    for line in lines:
+        name = line.rstrip("\n")[len("with "):] if line.startswith("with ") else None
+        if name in fixtures:
+            inner = fixtures[name]
+            found += [text for text in used(inner, fixtures) if text not in found]
+            if "".join(inner) not in found:
+                found.append("".join(inner))
+    return found
+
+
+def rows_of(path):
+    """The rows of a file."""
+    fixtures, rows = {}, []
+    for word, name, lines in paragraphs(path.read_text()):
+        if word == "fixture":
+            fixtures[name] = lines
+            continue
+        call = next((line.split()[1] for line in lines if line.startswith("call ")), "")
+        rows.append(Row(name, call, "".join(used(lines, dict(fixtures)) + lines)))
+    return rows
+
+
+class Run:
+    """A run: the number of the allocation that failed, how the program ended, what it printed, and who asked for memory."""
+
+    def __init__(self, number, status, made, printed, callers):
+        self.number, self.made, self.printed, self.callers = number, made, printed, callers
+        self.ended = "status %d" % os.WEXITSTATUS(status) if os.WIFEXITED(status) else "signal %d" % os.WTERMSIG(status)
+
+
+def runs_of(program, library, row, most):
+    """All runs of a row; the first without a failure."""
+    with tempfile.TemporaryDirectory() as folder:
+        report = pathlib.Path(folder) / "report"
+        (pathlib.Path(folder) / "alone.rows").write_text(row.text)
+        variables = {"LD_PRELOAD": str(library), "REPORT_FILE": str(report), "MOST": str(most), "SPREAD": str(SPREAD)}
+        subprocess.run([program, "alone.rows"], cwd=folder, env=variables, stdin=subprocess.DEVNULL, check=True)
+        data = report.read_bytes()
+    place = 0
+    while place < len(data):
+        end = data.index(b"\n", place)
+        words = data[place:end].decode().split()
+        number, status, made, length = (int(word) for word in words[1:5])
+        base = int(words[5], 16)
+        callers = tuple(int(word, 16) - base for word in words[6:])
+        yield Run(number, status, made, data[end + 1:end + 1 + length], callers)
+        place = end + 1 + length
+
+
+def verdict(row, run, wanted):
+    """What a run shows: one of KINDS."""
+    if run.ended == "status 0" and run.printed == wanted:
+        return "rows"
+    lines = run.printed.decode(errors="replace").splitlines()
+    if run.ended != "status 1" or not lines:
+        return "wrong"
+    if lines[-1] == "wc_tests: out of memory" or lines[-1].endswith(": cannot be read"):
+        return "program"
+    return "memory" if is_memory(row, lines) else "wrong"
+
+
+def is_memory(row, lines):
+    """Whether the answer has what is wanted up to a line that says that memory ran out."""
+    expected = [line[len("  expected "):] for line in lines[1:-1] if line.startswith("  expected ")]
+    actual = [line[len("  actual   "):] for line in lines[1:-1] if line.startswith("  actual   ")]
+    if lines[0] != "alone.rows: %s differs" % row.name or lines[-1] != "alone.rows: 0 of 1 rows agree":
+        return False
+    if len(expected) + len(actual) != len(lines) - 2 or not actual:
+        return False
+    if (row.call, actual) in UNCOUNTED or (row.call.endswith("_into") and CARRIED.match(actual[0])):
+        return True
+    if row.call in PROGRAMS and (actual == [line for line in expected if not line.startswith("error   ")]
+                                 or actual[0].startswith(STORE)):
+        return True
+    for place, line in enumerate(actual):
+        if line.endswith("out of memory"):
+            return actual[:place] == expected[:place] and (place == 0 or row.call not in WHOLE)
+    # an answer that has a line for each of several calls
+    return len(actual) == len(expected) and all(
+        line == other or "out of memory" in line for line, other in zip(actual, expected))
+
+
+class Count:
+    """The runs over a row, or over several: how many allocations there are, how many runs of each kind, lines on those that
+    are wrong, and who asked where rows agree all the same."""
+
+    def __init__(self, allocations=0):
+        self.allocations, self.seen, self.lines = allocations, dict.fromkeys(KINDS, 0), []
+        self.callers = {"rows": collections.Counter(), "program": collections.Counter()}
+
+    def add(self, other):
+        self.allocations += other.allocations
+        self.lines += other.lines
+        for kind, callers in self.callers.items():
+            callers.update(other.callers[kind])
+        for kind in KINDS:
+            self.seen[kind] += other.seen[kind]
+
+
+def sweep(program, library, row, most):
+    """All runs of a row."""
+    runs = runs_of(program, library, row, most)
+    first = next(runs)
+    found = Count(first.made)
+    if first.ended != "status 0":
+        found.lines.append("  %s: %s with no failure" % (row.name, first.ended))
+        found.lines += ["    " + line for line in first.printed.decode(errors="replace").splitlines()]
+        found.seen["wrong"] += 1
+        return found
+    for run in runs:
+        kind = verdict(row, run, first.printed)
+        found.seen[kind] += 1
+        if kind in found.callers:
+            found.callers[kind][row.call, run.callers] += 1
+        if kind == "wrong":
+            found.lines.append("  %s, allocation %d: %s" % (row.name, run.number, run.ended))
+            found.lines += ["    " + line for line in run.printed.decode(errors="replace").splitlines()
+                            if line.endswith(" differs") or line.startswith("  actual")]
+    return found
+
+
+class Symbols:
+    """The functions of a program, by their addresses."""
+
+    def __init__(self, program):
+        listed = subprocess.run(["nm", "-n", program], stdout=subprocess.PIPE, check=True, text=True).stdout
+        found = [line.split(" ", 2) for line in listed.splitlines() if re.match(r"[0-9a-f]+ [tT] ", line)]
+        self.starts = [int(words[0], 16) for words in found]
+        self.names = [words[2] for words in found]
+
+    def name(self, address):
+        place = bisect.bisect_right(self.starts, address) - 1
+        return self.names[place] if place >= 0 else "?"
+
+    def who(self, callers, is_innermost):
+        """The innermost function of a library of this repository that is above an allocation, and what it called; or the
+        outermost; or that there is none."""
+        names = [self.name(address) for address in callers]
+        inside = [place for place, name in enumerate(names)
+                  if re.match(r"_*(wc_(?!tests|rows|fixtures|module_rows)|wctrim_command|wcplan_command)\w*", name.lstrip("<&"))]
+        if not inside:
+            return "outside of the libraries"
+        place = inside[0] if is_innermost else inside[-1]
+        return names[place] + (" calls " + names[place - 1] if is_innermost and place else "")
+
+    def count(self, callers, is_innermost):
+        """How often each function asked, and in which calls of rows."""
+        found, calls = collections.Counter(), collections.defaultdict(set)
+        for (call, each), times in callers.items():
+            name = re.sub(r"::<#\w+>", "", self.who(each, is_innermost))
+            found[name] += times
+            calls[name].add(call)
+        return [(times, name, sorted(calls[name])) for name, times in found.most_common()]
+
+
+def shown(name, count, is_table):
+    """A line for a file, or for a row of it."""
+    numbers = (name, count.allocations) + tuple(count.seen[kind] for kind in KINDS)
+    if is_table:
+        return "| `%s` | %s |" % (name, " | ".join("{:,}".format(number) for number in numbers[1:]))
+    return "%s: %d allocations; of the runs %d answer memory, %d the rows, %d end the program, %d are wrong" % numbers
+
+
+def chosen(words):
+    """The files that are asked for, with their rows."""
+    for word in words or sorted(path.name for path in (CRATE / "data").glob("*.rows")):
+        name, _, only = word.partition(":")
+        rows = rows_of(CRATE / "data" / name)
+        yield name, [row for row in rows if not only or row.name == only]
+
+
+def main():
+    asked = argparse.ArgumentParser()
+    asked.add_argument("--program", type=os.path.abspath, default=str(CRATE / "out" / "wc_tests"))
+    asked.add_argument("--most", type=int, default=30000)
+    asked.add_argument("--jobs", type=int, default=1)
+    asked.add_argument("--table", action="store_true")
+    asked.add_argument("--who", action="store_true")
+    asked.add_argument("files", nargs="*")
+    asked = asked.parse_args()
+    if not os.path.exists(asked.program):
+        sys.exit("%s is not there: build it by `rt run` in %s" % (asked.program, CRATE))
+    whole = Count()
+    if asked.table:
+        print("| Rows | Allocations | Memory | Rows | Program | Wrong |\n|---|---|---|---|---|---|")
+    with tempfile.TemporaryDirectory() as folder, concurrent.futures.ProcessPoolExecutor(asked.jobs) as pool:
+        library = build(pathlib.Path(folder))
+        waiting = [(name, [(row, pool.submit(sweep, asked.program, library, row, asked.most)) for row in rows])
+                   for name, rows in chosen(asked.files)]
+        for name, results in waiting:
+            inside, large = Count(), []
+            for row, result in results:
+                found = result.result()
+                if found.allocations > asked.most:
+                    large.append(("%s: %s" % (name, row.name), found))
+                else:
+                    inside.add(found)
+            for shown_name, count in [(name, inside)] * (len(large) < len(results)) + large:
+                whole.add(count)
+                print("\n".join(count.lines + [shown(shown_name, count, asked.table)]), flush=True)
+    print(shown("all", whole, asked.table))
+    if asked.who:
+        symbols = Symbols(asked.program)
+        for kind, callers in whole.callers.items():
+            print(kind)
+            for times, name, calls in symbols.count(callers, kind == "rows"):
+                print("%8d  %s: %s" % (times, name, " ".join(calls)))
+    sys.exit(1 if whole.seen["wrong"] else 0)
+
+
+if __name__ == "__main__":
+    main()

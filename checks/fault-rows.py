@@ -1,0 +1,337 @@
+#!/usr/bin/env python3
+"""Prints, for each fault of each library, a row of tests that reaches it, and for each fault that has a place a row that
+shows it, as the tables of docs/ROWS.md.
+
+    fault-rows.py            prints the tables
+    fault-rows.py --write    writes them into docs/ROWS.md
+    fault-rows.py --check    compares them with those of docs/ROWS.md; status 1 where they differ
+
+The faults and their texts are those of the enums in the sources. A row reaches a fault where it wants the fault's text of
+a call that answers faults of this enum (CALLS), or that of another fault which carries it. No row can reach those of BARRED,
+and Memory is reached where an allocation fails (failing-allocations.py). The faults of the enums of PLACED have places, but
+for those of UNPLACED; a row shows one where it wants it after the fault. The status is 1 where any other fault has no row.
+"""
+import pathlib
+import re
+import sys
+
+TOP = pathlib.Path(__file__).resolve().parent.parent
+PAGE = TOP / "docs" / "ROWS.md"
+MARKS = {name: ("<!-- fault-rows.py: %s begin -->\n" % name, "<!-- fault-rows.py: %s end -->\n" % name)
+         for name in ("faults", "places")}
+
+# The enum of the faults that a call answers.
+CALLS = {
+    "frames": "ReadFault", "read_imports": "ReadFault", "read_module": "ReadFault", "read_body": "ReadFault",
+    "read_init": "ReadFault", "example exports_memory": "ReadFault",
+    "dedupe": "DedupeFault", "dedupe_owned": "DedupeFault", "example original_name": "DedupeFault",
+    "resolve_build": "ResolveFault", "document": "JsonFault", "encoder_build": "EncoderFault", "example encoder_for": "EncoderFault",
+    "classify": "ValidateFault", "classify_export": "ValidateFault", "validate_module": "ValidateFault",
+    "validate_adapter_module": "ValidateFault", "validated_exports": "ValidateFault",
+    "example imported_memory": "ValidateFault",
+    "explain_trim": "GcFault", "liveness_counted": "GcFault", "trim": "GcFault", "trim_for": "GcFault", "unfolding_trimmed": "GcFault",
+    "call_chain": "GcFault", "example reaches_memory": "GcFault", "example trim_both": "GcFault",
+    "component_world": "WorldFault", "example can_use_slot_1": "WorldFault", "example summary": "WorldFault",
+    "plan": "PlanFault", "plan_failing": "PlanFault", "plan_without_lowerings": "PlanFault",
+    "example printed_plan": "PlanFault",
+    "execute": "ToolFault", "execute_failing": "ToolFault", "each_put_failing": "ToolFault",
+    "writer_sink": "PutFailed", "run_program": "RunFault", "parse": "Usage",
+    "wcplan": "ProgramFault", "wcplan_failing": "ProgramFault", "parse_wcplan": "NoCommand", "plan_into": "MessageFault",
+    "world_into": "MessageFault", "validate_into": "MessageFault",
+}
+# What no row of any input can reach, and why.
+BARRED = {
+    ("WriteFault", "TooLarge"): "a section, or a body, of 2^32 bytes",
+    ("DedupeFault", "TooLarge"): "a section of 2^32 bytes",
+    ("GcFault", "TooLarge"): "a section of 2^32 bytes",
+    ("ValidateFault", "WholeDiffers"): "of the arguments of a name the first counts",
+    ("ValidateFault", "Mixed"): "of the arguments of a name the first counts",
+    ("MessageFault", "NotText"): "a row is text",
+}
+FAILED = "where an allocation fails"
+# The enums whose faults have places.
+PLACED = ("ResolveFault", "ValidateFault", "GcFault", "WorldFault", "PlanFault")
+# Which of their faults have none, and why.
+UNPLACED = {
+    ("ResolveFault", "Memory"): "an allocation failed",
+    ("ValidateFault", "Memory"): "an allocation failed",
+    ("ValidateFault", "Read"): "it is about the module as a whole",
+    ("ValidateFault", "NotAModule"): "it is about the module as a whole",
+    ("ValidateFault", "WholeDiffers"): "it is answered for no module",
+    ("ValidateFault", "Mixed"): "it is answered for no module",
+    ("GcFault", "Memory"): "an allocation failed",
+    ("GcFault", "Read"): "it is about the adapter as a whole",
+    ("GcFault", "MissingExport"): "it has the export's name",
+    ("GcFault", "SeveralNamed"): "it is about all that is live",
+    ("GcFault", "LiveTable"): "it is about all that is live",
+    ("GcFault", "SeveralMemories"): "it is about all that is live",
+    ("GcFault", "LocalMemory"): "it is about all that is live",
+    ("GcFault", "ReallocType"): "it is about all that is live",
+    ("GcFault", "ReallocMemory"): "it is about all that is live",
+    ("GcFault", "TooLarge"): "it is about the adapter as a whole",
+    ("WorldFault", "Memory"): "an allocation failed",
+    ("WorldFault", "PageSize"): "it has the adapter's name and both sizes",
+    ("PlanFault", "Memory"): "an allocation failed",
+    ("PlanFault", "World"): "it has that of the world's fault",
+    ("PlanFault", "Output"): "it is about the sink",
+}
+
+
+def sources():
+    """The sources of the libraries, crate by crate, in the order of crates.txt."""
+    for line in (TOP / "crates.txt").read_text().splitlines():
+        name = re.match(r"((?:wc|wctrim|wcplan)_\w+)", line)
+        if name and not name.group(1).endswith(("rows", "fixtures", "bench")):
+            for path in sorted((TOP / "crates" / name.group(1) / "src").rglob("*.rt")):
+                yield name.group(1), re.sub(r"^\s*//.*\n", "", path.read_text(), flags=re.M)
+
+
+def variants_of(body):
+    """Of an enum's body each variant: its name, its text with `{0}`, None where that is its only field's, and its fields."""
+    found = []
+    for text, name, fields in re.findall(r"#\[error\((.*?)\)\]\s*(\w+)(?:\(([^)]*)\))?,", body, re.S):
+        fields = [field.strip() for field in fields.split(",")] if fields else []
+        found.append((name, None if text == "transparent" else text.strip('"'), fields))
+    return found
+
+
+def run_fault(text):
+    """The variants of `RunFault`, which has no `Display`: the texts that it puts."""
+    put = dict(re.findall(r'RunFault::(\w+)\(path\) => put_after\(out, b"([^"]*)", path\)', text))
+    return [(name, start + "{0}", ["String"]) for name, start in put.items()] + [("Tool", "{0}", ["ToolFault"])]
+
+
+def written(name, text):
+    """The variants of an enum whose `Display` writes a text of its own for each, or what it carries."""
+    shown = re.findall(r'%s::(\w+) => f\.write_str\("(.*?)"\)' % name, text)
+    named = re.findall(r'%s::(\w+)\(\w+\) => (?:\{\s*)?write!\(f, "(.*?)"\)' % name, text)
+    carried = re.findall(r"%s::(\w+) \{ path, (\w+) \} =>" % name, text)
+    found = [(own, words, []) for own, words in shown] + [(own, "{0}", [field.capitalize()]) for own, field in carried]
+    body = re.search(r"pub enum %s\b.*?\{(.*?)\n\}" % name, text, re.S)
+    types = dict(re.findall(r"^ +(\w+)\((\w+Fault)\b", body.group(1), re.M)) if body else {}
+    return found + [(own, re.sub(r"\{\w+\}", "{0}", words), [types.get(own, "String")]) for own, words in named]
+
+
+def numbered(words):
+    """A text in which the fields of a variant are numbered."""
+    parts = re.split(r"\{\w+\}", words)
+    return "".join(part + "{%d}" % number for number, part in enumerate(parts[:-1])) + parts[-1]
+
+
+def program_fault(text):
+    """The variants of `ProgramFault`, which has no `Display`: the texts that its function `text` makes."""
+    body = re.search(r"pub enum ProgramFault.*?\{(.*?)\n\}", text, re.S).group(1)
+    fields = {name: [field] for name, field in re.findall(r"^ +(\w+)\((?:&'a )?(\w+)", body, re.M)}
+    shown = re.findall(r'ProgramFault::(\w+)(?:\(\w+\))? => (?:String::from_str|format!)\((?:in )?alloc[;,] "(.*?)"\)', text)
+    carried = re.findall(r'ProgramFault::(\w+)\(fault(?:, _)?\) => carried_text\(alloc, "(\w+)", fault\)', text)
+    texts = {name: re.sub(r"\{\w+\}", "{0}", words) for name, words in shown}
+    texts.update({name: words + ": {0}" for name, words in carried})
+    texts.update({name: words + "{0}" for name, words in re.findall(r'ProgramFault::(\w+)\(path\) => path_text\(alloc, "(.*?)", path\)', text)})
+    texts.update({name: "{0}" for name in re.findall(r"ProgramFault::(\w+)\(fault\) => selection_text\(alloc, fault\)", text)})
+    texts.update({"RepeatedMember": "Json: {0}: repeated member", "World": "World: {0}"})
+    texts["NoExport"] = "no export `{0}`; exports:{1}"
+    fields["NoExport"] = ["str", "String"]
+    return [(name, texts[name], fields.get(name, [])) for name in re.findall(r"^    (\w+)[(,]", body, re.M)]
+
+
+def faults():
+    """Each enum of faults, and each struct that is one: its crate, and its variants."""
+    found = {}
+    for crate, text in sources():
+        for name, body in re.findall(r"pub enum (\w*Fault)\b[^{]*\{(.*?)\n\}", text, re.S):
+            if "#[error" in body:
+                found[name] = (crate, variants_of(body))
+            elif name == "ProgramFault":
+                found[name] = (crate, program_fault(text))
+            else:
+                found[name] = (crate, run_fault(text) if name == "RunFault" else written(name, text))
+        if "pub enum NoCommand<" in text:
+            shown = {"Memory": "out of memory", "Help": "help", "Version": "version"}
+            found["NoCommand"] = (crate, [(own, words, []) for own, words in shown.items()] + [("Wrong", "{0}", ["WrongArgument"])])
+        wrong = re.findall(r'WrongArgument::(\w+)(?:\(\w+\)| \{[^}]*\}) => (?:\{\s*)?format!\(in alloc; "(.*?)"\)', text)
+        if wrong:
+            found["WrongArgument"] = (crate, [(own, numbered(words), ["String"] * words.count("{")) for own, words in wrong])
+        if "pub enum Problem {" in text:
+            found["Problem"] = (crate, written("Problem", text))
+        for shown, name in re.findall(r'#\[error\("(.*?)"\)\]\s*pub struct (\w+);', text):
+            found[name] = (crate, [(name, shown, [])])
+        if "pub struct Usage;" in text:
+            found["Usage"] = (crate, [("Usage", "usage", [])])
+        for name in re.findall(r"pub struct (\w+)\(String\);\s", text):
+            shown = re.search(r"impl fmt::Display for %s .*?write!\(f, \"(.*?)\", self\.0\)" % name, text, re.S)
+            if shown:
+                found[name] = (crate, [(name, shown.group(1).replace("{}", "{0}"), ["String"])])
+    return found
+
+
+def readings(known, enum, text):
+    """The faults that a text of this enum shows, as pairs of an enum and a variant: the fault, and those that it carries."""
+    if enum == "Problem":
+        # after the path to the value
+        text = text.rpartition(": ")[2]
+    for name, shown, fields in known[enum][1]:
+        pattern = re.escape(shown if shown is not None else "{0}")
+        for number in range(len(fields)):
+            pattern = pattern.replace(re.escape("{%d}" % number), "(?P<f%d>.*)" % number)
+        match = re.fullmatch(pattern, text, re.S)
+        if not match:
+            continue
+        inner = [readings(known, field, match.group("f%d" % number))
+                 for number, field in enumerate(fields) if field in known]
+        if all(inner):
+            return [(enum, name)] + [fault for part in inner for fault in part]
+    return None
+
+
+def rows():
+    """Each row: its file, its name, its call and its lines of answer."""
+    for path in sorted((TOP / "crates" / "wc_tests" / "data").glob("*.rows")):
+        row = None
+        for line in path.read_text().splitlines():
+            word, _, rest = line.partition(" ")
+            if word in ("row", "fixture"):
+                if row and row[2]:
+                    yield row
+                row = (path.name, rest, [], [])
+            elif row and word == "call":
+                row[2].extend(rest.split())
+            elif row and word == "out":
+                row[3].append(rest)
+        if row and row[2]:
+            yield row
+
+
+def texts_in_buffer(lines):
+    """The text of a fault in the front of a buffer that has room for it, and for what is after it."""
+    numbers = re.match(r"status 1 fault \d+ length (\d+) ", lines[0])
+    buffer = bytes.fromhex("".join(line[len("buffer "):] for line in lines if line.startswith("buffer ")))
+    if numbers and int(numbers.group(1)) <= len(buffer):
+        yield buffer[:int(lines[1][len("position "):])].decode()
+
+
+def texts(call, lines):
+    """The texts of faults among a row's lines of answer."""
+    if call in ("world_into", "plan_into", "validate_into"):
+        yield from texts_in_buffer(lines)
+        return
+    for line in lines:
+        if call == "run_program" and line.startswith("printed wctrim: "):
+            yield line[len("printed wctrim: "):]
+        elif call in ("wcplan", "wcplan_failing") and line.startswith("error wcplan: ") and "status 2" not in lines:
+            yield re.sub(r"(PageSize) `.*`: page size \d+, main module's \d+$", r"\1", line[len("error wcplan: "):])
+        elif call == "parse_wcplan" and line in ("help", "version"):
+            yield line
+        elif call == "parse" and line == "usage":
+            yield line
+        elif call == "writer_sink" and line.startswith("fault "):
+            yield line[len("fault "):].split(",")[0]
+        else:
+            match = re.match(r"(?:.*[:,] )?fault (.*)", line)
+            if match and call not in ("run_program", "parse", "writer_sink", "wcplan", "wcplan_failing"):
+                yield match.group(1)
+
+
+def has_place(words, lines):
+    """Whether a row's answer has a place after the fault."""
+    if words[0] in ("wcplan", "wcplan_failing"):
+        return any(line.startswith("error   ") for line in lines)
+    if words[0] in ("plan", "plan_failing", "plan_without_lowerings"):
+        return lines[1:2] != [] and lines[1].startswith("of ")
+    return (words[0] == "explain_trim" or "explain" in words[1:]) and len(lines) > 1 and lines[-1] != "none"
+
+
+def reached(known):
+    """Of each fault the row that reaches it: the first whose call answers it, else the first that answers one that carries
+    it; and likewise the row that shows its place. And lines on texts that are those of no fault of the call."""
+    found, places, unread = {}, {}, []
+    for file, name, words, lines in rows():
+        call = " ".join(words[:2]) if words[0] == "example" else words[0]
+        if call not in CALLS:
+            continue
+        for text in texts(call, lines):
+            faults_shown = readings(known, CALLS[call], text)
+            if not faults_shown:
+                unread.append("%s: %s: no fault of `%s`: %s" % (file, name, call, text))
+            for depth, fault in enumerate(faults_shown or []):
+                for rows_of in [found] + ([places] if has_place(words, lines) else []):
+                    if fault not in rows_of or depth < rows_of[fault][0]:
+                        rows_of[fault] = (depth, file, name)
+    return found, places, unread
+
+
+def shown(enum, crate, variants, name):
+    """How a fault is named."""
+    return "%s of `%s`" % ("`%s`" % enum if len(variants) == 1 and name == enum else "`%s::%s`" % (enum, name), crate)
+
+
+def fault_table(known, found):
+    """The lines of the table of faults, and lines on those that have no row."""
+    lines, wrong = ["| Fault | Row |\n", "|---|---|\n"], []
+    for enum, (crate, variants) in known.items():
+        for name, _, _ in variants:
+            if name == "Memory":
+                where = FAILED
+            elif (enum, name) in found:
+                where = "%s: %s" % found[enum, name][1:]
+            elif (enum, name) in BARRED:
+                where = "none: " + BARRED[enum, name]
+            else:
+                wrong.append("no row reaches `%s::%s`" % (enum, name))
+                where = "none"
+            lines.append("| %s | %s |\n" % (shown(enum, crate, variants, name), where))
+    return "".join(lines), wrong
+
+
+def place_table(known, places):
+    """The lines of the table of places, and lines on faults of which no row shows one, or one that there is not."""
+    lines, wrong = ["| Fault | Row that shows its place |\n", "|---|---|\n"], []
+    for enum in PLACED:
+        crate, variants = known[enum]
+        for name, _, _ in variants:
+            if (enum, name) in UNPLACED:
+                where = "none: " + UNPLACED[enum, name]
+                if (enum, name) in places and (enum, name) != ("PlanFault", "World"):
+                    wrong.append("%s: %s shows a place of `%s::%s`" % (places[enum, name][1:] + (enum, name)))
+            elif (enum, name) in places:
+                where = "%s: %s" % places[enum, name][1:]
+            else:
+                wrong.append("no row shows a place of `%s::%s`" % (enum, name))
+                where = "none"
+            lines.append("| %s | %s |\n" % (shown(enum, crate, variants, name), where))
+    return "".join(lines), wrong
+
+
+def tables():
+    """The tables by their names, and lines on what is wrong: faults that have no row, and texts that are those of no
+    fault."""
+    known = faults()
+    found, places, wrong = reached(known)
+    made = {"faults": fault_table(known, found), "places": place_table(known, places)}
+    return {name: text for name, (text, _) in made.items()}, wrong + [line for _, lines in made.values() for line in lines]
+
+
+def main():
+    made, wrong = tables()
+    page = PAGE.read_text()
+    for name, text in made.items():
+        begin, end = MARKS[name]
+        front, found, rest = page.partition(begin)
+        old, ended, back = rest.partition(end)
+        if ("--write" in sys.argv or "--check" in sys.argv) and not (found and ended):
+            sys.exit("docs/ROWS.md has no place for the table: the lines\n" + begin + end)
+        if "--write" in sys.argv:
+            page = front + begin + text + end + back
+        elif "--check" in sys.argv:
+            if old != text:
+                wrong.append("docs/ROWS.md has another table: checks/fault-rows.py --write")
+        else:
+            print(text, end="\n")
+    if "--write" in sys.argv:
+        PAGE.write_text(page)
+    for line in wrong:
+        print(line)
+    sys.exit(1 if wrong else 0)
+
+
+if __name__ == "__main__":
+    main()

@@ -1,0 +1,16 @@
+use Rattle.wc_world.specs.WorldViews.{world_view}
+use Rattle.wc_calls.specs.Private.OptionTables.{table_options}
+use Rattle.wc_calls.proofs.ComponentWorldLemmas.{answered_for, memory_for, world_fault_for}
+use Rattle.wc_calls.proofs.component_worlds.answer_of_input.Goals as goal
+
+pub returns-in-Ok-clause-answer : goal.returns-in-Ok-clause-answer
+returns-in-Ok-clause-answer c =
+    let input = c.args.input.now in
+    answered_for (table_options input.options) input.encoder (world_view c.in-Ok.world) c.answer_of_world.result c.in-Ok.ensures.world
+    c.answer_of_world.ensures.modules c.answer_of_world.ensures.json
+
+pub returns-in-Ok-clause-fault : goal.returns-in-Ok-clause-fault
+returns-in-Ok-clause-fault c = memory_for c.args.input.now.encoder c.answer_of_world.result c.answer_of_world.ensures.fault
+
+pub returns-in-Err-clause-fault : goal.returns-in-Err-clause-fault
+returns-in-Err-clause-fault c = rw c.from.ensures (world_fault_for c.args.input.now.encoder c.in-Err.fault c.in-Err.ensures.fault)

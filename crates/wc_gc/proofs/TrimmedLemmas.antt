@@ -1,0 +1,87 @@
+-- What trimming answers of a module that was read, whatever bytes spell it.
+use Rattle.std.proofs.Common.{◌≡◌, ℕ, List, refl, Bool, Result, Ok, Err, ◌⊎◌, ◌<◌, inl, inr}
+use Rattle.std.specs.Prelude.{IfOk, IfErr, IsOk}
+use Rattle.wc_read.specs.Modules.{ModuleValue, SpellsModule, module_value}
+use Rattle.wc_read.specs.declared.core_module.Module.{Module}
+use Rattle.wc_write.specs.ModuleText.{built_text}
+use Rattle.wc_write.specs.Values.{AreBytes}
+use Rattle.wc_gc.specs.Decoded.{ItemIndex, decoded_module}
+use Rattle.wc_gc.specs.Edited.{edit}
+use Rattle.wc_gc.specs.EditedImage.{edited_image}
+use Rattle.wc_gc.specs.KeptExports.{kept_exports}
+use Rattle.wc_gc.specs.Laws.{AreSettings}
+use Rattle.wc_gc.specs.Liveness.{IsLivenessOf, TrimInput, order_of}
+use Rattle.wc_gc.specs.Parts.{SettingsValue}
+use Rattle.wc_gc.specs.TrimmedText.{IsTrimmed}
+use Rattle.wc_gc.specs.Trimming.{IsImageText, IsLaterCause, IsLaterFault, IsTrimCause, IsTrimFault}
+use Rattle.wc_gc.specs.declared.fault.GcFault.{GcFault}
+use Rattle.wc_gc.specs.declared.fault.GcFault.TheVariants.{Memory}
+use Rattle.wc_gc.proofs.ClosedImageLemmas.{trimmed_unfolds}
+use Rattle.wc_gc.proofs.LivenessLemmas.{no_cause_of}
+use Rattle.wc_gc.proofs.TrimLemmas.{same_later}
+use Rattle.wc_gc.proofs.TrimmedTextLemmas.{trimmed_text_read}
+
+-- the text of an image is read back and unfolds, where no fault has a cause
+pub trimmed : (s : SettingsValue) (w : TrimInput) (text : List ℕ) → AreSettings s → AreBytes w.bytes → IsImageText s w text
+    → ((f : GcFault) → ¬ (IsTrimCause s w f)) → IsTrimmed s w text
+trimmed s w text are all t none = record {
+  image = t;
+  no_cause = none;
+  read = trimmed_text_read s w text are all t none;
+  unfolds = trimmed_unfolds s w text are all t none;
+}
+
+-- the answer, by what is live in the module
+module _ (s : SettingsValue) (a : Module) (required : List (List ℕ)) (live : ItemIndex → Bool) (turns : ℕ)
+    (l : IsLivenessOf required (module_value a) live turns) where
+  abbrev input : List ℕ → TrimInput
+  input bytes = record { bytes = bytes; required = required }
+
+  abbrev IsCause : GcFault → Type 0
+  IsCause f = IsLaterCause s (decoded_module a) (kept_exports required (module_value a).exports) live f
+
+  no_cause_in : ((f : GcFault) → ¬ (IsCause f)) → (bytes : List ℕ) → SpellsModule bytes (module_value a) → (f : GcFault)
+      → ¬ (IsTrimCause s (input bytes) f)
+  unfolding decoded_module
+  no_cause_in none bytes spelled f (inl c) = no_cause_of (input bytes) (module_value a) spelled l.supported l.in_range f c
+  no_cause_in none bytes spelled f (inr c) = none f (same_later s (input bytes) (module_value a) spelled live l.is_live f c)
+
+  pub trimmed_of : {T : Type 0} (items : T → List ℕ) (r : Result T GcFault) → AreSettings s
+      → IfOk r (λ v. items v ≡ built_text (edited_image (edit s (decoded_module a) (kept_exports required (module_value a).exports) live)))
+      → (IsOk r → (f : GcFault) → ¬ (IsCause f))
+      → IfOk r (λ v. (bytes : List ℕ) → AreBytes bytes → SpellsModule bytes (module_value a) → IsTrimmed s (input bytes) (items v))
+  unfolding decoded_module
+  trimmed_of items (Ok v) are written none = λ bytes all spelled.
+      trimmed s (input bytes) (items v) are all
+      (record { value = module_value a; live = live; spelled = spelled; decides = l.is_live; written = written })
+      (no_cause_in (none refl) bytes spelled)
+  trimmed_of items (Err f) are written none = written
+
+  fault_in : (f : GcFault) → IsCause f × ((g : GcFault) → order_of g < order_of f → ¬ (IsCause g))
+      → (bytes : List ℕ) → SpellsModule bytes (module_value a) → IsTrimFault s (input bytes) f
+  unfolding decoded_module
+  fault_in f k bytes spelled = inr (
+    inr (module_value a, live, spelled, l.is_live, k.0),
+    λ g h c. elim c [
+      | inl b ↦ no_cause_of (input bytes) (module_value a) spelled l.supported l.in_range g b
+      | inr b ↦ k.1 g h (same_later s (input bytes) (module_value a) spelled live l.is_live g b)
+    ],
+  )
+
+  pub later_of : {T : Type 0} (r : Result T GcFault)
+      → IfErr r (λ f. (f ≡ Memory) ⊎ IsLaterFault s (decoded_module a) (kept_exports required (module_value a).exports) live f)
+      → IfErr r (λ f. (bytes : List ℕ) → SpellsModule bytes (module_value a) → IsTrimFault s (input bytes) f)
+  later_of (Ok v) h = h
+  later_of (Err f) h = λ bytes spelled. elim h [ inl memory ↦ inl memory | inr k ↦ fault_in f k bytes spelled ]
+
+-- what is so for all bytes that spell a module is so for these
+module _ (m : ModuleValue) (bytes : List ℕ) (spelled : SpellsModule bytes m) where
+  pub answer_for : {T : Type 0} (P : List ℕ → T → Type 0) (r : Result T GcFault) → AreBytes bytes
+      → IfOk r (λ v. (b : List ℕ) → AreBytes b → SpellsModule b m → P b v) → IfOk r (P bytes)
+  answer_for P (Ok v) all h = h bytes all spelled
+  answer_for P (Err f) all h = h
+
+  pub fault_for : {T : Type 0} (P : List ℕ → GcFault → Type 0) (r : Result T GcFault)
+      → IfErr r (λ f. (b : List ℕ) → SpellsModule b m → P b f) → IfErr r (P bytes)
+  fault_for P (Ok v) h = h
+  fault_for P (Err f) h = h bytes spelled

@@ -1,0 +1,25 @@
+//! What a program of the command line is run on and by: files, outputs, arguments and exit statuses. `wctrim_command` and
+//! `wcplan_command` stand on it.
+//!
+//! A `Shell` has what a program needs: files (`FileStore`, `DirectoryStore`) and outputs (`Output`, `Screen`). `run` runs
+//! any `Program` in one, with its arguments or without. `print` is how a program ends by printing a text, and
+//! `system_shell` is the shell of the system.
+#![tactic(auto)]
+
+mod fault_texts;
+mod files;
+mod output;
+mod printable;
+mod program;
+mod screen;
+mod shell;
+mod system;
+
+pub use fault_texts::{OUT_OF_MEMORY, put_after, put_carried, read_fault_text};
+pub use files::{DirectoryStore, FileStore};
+pub use output::{Output, Printer};
+pub use printable::{Message, Printable};
+pub use program::{FAILURE, NoArguments, Program, SUCCESS, WRONG_ARGUMENTS, print, run};
+pub use screen::Screen;
+pub use shell::Shell;
+pub use system::{SystemFiles, exit_code, system_arguments, system_shell};

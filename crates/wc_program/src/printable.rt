@@ -1,0 +1,50 @@
+//! Texts that can be printed.
+
+ghost use Rattle.std.specs.Prelude.{◌++◌, ℕ, List};
+ghost use Rattle.wc_program.specs.Puts.{Puts};
+
+use wc_write::{PutFailed, Sink};
+
+/// A value with a text that is known, as a fault.
+pub trait Printable {
+    // The text of the value.
+    ghost text: { Self → List ℕ };
+
+    /// Puts the text of the value, of any length. It does not allocate.
+    ///
+    /// # Errors
+    ///
+    /// `PutFailed`: a put failed. How much was written is left open.
+    fn put_text<S: Sink>(&self, out: &mut S) -> Result<(), PutFailed>
+        ensures { Puts S.written S.is_failed out.old out.new (text self.now) result };
+}
+
+/// The text of bytes is these bytes.
+impl Printable for &[u8] {
+    ghost text = { λ bytes. bytes.now };
+
+    fn put_text<S: Sink>(&self, out: &mut S) -> Result<(), PutFailed> {
+        out.put(self)
+    }
+}
+
+/// A text with bytes before it and after it.
+#[derive(Clone, Copy)]
+pub struct Message<'a, T> {
+    /// What comes before the text.
+    pub before: &'a [u8],
+    /// The text.
+    pub text: &'a T,
+    /// What comes after it.
+    pub after: &'a [u8],
+}
+
+impl<T: Printable> Printable for Message<'_, T> {
+    ghost text = { λ m. m.before.now ++ (T.text m.text.now ++ m.after.now) };
+
+    fn put_text<S: Sink>(&self, out: &mut S) -> Result<(), PutFailed> {
+        out.put(self.before)?;
+        self.text.put_text(out)?;
+        out.put(self.after)
+    }
+}

@@ -1,7 +1,0 @@
-mod TrimArgumentsLemmas
-mod CommandLemmas
-mod ExportsLemmas
-mod FaultsLemmas
-mod ExecutionLemmas
-mod OutputLemmas
-mod ProgramLemmas

@@ -1,0 +1,8 @@
+use Rattle.std.proofs.Common.{◌≡◌, map}
+use Rattle.wc_resolve.specs.Views.{function_entry, interface_view}
+use Rattle.wcplan_command.proofs.NearestLemmas.{names_of}
+use Rattle.wcplan_command.specs.Nearest.{first_near}
+use Rattle.wcplan_command.proofs.nearest.near_name.Given as goal
+
+abbrev pub invariant-loop-function : goal.invariant-loop-function
+invariant-loop-function l = first_near l.name (names_of l.function-iterator) ≡ first_near l.name (names_of l.interface.functions.entries)

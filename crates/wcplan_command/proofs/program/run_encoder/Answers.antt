@@ -1,0 +1,23 @@
+use Rattle.std.proofs.Common.{refl}
+use Rattle.wc_world.specs.Options.{plain_options}
+use Rattle.wc_world.specs.WorldViews.{world_view}
+use Rattle.wcplan_command.specs.Arguments.{command_value}
+use Rattle.wc_program.specs.Screen.{Becomes}
+use Rattle.wcplan_command.proofs.RunLemmas.{quiet, world_cause}
+use Rattle.wcplan_command.proofs.program.run_encoder.Goals as goal
+
+pub run_world-requires-clause-made : goal.run_world-requires-clause-made
+run_world-requires-clause-made g c = record { encoder = c.args.encoder.now; encodes = c.requires; world = c.in-Ok.ensures.world }
+
+pub run_world-requires-clause-nameable : goal.run_world-requires-clause-nameable
+run_world-requires-clause-nameable g c = c.worlds_nameable.ensures plain_options (world_view c.in-Ok.world) c.in-Ok.ensures.world
+
+pub returns-in-Err-clause-fault : goal.returns-in-Err-clause-fault
+returns-in-Err-clause-fault g c =
+    let command = command_value c.args.command.now in
+    let before = g.F.FileStore.held c.args.files.now in
+    let makes = g.F.DirectoryStore.makes c.args.files.now in
+    let out = Becomes g.O.Screen.ends c.args.out.now c.args.out.now in
+    let cause = world_cause command before c.args.encoder.now c.in-Err.fault c.world_fault.result c.requires c.in-Err.ensures.fault
+    c.world_fault.ensures in
+    quiet command before makes out c.world_fault.result refl cause

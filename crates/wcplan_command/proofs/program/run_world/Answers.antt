@@ -1,0 +1,22 @@
+use Rattle.std.proofs.Common.{refl}
+use Rattle.wc_world.specs.WorldViews.{world_view}
+use Rattle.wcplan_command.specs.Arguments.{command_value}
+use Rattle.wcplan_command.specs.Faults.{of_plan}
+use Rattle.wc_program.specs.Screen.{Becomes}
+use Rattle.wcplan_command.proofs.RunLemmas.{plan_cause, quiet}
+use Rattle.wcplan_command.proofs.program.run_world.Goals as goal
+
+pub run_plan-requires-clause-planned : goal.run_plan-requires-clause-planned
+run_plan-requires-clause-planned g c =
+    let made = c.requires.made in
+    record { encoder = made.encoder; encodes = made.encodes; world = made.world; servable = c.in-Ok.ensures.servable }
+
+pub returns-in-Err-clause-fault : goal.returns-in-Err-clause-fault
+returns-in-Err-clause-fault g c =
+    let command = command_value c.args.command.now in
+    let before = g.F.FileStore.held c.args.files.now in
+    let makes = g.F.DirectoryStore.makes c.args.files.now in
+    let out = Becomes g.O.Screen.ends c.args.out.now c.args.out.now in
+    let made = c.requires.made in
+    let cause = plan_cause command before made.encoder (world_view c.args.world.now) c.in-Err.fault made.encodes made.world c.in-Err.ensures.fault in
+    rw c.from.ensures (quiet command before makes out (of_plan c.in-Err.fault) refl cause)

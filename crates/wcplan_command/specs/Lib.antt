@@ -1,0 +1,14 @@
+pub mod Arguments
+pub mod Reading
+pub mod Usage
+pub mod FaultTexts
+pub mod Faults
+pub mod Nearest
+pub mod Parts
+pub mod Details
+pub mod FileNames
+pub mod Lines
+pub mod RequiredExports
+pub mod Listing
+pub mod Program
+pub mod Private

@@ -1,0 +1,24 @@
+-- The keys of a world's exports as a text.
+use Rattle.std.specs.Prelude.{ℕ, ◌-◌, ◌==◌, nat_le, List, ◌++◌, length, take, codes, decimal, if◌then◌else◌}
+use Rattle.std.specs.List.{flat_map}
+
+-- a key in quotes, after a blank
+abbrev pub listed_key : List ℕ → List ℕ
+listed_key key = codes " `" ++ (key ++ codes "`")
+
+abbrev pub listed_keys : List (List ℕ) → List ℕ
+listed_keys keys = flat_map listed_key keys
+
+abbrev pub more_text : ℕ → List ℕ
+more_text count = codes " and " ++ (decimal count ++ codes " more")
+
+-- how many keys a listing has at most
+abbrev pub most_listed : ℕ
+most_listed = 8
+
+-- the first keys, and how many there are more
+abbrev pub listing_text : List (List ℕ) → List ℕ
+listing_text keys =
+    if length keys == 0 then codes " none"
+    else if nat_le (length keys) most_listed then listed_keys keys
+    else (listed_keys (take most_listed keys) ++ more_text (length keys - most_listed))

@@ -1,0 +1,374 @@
+-- The program: what it prints, what becomes of files, and its exit status.
+use Rattle.std.specs.Prelude.{◌≡◌, ◌≢◌, ◌⊎◌, ◌<◌, ◌≤◌, length, ℕ, Bool, List, [], ◌∷◌, ◌++◌, map, codes, Option, Some, None, IfSome, IsSomeAnd, if◌then◌else◌, Ok, Err, Contains, String, string_bytes}
+use Rattle.std.specs.declared.alloc.Global.{Global}
+use Rattle.std.specs.Borrow.{Bor}
+use Rattle.std.specs.List.{AllZip}
+use Rattle.std.specs.Str.{IsUtf8}
+use Rattle.json.specs.Json.{Json as JsonValue, document}
+use Rattle.json.specs.Strict.{HasUniqueKeys}
+use Rattle.wc_dedupe.specs.Dedupe.{IsDeduped, IsDedupeCause, renames_in}
+use Rattle.wc_dedupe.specs.Renaming.{RenameValue}
+use Rattle.wc_dedupe.specs.declared.fault.DedupeFault.TheVariants.{Memory as dedupe_memory}
+use Rattle.wc_encoder.specs.Adapters.{AdapterView}
+use Rattle.wc_encoder.specs.EncoderParts.{EncoderView}
+use Rattle.wc_encoder.specs.Fault.{IsEncoderCause}
+use Rattle.wc_encoder.specs.WellFormed.{IsWellFormed}
+use Rattle.wc_encoder.specs.declared.fault.EncoderFault.TheVariants.{Memory as encoder_memory}
+use Rattle.wc_json.specs.Escape.{escaped}
+use Rattle.wc_json.specs.Document.{DocumentView, document_of, IsJsonCause}
+use Rattle.wc_json.specs.declared.fault.JsonFault.TheVariants.{NotJson as json_invalid, RepeatedMember as json_repeated, Wrong as json_wrong}
+use Rattle.wc_plan.specs.Faults.{HasNoFault, IsFirstFault}
+use Rattle.wc_plan.specs.Plans.{plan_of}
+use Rattle.wc_record.specs.Texts.{world_text}
+use Rattle.wc_resolve.specs.Faults.{IsResolveCause}
+use Rattle.wc_resolve.specs.WellFormed.{IsWellFormed as IsResolve}
+use Rattle.wc_resolve.specs.World.{ResolveView}
+use Rattle.wc_resolve.specs.declared.fault.ResolveFault.TheVariants.{Memory as resolve_memory}
+use Rattle.wc_program.specs.FaultTexts.{memory_text}
+use Rattle.wc_program.specs.Files.{Held, Holds, KeepsOthers, Writes}
+use Rattle.wc_program.specs.Program.{Prints, EndsByArguments, EndsByReason, failure, success, wrong_arguments}
+use Rattle.wc_program.specs.declared.program.NoArguments.{NoArguments}
+use Rattle.wc_program.specs.declared.program.NoArguments.TheVariants.{Empty, NoMemory, NoText}
+use Rattle.wc_world.specs.Causes.{IsComponentWorldCause, IsMemory as IsWorldMemory}
+use Rattle.wc_world.specs.Options.{plain_options}
+use Rattle.wc_world.specs.Views.{ComponentWorldView, NamedWorldAdapter}
+use Rattle.wc_world.specs.World.{IsWorldOf}
+use Rattle.wc_world.specs.declared.fault.WorldFault.TheVariants.{Memory as world_memory}
+use Rattle.wc_selection.specs.KeyNames.{count_unversioned, request_keys}
+use Rattle.wc_selection.specs.Keys.{NamedKey, texts_of}
+use Rattle.wc_selection.specs.RequiredExports.{required_keys}
+use Rattle.wc_selection.specs.Texts.{second_parts}
+use Rattle.wc_selection.specs.Worlds.{IsSelected}
+use Rattle.wcplan_command.specs.Arguments.{CommandValue, Reading, Stop, WrongValue, help, version, wrong}
+use Rattle.wcplan_command.specs.Details.{IsAbout, fault_lines}
+use Rattle.wcplan_command.specs.Faults.{program_fault_text}
+use Rattle.wcplan_command.specs.Lines.{lines_text}
+use Rattle.wcplan_command.specs.Listing.{listing_text}
+use Rattle.wcplan_command.specs.Parts.{IsAboutPart}
+use Rattle.wcplan_command.specs.Reading.{AsksMemory, read_arguments}
+use Rattle.wcplan_command.specs.RequiredExports.{AreNamesThere, IsNamesCause, IsSelectionCause, request_of}
+use Rattle.wc_program.specs.Screen.{Printing, nothing, printed, failed}
+use Rattle.wcplan_command.specs.Usage.{fault_and_usage, fault_line, help_text, no_text, usage_text, version_text, wrong_text}
+use Rattle.wcplan_command.specs.declared.faults.SelectionFault.{SelectionFault}
+use Rattle.wcplan_command.specs.declared.faults.SelectionFault.TheVariants.{Request}
+use Rattle.wc_selection.specs.declared.fault.RequestFault.TheVariants.{UnknownKey, SeveralKeys, RepeatedKey}
+use Rattle.wcplan_command.specs.declared.faults.ProgramFault.{ProgramFault}
+use Rattle.wcplan_command.specs.declared.faults.ProgramFault.TheVariants.{Memory, CannotRead, NotText, NotJson, RepeatedMember, Json, Selection, NoExport, Resolve, Dedupe, Encoder, World, Plan, CannotMake, CannotWrite, Output}
+
+-- a text is JSON that is read as this document
+abbrev pub IsDocumentOf : Option JsonValue → DocumentView → Type 0
+IsDocumentOf read d = IsSomeAnd read (λ j. HasUniqueKeys j × (document_of j ≡ Ok d))
+
+-- a file has a text that is read as this document
+pub record IsDocumentIn (before : Option Held) (path : List ℕ) (d : DocumentView) : Type 0 where
+  pub text : List ℕ
+  pub read : Holds before path text
+  pub document : IsDocumentOf (document text) d
+
+-- an adapter has its name, the bytes of its file, and the keys that it has to export; it is no library
+pub record IsAdapterIn (before : Option Held) (c : CommandValue) (keys : List NamedKey) (x : List ℕ × List ℕ) (y : List ℕ × AdapterView) : Type 0 where
+  pub name : y.0 ≡ x.0
+  pub wasm : Holds before x.1 y.1.wasm
+  pub required : y.1.required_exports ≡ required_keys (request_of c) (Some x.0) keys
+  pub library : y.1.library_info ≡ None
+
+-- the worlds in the file of a command, which are well-formed, and the one that it names
+abbrev pub AreWorldsIn : CommandValue → Option Held → ResolveView → ℕ → Type 0
+AreWorldsIn c before r world =
+    (d : DocumentView) × IsDocumentIn before c.worlds d × IsSelected d c.world world × IsResolve d.parts × (r ≡ d.parts)
+
+-- the world that a command names, of the worlds in its file, which are well-formed; and its names and keys are there
+pub record IsChosen (c : CommandValue) (before : Option Held) (d : DocumentView) (world : ℕ) : Type 0 where
+  pub worlds : IsDocumentIn before c.worlds d
+  pub selected : IsSelected d c.world world
+  pub resolve : IsResolve d.parts
+  pub named : AreNamesThere c (request_keys (request_of c) d.parts world)
+
+-- the main module in its file, with its repeated imports renamed
+pub record IsMainIn (before : Option Held) (path text : List ℕ) (renames : List RenameValue) : Type 0 where
+  pub bytes : List ℕ
+  pub read : Holds before path bytes
+  pub renamed : IsDeduped bytes text renames
+
+-- the adapters of a command, in order
+abbrev pub AreAdaptersIn : Option Held → CommandValue → List NamedKey → List (List ℕ × AdapterView) → Type 0
+AreAdaptersIn before c keys adapters = AllZip (IsAdapterIn before c keys) c.adapters adapters
+
+-- what a command is encoded from besides the world: the main module with the keys that it has to export, the adapters, the
+-- flags, and a task hook without a name
+pub record IsPartsWith (c : CommandValue) (before : Option Held) (keys : List NamedKey) (e : EncoderView) : Type 0 where
+  pub main : IsMainIn before c.main e.module_bytes (renames_in e.module_import_map)
+  pub exports : e.main_module_exports ≡ required_keys (request_of c) None keys
+  pub adapters : AreAdaptersIn before c keys e.adapters
+  pub rejects : e.reject_legacy_names ≡ c.reject_legacy_names
+  pub grows : e.realloc_via_memory_grow ≡ c.realloc_via_memory_grow
+  pub hook : e.task_hook ≡ []
+
+-- what a command is encoded from, with the chosen world
+pub record IsPartsOf (c : CommandValue) (before : Option Held) (e : EncoderView) : Type 0 where
+  pub document : DocumentView
+  pub chosen : IsChosen c before document e.world
+  pub resolve : e.resolve ≡ document.parts
+  pub parts : IsPartsWith c before (request_keys (request_of c) e.resolve e.world) e
+
+pub record IsEncoderOf (c : CommandValue) (before : Option Held) (e : EncoderView) : Type 0 where
+  pub parts : IsPartsOf c before e
+  pub formed : IsWellFormed e
+
+-- the component's world of a command, with plain options, whose plan has no fault
+pub record IsPlanned (c : CommandValue) (before : Option Held) (w : ComponentWorldView) : Type 0 where
+  pub encoder : EncoderView
+  pub encodes : IsEncoderOf c before encoder
+  pub world : IsWorldOf plain_options encoder w
+  pub servable : HasNoFault w
+
+abbrev pub plan_lines : ComponentWorldView → List ℕ
+plan_lines w = lines_text (plan_of w)
+
+-- the record of a component's world, in a line
+abbrev pub record_line : ComponentWorldView → List ℕ
+record_line w = world_text w ++ codes "\n"
+
+-- what is printed of a component's world: its record, where that is asked for; else the lines of its plan
+abbrev pub printed_text : Bool → ComponentWorldView → List ℕ
+printed_text asks_json w = if asks_json then record_line w else plan_lines w
+
+-- `DIRECTORY/NAME.wasm`
+abbrev pub path_in : List ℕ → List ℕ → List ℕ
+path_in directory name = directory ++ (codes "/" ++ (name ++ codes ".wasm"))
+
+-- the files that are written, with their bytes: the main module, and then the adapters
+abbrev pub adapter_file : List ℕ → NamedWorldAdapter → List ℕ × List ℕ
+adapter_file directory a = (path_in directory a.0, a.1.wasm)
+
+abbrev pub files_of : Option (List ℕ) → ComponentWorldView → List (List ℕ × List ℕ)
+files_of None w = []
+files_of (Some directory) w = (path_in directory (codes "main"), w.encoder.module_bytes) ∷ map (adapter_file directory) w.adapters
+
+-- files are written one after another, and no other is changed
+abbrev pub WritesAll : Option Held → Option Held → List (List ℕ × List ℕ) → Type 0
+WritesAll before after [] = after ≡ before
+WritesAll before after (f ∷ fs) = (middle : Option Held) × Writes before middle f.0 f.1 × WritesAll middle after fs
+
+-- the component's world of a command is there, its directory could be made, and all its files are written
+pub record IsWritten (c : CommandValue) (before after : Option Held) (makes : List ℕ → Type 0) (world : ComponentWorldView) : Type 0 where
+  pub planned : IsPlanned c before world
+  pub made : IfSome c.out makes
+  pub written : WritesAll before after (files_of c.out world)
+
+-- a path with the bytes of its file
+abbrev pub file_view : String Global × Bor (List ℕ) → List ℕ × List ℕ
+file_view f = (string_bytes f.0, f.1.now)
+
+-- of files one could not be written, those before it were, and each other file has the bytes that it had
+pub record IsUnwrittenFile (before after : Option Held) (files : List (List ℕ × List ℕ)) (path : List ℕ) : Type 0 where
+  pub front : List (List ℕ × List ℕ)
+  pub back : List (List ℕ × List ℕ)
+  pub bytes : List ℕ
+  pub cut : files ≡ front ++ (path, bytes) ∷ back
+  pub middle : Option Held
+  pub written : WritesAll before middle front
+  pub others : KeepsOthers middle after path
+
+abbrev pub IsFileFault : Option Held → Option Held → List (List ℕ × List ℕ) → ProgramFault → Type 0
+IsFileFault before after files (CannotWrite path) = IsUnwrittenFile before after files (string_bytes path)
+IsFileFault before after files f = ⊥
+
+-- the directory of a command could not be made
+pub record IsUnmade (c : CommandValue) (before after : Option Held) (path : List ℕ) : Type 0 where
+  pub world : ComponentWorldView
+  pub planned : IsPlanned c before world
+  pub directory : c.out ≡ Some path
+  pub kept : after ≡ before
+
+-- it could, and after some files one could not be written
+pub record IsUnwritten (c : CommandValue) (before after : Option Held) (makes : List ℕ → Type 0) (path : List ℕ) : Type 0 where
+  pub world : ComponentWorldView
+  pub planned : IsPlanned c before world
+  pub made : IfSome c.out makes
+  pub stopped : IsUnwrittenFile before after (files_of c.out world) path
+
+-- why a file, the worlds in it, or the main module in it, could not be read
+abbrev pub IsReadFault : List ℕ → ProgramFault → Type 0
+IsReadFault path Memory = Unit {0}
+IsReadFault path (CannotRead p) = p.now ≡ path
+IsReadFault path f = ⊥
+
+-- why a text has no worlds: it is not JSON, and the byte that is named is in it; or an object has a member twice; or a value
+-- is wrong. It is open which byte, and which member
+abbrev pub IsNotJson : List ℕ → ProgramFault → Type 0
+IsNotJson text Memory = Unit {0}
+IsNotJson text (NotJson at) = at ≤ length text
+IsNotJson text f = ⊥
+
+abbrev pub IsRepeatedMember : ProgramFault → Type 0
+IsRepeatedMember Memory = Unit {0}
+IsRepeatedMember (RepeatedMember path) = Unit {0}
+IsRepeatedMember f = ⊥
+
+abbrev pub IsTextCause : List ℕ → ProgramFault → Type 0
+IsTextCause text Memory = Unit {0}
+IsTextCause text (NotJson at) = IsJsonCause (document text) json_invalid × (at ≤ length text)
+IsTextCause text (RepeatedMember path) = IsJsonCause (document text) json_repeated
+IsTextCause text (Json (json_wrong path problem)) = IsJsonCause (document text) (json_wrong path problem)
+IsTextCause text f = ⊥
+
+abbrev pub IsDocumentCause : Option Held → List ℕ → ProgramFault → Type 0
+IsDocumentCause before path Memory = Unit {0}
+IsDocumentCause before path (CannotRead p) = p.now ≡ path
+IsDocumentCause before path NotText = (text : List ℕ) × Holds before path text × ¬ IsUtf8 text
+IsDocumentCause before path f = (text : List ℕ) × Holds before path text × IsTextCause text f
+
+abbrev pub IsMainCause : Option Held → List ℕ → ProgramFault → Type 0
+IsMainCause before path Memory = Unit {0}
+IsMainCause before path (CannotRead p) = p.now ≡ path
+IsMainCause before path (Dedupe f) = (bytes : List ℕ) × Holds before path bytes × (f ≢ dedupe_memory) × IsDedupeCause bytes f
+IsMainCause before path f = ⊥
+
+-- why adapters could not be
+abbrev pub IsAdaptersCause : CommandValue → ProgramFault → Type 0
+IsAdaptersCause c Memory = Unit {0}
+IsAdaptersCause c (CannotRead path) = Contains (second_parts c.adapters) path.now
+IsAdaptersCause c f = ⊥
+
+-- why modules could not be read, or not renamed
+abbrev pub IsModulesCause : CommandValue → Option Held → ProgramFault → Type 0
+IsModulesCause c before (CannotRead path) = (path.now ≡ c.main) ⊎ Contains (second_parts c.adapters) path.now
+IsModulesCause c before f = IsMainCause before c.main f
+
+-- a world is chosen
+abbrev pub IsAnyChosen : CommandValue → Option Held → Type 0
+IsAnyChosen c before = (d : DocumentView) × (world : ℕ) × IsChosen c before d world
+
+-- no key has a text: what exports there are is said; or the text is that of one key without its version, which is given
+-- with it too, or that of several
+abbrev pub IsNoExport : List (List ℕ) → Bor (List ℕ) → ProgramFault → Type 0
+IsNoExport texts key Memory = Unit {0}
+IsNoExport texts key (NoExport k listing) = (k ≡ key) × (string_bytes listing ≡ listing_text texts)
+IsNoExport texts key f = ⊥
+
+abbrev pub IsUnknownKey : List NamedKey → Bor (List ℕ) → ProgramFault → Type 0
+IsUnknownKey keys key (Selection (Request (RepeatedKey k))) = (k ≡ key) × (count_unversioned keys key.now ≡ 1)
+IsUnknownKey keys key (Selection (Request (SeveralKeys k))) = (k ≡ key) × (1 < count_unversioned keys key.now)
+IsUnknownKey keys key (NoExport k listing) = IsNoExport (texts_of keys) key (NoExport k listing) × (count_unversioned keys key.now ≡ 0)
+IsUnknownKey keys key Memory = Unit {0}
+IsUnknownKey keys key f = ⊥
+
+-- the fault of a program for a fault of names
+abbrev pub IsListed : SelectionFault → List NamedKey → ProgramFault → Type 0
+IsListed (Request (UnknownKey key)) keys g = IsUnknownKey keys key g
+IsListed f keys Memory = Unit {0}
+IsListed f keys (Selection g) = g ≡ f
+IsListed f keys g = ⊥
+
+abbrev pub IsListedSelection : CommandValue → List NamedKey → SelectionFault → Type 0
+IsListedSelection c keys (Request (UnknownKey key)) = ⊥
+IsListedSelection c keys (Request (SeveralKeys key)) = IsNamesCause c keys (Request (UnknownKey key)) × (1 < count_unversioned keys key.now)
+IsListedSelection c keys (Request (RepeatedKey key)) =
+    IsNamesCause c keys (Request (RepeatedKey key)) ⊎ (IsNamesCause c keys (Request (UnknownKey key)) × (count_unversioned keys key.now ≡ 1))
+IsListedSelection c keys f = IsNamesCause c keys f
+
+abbrev pub IsListedCause : CommandValue → List NamedKey → ProgramFault → Type 0
+IsListedCause c keys Memory = Unit {0}
+IsListedCause c keys (NoExport key listing) =
+    IsNamesCause c keys (Request (UnknownKey key)) × (count_unversioned keys key.now ≡ 0) × (string_bytes listing ≡ listing_text (texts_of keys))
+IsListedCause c keys (Selection f) = IsListedSelection c keys f
+IsListedCause c keys f = ⊥
+
+-- names are not there, of a world that is selected of worlds that are well-formed
+abbrev pub IsUnnamed : CommandValue → Option Held → ProgramFault → Type 0
+IsUnnamed c before f =
+    (d : DocumentView) × (world : ℕ) × IsDocumentIn before c.worlds d × IsSelected d c.world world × IsResolve d.parts
+    × IsListedCause c (request_keys (request_of c) d.parts world) f
+
+-- why there is no plan
+abbrev pub IsPlanCause : CommandValue → Option Held → ProgramFault → Type 0
+IsPlanCause c before Memory = Unit {0}
+IsPlanCause c before (CannotRead path) = (path.now ≡ c.worlds) ⊎ (IsAnyChosen c before × IsModulesCause c before (CannotRead path))
+IsPlanCause c before NotText = IsDocumentCause before c.worlds NotText
+IsPlanCause c before (NotJson at) = IsDocumentCause before c.worlds (NotJson at)
+IsPlanCause c before (RepeatedMember path) = IsDocumentCause before c.worlds (RepeatedMember path)
+IsPlanCause c before (Json f) = IsDocumentCause before c.worlds (Json f)
+IsPlanCause c before (Selection f) = ((d : DocumentView) × IsDocumentIn before c.worlds d × IsSelectionCause d c.world f) ⊎ IsUnnamed c before (Selection f)
+IsPlanCause c before (NoExport key listing) = IsUnnamed c before (NoExport key listing)
+IsPlanCause c before (Resolve f x) =
+    (d : DocumentView) × (world : ℕ) × IsDocumentIn before c.worlds d × IsSelected d c.world world
+    × (f ≢ resolve_memory) × IsResolveCause d.parts f × IfSome x (IsAboutPart d.parts f)
+IsPlanCause c before (Dedupe f) = IsAnyChosen c before × IsMainCause before c.main (Dedupe f)
+IsPlanCause c before (Encoder f) = (e : EncoderView) × IsPartsOf c before e × (f ≢ encoder_memory) × IsEncoderCause e f
+IsPlanCause c before (World f x) =
+    (e : EncoderView) × IsEncoderOf c before e × (f ≢ world_memory) × (IsWorldMemory e f ⊎ IsComponentWorldCause e f) × IfSome x (IsAbout e f)
+IsPlanCause c before (Plan f) = (e : EncoderView) × (w : ComponentWorldView) × IsEncoderOf c before e × IsWorldOf plain_options e w × IsFirstFault w f
+IsPlanCause c before (CannotMake path) = ⊥
+IsPlanCause c before (CannotWrite path) = ⊥
+IsPlanCause c before Output = ⊥
+
+-- why a command could not be run; before all its files are written nothing is printed
+abbrev pub IsRunCause : CommandValue → Option Held → Option Held → (List ℕ → Type 0) → (Printing → Type 0) → ProgramFault → Type 0
+IsRunCause c before after makes out (CannotMake path) = IsUnmade c before after path.now × out nothing
+IsRunCause c before after makes out (CannotWrite path) = IsUnwritten c before after makes (string_bytes path) × out nothing
+IsRunCause c before after makes out Output = (world : ComponentWorldView) × IsWritten c before after makes world × out failed
+IsRunCause c before after makes out f = IsPlanCause c before f × (after ≡ before) × out nothing
+
+-- the command did its work: all its files are written, and then its lines are printed
+abbrev pub EndsWell : CommandValue → Option Held → Option Held → (List ℕ → Type 0) → (Printing → Type 0) → Type 0
+EndsWell c before after makes out = (world : ComponentWorldView) × IsWritten c before after makes world × out (printed (printed_text c.json world))
+
+-- what is printed of a fault: its text, or that there was no memory for it
+abbrev pub IsPrintedOf : ProgramFault → List ℕ → Type 0
+IsPrintedOf fault text = (text ≡ program_fault_text fault) ⊎ (text ≡ memory_text)
+
+-- what is printed under it: the lines of the fault, or none, where there was no memory for them
+abbrev pub ArePrintedUnder : ProgramFault → List ℕ → Type 0
+ArePrintedUnder fault lines = (lines ≡ fault_lines fault) ⊎ (lines ≡ [])
+
+-- a fault is printed in a line, and under it the lines that say what it is about
+abbrev pub IsReported : ProgramFault → (Printing → Type 0) → ℕ → Type 0
+IsReported fault err status =
+    (text lines : List ℕ) × IsPrintedOf fault text × ArePrintedUnder fault lines × Prints (fault_line (text ++ lines)) failure err status
+
+-- there was no memory, which is printed
+abbrev pub EndsWithoutMemory : (Printing → Type 0) → (Printing → Type 0) → ℕ → Type 0
+EndsWithoutMemory out err status = out nothing × Prints (fault_line memory_text) failure err status
+
+-- a command did its work, or could not be run, and then its fault is printed to the other output
+abbrev pub CommandEnds : CommandValue → Option Held → Option Held → (List ℕ → Type 0) → (Printing → Type 0) → (Printing → Type 0) → ℕ → Type 0
+CommandEnds c before after makes out err status =
+    (EndsWell c before after makes out × err nothing × (status ≡ success))
+    ⊎ ((fault : ProgramFault) × IsRunCause c before after makes out fault × IsReported fault err status)
+
+-- there is no command: what is asked for is printed; or what is wrong, and the usage text, to the other output
+abbrev pub StopEnds : Stop → (Printing → Type 0) → (Printing → Type 0) → ℕ → Type 0
+StopEnds help out err status = Prints help_text success out status × err nothing
+StopEnds version out err status = Prints version_text success out status × err nothing
+StopEnds (wrong w) out err status = out nothing × Prints (fault_and_usage (escaped (wrong_text w))) wrong_arguments err status
+
+abbrev pub ReadingEnds : Reading CommandValue → Option Held → Option Held → (List ℕ → Type 0) → (Printing → Type 0) → (Printing → Type 0) → ℕ → Type 0
+ReadingEnds (Ok c) before after makes out err status = CommandEnds c before after makes out err status
+ReadingEnds (Err stop) before after makes out err status = (after ≡ before) × StopEnds stop out err status
+
+-- where there is no command, memory is asked for by arguments, or by the text of what is wrong with them
+abbrev pub NeedsMemory : List (List ℕ) → Type 0
+NeedsMemory arguments = AsksMemory arguments ⊎ ((w : WrongValue) × (read_arguments arguments ≡ Err (wrong w)))
+
+-- how the program ends with some arguments
+abbrev pub EndsWith : List (List ℕ) → Option Held → Option Held → (List ℕ → Type 0) → (Printing → Type 0) → (Printing → Type 0) → ℕ → Type 0
+EndsWith arguments before after makes out err status =
+    ReadingEnds (read_arguments arguments) before after makes out err status
+    ⊎ (NeedsMemory arguments × (after ≡ before) × EndsWithoutMemory out err status)
+
+-- how it ends without arguments: there are none, there was no memory for them, or one is no text
+abbrev pub EndsWithout : NoArguments → Option Held → Option Held → (Printing → Type 0) → (Printing → Type 0) → ℕ → Type 0
+EndsWithout Empty before after out err status = (after ≡ before) × Prints usage_text success out status × err nothing
+EndsWithout NoMemory before after out err status = EndsWithoutMemory out err status
+EndsWithout NoText before after out err status = out nothing × Prints (fault_and_usage no_text) wrong_arguments err status
+
+-- how the program ends with these arguments
+abbrev pub ProgramEnds : List (String Global) → Option Held → Option Held → (List ℕ → Type 0) → (Printing → Type 0) → (Printing → Type 0) → ℕ → Type 0
+ProgramEnds arguments before after makes out err status =
+    EndsByArguments arguments (EndsWithout Empty before after out err status) (λ texts. EndsWith texts before after makes out err status)
+
+-- how it ends where its arguments are not known: there was no memory for them, or they are no text
+abbrev pub EndsWithoutArguments : Type 0 → (Printing → Type 0) → (Printing → Type 0) → ℕ → Type 0
+EndsWithoutArguments no_memory out err status =
+    EndsByReason no_memory (EndsWithoutMemory out err status) (out nothing × Prints (fault_and_usage no_text) wrong_arguments err status)

@@ -1,0 +1,276 @@
+-- What arguments are read as, one after another.
+use Rattle.std.specs.Prelude.{ℕ, ◌<◌, ◌⊎◌, ◌==◌, ◌&&◌, ◌||◌, Bool, true, false, not, nat_lt, length, cond, List, [], ◌∷◌, ◌++◌, codes, map, Option, Some, None, is_some, Ok, Err}
+use Rattle.std.specs.List.{position_or_len, before_first, after_first}
+use Rattle.std.specs.Option.{option_map}
+use Rattle.std.specs.Str.{bytes_eq}
+use Rattle.wc_selection.specs.Texts.{text_of}
+use Rattle.wcplan_command.specs.Arguments.{CommandValue, OptionValue, Reading, adapt, export, adapter_export, reject_legacy_names, realloc_via_memory_grow, json, out, help, version, wrong, unknown_option, missing_value, not_a_pair, repeated_option, unexpected, missing}
+use Rattle.wcplan_command.specs.declared.arguments.Draft.{Draft}
+
+-- the code of `=`, and of `-`
+abbrev pub equals_sign : ℕ
+equals_sign = 61
+
+abbrev pub hyphen : ℕ
+hyphen = 45
+
+-- the texts before and after the first `=`
+abbrev pub pair_of : List ℕ → Option (List ℕ × List ℕ)
+pair_of text =
+    cond (nat_lt (position_or_len (λ b. b == equals_sign) text) (length text))
+    (Some (before_first (λ b. b == equals_sign) text, after_first (λ b. b == equals_sign) text)) None
+
+-- the option that an argument is by itself
+abbrev pub flag_of : List ℕ → Option OptionValue
+flag_of argument =
+    cond (bytes_eq argument (codes "--reject-legacy-names")) (Some reject_legacy_names)
+    (cond (bytes_eq argument (codes "--realloc-via-memory-grow")) (Some realloc_via_memory_grow)
+    (cond (bytes_eq argument (codes "--json")) (Some json) None))
+
+-- an option of this name has a value
+abbrev pub takes_value : List ℕ → Bool
+takes_value option =
+    bytes_eq option (codes "--adapt") || bytes_eq option (codes "--export")
+    || bytes_eq option (codes "--adapter-export") || bytes_eq option (codes "--out")
+
+-- the option of this name with this value
+abbrev pub valued_of : List ℕ → List ℕ → Option OptionValue
+valued_of option value =
+    cond (bytes_eq option (codes "--adapt")) (option_map (λ (p : List ℕ × List ℕ). adapt p.0 p.1) (pair_of value))
+    (cond (bytes_eq option (codes "--export")) (Some (export value))
+    (cond (bytes_eq option (codes "--adapter-export")) (option_map (λ (p : List ℕ × List ℕ). adapter_export p.0 p.1) (pair_of value))
+    (cond (bytes_eq option (codes "--out")) (Some (out value)) None)))
+
+-- a command without options, whose paths and world are empty
+abbrev pub plain_command : CommandValue
+plain_command = record {
+  worlds = [];
+  world = [];
+  main = [];
+  adapters = [];
+  exports = [];
+  adapter_exports = [];
+  reject_legacy_names = false;
+  realloc_via_memory_grow = false;
+  json = false;
+  out = None;
+}
+
+-- a command with one more adapter, key, or key of an adapter
+abbrev pub with_adapter : CommandValue → List ℕ × List ℕ → CommandValue
+with_adapter c x = record {
+  worlds = c.worlds;
+  world = c.world;
+  main = c.main;
+  adapters = c.adapters ++ x ∷ [];
+  exports = c.exports;
+  adapter_exports = c.adapter_exports;
+  reject_legacy_names = c.reject_legacy_names;
+  realloc_via_memory_grow = c.realloc_via_memory_grow;
+  json = c.json;
+  out = c.out;
+}
+
+abbrev pub with_export : CommandValue → List ℕ → CommandValue
+with_export c x = record {
+  worlds = c.worlds;
+  world = c.world;
+  main = c.main;
+  adapters = c.adapters;
+  exports = c.exports ++ x ∷ [];
+  adapter_exports = c.adapter_exports;
+  reject_legacy_names = c.reject_legacy_names;
+  realloc_via_memory_grow = c.realloc_via_memory_grow;
+  json = c.json;
+  out = c.out;
+}
+
+abbrev pub with_adapter_export : CommandValue → List ℕ × List ℕ → CommandValue
+with_adapter_export c x = record {
+  worlds = c.worlds;
+  world = c.world;
+  main = c.main;
+  adapters = c.adapters;
+  exports = c.exports;
+  adapter_exports = c.adapter_exports ++ x ∷ [];
+  reject_legacy_names = c.reject_legacy_names;
+  realloc_via_memory_grow = c.realloc_via_memory_grow;
+  json = c.json;
+  out = c.out;
+}
+
+-- a command with these flags, and this directory
+abbrev pub with_flags : CommandValue → Bool → Bool → Bool → Option (List ℕ) → CommandValue
+with_flags c rejects grows asks directory = record {
+  worlds = c.worlds;
+  world = c.world;
+  main = c.main;
+  adapters = c.adapters;
+  exports = c.exports;
+  adapter_exports = c.adapter_exports;
+  reject_legacy_names = rejects;
+  realloc_via_memory_grow = grows;
+  json = asks;
+  out = directory;
+}
+
+-- a command with these paths and this world
+abbrev pub with_paths : CommandValue → List ℕ → List ℕ → List ℕ → CommandValue
+with_paths c worlds world main = record {
+  worlds = worlds;
+  world = world;
+  main = main;
+  adapters = c.adapters;
+  exports = c.exports;
+  adapter_exports = c.adapter_exports;
+  reject_legacy_names = c.reject_legacy_names;
+  realloc_via_memory_grow = c.realloc_via_memory_grow;
+  json = c.json;
+  out = c.out;
+}
+
+-- an option that is given once, if it was not given before
+abbrev pub once : Bool → List ℕ → CommandValue → Reading CommandValue
+once given name c = cond given (Err (wrong (repeated_option name))) (Ok c)
+
+-- a command with one more option, of this name
+abbrev pub add_option : CommandValue → List ℕ → OptionValue → Reading CommandValue
+add_option c name (adapt adapter file) = Ok (with_adapter c (adapter, file))
+add_option c name (export key) = Ok (with_export c key)
+add_option c name (adapter_export adapter key) = Ok (with_adapter_export c (adapter, key))
+add_option c name reject_legacy_names = once c.reject_legacy_names name (with_flags c true c.realloc_via_memory_grow c.json c.out)
+add_option c name realloc_via_memory_grow = once c.realloc_via_memory_grow name (with_flags c c.reject_legacy_names true c.json c.out)
+add_option c name json = once c.json name (with_flags c c.reject_legacy_names c.realloc_via_memory_grow true c.out)
+add_option c name (out directory) = once (is_some c.out) name (with_flags c c.reject_legacy_names c.realloc_via_memory_grow c.json (Some directory))
+
+-- a command with the option of this name with this value
+abbrev pub add_valued : CommandValue → List ℕ → List ℕ → Option OptionValue → Reading CommandValue
+add_valued c option value None = Err (wrong (not_a_pair option value))
+add_valued c option value (Some o) = add_option c option o
+
+abbrev pub add_value : CommandValue → List ℕ → List ℕ → Reading CommandValue
+add_value c option value = add_valued c option value (valued_of option value)
+
+-- what was read besides options: the arguments that are none; the option whose value comes next; and whether options ended
+pub record DraftValue : Type 0 where
+  pub paths : List (List ℕ)
+  pub pending : Option (List ℕ)
+  pub is_ended : Bool
+
+abbrev pub draft_value : Draft → DraftValue
+draft_value d = record { paths = map text_of d.paths.items; pending = option_map text_of d.pending; is_ended = d.is_ended }
+
+-- nothing was read
+abbrev pub none_read : DraftValue
+none_read = record { paths = []; pending = None; is_ended = false }
+
+-- an argument that is no option, if there are fewer than three
+abbrev pub add_path : DraftValue → List ℕ → Reading DraftValue
+add_path d argument =
+    cond (length d.paths == 3) (Err (wrong (unexpected argument)))
+    (Ok (record { paths = d.paths ++ argument ∷ []; pending = d.pending; is_ended = d.is_ended }))
+
+-- the next argument is the value of this option, or of none; and options have ended
+abbrev pub with_pending : DraftValue → Option (List ℕ) → DraftValue
+with_pending d option = record { paths = d.paths; pending = option; is_ended = d.is_ended }
+
+abbrev pub ended : DraftValue → DraftValue
+ended d = record { paths = d.paths; pending = d.pending; is_ended = true }
+
+-- a command beside a draft, and a draft beside a command, that go on
+abbrev pub with_draft : DraftValue → Reading CommandValue → Reading (CommandValue × DraftValue)
+with_draft d (Ok c) = Ok (c, d)
+with_draft d (Err stop) = Err stop
+
+abbrev pub with_command : CommandValue → Reading DraftValue → Reading (CommandValue × DraftValue)
+with_command c (Ok d) = Ok (c, d)
+with_command c (Err stop) = Err stop
+
+-- an argument that begins as options do: one without a value; one whose value comes next; or one with its value
+abbrev pub take_pair : CommandValue → DraftValue → List ℕ → Option (List ℕ × List ℕ) → Reading (CommandValue × DraftValue)
+take_pair c d argument None = Err (wrong (unknown_option argument))
+take_pair c d argument (Some p) = cond (takes_value p.0) (with_draft d (add_value c p.0 p.1)) (Err (wrong (unknown_option argument)))
+
+abbrev pub take_valued : CommandValue → DraftValue → List ℕ → Reading (CommandValue × DraftValue)
+take_valued c d argument = cond (takes_value argument) (Ok (c, with_pending d (Some argument))) (take_pair c d argument (pair_of argument))
+
+abbrev pub take_flag : CommandValue → DraftValue → List ℕ → Option OptionValue → Reading (CommandValue × DraftValue)
+take_flag c d argument None = take_valued c d argument
+take_flag c d argument (Some o) = with_draft d (add_option c argument o)
+
+abbrev pub take_option : CommandValue → DraftValue → List ℕ → Reading (CommandValue × DraftValue)
+take_option c d argument =
+    cond (bytes_eq argument (codes "--help") || bytes_eq argument (codes "-h")) (Err help)
+    (cond (bytes_eq argument (codes "--version")) (Err version)
+    (take_flag c d argument (flag_of argument)))
+
+-- a text begins with `-`, and is not `-` alone
+abbrev pub starts_with_hyphen : List ℕ → Bool
+starts_with_hyphen [] = false
+starts_with_hyphen (c ∷ cs) = c == hyphen
+
+abbrev pub begins_option : List ℕ → Bool
+begins_option argument = starts_with_hyphen argument && not (bytes_eq argument (codes "-"))
+
+-- the next argument
+abbrev pub take_free : CommandValue → DraftValue → List ℕ → Reading (CommandValue × DraftValue)
+take_free c d argument =
+    cond (bytes_eq argument (codes "--")) (Ok (c, ended d))
+    (cond (begins_option argument) (take_option c d argument) (with_command c (add_path d argument)))
+
+abbrev pub take_pending : CommandValue → DraftValue → List ℕ → Option (List ℕ) → Reading (CommandValue × DraftValue)
+take_pending c d argument None = take_free c d argument
+take_pending c d argument (Some option) = with_draft (with_pending d None) (add_value c option argument)
+
+abbrev pub take_up : CommandValue → DraftValue → List ℕ → Reading (CommandValue × DraftValue)
+take_up c d argument = cond d.is_ended (with_command c (add_path d argument)) (take_pending c d argument d.pending)
+
+-- the command, if no option lacks its value, and all paths are there
+abbrev pub finish_with : CommandValue → List (List ℕ) → Reading CommandValue
+finish_with c [] = Err (wrong (missing (codes "WORLDS.json")))
+finish_with c (worlds ∷ []) = Err (wrong (missing (codes "WORLD")))
+finish_with c (worlds ∷ world ∷ []) = Err (wrong (missing (codes "MAIN.wasm")))
+finish_with c (worlds ∷ world ∷ main ∷ rest) = Ok (with_paths c worlds world main)
+
+abbrev pub finish_by : CommandValue → DraftValue → Option (List ℕ) → Reading CommandValue
+finish_by c d (Some option) = Err (wrong (missing_value option))
+finish_by c d None = finish_with c d.paths
+
+abbrev pub finish : CommandValue → DraftValue → Reading CommandValue
+finish c d = finish_by c d d.pending
+
+-- the arguments that are left
+abbrev pub go_on : (CommandValue × DraftValue → Reading CommandValue) → Reading (CommandValue × DraftValue) → Reading CommandValue
+go_on next (Ok state) = next state
+go_on next (Err stop) = Err stop
+
+abbrev pub read_from : List (List ℕ) → CommandValue × DraftValue → Reading CommandValue
+read_from [] state = finish state.0 state.1
+read_from (argument ∷ rest) state = go_on (read_from rest) (take_up state.0 state.1 argument)
+
+-- what keeps more texts in its lists: a command with one more adapter, key or key of an adapter; what was read with one
+-- more argument that is no option; and both of these
+abbrev pub HasMoreOptions : CommandValue → CommandValue → Type 0
+HasMoreOptions c next =
+    (length c.adapters < length next.adapters) ⊎ (length c.exports < length next.exports) ⊎ (length c.adapter_exports < length next.adapter_exports)
+
+abbrev pub HasMorePaths : DraftValue → DraftValue → Type 0
+HasMorePaths d next = length d.paths < length next.paths
+
+abbrev pub KeepsMore : CommandValue → DraftValue → CommandValue × DraftValue → Type 0
+KeepsMore c d next = HasMoreOptions c next.0 ⊎ HasMorePaths d next.1
+
+-- memory is asked for: of some argument that is taken up a text is kept
+abbrev pub AsksAt : CommandValue × DraftValue → (CommandValue × DraftValue → Type 0) → Reading (CommandValue × DraftValue) → Type 0
+AsksAt state later (Ok next) = KeepsMore state.0 state.1 next ⊎ later next
+AsksAt state later (Err stop) = ⊥
+
+abbrev pub AsksFrom : List (List ℕ) → CommandValue × DraftValue → Type 0
+AsksFrom [] state = ⊥
+AsksFrom (argument ∷ rest) state = AsksAt state (AsksFrom rest) (take_up state.0 state.1 argument)
+
+abbrev pub AsksMemory : List (List ℕ) → Type 0
+AsksMemory arguments = AsksFrom arguments (plain_command, none_read)
+
+abbrev pub read_arguments : List (List ℕ) → Reading CommandValue
+read_arguments arguments = read_from arguments (plain_command, none_read)

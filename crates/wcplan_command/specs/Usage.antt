@@ -1,0 +1,53 @@
+-- The texts that say how the program is called, and what is wrong with a call.
+use Rattle.std.specs.Prelude.{ℕ, List, ◌++◌, codes}
+use Rattle.wcplan_command.specs.Arguments.{WrongValue, unknown_option, missing_value, not_a_pair, repeated_option, unexpected, missing}
+
+-- the usage text
+abbrev pub usage_text : List ℕ
+usage_text =
+    codes "usage: wcplan WORLDS.json WORLD MAIN.wasm [--adapt NAME=FILE]... [--export KEY]... [--adapter-export NAME=KEY]...\n"
+    ++ (codes "              [--reject-legacy-names] [--realloc-via-memory-grow] [--json] [--out DIR]\n"
+    ++ codes "       wcplan --help | --version\n")
+
+-- what each argument is
+abbrev pub options_text : List ℕ
+options_text =
+    codes "  WORLDS.json                the worlds, as `wasm-tools component wit --json` prints them\n"
+    ++ (codes "  WORLD                      the name of the world that is encoded for\n"
+    ++ (codes "  MAIN.wasm                  the main module\n"
+    ++ (codes "  --adapt NAME=FILE          an adapter, and its module\n"
+    ++ (codes "  --export KEY               a key of the world's exports that the main module exports\n"
+    ++ (codes "  --adapter-export NAME=KEY  a key of the world's exports that the adapter exports\n"
+    ++ (codes "  --reject-legacy-names      refuse names of the older scheme\n"
+    ++ (codes "  --realloc-via-memory-grow  let adapters grow memory for themselves\n"
+    ++ (codes "  --json                     print the component's world as JSON\n"
+    ++ (codes "  --out DIR                  write the modules to DIR, which is made if need be\n"
+    ++ (codes "  -h, --help                 print this text\n"
+    ++ codes "  --version                  print the version\n"))))))))))
+
+abbrev pub help_text : List ℕ
+help_text = usage_text ++ options_text
+
+abbrev pub version_text : List ℕ
+version_text = codes "wcplan 0.262.0\n"
+
+-- what is wrong with an argument
+abbrev pub wrong_text : WrongValue → List ℕ
+wrong_text (unknown_option argument) = codes "unknown option " ++ argument
+wrong_text (missing_value option) = codes "missing value of " ++ option
+wrong_text (not_a_pair option value) = codes "no = in " ++ (value ++ (codes " of " ++ option))
+wrong_text (repeated_option option) = option ++ codes " twice"
+wrong_text (unexpected argument) = codes "unexpected argument " ++ argument
+wrong_text (missing name) = codes "missing " ++ name
+
+-- what is wrong where an argument is no text
+abbrev pub no_text : List ℕ
+no_text = codes "argument that is not UTF-8"
+
+-- the line that says why the program failed, or what is wrong with a call
+abbrev pub fault_line : List ℕ → List ℕ
+fault_line text = codes "wcplan: " ++ (text ++ codes "\n")
+
+-- that line, and the usage text
+abbrev pub fault_and_usage : List ℕ → List ℕ
+fault_and_usage text = codes "wcplan: " ++ (text ++ (codes "\n" ++ usage_text))

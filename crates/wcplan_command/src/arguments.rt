@@ -1,0 +1,346 @@
+//! The arguments of the program.
+
+ghost use Rattle.std.specs.Prelude.{◌≡◌, IfErr, IfOk, OnOk, None, Some, false, map, string_bytes, true};
+ghost use Rattle.std.specs.Option.{option_map};
+ghost use Rattle.wcplan_command.specs.Arguments.{IsRead, IsReadWithoutMemory, IsStopOf, command_value, option_value};
+ghost use Rattle.wcplan_command.specs.Reading.{AsksMemory, HasMoreOptions, HasMorePaths, KeepsMore, add_option, add_path, add_value, draft_value, finish, flag_of, none_read, pair_of, plain_command, read_arguments, take_option, take_up, takes_value, valued_of};
+ghost use Rattle.wcplan_command.specs.declared.arguments.NoCommand.TheVariants.{Memory};
+
+use std::alloc::{AllocFailed, Global};
+
+/// What the program is asked to do. Paths, names and keys are any texts.
+#[derive(Debug, Drop)]
+pub struct Command<'a> {
+    /// The path of the file that has the worlds as JSON.
+    pub worlds: &'a str,
+    /// The name of the world that modules are encoded for.
+    pub world: &'a str,
+    /// The path of the main module.
+    pub main: &'a str,
+    /// The names of the adapters, which have no `=`, and the paths of their modules, in order.
+    pub adapters: Vec<(&'a str, &'a str)>,
+    /// The keys that the main module has to export, in order.
+    pub exports: Vec<&'a str>,
+    /// Keys that adapters have to export, each after the name of its adapter, in order.
+    pub adapter_exports: Vec<(&'a str, &'a str)>,
+    /// Whether names of the older scheme are refused.
+    pub reject_legacy_names: bool,
+    /// Whether adapters grow memory for themselves, in place of calling the main module's realloc.
+    pub realloc_via_memory_grow: bool,
+    /// Whether the record of the component's world is printed, as JSON, in place of the lines of its plan.
+    pub json: bool,
+    /// The path of the directory that files are written to, if they are.
+    pub out: Option<&'a str>,
+}
+
+/// Why there is no command.
+#[derive(Clone, Copy, Debug, PartialEq, Eq)]
+pub enum NoCommand<'a> {
+    /// An allocation failed.
+    Memory,
+    /// The help text is asked for.
+    Help,
+    /// The version is asked for.
+    Version,
+    /// An argument is wrong, or missing.
+    Wrong(WrongArgument<'a>),
+}
+
+/// What is wrong with arguments. An option is here by its name, as it was given.
+#[derive(Clone, Copy, Debug, PartialEq, Eq)]
+pub enum WrongArgument<'a> {
+    /// There is no such option.
+    UnknownOption(&'a str),
+    /// Nothing comes after this option, which has a value.
+    MissingValue(&'a str),
+    /// The value of this option has no `=`.
+    NotAPair { option: &'a str, value: &'a str },
+    /// This option is given twice, and may be given once.
+    RepeatedOption(&'a str),
+    /// This argument comes after the third that is no option, and is none.
+    Unexpected(&'a str),
+    /// The argument that the usage text calls so is missing.
+    Missing(&'a str),
+}
+
+impl<T: Drop> From<AllocFailed<T>> for NoCommand<'_> {
+    ghost from_gives = { λ _ e. e ≡ Memory };
+
+    fn from(_e: AllocFailed<T>) -> Self {
+        NoCommand::Memory
+    }
+}
+
+/// An option with its values.
+#[derive(Clone, Copy)]
+enum CommandOption<'a> {
+    Adapt { name: &'a str, file: &'a str },
+    Export { key: &'a str },
+    AdapterExport { name: &'a str, key: &'a str },
+    RejectLegacyNames,
+    ReallocViaMemoryGrow,
+    Json,
+    Out { directory: &'a str },
+}
+
+/// What was read of arguments besides options and their values.
+#[derive(Drop)]
+struct Draft<'a> {
+    /// The arguments that are no options, in order.
+    paths: Vec<&'a str>,
+    /// The option that has the next argument for its value.
+    pending: Option<&'a str>,
+    /// Whether no later argument is an option.
+    is_ended: bool,
+}
+
+/// The command of these arguments, the first of them the one after the program's name: `WORLDS.json`, `WORLD` and
+/// `MAIN.wasm` in this order, and options before, between and after them. `--adapt NAME=FILE`, `--export KEY` and
+/// `--adapter-export NAME=KEY` may come several times, `--reject-legacy-names`, `--realloc-via-memory-grow`, `--json`
+/// and `--out DIR` once. What comes after the name of an option that has a value is its value, whatever it is; in one
+/// argument there is a `=` between them, as in `--out=DIR`. NAME ends at the first `=`. `--` is not an argument, and
+/// says that those after it are no options. No option is `-` alone, nor what begins with another character.
+///
+/// # Errors
+///
+/// They are read in order, and the first of these is named:
+///
+/// - `Help`, `Version`: an option is `--help` or `-h`, or `--version`.
+/// - `Wrong`: an argument is wrong; or, after the last, the value of an option or one of the three arguments is missing.
+/// - `Memory`: an allocation failed. It may come in place of any other after an argument that is kept: one of the three,
+///   or the value of `--adapt`, `--export` or `--adapter-export`. Without such an argument nothing is allocated.
+pub fn parse(alloc: Global, arguments: &[String]) -> Result<Command<'_>, NoCommand<'_>>
+    ensures { IsRead (AsksMemory (map string_bytes arguments.now)) result
+        (read_arguments (map string_bytes arguments.now)) }
+{
+    let mut command = no_options(alloc);
+    let mut draft = Draft {
+        paths: Vec::new(alloc),
+        pending: None,
+        is_ended: false,
+    };
+    for argument in arguments {
+        take_up(&mut command, &mut draft, argument.as_str())?;
+    }
+    finish(command, &draft)
+}
+
+/// The command without options, whose paths and world are empty.
+fn no_options<'a>(alloc: Global) -> Command<'a>
+    ensures { command_value result ≡ plain_command }
+{
+    Command {
+        worlds: "",
+        world: "",
+        main: "",
+        adapters: Vec::new(alloc),
+        exports: Vec::new(alloc),
+        adapter_exports: Vec::new(alloc),
+        reject_legacy_names: false,
+        realloc_via_memory_grow: false,
+        json: false,
+        out: None,
+    }
+}
+
+/// Takes up the next argument.
+fn take_up<'a>(
+    command: &mut Command<'a>,
+    draft: &mut Draft<'a>,
+    argument: &'a str,
+) -> Result<(), NoCommand<'a>>
+    ensures taken { OnOk result (take_up (command_value command.old) (draft_value draft.old)
+        argument.now ≡ Ok (command_value command.new, draft_value draft.new)) }
+    ensures stops { let c = command_value command.old in let d = draft_value draft.old in
+        IfErr result (IsStopOf (KeepsMore c d) (take_up c d argument.now)) }
+{
+    if draft.is_ended {
+        return add_path(draft, argument);
+    }
+    if let Some(option) = draft.pending {
+        draft.pending = None;
+        return add_value(command, option, argument);
+    }
+    if argument == "--" {
+        draft.is_ended = true;
+        return Ok(());
+    }
+    if argument.starts_with('-') && argument != "-" {
+        take_option(command, draft, argument)
+    } else {
+        add_path(draft, argument)
+    }
+}
+
+/// Takes up an argument that is no option.
+fn add_path<'a>(draft: &mut Draft<'a>, argument: &'a str) -> Result<(), NoCommand<'a>>
+    ensures added { OnOk result (add_path (draft_value draft.old) argument.now
+        ≡ Ok (draft_value draft.new)) }
+    ensures stops { IfErr result (IsStopOf (HasMorePaths (draft_value draft.old))
+        (add_path (draft_value draft.old) argument.now)) }
+{
+    if draft.paths.len() == 3 {
+        return Err(NoCommand::Wrong(WrongArgument::Unexpected(argument)));
+    }
+    draft.paths.push(argument)?;
+    Ok(())
+}
+
+/// Takes up an argument that begins as options do.
+fn take_option<'a>(
+    command: &mut Command<'a>,
+    draft: &mut Draft<'a>,
+    argument: &'a str,
+) -> Result<(), NoCommand<'a>>
+    ensures taken { OnOk result (take_option (command_value command.old) (draft_value draft.old)
+        argument.now ≡ Ok (command_value command.new, draft_value draft.new)) }
+    ensures stops { let c = command_value command.old in let d = draft_value draft.old in
+        IfErr result (IsStopOf (KeepsMore c d) (take_option c d argument.now)) }
+{
+    if argument == "--help" || argument == "-h" {
+        return Err(NoCommand::Help);
+    }
+    if argument == "--version" {
+        return Err(NoCommand::Version);
+    }
+    if let Some(option) = flag(argument) {
+        return add_option(command, argument, option);
+    }
+    if takes_value(argument) {
+        draft.pending = Some(argument);
+        return Ok(());
+    }
+    match pair(argument) {
+        Some((option, value)) if takes_value(option) => add_value(command, option, value),
+        _ => Err(NoCommand::Wrong(WrongArgument::UnknownOption(argument))),
+    }
+}
+
+/// Adds the option of this name with this value.
+fn add_value<'a>(
+    command: &mut Command<'a>,
+    option: &'a str,
+    value: &'a str,
+) -> Result<(), NoCommand<'a>>
+    ensures added { OnOk result (add_value (command_value command.old) option.now value.now
+        ≡ Ok (command_value command.new)) }
+    ensures stops { let c = command_value command.old in
+        IfErr result (IsStopOf (HasMoreOptions c) (add_value c option.now value.now)) }
+{
+    match valued(option, value) {
+        Some(valued) => add_option(command, option, valued),
+        None => Err(NoCommand::Wrong(WrongArgument::NotAPair { option, value })),
+    }
+}
+
+/// The command with the paths and the world that were read, if all three were.
+fn finish<'a>(command: Command<'a>, draft: &Draft<'a>) -> Result<Command<'a>, NoCommand<'a>>
+    ensures { IsReadWithoutMemory result
+        (finish (command_value command.entry) (draft_value draft.now)) }
+{
+    if let Some(option) = draft.pending {
+        return Err(NoCommand::Wrong(WrongArgument::MissingValue(option)));
+    }
+    let mut command = command;
+    match draft.paths.as_slice() {
+        [worlds, world, main, ..] => {
+            command.worlds = worlds;
+            command.world = world;
+            command.main = main;
+            Ok(command)
+        }
+        [_, _] => Err(NoCommand::Wrong(WrongArgument::Missing("MAIN.wasm"))),
+        [_] => Err(NoCommand::Wrong(WrongArgument::Missing("WORLD"))),
+        [] => Err(NoCommand::Wrong(WrongArgument::Missing("WORLDS.json"))),
+    }
+}
+
+/// The option that an argument is by itself.
+fn flag(argument: &str) -> Option<CommandOption<'_>>
+    ensures { option_map option_value result ≡ flag_of argument.now }
+{
+    if argument == "--reject-legacy-names" {
+        Some(CommandOption::RejectLegacyNames)
+    } else if argument == "--realloc-via-memory-grow" {
+        Some(CommandOption::ReallocViaMemoryGrow)
+    } else if argument == "--json" {
+        Some(CommandOption::Json)
+    } else {
+        None
+    }
+}
+
+/// Whether an option of this name has a value.
+fn takes_value(option: &str) -> bool
+    ensures { result ≡ takes_value option.now }
+{
+    option == "--adapt" || option == "--export" || option == "--adapter-export" || option == "--out"
+}
+
+/// The option of this name with this value.
+fn valued<'a>(argument: &str, value: &'a str) -> Option<CommandOption<'a>>
+    ensures { option_map option_value result ≡ valued_of argument.now value.now }
+{
+    if argument == "--adapt" {
+        let (name, file) = pair(value)?;
+        Some(CommandOption::Adapt { name, file })
+    } else if argument == "--export" {
+        Some(CommandOption::Export { key: value })
+    } else if argument == "--adapter-export" {
+        let (name, key) = pair(value)?;
+        Some(CommandOption::AdapterExport { name, key })
+    } else if argument == "--out" {
+        Some(CommandOption::Out { directory: value })
+    } else {
+        None
+    }
+}
+
+/// The texts before and after the first `=`.
+fn pair(text: &str) -> Option<(&str, &str)>
+    ensures { option_map (λ p. (p.0.now, p.1.now)) result ≡ pair_of text.now }
+{
+    text.split_once('=')
+}
+
+/// Adds an option of this name to a command.
+fn add_option<'a>(
+    command: &mut Command<'a>,
+    name: &'a str,
+    option: CommandOption<'a>,
+) -> Result<(), NoCommand<'a>>
+    ensures added { OnOk result (add_option (command_value command.old) name.now
+        (option_value option.entry) ≡ Ok (command_value command.new)) }
+    ensures stops { let c = command_value command.old in
+        IfErr result (IsStopOf (HasMoreOptions c)
+        (add_option c name.now (option_value option.entry))) }
+{
+    match option {
+        CommandOption::Adapt { name, file } => command.adapters.push((name, file))?,
+        CommandOption::Export { key } => command.exports.push(key)?,
+        CommandOption::AdapterExport { name, key } => command.adapter_exports.push((name, key))?,
+        CommandOption::RejectLegacyNames => set(&mut command.reject_legacy_names, name)?,
+        CommandOption::ReallocViaMemoryGrow => set(&mut command.realloc_via_memory_grow, name)?,
+        CommandOption::Json => set(&mut command.json, name)?,
+        CommandOption::Out { directory } => {
+            if command.out.is_some() {
+                return Err(NoCommand::Wrong(WrongArgument::RepeatedOption(name)));
+            }
+            command.out = Some(directory);
+        }
+    }
+    Ok(())
+}
+
+/// Sets the flag of an option of this name, which is given once.
+fn set<'a>(flag: &mut bool, name: &'a str) -> Result<(), NoCommand<'a>>
+    ensures set { OnOk result ((flag.old ≡ false) × (flag.new ≡ true)) }
+    ensures repeated { IfErr result (λ e.
+        (e ≡ NoCommand.Wrong (WrongArgument.RepeatedOption name.entry)) × (flag.old ≡ true)) }
+{
+    if *flag {
+        return Err(NoCommand::Wrong(WrongArgument::RepeatedOption(name)));
+    }
+    *flag = true;
+    Ok(())
+}

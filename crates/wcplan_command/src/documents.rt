@@ -1,0 +1,110 @@
+//! Files that are read: their bytes, and the worlds in one.
+
+ghost use Rattle.std.specs.Prelude.{IfErr, IfOk};
+ghost use Rattle.json.specs.Json.{document};
+ghost use Rattle.wc_json.specs.Document.{IsDocument};
+ghost use Rattle.wc_program.specs.Files.{Holds};
+ghost use Rattle.wcplan_command.specs.Arguments.{command_value};
+ghost use Rattle.wcplan_command.specs.Program.{AreWorldsIn, IsNotJson, IsPlanCause, IsReadFault, IsRepeatedMember, IsTextCause};
+ghost use Rattle.wcplan_command.specs.Private.Runs.{AreWorldsOf, IsWorldsCause};
+
+use crate::arguments::Command;
+use crate::explained_part::resolve_fault;
+use crate::faults::ProgramFault;
+use crate::json_place::{json_end, repeated_member};
+use std::alloc::{AllocError, Global};
+use std::io::ErrorKind;
+use wc_encoder::Metadata;
+use wc_json::{Document, JsonFault, document_from_json};
+use wc_maps::Seed;
+use wc_program::FileStore;
+use wc_resolve::Resolve;
+use wc_selection::select_world;
+
+/// The worlds of a command, from their file, and the one that it names. `seed`: the seed of their maps.
+pub(crate) fn read_worlds<'a, F: FileStore>(
+    alloc: Global,
+    seed: Seed,
+    command: &Command<'a>,
+    files: &F,
+) -> Result<Metadata, ProgramFault<'a>>
+    ensures worlds { IfOk result (λ m. AreWorldsIn (command_value command.now) (F.held files.now)
+        m.resolve m.world.0) }
+    ensures fault { IfErr result (IsPlanCause (command_value command.now) (F.held files.now)) }
+{
+    let bytes = read_file(command.worlds, files)?;
+    match str::from_utf8(&bytes) {
+        Ok(text) => worlds_in(alloc, seed, command, text),
+        Err(_) => Err(ProgramFault::NotText),
+    }
+}
+
+/// The worlds in a text, and the one that a command names. `seed`: the seed of their maps.
+fn worlds_in<'a>(
+    alloc: Global,
+    seed: Seed,
+    command: &Command<'a>,
+    text: &str,
+) -> Result<Metadata, ProgramFault<'a>>
+    ensures worlds { IfOk result (λ m. AreWorldsOf (command_value command.now)
+        (document text.now) m.resolve m.world.0) }
+    ensures fault { IfErr result (IsWorldsCause (command_value command.now) text.now) }
+{
+    let document = document_in(alloc, seed, text)?;
+    let world = select_world(alloc, &document, command.world)?;
+    match Resolve::build(alloc, document.parts) {
+        Ok(resolve) => Ok(Metadata { resolve, world }),
+        Err(fault) => Err(resolve_fault(alloc, seed, text, fault)),
+    }
+}
+
+/// The worlds in a text. `seed`: the seed of their maps.
+fn document_in<'a>(alloc: Global, seed: Seed, text: &str) -> Result<Document, ProgramFault<'a>>
+    ensures document { IfOk result (λ d. IsDocument (document text.now) d) }
+    ensures fault { IfErr result (IsTextCause text.now) }
+{
+    match document_from_json(alloc, seed, text) {
+        Ok(document) => Ok(document),
+        Err(JsonFault::Memory) => Err(ProgramFault::Memory),
+        Err(JsonFault::NotJson) => Err(not_json(alloc, text)),
+        Err(JsonFault::RepeatedMember) => Err(repeated(alloc, text)),
+        Err(JsonFault::Wrong { path, problem }) => {
+            Err(ProgramFault::Json(JsonFault::Wrong { path, problem }))
+        }
+    }
+}
+
+/// The fault of a text that is not JSON.
+fn not_json<'a>(alloc: Global, text: &str) -> ProgramFault<'a>
+    ensures { IsNotJson text.now result }
+{
+    match json_end(alloc, text) {
+        Ok(at) => ProgramFault::NotJson(at),
+        Err(AllocError) => ProgramFault::Memory,
+    }
+}
+
+/// The fault of a text in which an object has a member twice.
+fn repeated<'a>(alloc: Global, text: &str) -> ProgramFault<'a>
+    ensures { IsRepeatedMember result }
+{
+    match repeated_member(alloc, text) {
+        Ok(path) => ProgramFault::RepeatedMember(path),
+        Err(AllocError) => ProgramFault::Memory,
+    }
+}
+
+/// The bytes of the file of this path.
+pub(crate) fn read_file<'a, F: FileStore>(
+    path: &'a str,
+    files: &F,
+) -> Result<Vec<u8>, ProgramFault<'a>>
+    ensures read { IfOk result (λ v. Holds (F.held files.now) path.now v.items) }
+    ensures fault { IfErr result (IsReadFault path.now) }
+{
+    match files.read(path) {
+        Ok(bytes) => Ok(bytes),
+        Err(e) if e.kind() == ErrorKind::OutOfMemory => Err(ProgramFault::Memory),
+        Err(_) => Err(ProgramFault::CannotRead(path)),
+    }
+}

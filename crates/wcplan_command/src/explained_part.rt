@@ -1,0 +1,160 @@
+//! What a fault of worlds that are not well-formed is about.
+
+ghost use Rattle.std.specs.Prelude.{◌≡◌, IfOk, Some, string_bytes};
+ghost use Rattle.std.specs.Option.{option_map};
+ghost use Rattle.json.specs.Json.{document};
+ghost use Rattle.wc_resolve.specs.ResolveParts.{parts_view};
+ghost use Rattle.wc_resolve.specs.Views.{package_name_view};
+ghost use Rattle.wcplan_command.specs.Parts.{IsPartExplanation, declared_name, package_text, part_name};
+ghost use Rattle.wcplan_command.specs.Private.Runs.{IsOfResolve, IsPartIn};
+
+use crate::faults::ProgramFault;
+use std::alloc::{AllocError, Global};
+use std::fmt;
+use wc_json::document_from_json;
+use wc_maps::Seed;
+use wc_resolve::{PackageName, Part, Parts, ResolveFault, explain_parts};
+
+/// What a fault of worlds that are not well-formed is about: a world, an interface, a type or a package.
+#[derive(Debug, Drop)]
+pub struct ExplainedPart {
+    /// The part, by its index in its list.
+    pub part: Part,
+    /// Its name; that of a package with its namespace, and with its version if it has one. `None` for an interface or a
+    /// type without a name.
+    pub name: Option<String>,
+}
+
+impl fmt::Display for ExplainedPart {
+    ghost use Rattle.wcplan_command.specs.Parts.{part_text};
+
+    ghost output = { λ x. Some (part_text x.part (option_map string_bytes x.name)) };
+
+    /// The path of the part in the JSON text of the worlds, and its name in quotation marks, if it has one:
+    /// `interfaces[3] "host"`. The name is printed as it is.
+    fn fmt<W: fmt::Write>(&self, f: &mut fmt::Formatter<W>) -> fmt::Result {
+        let path = PartPath(self.part);
+        match &self.name {
+            Some(name) => write!(f, "{path} \"{name}\""),
+            None => write!(f, "{path}"),
+        }
+    }
+}
+
+/// A part, as its path is printed.
+#[derive(Clone, Copy)]
+struct PartPath(Part);
+
+impl fmt::Display for PartPath {
+    ghost use Rattle.wcplan_command.specs.Parts.{path_text};
+
+    ghost output = { λ path. Some (path_text path.0) };
+
+    fn fmt<W: fmt::Write>(&self, f: &mut fmt::Formatter<W>) -> fmt::Result {
+        match self.0 {
+            Part::World(index) => write!(f, "worlds[{index}]"),
+            Part::Interface(index) => write!(f, "interfaces[{index}]"),
+            Part::TypeDef(index) => write!(f, "types[{index}]"),
+            Part::Package(index) => write!(f, "packages[{index}]"),
+        }
+    }
+}
+
+/// The fault of a command whose worlds are in this text, for the one that `Resolve::build` answered for them: with what it
+/// is about, if there is memory for this. `seed`: the seed of the maps that are made.
+#[tactic(auto, using(crate::proofs::WorldsLemmas::of_part))]
+pub(crate) fn resolve_fault<'a>(
+    alloc: Global,
+    seed: Seed,
+    text: &str,
+    fault: ResolveFault,
+) -> ProgramFault<'a>
+    ensures { IsOfResolve (document text.now) fault result }
+{
+    if let ResolveFault::Memory = fault {
+        return ProgramFault::Memory;
+    }
+    match explain_worlds(alloc, seed, text, fault) {
+        Ok(explained) => ProgramFault::Resolve(fault, explained),
+        Err(AllocError) => ProgramFault::Resolve(fault, None),
+    }
+}
+
+/// What a fault is about that `Resolve::build` answered for the worlds in a text. The text is read again, since the parts
+/// that were read of it are no more. `None` where it is about no part.
+///
+/// # Errors
+///
+/// `AllocError`: an allocation failed.
+fn explain_worlds(
+    alloc: Global,
+    seed: Seed,
+    text: &str,
+    fault: ResolveFault,
+) -> Result<Option<ExplainedPart>, AllocError>
+    ensures { IfOk result (IsPartIn (document text.now) fault) }
+{
+    match document_from_json(alloc, seed, text) {
+        Ok(document) => explain_document(alloc, &document.parts, fault),
+        // It was read before, so memory ran out.
+        Err(_) => Err(AllocError),
+    }
+}
+
+/// What of these parts a fault is about, with its name.
+fn explain_document(
+    alloc: Global,
+    parts: &Parts,
+    fault: ResolveFault,
+) -> Result<Option<ExplainedPart>, AllocError>
+    ensures { IfOk result (IsPartExplanation (parts_view parts.now) fault) }
+{
+    match explain_parts(alloc, parts, fault)? {
+        Some(part) => {
+            let name = part_name(alloc, parts, part)?;
+            Ok(Some(ExplainedPart { part, name }))
+        }
+        None => Ok(None),
+    }
+}
+
+/// The name of a part, if it has one.
+fn part_name(alloc: Global, parts: &Parts, part: Part) -> Result<Option<String>, AllocError>
+    ensures { IfOk result (λ name. option_map string_bytes name
+        ≡ part_name (parts_view parts.now) part) }
+{
+    match part {
+        Part::Package(index) => match parts.packages.get(index) {
+            Some(package) => Ok(Some(package_text(alloc, &package.name)?)),
+            None => Ok(None),
+        },
+        _ => match declared_name(parts, part) {
+            Some(name) => Ok(Some(String::from_str(alloc, name)?)),
+            None => Ok(None),
+        },
+    }
+}
+
+/// The name of a world, an interface or a type.
+fn declared_name(parts: &Parts, part: Part) -> Option<&str>
+    ensures { option_map (λ t. t.now) result ≡ declared_name (parts_view parts.now) part }
+{
+    match part {
+        Part::World(index) => Some(parts.worlds.get(index)?.name.as_str()),
+        Part::Interface(index) => parts.interfaces.get(index)?.name.as_deref(),
+        Part::TypeDef(index) => parts.types.get(index)?.name.as_deref(),
+        Part::Package(_) => None,
+    }
+}
+
+/// `namespace:name`, with `@version` where the package has one.
+fn package_text(alloc: Global, package: &PackageName) -> Result<String, AllocError>
+    ensures { IfOk result (λ text. string_bytes text
+        ≡ package_text (package_name_view «package».now)) }
+{
+    let (namespace, name) = (package.namespace.as_str(), package.name.as_str());
+    match &package.version {
+        Some(version) => format!(in alloc; "{namespace}:{name}@{version}"),
+        None => format!(in alloc; "{namespace}:{name}"),
+    }
+}

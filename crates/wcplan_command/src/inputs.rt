@@ -1,0 +1,180 @@
+//! What a command is encoded from: the worlds, the main module and the adapters, from its files.
+
+ghost use Rattle.std.specs.Prelude.{◌≡◌, IfErr, IfOk, OnOk, map};
+ghost use Rattle.std.specs.Cow.{cow_slice_items};
+ghost use Rattle.wc_dedupe.specs.Dedupe.{renames_in};
+ghost use Rattle.wc_encoder.specs.Adapters.{adapter_entry};
+ghost use Rattle.wc_encoder.specs.EncoderParts.{parts_view};
+ghost use Rattle.wc_selection.specs.Keys.{AreKeysApart, named_key, texts_of};
+ghost use Rattle.wc_selection.specs.Texts.{AreDistinct};
+ghost use Rattle.wcplan_command.specs.Arguments.{command_value};
+ghost use Rattle.wcplan_command.specs.RequiredExports.{AreNamesThere, adapter_names};
+ghost use Rattle.wcplan_command.specs.Program.{AreAdaptersIn, IsAdaptersCause, IsEncoderOf, IsListed, IsListedCause, IsMainCause, IsMainIn, IsModulesCause, IsNoExport, IsPartsWith, IsPlanCause, IsUnknownKey};
+
+use crate::arguments::Command;
+use crate::documents::{read_file, read_worlds};
+use crate::faults::{ProgramFault, SelectionFault};
+use crate::listing::listing;
+use crate::required_exports::{check_names, command_keys, required_keys};
+use std::alloc::{AllocError, Global};
+use std::borrow::CowSlice;
+use wc_dedupe::ModuleImportMap;
+use wc_encoder::{Adapter, ComponentEncoder, EncoderParts, Metadata};
+use wc_maps::{Map, Seed};
+use wc_program::FileStore;
+use wc_resolve::WorldKey;
+use wc_selection::{Exporter, RequestFault, count_unversioned};
+
+/// The encoder of a command, from its files.
+pub(crate) fn read_encoder<'a, F: FileStore>(
+    alloc: Global,
+    seed: Seed,
+    command: &Command<'a>,
+    files: &F,
+) -> Result<ComponentEncoder, ProgramFault<'a>>
+    ensures encoder { IfOk result (IsEncoderOf (command_value command.now) (F.held files.now)) }
+    ensures fault { IfErr result (IsPlanCause (command_value command.now) (F.held files.now)) }
+{
+    let metadata = read_worlds(alloc, seed, command, files)?;
+    let keys = command_keys(alloc, command, &metadata.resolve, metadata.world)?;
+    check_listed(alloc, seed, command, &keys)?;
+    let parts = read_parts(alloc, seed, command, metadata, &keys, files)?;
+    Ok(ComponentEncoder::build(alloc, parts)?)
+}
+
+/// Checks the names of adapters and the keys of a command, as `check_names` does, with the fault of `unknown_key` for that
+/// of a key that isn't there.
+fn check_listed<'a>(
+    alloc: Global,
+    seed: Seed,
+    command: &Command<'a>,
+    keys: &[(WorldKey, String)],
+) -> Result<(), ProgramFault<'a>>
+    ensures there { OnOk result (AreNamesThere (command_value command.now)
+        (map named_key keys.now)) }
+    ensures fault { IfErr result (IsListedCause (command_value command.now)
+        (map named_key keys.now)) }
+{
+    match check_names(alloc, seed, command, keys) {
+        Ok(()) => Ok(()),
+        Err(fault) => Err(listed_fault(alloc, fault, keys)),
+    }
+}
+
+/// A fault of names; for that of a key that isn't there the one of `unknown_key`.
+fn listed_fault<'a>(
+    alloc: Global,
+    fault: SelectionFault<'a>,
+    keys: &[(WorldKey, String)],
+) -> ProgramFault<'a>
+    ensures { IsListed fault.entry (map named_key keys.now) result }
+{
+    match fault {
+        SelectionFault::Request(RequestFault::UnknownKey(key)) => unknown_key(alloc, key, keys),
+        _ => ProgramFault::from(fault),
+    }
+}
+
+/// Why a text is that of none of these keys: it is that of several without their versions, or of one that is given with it
+/// too; or else there is none, and the fault has what exports there are.
+fn unknown_key<'a>(alloc: Global, key: &'a str, keys: &[(WorldKey, String)]) -> ProgramFault<'a>
+    ensures { IsUnknownKey (map named_key keys.now) key.entry result }
+{
+    match count_unversioned(keys, key) {
+        0 => no_export(alloc, key, keys),
+        1 => ProgramFault::from(RequestFault::RepeatedKey(key)),
+        _ => ProgramFault::from(RequestFault::SeveralKeys(key)),
+    }
+}
+
+/// The fault of a key that isn't there, with what exports there are.
+fn no_export<'a>(alloc: Global, key: &'a str, keys: &[(WorldKey, String)]) -> ProgramFault<'a>
+    ensures { IsNoExport (texts_of (map named_key keys.now)) key.entry result }
+{
+    match listing(alloc, keys) {
+        Ok(listing) => ProgramFault::NoExport(key, listing),
+        Err(AllocError) => ProgramFault::Memory,
+    }
+}
+
+/// The parts of the encoder of a command, with its modules from their files.
+fn read_parts<'a, F: FileStore>(
+    alloc: Global,
+    seed: Seed,
+    command: &Command<'a>,
+    metadata: Metadata,
+    keys: &[(WorldKey, String)],
+    files: &F,
+) -> Result<EncoderParts, ProgramFault<'a>>
+    requires keys { AreKeysApart (map named_key keys.now) }
+    requires names { AreDistinct (adapter_names (command_value command.now)) }
+    ensures parts { IfOk result (λ p. IsPartsWith (command_value command.now) (F.held files.now)
+        (map named_key keys.now) (parts_view p)) }
+    ensures metadata { IfOk result (λ p. p.metadata ≡ metadata) }
+    ensures fault { IfErr result (IsModulesCause (command_value command.now) (F.held files.now)) }
+{
+    let (module, module_import_map) = read_main(alloc, command.main, files)?;
+    let adapters = read_adapters(alloc, seed, command, keys, files)?;
+    let main_module_exports = required_keys(alloc, seed, command, Exporter::Main, keys)?;
+    Ok(EncoderParts {
+        module,
+        module_import_map,
+        metadata,
+        main_module_exports,
+        adapters,
+        reject_legacy_names: command.reject_legacy_names,
+        realloc_via_memory_grow: command.realloc_via_memory_grow,
+        task_hook: String::new(alloc),
+    })
+}
+
+/// The main module in the file of this path, with its repeated imports renamed, and the original names of these.
+fn read_main<'a, F: FileStore>(
+    alloc: Global,
+    path: &'a str,
+    files: &F,
+) -> Result<(Vec<u8>, Option<ModuleImportMap>), ProgramFault<'a>>
+    ensures main { IfOk result (λ r. IsMainIn (F.held files.now) path.now r.0.items
+        (renames_in r.1)) }
+    ensures fault { IfErr result (IsMainCause (F.held files.now) path.now) }
+{
+    let bytes = read_file(path, files)?;
+    let (module, map) = ModuleImportMap::new(alloc, CowSlice::Owned(bytes))?;
+    Ok((owned(alloc, module)?, map))
+}
+
+/// The bytes, copied where they are borrowed.
+fn owned(alloc: Global, bytes: CowSlice<'_, u8>) -> Result<Vec<u8>, AllocError>
+    ensures { IfOk result (λ v. v.items ≡ cow_slice_items bytes.entry) }
+{
+    match bytes {
+        CowSlice::Owned(bytes) => Ok(bytes),
+        CowSlice::Borrowed(bytes) => Vec::from_slice(alloc, bytes),
+    }
+}
+
+/// The adapters of a command, from their files. `seed`: the seed of the maps that are made.
+fn read_adapters<'a, F: FileStore>(
+    alloc: Global,
+    seed: Seed,
+    command: &Command<'a>,
+    keys: &[(WorldKey, String)],
+    files: &F,
+) -> Result<Map<String, Adapter>, ProgramFault<'a>>
+    requires keys { AreKeysApart (map named_key keys.now) }
+    requires names { AreDistinct (adapter_names (command_value command.now)) }
+    ensures adapters { IfOk result (λ m. AreAdaptersIn (F.held files.now)
+        (command_value command.now) (map named_key keys.now) (map adapter_entry m.entries)) }
+    ensures fault { IfErr result (IsAdaptersCause (command_value command.now)) }
+{
+    let mut adapters = Map::with_hasher(alloc, seed);
+    for (name, path) in &command.adapters {
+        let adapter = Adapter {
+            wasm: read_file(path, files)?,
+            required_exports: required_keys(alloc, seed, command, Exporter::Adapter(name), keys)?,
+            library_info: None,
+        };
+        adapters.insert(String::from_str(alloc, name)?, adapter)?;
+    }
+    Ok(adapters)
+}

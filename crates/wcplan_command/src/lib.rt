@@ -1,0 +1,29 @@
+//! The program `wcplan`, without the opening of its files, its standard output and its standard error:
+//! what a component of a main module and adapters needs, for a world that is read from JSON. `parse`
+//! gives the command of some arguments, `run_command` does its work over any `DirectoryStore` and any
+//! `Screen`, and `run` is the program over these.
+#![tactic(auto)]
+
+mod arguments;
+mod details;
+mod documents;
+mod explained;
+mod explained_part;
+mod fault_texts;
+mod faults;
+mod file_names;
+mod inputs;
+mod json_place;
+mod lines;
+mod listing;
+mod nearest;
+mod outputs;
+mod program;
+mod required_exports;
+mod usage;
+
+pub use arguments::{Command, NoCommand, WrongArgument, parse};
+pub use explained::Explained;
+pub use explained_part::ExplainedPart;
+pub use faults::{ProgramFault, SelectionFault};
+pub use program::{run, run_command};

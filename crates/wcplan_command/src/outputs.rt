@@ -1,0 +1,147 @@
+//! What a command makes: its files, and what it prints of its component's world.
+
+ghost use Rattle.std.specs.Prelude.{◌≡◌, IfErr, IfOk, IfSome, OnOk, Some, map, string_bytes};
+ghost use Rattle.std.specs.Option.{option_map};
+ghost use Rattle.wc_plan.specs.PlanViews.{plan_view};
+ghost use Rattle.wc_plan.specs.Plans.{plan_of};
+ghost use Rattle.wc_world.specs.WorldViews.{world_view};
+ghost use Rattle.wc_selection.specs.Texts.{text_of};
+ghost use Rattle.wc_program.specs.Screen.{Becomes};
+ghost use Rattle.wcplan_command.specs.Program.{IsFileFault, WritesAll, file_view, files_of, path_in, printed_text, record_line};
+ghost use Rattle.wcplan_command.specs.Private.Runs.{IsMakingFault, IsWritingFault};
+
+use crate::arguments::Command;
+use crate::faults::ProgramFault;
+use crate::lines::plan_lines;
+use std::alloc::{AllocError, Global};
+use wc_plan::Plan;
+use wc_program::{DirectoryStore, FileStore, Screen};
+use wc_record::world_to_json;
+use wc_world::ComponentWorld;
+use wc_write::PutFailed;
+
+/// What a command prints of its component's world, which has this plan.
+pub(crate) fn description_of(
+    alloc: Global,
+    command: &Command<'_>,
+    world: &ComponentWorld<'_>,
+    plan: &Plan,
+) -> Result<Vec<u8>, AllocError>
+    requires { plan_view plan.now ≡ plan_of (world_view world.now) }
+    ensures { IfOk result (λ text. text.items
+        ≡ printed_text command.now.json (world_view world.now)) }
+{
+    if command.json {
+        record_line(alloc, world)
+    } else {
+        Ok(plan_lines(alloc, plan)?.into_bytes())
+    }
+}
+
+/// The record of a component's world, in a line.
+fn record_line(alloc: Global, world: &ComponentWorld<'_>) -> Result<Vec<u8>, AllocError>
+    ensures { IfOk result (λ text. text.items ≡ record_line (world_view world.now)) }
+{
+    let mut line = world_to_json(alloc, world)?;
+    line.push(b'\n')?;
+    Ok(line)
+}
+
+/// Makes a directory, if there is one; then writes files, in order; and then prints a text.
+pub(crate) fn write_and_print<'a, F: DirectoryStore, O: Screen>(
+    directory: Option<&'a str>,
+    outputs: Vec<(String, &[u8])>,
+    text: &[u8],
+    files: &mut F,
+    out: &mut O,
+) -> Result<(), ProgramFault<'a>>
+    ensures made { OnOk result (IfSome (option_map text_of directory.entry) (F.makes files.old)) }
+    ensures written { OnOk result (WritesAll (F.held files.old) (F.held files.new)
+        (map file_view outputs.entry.items)) }
+    ensures printed { OnOk result (O.ends out.old out.new (Some text.now)) }
+    ensures fault { IfErr result (IsWritingFault (option_map text_of directory.entry)
+        (F.held files.old) (F.held files.new) (F.makes files.old)
+        outputs.entry.items (Becomes O.ends out.old out.new)) }
+{
+    make_directory(directory, files)?;
+    write_files(outputs, files)?;
+    match out.show(&text) {
+        Ok(()) => Ok(()),
+        Err(PutFailed) => Err(ProgramFault::Output),
+    }
+}
+
+/// Makes a directory, if there is one.
+fn make_directory<'a, F: DirectoryStore>(
+    directory: Option<&'a str>,
+    files: &mut F,
+) -> Result<(), ProgramFault<'a>>
+    ensures made { OnOk result (IfSome (option_map text_of directory.entry) (F.makes files.old)) }
+    ensures fault { IfErr result (IsMakingFault (option_map text_of directory.entry)) }
+    ensures kept { F.held files.new ≡ F.held files.old }
+{
+    let Some(path) = directory else {
+        return Ok(());
+    };
+    match files.make_directory(path) {
+        Ok(()) => Ok(()),
+        Err(_) => Err(ProgramFault::CannotMake(path)),
+    }
+}
+
+/// The paths of the files that are written, and their bytes. None, if there is no directory.
+pub(crate) fn outputs_of<'w>(
+    alloc: Global,
+    directory: Option<&str>,
+    world: &'w ComponentWorld<'_>,
+) -> Result<Vec<(String, &'w [u8])>, AllocError>
+    ensures { IfOk result (λ v. map file_view v.items
+        ≡ files_of (option_map text_of directory.entry) (world_view world.now)) }
+{
+    match directory {
+        Some(directory) => files_in(alloc, directory, world),
+        None => Ok(Vec::new(alloc)),
+    }
+}
+
+/// The paths of the files that are written to a directory, and their bytes: the main module, and then the adapters.
+fn files_in<'w>(
+    alloc: Global,
+    directory: &str,
+    world: &'w ComponentWorld<'_>,
+) -> Result<Vec<(String, &'w [u8])>, AllocError>
+    ensures { IfOk result (λ v. map file_view v.items
+        ≡ files_of (Some directory.now) (world_view world.now)) }
+{
+    let mut outputs = Vec::new(alloc);
+    outputs.push((path_in(alloc, directory, "main")?, world.encoder.module()))?;
+    for (name, adapter) in world.adapters.iter() {
+        outputs.push((path_in(alloc, directory, name)?, adapter.wasm.as_slice()))?;
+    }
+    Ok(outputs)
+}
+
+/// `DIRECTORY/NAME.wasm`.
+fn path_in(alloc: Global, directory: &str, name: &str) -> Result<String, AllocError>
+    ensures { IfOk result (λ path. string_bytes path ≡ path_in directory.now name.now) }
+{
+    format!(in alloc; "{directory}/{name}.wasm")
+}
+
+/// Writes files, in order.
+fn write_files<'a, F: FileStore>(
+    outputs: Vec<(String, &[u8])>,
+    files: &mut F,
+) -> Result<(), ProgramFault<'a>>
+    ensures written { OnOk result (WritesAll (F.held files.old) (F.held files.new)
+        (map file_view outputs.entry.items)) }
+    ensures fault { IfErr result (IsFileFault (F.held files.old) (F.held files.new)
+        (map file_view outputs.entry.items)) }
+{
+    for (path, bytes) in outputs {
+        let Ok(()) = files.write(&path, bytes) else {
+            return Err(ProgramFault::CannotWrite(path));
+        };
+    }
+    Ok(())
+}

@@ -1,0 +1,317 @@
+//! The program: its arguments, its files, what it prints, and its exit status.
+
+ghost use Rattle.std.specs.Prelude.{◌≡◌, IfErr, IfOk, IsErr, OnOk};
+ghost use Rattle.std.specs.IoError.{error_kind};
+ghost use Rattle.wc_plan.specs.Faults.{AreNameable};
+ghost use Rattle.wc_plan.specs.PlanViews.{plan_view};
+ghost use Rattle.wc_plan.specs.Plans.{plan_of};
+ghost use Rattle.wc_world.specs.WorldViews.{world_view};
+ghost use Rattle.wcplan_command.specs.Arguments.{command_value};
+ghost use Rattle.wc_program.specs.Screen.{Becomes};
+ghost use Rattle.wc_program.specs.Program.{Prints, failure, success, wrong_arguments};
+ghost use Rattle.wcplan_command.specs.Program.{CommandEnds, EndsWell, EndsWith, EndsWithout, EndsWithoutArguments, IsEncoderOf, IsPlanned, IsReported, IsRunCause, ProgramEnds};
+ghost use Rattle.wcplan_command.specs.Private.Runs.{AnswersStop, IsMadeFor, IsReportedWith};
+ghost use Rattle.wcplan_command.specs.Usage.{fault_and_usage, fault_line, help_text};
+
+use crate::arguments::{Command, NoCommand, parse};
+use crate::details::detailed_text;
+use crate::explained::world_fault;
+use crate::faults::ProgramFault;
+use crate::inputs::read_encoder;
+use crate::outputs::{description_of, outputs_of, write_and_print};
+use crate::usage::{AND_USAGE, NO_TEXT, OPTIONS, USAGE, VERSION};
+use std::alloc::{AllocError, Global};
+use std::io::{self, ErrorKind};
+use wc_encoder::ComponentEncoder;
+use wc_maps::Seed;
+use wc_plan::laws::worlds_nameable;
+use wc_plan::{Plan, plan};
+use wc_program::{
+    DirectoryStore, FAILURE, Message, NoArguments, OUT_OF_MEMORY, Program, SUCCESS, Screen, Shell,
+    WRONG_ARGUMENTS, print,
+};
+use wc_world::{ComponentWorld, PlainOptions};
+
+/// Runs the program with these arguments, the first of them the one after the program's name. What is done is the same for
+/// every seed of the shell. The answer is its exit status:
+///
+/// | Status | Where | Printed |
+/// |---|---|---|
+/// | 0 | there are no arguments | the usage text, to `out` |
+/// | 0 | `parse` answers `Help` or `Version` | the help text or the version, to `out` |
+/// | 0 | the command was run | the lines of the plan, or with `--json` the record, to `out` |
+/// | 1 | the command could not be run | the line `wcplan: TEXT`, and lines of what the fault is about, to `err` |
+/// | 1 | there was no memory for the arguments | the line `wcplan: out of memory`, to `err` |
+/// | 2 | an argument is wrong, or no text | the line `wcplan: TEXT` and the usage text, to `err` |
+/// | 1 | `out` or `err` failed | not known there |
+///
+/// TEXT is the text of `run_command`'s fault (`ProgramFault::text`) or of the wrong argument (`WrongArgument::text`), or
+/// `out of memory` where there was no memory for it; then the status is 1. The lines under it are those of
+/// `ProgramFault::details`, or none where there was no memory for them. All that is printed is flushed. Nothing is
+/// printed to the other output, unless `out` failed before. Files are as `run_command` leaves them; without a command
+/// they are unchanged.
+pub fn run<F: DirectoryStore, O: Screen, E: Screen>(
+    arguments: &io::Result<Vec<String>>,
+    shell: &mut Shell<F, O, E>,
+) -> u8
+    ensures known { IfOk arguments.now (λ v. ProgramEnds v.items
+        (F.held shell.old.files) (F.held shell.new.files) (F.makes shell.old.files)
+        (Becomes O.ends shell.old.out shell.new.out) (Becomes E.ends shell.old.err shell.new.err)
+        result) }
+    ensures unknown { IfErr arguments.now (λ e. EndsWithoutArguments
+        (error_kind e ≡ ErrorKind.OutOfMemory)
+        (Becomes O.ends shell.old.out shell.new.out) (Becomes E.ends shell.old.err shell.new.err)
+        result) }
+    ensures kept { IsErr arguments.now → F.held shell.new.files ≡ F.held shell.old.files }
+{
+    wc_program::run(&Wcplan, arguments, shell)
+}
+
+/// The program, by what it does with its arguments.
+struct Wcplan;
+
+impl<F: DirectoryStore, O: Screen, E: Screen> Program<F, O, E> for Wcplan {
+    ghost ends_with = { λ texts before after status. EndsWith texts
+        (F.held before.files) (F.held after.files) (F.makes before.files)
+        (Becomes O.ends before.out after.out) (Becomes E.ends before.err after.err) status };
+
+    ghost ends_without = { λ why before after status. EndsWithout why
+        (F.held before.files) (F.held after.files)
+        (Becomes O.ends before.out after.out) (Becomes E.ends before.err after.err) status };
+
+    fn run_with(&self, arguments: &[String], shell: &mut Shell<F, O, E>) -> u8 {
+        match parse(shell.alloc, arguments) {
+            Ok(command) => run_and_report(&command, shell),
+            Err(stop) => answer_stop(shell.alloc, &stop, &mut shell.out, &mut shell.err),
+        }
+    }
+
+    fn run_without(&self, why: NoArguments, shell: &mut Shell<F, O, E>) -> u8 {
+        match why {
+            NoArguments::Empty => print(&mut shell.out, &USAGE, SUCCESS),
+            NoArguments::NoMemory => print_fault(&mut shell.err, OUT_OF_MEMORY),
+            NoArguments::NoText => print_usage_fault(&mut shell.err, NO_TEXT),
+        }
+    }
+}
+
+/// Prints what is asked for in place of a command, or what is wrong with the arguments. The answer is the exit status.
+fn answer_stop<O: Screen, E: Screen>(
+    alloc: Global,
+    stop: &NoCommand<'_>,
+    out: &mut O,
+    err: &mut E,
+) -> u8
+    ensures { AnswersStop stop.now
+        (Becomes O.ends out.old out.new) (Becomes E.ends err.old err.new) result }
+{
+    match stop {
+        NoCommand::Memory => print_fault(err, OUT_OF_MEMORY),
+        NoCommand::Help => print_help(out),
+        NoCommand::Version => print(out, &VERSION, SUCCESS),
+        NoCommand::Wrong(wrong) => match wrong.text(alloc) {
+            Ok(text) => print_usage_fault(err, text.as_bytes()),
+            Err(AllocError) => print_fault(err, OUT_OF_MEMORY),
+        },
+    }
+}
+
+/// Runs a command on its files, and prints why it could not be run. The answer is the exit status.
+fn run_and_report<F: DirectoryStore, O: Screen, E: Screen>(
+    command: &Command<'_>,
+    shell: &mut Shell<F, O, E>,
+) -> u8
+    ensures { CommandEnds (command_value command.now)
+        (F.held shell.old.files) (F.held shell.new.files) (F.makes shell.old.files)
+        (Becomes O.ends shell.old.out shell.new.out) (Becomes E.ends shell.old.err shell.new.err)
+        result }
+{
+    match run_command(
+        shell.alloc,
+        shell.seed,
+        command,
+        &mut shell.files,
+        &mut shell.out,
+    ) {
+        Ok(()) => SUCCESS,
+        Err(fault) => report(shell.alloc, &mut shell.err, &fault),
+    }
+}
+
+/// Reads the worlds and the modules of a command, renames the main module's repeated imports, and makes the component's
+/// world with `PlainOptions`. If the command has a directory, it makes this, and writes `main.wasm` there, the main module
+/// as it was renamed, and then `NAME.wasm` for each adapter of the component's world, as it was trimmed. Every other file
+/// stays the same. Then it prints the lines of the plan, as `wc_plan::write_plan` writes them, but each escaped
+/// (`wc_json::escaped`); or with `--json` the record in a line (`wc_record::world_to_json`). `seed`: the seed of the maps
+/// that are made.
+///
+/// # Errors
+///
+/// Of several causes the first in this order is named; `Memory` may come in place of any before `CannotMake`.
+///
+/// - `CannotRead`, `NotText`, `NotJson`, `RepeatedMember`, `Json`: the worlds could not be read.
+/// - `Selection`: no world is selected.
+/// - `Resolve`: the worlds are not well-formed.
+/// - `Selection`, `NoExport`: names of adapters, or keys, are not there, or are given twice; or files can't be named.
+/// - `CannotRead`, `Dedupe`: the main module could not be read, or not renamed.
+/// - `CannotRead`: an adapter could not be read; they are read in order.
+/// - `Encoder`, `World`, `Plan`: there is no encoder, no component's world, or no plan.
+/// - `CannotMake`: the directory could not be made.
+/// - `CannotWrite`: a file could not be written. The files before it were; what bytes it has is left open.
+/// - `Output`: the lines, or the record, could not be printed. All files were written; `out` is failed, and how much was
+///   printed is left open.
+/// - `Memory`: an allocation failed.
+///
+/// After each fault but `Output` nothing was printed; after each but `CannotWrite` and `Output` no file was written.
+pub fn run_command<'a, F: DirectoryStore, O: Screen>(
+    alloc: Global,
+    seed: Seed,
+    command: &Command<'a>,
+    files: &mut F,
+    out: &mut O,
+) -> Result<(), ProgramFault<'a>>
+    ensures done { OnOk result (EndsWell
+        (command_value command.now) (F.held files.old) (F.held files.new) (F.makes files.old)
+        (Becomes O.ends out.old out.new)) }
+    ensures fault { IfErr result (IsRunCause
+        (command_value command.now) (F.held files.old) (F.held files.new) (F.makes files.old)
+        (Becomes O.ends out.old out.new)) }
+{
+    let encoder = read_encoder(alloc, seed, command, files)?;
+    run_encoder(alloc, command, &encoder, files, out)
+}
+
+/// Runs a command whose encoder this is.
+fn run_encoder<'a, F: DirectoryStore, O: Screen>(
+    alloc: Global,
+    command: &Command<'a>,
+    encoder: &ComponentEncoder,
+    files: &mut F,
+    out: &mut O,
+) -> Result<(), ProgramFault<'a>>
+    requires { IsEncoderOf (command_value command.now) (F.held files.old) encoder.now }
+    ensures done { OnOk result (EndsWell
+        (command_value command.now) (F.held files.old) (F.held files.new) (F.makes files.old)
+        (Becomes O.ends out.old out.new)) }
+    ensures fault { IfErr result (IsRunCause
+        (command_value command.now) (F.held files.old) (F.held files.new) (F.makes files.old)
+        (Becomes O.ends out.old out.new)) }
+{
+    // So what modules import can be named.
+    worlds_nameable(encoder);
+    match ComponentWorld::new(alloc, encoder, &PlainOptions) {
+        Ok(world) => run_world(alloc, command, &world, files, out),
+        Err(fault) => Err(world_fault(alloc, encoder, fault)),
+    }
+}
+
+/// Runs a command whose component's world this is.
+fn run_world<'a, F: DirectoryStore, O: Screen>(
+    alloc: Global,
+    command: &Command<'a>,
+    world: &ComponentWorld<'_>,
+    files: &mut F,
+    out: &mut O,
+) -> Result<(), ProgramFault<'a>>
+    requires made { IsMadeFor (command_value command.now) (F.held files.old)
+        (world_view world.now) }
+    requires nameable { AreNameable (world_view world.now) }
+    ensures done { OnOk result (EndsWell
+        (command_value command.now) (F.held files.old) (F.held files.new) (F.makes files.old)
+        (Becomes O.ends out.old out.new)) }
+    ensures fault { IfErr result (IsRunCause
+        (command_value command.now) (F.held files.old) (F.held files.new) (F.makes files.old)
+        (Becomes O.ends out.old out.new)) }
+{
+    match plan(alloc, world) {
+        Ok(plan) => run_plan(alloc, command, Planned { world, plan: &plan }, files, out),
+        Err(fault) => Err(ProgramFault::from(fault)),
+    }
+}
+
+/// A component's world, and its plan.
+#[derive(Clone, Copy)]
+struct Planned<'w, 'e> {
+    world: &'w ComponentWorld<'e>,
+    plan: &'w Plan,
+}
+
+/// Runs a command that has this component's world, and its plan.
+fn run_plan<'a, F: DirectoryStore, O: Screen>(
+    alloc: Global,
+    command: &Command<'a>,
+    planned: Planned<'_, '_>,
+    files: &mut F,
+    out: &mut O,
+) -> Result<(), ProgramFault<'a>>
+    requires planned { IsPlanned (command_value command.now) (F.held files.old)
+        (world_view planned.world.now) }
+    requires plan { plan_view planned.plan.now ≡ plan_of (world_view planned.world.now) }
+    ensures done { OnOk result (EndsWell
+        (command_value command.now) (F.held files.old) (F.held files.new) (F.makes files.old)
+        (Becomes O.ends out.old out.new)) }
+    ensures fault { IfErr result (IsRunCause
+        (command_value command.now) (F.held files.old) (F.held files.new) (F.makes files.old)
+        (Becomes O.ends out.old out.new)) }
+{
+    let outputs = outputs_of(alloc, command.out, planned.world)?;
+    let description = description_of(alloc, command, planned.world, planned.plan)?;
+    write_and_print(command.out, outputs, &description, files, out)
+}
+
+/// Prints why the program failed, and what that is about. The answer is the status of a failure.
+fn report<E: Screen>(alloc: Global, err: &mut E, fault: &ProgramFault<'_>) -> u8
+    ensures { IsReported fault.now (Becomes E.ends err.old err.new) result }
+{
+    match fault.text(alloc) {
+        Ok(text) => report_text(alloc, err, fault, &text),
+        Err(AllocError) => print_fault(err, OUT_OF_MEMORY),
+    }
+}
+
+/// Prints the text of a fault in a line, and under it what the fault is about. The answer is the status of a failure.
+fn report_text<E: Screen>(alloc: Global, err: &mut E, fault: &ProgramFault<'_>, text: &str) -> u8
+    ensures { IsReportedWith fault.now text.now (Becomes E.ends err.old err.new) result }
+{
+    match detailed_text(alloc, fault, text) {
+        Ok(text) => print_fault(err, text.as_bytes()),
+        Err(AllocError) => print_fault(err, text.as_bytes()),
+    }
+}
+
+/// Prints the help text. The answer is the exit status.
+fn print_help<O: Screen>(out: &mut O) -> u8
+    ensures { Prints help_text success (Becomes O.ends out.old out.new) result }
+{
+    let text = Message {
+        before: USAGE,
+        text: &OPTIONS,
+        after: b"",
+    };
+    print(out, &text, SUCCESS)
+}
+
+/// Prints the text of a fault in a line. The answer is the status of a failure.
+fn print_fault<E: Screen>(err: &mut E, text: &[u8]) -> u8
+    ensures { Prints (fault_line text.now) failure (Becomes E.ends err.old err.new) result }
+{
+    let line = Message {
+        before: b"wcplan: ",
+        text: &text,
+        after: b"\n",
+    };
+    print(err, &line, FAILURE)
+}
+
+/// Prints what is wrong with the arguments in a line, and the usage text. The answer is the exit status.
+fn print_usage_fault<E: Screen>(err: &mut E, text: &[u8]) -> u8
+    ensures { Prints (fault_and_usage text.now) wrong_arguments
+        (Becomes E.ends err.old err.new) result }
+{
+    let lines = Message {
+        before: b"wcplan: ",
+        text: &text,
+        after: AND_USAGE,
+    };
+    print(err, &lines, WRONG_ARGUMENTS)
+}

@@ -1,0 +1,79 @@
+//! The texts that say how the program is called, and what is wrong with a call.
+
+ghost use Rattle.std.specs.Prelude.{◌≡◌, IfOk, string_bytes};
+ghost use Rattle.wc_json.specs.Escape.{escaped};
+ghost use Rattle.wcplan_command.specs.Arguments.{wrong_value};
+ghost use Rattle.wcplan_command.specs.Usage.{wrong_text};
+
+use crate::arguments::WrongArgument;
+use std::alloc::{AllocError, Global};
+use wc_json::escaped;
+
+/// The usage text.
+pub(crate) const USAGE: &[u8] =
+    b"usage: wcplan WORLDS.json WORLD MAIN.wasm [--adapt NAME=FILE]... [--export KEY]... \
+      [--adapter-export NAME=KEY]...
+              [--reject-legacy-names] [--realloc-via-memory-grow] [--json] [--out DIR]
+       wcplan --help | --version
+";
+
+/// What the help text has after the usage text: what each argument is.
+pub(crate) const OPTIONS: &[u8] =
+    b"  WORLDS.json                the worlds, as `wasm-tools component wit --json` prints them
+  WORLD                      the name of the world that is encoded for
+  MAIN.wasm                  the main module
+  --adapt NAME=FILE          an adapter, and its module
+  --export KEY               a key of the world's exports that the main module exports
+  --adapter-export NAME=KEY  a key of the world's exports that the adapter exports
+  --reject-legacy-names      refuse names of the older scheme
+  --realloc-via-memory-grow  let adapters grow memory for themselves
+  --json                     print the component's world as JSON
+  --out DIR                  write the modules to DIR, which is made if need be
+  -h, --help                 print this text
+  --version                  print the version
+";
+
+/// The program's name and version, in a line.
+pub(crate) const VERSION: &[u8] = b"wcplan 0.262.0\n";
+
+/// The end of the line of a wrong argument, and the usage text.
+pub(crate) const AND_USAGE: &[u8] = b"
+usage: wcplan WORLDS.json WORLD MAIN.wasm [--adapt NAME=FILE]... [--export KEY]... \
+      [--adapter-export NAME=KEY]...
+              [--reject-legacy-names] [--realloc-via-memory-grow] [--json] [--out DIR]
+       wcplan --help | --version
+";
+
+/// What is wrong where an argument is no text.
+pub(crate) const NO_TEXT: &[u8] = b"argument that is not UTF-8";
+
+impl WrongArgument<'_> {
+    /// What is wrong, in a line without its end. Arguments in it are escaped (`wc_json::escaped`).
+    ///
+    /// # Errors
+    ///
+    /// `AllocError`: an allocation failed.
+    pub fn text(&self, alloc: Global) -> Result<String, AllocError>
+        ensures { IfOk result (λ text. string_bytes text
+            ≡ escaped (wrong_text (wrong_value self.now))) }
+    {
+        let text = wrong_text(alloc, self)?;
+        escaped(alloc, &text)
+    }
+}
+
+/// What is wrong.
+fn wrong_text(alloc: Global, wrong: &WrongArgument<'_>) -> Result<String, AllocError>
+    ensures { IfOk result (λ text. string_bytes text ≡ wrong_text (wrong_value wrong.now)) }
+{
+    match wrong {
+        WrongArgument::UnknownOption(argument) => format!(in alloc; "unknown option {argument}"),
+        WrongArgument::MissingValue(option) => format!(in alloc; "missing value of {option}"),
+        WrongArgument::NotAPair { option, value } => {
+            format!(in alloc; "no = in {value} of {option}")
+        }
+        WrongArgument::RepeatedOption(option) => format!(in alloc; "{option} twice"),
+        WrongArgument::Unexpected(argument) => format!(in alloc; "unexpected argument {argument}"),
+        WrongArgument::Missing(name) => format!(in alloc; "missing {name}"),
+    }
+}

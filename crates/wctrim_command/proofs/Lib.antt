@@ -1,0 +1,5 @@
+mod TrimArgumentsLemmas
+mod CommandLemmas
+mod FaultsLemmas
+mod ExecutionLemmas
+mod ProgramLemmas

@@ -1,0 +1,31 @@
+-- The fault for the fault of a call inside, and the texts of faults.
+use Rattle.std.specs.Prelude.{ℕ, List, codes}
+use Rattle.wc_read.specs.declared.fault.ReadFault.{ReadFault}
+use Rattle.wc_read.specs.declared.fault.ReadFault.TheVariants.{Memory as read_memory}
+use Rattle.wc_dedupe.specs.declared.fault.DedupeFault.{DedupeFault}
+use Rattle.wc_dedupe.specs.declared.fault.DedupeFault.TheVariants.{Memory as dedupe_memory}
+use Rattle.wc_gc.specs.declared.fault.GcFault.{GcFault}
+use Rattle.wc_gc.specs.declared.fault.GcFault.TheVariants.{Memory as gc_memory}
+use Rattle.wctrim_command.specs.declared.fault.ToolFault.{ToolFault}
+use Rattle.wctrim_command.specs.declared.fault.ToolFault.TheVariants.{Memory, Dedupe, Trim, Read, Output}
+use Rattle.wc_program.specs.FaultTexts.{memory_text, carried_text, read_fault_text, dedupe_fault_text, gc_fault_text}
+
+abbrev pub of_dedupe : DedupeFault → ToolFault
+of_dedupe dedupe_memory = Memory
+of_dedupe f = Dedupe f
+
+abbrev pub of_trim : GcFault → ToolFault
+of_trim gc_memory = Memory
+of_trim f = Trim f
+
+abbrev pub of_read : ReadFault → ToolFault
+of_read read_memory = Memory
+of_read f = Read f
+
+-- the text of a fault: its name; where it carries another fault, its name, `: `, and the text of that
+abbrev pub tool_fault_text : ToolFault → List ℕ
+tool_fault_text Memory = memory_text
+tool_fault_text (Dedupe f) = carried_text (codes "Dedupe") (dedupe_fault_text f)
+tool_fault_text (Trim f) = carried_text (codes "Trim") (gc_fault_text f)
+tool_fault_text (Read f) = carried_text (codes "Read") (read_fault_text f)
+tool_fault_text Output = codes "Output"

@@ -1,0 +1,209 @@
+//! The program: its arguments, its files, what it prints, and its exit status.
+
+ghost use Rattle.std.specs.Prelude.{◌≡◌, ◌≢◌, true, List, ℕ, IfOk, IfErr, IsErr, IsErrOf, OnOk};
+ghost use Rattle.std.specs.Option.{option_map};
+ghost use Rattle.std.specs.IoError.{error_kind};
+ghost use Rattle.wc_program.specs.Files.{file_change};
+ghost use Rattle.wc_program.specs.Program.{Prints, failure};
+ghost use Rattle.wc_program.specs.Screen.{Becomes, output_ends, printed};
+ghost use Rattle.wctrim_command.specs.Command.{command_value, IsExecutable};
+ghost use Rattle.wctrim_command.specs.Execution.{Runs, IsToolCause};
+ghost use Rattle.wctrim_command.specs.Program.{EndsWell, IsRunFault, CommandEnds, EndsWith, EndsWithout, ProgramEnds, EndsWithoutArguments, fault_line, run_fault_text};
+
+use crate::command::{Command, Usage, parse};
+use crate::execution::execute;
+use crate::fault::ToolFault;
+use std::alloc::Global;
+use std::io::{self, ErrorKind};
+use wc_maps::Seed;
+use wc_program::{
+    FAILURE, FileStore, Message, NoArguments, Output, Printable, Program, SUCCESS, Shell,
+    WRONG_ARGUMENTS, print, put_after,
+};
+use wc_write::{PutFailed, Sink};
+
+const USAGE: &[u8] = b"usage: wctrim dedupe IN OUT
+       wctrim trim IN OUT [--realloc NAME] [--page 0|16] EXPORT...
+       wctrim scan IN
+";
+
+/// Why a command could not be run on its files.
+#[derive(Debug, Drop)]
+pub enum RunFault<'a> {
+    /// The file of this path could not be read.
+    CannotRead(&'a str),
+    /// The file of this path could not be written.
+    CannotWrite(&'a str),
+    /// The command could not be executed.
+    Tool(ToolFault),
+}
+
+impl Printable for RunFault<'_> {
+    ghost text = { run_fault_text };
+
+    fn put_text<S: Sink>(&self, out: &mut S) -> Result<(), PutFailed> {
+        match self {
+            RunFault::CannotRead(path) => put_after(out, b"cannot read ", path),
+            RunFault::CannotWrite(path) => put_after(out, b"cannot write ", path),
+            RunFault::Tool(fault) => fault.put_text(out),
+        }
+    }
+}
+
+/// Runs the program with these arguments, the first of them the one after the program's name. The answer is its exit
+/// status:
+///
+/// | Status | Where | Printed |
+/// |---|---|---|
+/// | 0 | there are no arguments | the usage text |
+/// | 2 | the arguments are those of no command, or no text | the usage text |
+/// | 0 | the command was run | its lines |
+/// | 1 | the command could not be run | the lines that it put, and then the line `wctrim: TEXT` |
+/// | 1 | there was no memory for the arguments | the line `wctrim: out of memory` |
+/// | 1 | the output failed | not known |
+///
+/// TEXT is the text of `run_command`'s fault (`Printable`): `cannot read IN` or `cannot write OUT` with the path, or the
+/// text of the fault of `execute`. All that is printed is flushed. Files are as `run_command` leaves them; without a
+/// command they are unchanged. What is done is the same for every seed of the shell.
+pub fn run<F: FileStore, O: Output>(
+    arguments: &io::Result<Vec<String>>,
+    shell: &mut Shell<F, O, ()>,
+) -> u8
+    ensures known { IfOk arguments.now (λ v. ProgramEnds v.items
+        (file_change F.held F.write_fails shell.old.files shell.new.files)
+        (Becomes (output_ends O.written O.sent O.is_failed) shell.old.out shell.new.out)
+        result) }
+    ensures unknown { IfErr arguments.now (λ e. EndsWithoutArguments
+        (error_kind e ≡ ErrorKind.OutOfMemory)
+        (Becomes (output_ends O.written O.sent O.is_failed) shell.old.out shell.new.out)
+        result) }
+    ensures kept { IsErr arguments.now → F.held shell.new.files ≡ F.held shell.old.files }
+{
+    wc_program::run(&Wctrim, arguments, shell)
+}
+
+/// The program, by what it does with its arguments.
+struct Wctrim;
+
+impl<F: FileStore, O: Output> Program<F, O, ()> for Wctrim {
+    ghost ends_with = { λ texts before after status. EndsWith texts
+        (file_change F.held F.write_fails before.files after.files)
+        (Becomes (output_ends O.written O.sent O.is_failed) before.out after.out) status };
+
+    ghost ends_without = { λ why before after status. EndsWithout why
+        (file_change F.held F.write_fails before.files after.files)
+        (Becomes (output_ends O.written O.sent O.is_failed) before.out after.out) status };
+
+    fn run_with(&self, arguments: &[String], shell: &mut Shell<F, O, ()>) -> u8 {
+        match parse(arguments) {
+            Ok(command) => run_and_report(&command, shell),
+            Err(Usage) => print(&mut shell.out, &USAGE, WRONG_ARGUMENTS),
+        }
+    }
+
+    fn run_without(&self, why: NoArguments, shell: &mut Shell<F, O, ()>) -> u8 {
+        match why {
+            NoArguments::Empty => print(&mut shell.out, &USAGE, SUCCESS),
+            NoArguments::NoMemory => report(&mut shell.out, &RunFault::Tool(ToolFault::Memory)),
+            NoArguments::NoText => print(&mut shell.out, &USAGE, WRONG_ARGUMENTS),
+        }
+    }
+}
+
+/// Runs a command on its files, and prints why it could not be run. The answer is the exit status.
+fn run_and_report<F: FileStore, O: Output>(command: &Command<'_>, shell: &mut Shell<F, O, ()>) -> u8
+    requires { IsExecutable (command_value command.now) }
+    ensures { CommandEnds (command_value command.now)
+        (file_change F.held F.write_fails shell.old.files shell.new.files)
+        (Becomes (output_ends O.written O.sent O.is_failed) shell.old.out shell.new.out)
+        result }
+{
+    match run_command(
+        shell.alloc,
+        shell.seed,
+        command,
+        &mut shell.files,
+        &mut shell.out,
+    ) {
+        Ok(()) => SUCCESS,
+        Err(fault) => report(&mut shell.out, &fault),
+    }
+}
+
+/// Prints why the program failed. The answer is the status of a failure, also where `out` fails.
+fn report<O: Output>(out: &mut O, fault: &RunFault<'_>) -> u8
+    ensures { Prints (fault_line (run_fault_text fault.now)) failure
+        (Becomes (output_ends O.written O.sent O.is_failed) out.old out.new) result }
+{
+    let line = Message {
+        before: b"wctrim: ",
+        text: fault,
+        after: b"\n",
+    };
+    print(out, &line, FAILURE)
+}
+
+/// Reads the command's input file, executes the command, flushes its lines, and writes its output file, where it has
+/// one. Every other file stays the same. At `Ok` all lines were handed on.
+///
+/// # Errors
+///
+/// - `CannotRead`: the input file could not be read. Nothing is put.
+/// - `Tool`: the fault of `execute`. Nothing is put; with `Tool(Output)` `out` is failed instead, and how much was
+///   written is left open.
+/// - `CannotWrite`: the write of the output file failed. The lines were put and handed on before, and `out` is not failed.
+///   What bytes that file has is left open.
+///
+/// With `CannotRead` and `Tool` no file is created or changed: so where `out` fails, none is.
+pub fn run_command<'a, F: FileStore, O: Output>(
+    alloc: Global,
+    seed: Seed,
+    command: &Command<'a>,
+    files: &mut F,
+    out: &mut O,
+) -> Result<(), RunFault<'a>>
+    requires { IsExecutable (command_value command.now) }
+    ensures done { OnOk result (EndsWell
+        (command_value command.now) (F.held files.old) (F.held files.new)
+        (Becomes (output_ends O.written O.sent O.is_failed) out.old out.new)) }
+    ensures fault { IfErr result (IsRunFault (command_value command.now)
+        (file_change F.held F.write_fails files.old files.new)
+        (Becomes (output_ends O.written O.sent O.is_failed) out.old out.new)) }
+{
+    let source = command.source();
+    let Ok(input) = files.read(source) else {
+        return Err(RunFault::CannotRead(source));
+    };
+    let answer = match execute_and_flush(alloc, seed, command, input.as_slice(), out) {
+        Ok(answer) => answer,
+        Err(fault) => return Err(RunFault::Tool(fault)),
+    };
+    let (Some(target), Some(bytes)) = (command.target(), answer) else {
+        return Ok(());
+    };
+    if files.write(target, bytes.as_slice()).is_err() {
+        return Err(RunFault::CannotWrite(target));
+    }
+    Ok(())
+}
+
+/// Executes the command, and flushes its lines.
+fn execute_and_flush<O: Output>(
+    alloc: Global,
+    seed: Seed,
+    command: &Command<'_>,
+    input: &[u8],
+    out: &mut O,
+) -> Result<Option<Vec<u8>>, ToolFault>
+    requires { IsExecutable (command_value command.now) }
+    ensures done { IfOk result (λ r. (lines : List ℕ)
+        × Runs (command_value command.now) input.now lines (option_map (λ v. v.items) r)
+        × Becomes (output_ends O.written O.sent O.is_failed) out.old out.new (printed lines)) }
+    ensures fault { IfErr result (IsToolCause (command_value command.now) input.now) }
+    ensures output { IsErrOf result ToolFault.Output → O.is_failed out.new ≡ true }
+    ensures quiet { IfErr result (λ e. e ≢ ToolFault.Output → out.new ≡ out.old) }
+{
+    let answer = execute(alloc, seed, command, input, out)?;
+    out.flush()?;
+    Ok(answer)
+}
