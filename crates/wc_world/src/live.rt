@@ -338,7 +338,8 @@ fn add_interface(
 ) -> Result<(), AllocError>
     requires { IsItemIn context.now.resolve.now (item_view item.now) }
     ensures { let r = context.now.resolve.now in OnOk result (AddsListings r live.old live.new
-        (elsewhere_from r (used_view context.now.used.now) id.0 (item_roots r (item_view item.now)))) }
+        (elsewhere_from r (used_view context.now.used.now) id.0
+        (item_roots r (item_view item.now)))) }
 {
     let resolve = context.resolve;
     resolve.well_formedness();
