@@ -32,12 +32,14 @@ BOILERPLATE = [
      "clauses: an exported function has those of the call that it makes"),
     (r"wc_calls/src/validation\.rt:\S+ \((\w+)\), wc_calls/src/validation\.rt:\S+ \((\w+)\)$",
      "clauses: a function that finds the module has those of the one that validates it"),
+    (r"wc_names/src/legacy\.rt:\S+ \(match_wit_export\), wc_names/src/standard\.rt:\S+ \(match_wit_export\)$",
+     "heads that a trait fixes: in each scheme the two look-ups of one name make its index, and ask it"),
     (r"wc_validate/src/explain/missing\.rt:\S+ \(unmet_place\), wc_validate/src/explain/missing\.rt:\S+ \(missing_place\)$",
      "a head: the function that looks for memories and callbacks first has that of the one that it calls"),
 ]
 # Definitions that may be alike: their names, with the crates, and why.
 ALIKE = [
-    ("wc_encoder::argument_view wc_validate::instance_entry wc_calls::argument_message_view",
+    ("wc_encoder::argument_view wc_validate::instance_entry",
      "a name and a view: the views are different definitions of different types"),
     ("wc_read::func_value wc_read::global_value", "one for each kind of item, at its types"),
     ("wc_read::table_value wc_read::memory_value", "one for each kind of item, at its types"),

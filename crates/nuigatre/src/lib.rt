@@ -22,7 +22,7 @@ ghost use Rattle.wc_calls.specs.Answers.{AreOthersOfFaultZero, AreOthersOfTextZe
 ghost use Rattle.wc_calls.specs.ComponentPlans.{IsPlanAnswer};
 ghost use Rattle.wc_calls.specs.ComponentWorlds.{IsFaultOf, IsWorldAnswer};
 ghost use Rattle.wc_calls.specs.Renaming.{IsRenamed, IsRenamingFault};
-ghost use Rattle.wc_calls.specs.Required.{texts};
+ghost use Rattle.wc_calls.specs.ExportNames.{texts};
 ghost use Rattle.wc_calls.specs.Trimming.{AreArguments, IsTrimmingFault};
 ghost use Rattle.wc_calls.specs.Validation.{IsNoModuleOf, IsValidOf, IsValidationFaultOf};
 ghost use Rattle.nuigatre.specs.Arguments.{optional_name, settings_of};

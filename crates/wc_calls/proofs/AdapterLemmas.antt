@@ -10,15 +10,14 @@ use Rattle.std.proofs.lemmas.List.Concat.{flat_map-append, flat_map-cons}
 use Rattle.std.proofs.lemmas.List.Sums.{sum-map, sum_by-append, sum_by-cons}
 use Rattle.std.proofs.lemmas.Slice.Eq.{bytes_eq-Decides}
 use Rattle.indexmap.specs.IndexMap.{insert_entry}
-use Rattle.wc_encoder.specs.Adapters.{AdapterView, adapter_entry, adapter_view}
+use Rattle.wc_encoder.specs.Adapters.{AdapterView, adapter_entry, adapter_view, library_view}
 use Rattle.wc_encoder.specs.declared.adapters.Adapter.{Adapter}
 use Rattle.wc_selection.specs.Keys.{NamedKey}
+use Rattle.wc_json.specs.Messages.{AdapterMessageView, adapter_message_view}
+use Rattle.wc_json.specs.declared.messages.AdapterMessage.{AdapterMessage}
 use Rattle.wc_calls.specs.AskedKeys.{adapter_keys}
 use Rattle.wc_calls.specs.Encoders.{AreAdaptersOf, IsAdapterOf}
-use Rattle.wc_calls.specs.Libraries.{library_message_view}
 use Rattle.wc_calls.specs.MessageFaults.{IsNamedTwice}
-use Rattle.wc_calls.specs.Messages.{AdapterMessageView, adapter_message_view}
-use Rattle.wc_calls.specs.declared.messages.AdapterMessage.{AdapterMessage}
 
 -- an item of a list, after those that were passed, as all are seen
 
@@ -100,7 +99,7 @@ pub message_added : (ns ks : List NamedKey) (passed : List AdapterMessage) (byte
     (adapter : Adapter) (text : List ℕ) (there : Bool) → AreAdaptersBefore ns ks (map adapter_message_view passed) bytes rest (map adapter_entry entries)
     → rest ≡ wasm ++ others → length wasm ≡ message.length → (adapter_view adapter).wasm ≡ wasm
     → (adapter_view adapter).required_exports ≡ adapter_keys ns ks (adapter_message_view message)
-    → (adapter_view adapter).library_info ≡ option_map library_message_view message.library_info
+    → (adapter_view adapter).library_info ≡ option_map library_view message.library_info
     → text ≡ string_bytes message.name → there ≡ is_some (named text entries) → there ≡ false → after ≡ insert_entry string_eq entries message.name adapter
     → AreAdaptersBefore ns ks (map adapter_message_view (passed ++ message ∷ [])) bytes others (map adapter_entry after)
 message_added ns ks passed bytes rest wasm others entries after message adapter text there before cut size has keys library is found absent put =

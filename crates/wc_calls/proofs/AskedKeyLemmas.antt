@@ -7,15 +7,15 @@ use Rattle.wc_resolve.specs.Views.{WorldView, key_view}
 use Rattle.wc_resolve.specs.World.{ResolveView}
 use Rattle.wc_selection.specs.KeyNames.{count_unversioned, keys_as_given, request_keys}
 use Rattle.wc_selection.specs.Keys.{NamedKey, export_keys, named_key, named_keys, texts_of}
-use Rattle.wc_selection.specs.RequiredExports.{AreKeysThere, IsKeysCause}
+use Rattle.wc_selection.specs.ModuleKeys.{AreKeysThere, IsKeysCause}
 use Rattle.wc_selection.specs.Requests.{RequestValue, given_keys}
 use Rattle.wc_selection.specs.Texts.{IsFirstMissing, IsFirstRepeated}
 use Rattle.wc_selection.specs.declared.fault.RequestFault.{RequestFault}
 use Rattle.wc_selection.specs.declared.fault.RequestFault.TheVariants as request
+use Rattle.wc_json.specs.Messages.{AdapterMessageView, KeyMessageView}
 use Rattle.wc_calls.specs.AskedKeys.{adapter_texts, gives_none, keys_in, main_texts, request_in}
 use Rattle.wc_calls.specs.Encoders.{AreAdaptersOf, AreExporters}
 use Rattle.wc_calls.specs.MessageFaults.{IsAdaptersCause, IsAskedCause}
-use Rattle.wc_calls.specs.Messages.{AdapterMessageView, KeyMessageView}
 use Rattle.wc_calls.specs.Private.AskedKeys.{IsAsked, IsAskedCauseFor, IsAskedFor, IsExportersCause, IsKeyFault, IsRepeatedKey, IsUnknownKey}
 use Rattle.wc_calls.specs.declared.asked_keys.AskedKeys.{AskedKeys}
 use Rattle.wc_calls.specs.declared.message_fault.MessageFault.{MessageFault}

@@ -20,24 +20,19 @@ use Rattle.wc_resolve.specs.Faults.{IsResolveCause}
 use Rattle.wc_resolve.specs.declared.fault.ResolveFault.{ResolveFault}
 use Rattle.wc_resolve.specs.declared.fault.ResolveFault.TheVariants.{Memory as resolve_memory}
 use Rattle.wc_json.specs.Document.{DocumentView}
+use Rattle.wc_json.specs.Messages.{MessageView, WorldNameView, at_index, message, of_name}
 use Rattle.wc_selection.specs.Keys.{texts_of}
-use Rattle.wc_selection.specs.RequiredExports.{AreKeysThere}
+use Rattle.wc_selection.specs.ModuleKeys.{AreKeysThere}
 use Rattle.wc_selection.specs.Requests.{given_keys}
 use Rattle.wc_selection.specs.Worlds.{IsWorldCause}
 use Rattle.wc_selection.specs.declared.fault.RequestFault.{RequestFault}
 use Rattle.wc_selection.specs.declared.fault.RequestFault.TheVariants.{Memory as request_memory, PackageRange, UnknownWorld, SeveralWorlds}
 use Rattle.wc_calls.specs.AskedKeys.{keys_in, request_in}
 use Rattle.wc_calls.specs.Encoders.{AreChosen, AreExporters, IsMessage, IsPartsOf, IsWorldNamed}
-use Rattle.wc_calls.specs.MessageFaults.{AreKeysKnown, IsAskedCause, IsKeyCause, IsNameCause, IsNoEncoderCause, IsOfChosen, IsPartsCause, IsRenamingCause, IsWorldNameCause, of_dedupe, of_encoder, of_json, of_request, of_resolve}
-use Rattle.wc_calls.specs.Messages.{MessageView, WorldNameView, at_index, message, of_name}
+use Rattle.wc_calls.specs.MessageFaults.{AreKeysKnown, IsAskedCause, IsKeyCause, IsNameCause, IsNoEncoderCause, IsOfChosen, IsPartsCause, IsWorldNameCause, of_dedupe, of_encoder, of_json, of_request, of_resolve}
 use Rattle.wc_calls.specs.Private.AskedKeys.{IsExportersCause}
 use Rattle.wc_calls.specs.declared.message_fault.MessageFault.{MessageFault}
-use Rattle.wc_calls.specs.declared.message_fault.MessageFault.TheVariants.{Memory, NotText, Json, UnknownWorld as unknown_world, Lengths, AdapterTwice, Dedupe, Encoder, World, SeveralWorlds as several_worlds, PackageRange as package_range, UnknownKey, SeveralKeys, RepeatedKey, Plan}
-
--- a fault of renaming
-pub renaming_cause : (bytes : List ℕ) (f : DedupeFault) → IsDedupeCause bytes f → IsRenamingCause bytes (of_dedupe f)
-renaming_cause bytes dedupe_memory h = tt
-renaming_cause bytes f h = h
+use Rattle.wc_calls.specs.declared.message_fault.MessageFault.TheVariants.{Memory, NotText, Json, UnknownWorld as unknown_world, Lengths, AdapterTwice, World, SeveralWorlds as several_worlds, PackageRange as package_range, UnknownKey, SeveralKeys, RepeatedKey, Plan}
 
 -- a world that is not selected
 
@@ -101,10 +96,10 @@ module _ (m : MessageView) (modules main others : List ℕ) (world : ℕ) (chose
   exporters_cause (AdapterTwice name) h = (world, main, others, chosen, (parts_formed, known h.0, h.1))
   exporters_cause f h = absurd h.1
 
-  pub main_cause : (required : List KeyView) (adapters : List (List ℕ × AdapterView)) (f : MessageFault)
-      → AreExporters r world m.exports m.adapters others required adapters → IsRenamingCause main f → IsPartsCause m modules f
-  main_cause required adapters Memory made h = tt
-  main_cause required adapters (Dedupe f) made h = (
+  pub main_cause : (required : List KeyView) (adapters : List (List ℕ × AdapterView)) (f : DedupeFault)
+      → AreExporters r world m.exports m.adapters others required adapters → IsDedupeCause main f → IsPartsCause m modules (of_dedupe f)
+  main_cause required adapters dedupe_memory made h = tt
+  main_cause required adapters f made h = (
     world,
     main,
     others,
@@ -117,7 +112,6 @@ module _ (m : MessageView) (modules main others : List ℕ) (world : ℕ) (chose
       h,
     ),
   )
-  main_cause required adapters f made h = absurd h
 
   pub encoder_cause : (e : EncoderView) (f : EncoderFault) → IsPartsOf m modules e → IsEncoderCause e f → IsPartsCause m modules (of_encoder f)
   encoder_cause e encoder_memory made h = tt

@@ -1,5 +1,5 @@
 -- Faults that are answered, by their causes and what they are about.
-use Rattle.std.proofs.Common.{◌≡◌, ◌≢◌, ◌<◌, ℕ, List, length, sym, subst}
+use Rattle.std.proofs.Common.{◌≡◌, ◌≢◌, ℕ, List, sym, subst}
 use Rattle.wc_encoder.specs.EncoderParts.{EncoderView}
 use Rattle.wc_world.specs.Options.{OptionsOf}
 use Rattle.wc_calls.specs.Answers.{IsPut, IsTooLong}
@@ -10,7 +10,7 @@ use Rattle.wc_calls.specs.Places.{IsPlaceOf}
 use Rattle.wc_calls.specs.Private.EncoderAnswers.{IsFaultFor, IsPartPlaceFor, IsPlaceFor, IsPlanFaultFor}
 use Rattle.wc_calls.specs.declared.answers.Answer.{Answer}
 use Rattle.wc_calls.specs.declared.message_fault.MessageFault.{MessageFault}
-use Rattle.wc_calls.specs.declared.message_fault.MessageFault.TheVariants.{Memory, Plan, Resolve, World}
+use Rattle.wc_calls.specs.declared.message_fault.MessageFault.TheVariants.{Memory, Plan, World}
 
 -- what is put, and what is too long for the buffer, by what is known of it
 

@@ -2,7 +2,7 @@ mod AdapterLemmas
 mod CauseLemmas
 mod ComponentPlanLemmas
 mod ComponentWorldLemmas
-mod RequiredLemmas
+mod ExportNameLemmas
 mod MissingLemmas
 mod TrimmingLemmas
 mod AskedKeyLemmas

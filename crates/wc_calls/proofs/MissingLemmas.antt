@@ -6,13 +6,14 @@ use Rattle.std.proofs.lemmas.Slice.Eq.{bytes_eq-Decides}
 use Rattle.std.specs.Prelude.{string_bytes}
 use Rattle.std.specs.List.{find, list_any, slice_get}
 use Rattle.std.specs.Str.{bytes_eq}
-use Rattle.wc_gc.specs.Liveness.{distinct_names, trim_input_for_names}
+use Rattle.wc_gc.specs.Liveness.{trim_input_for_names}
+use Rattle.wc_maps.specs.Names.{first_occurrences}
 use Rattle.wc_gc.specs.Parts.{SettingsValue}
 use Rattle.wc_gc.specs.Trimming.{IsTrimFault}
 use Rattle.wc_gc.specs.declared.fault.GcFault.{GcFault}
 use Rattle.wc_gc.specs.declared.fault.GcFault.TheVariants.{Memory, MissingExport}
 use Rattle.wc_gc.proofs.NameSetLemmas.{among_distinct}
-use Rattle.wc_calls.specs.Required.{position_of}
+use Rattle.wc_calls.specs.ExportNames.{position_of}
 use Rattle.wc_calls.specs.Trimming.{IsPosition, position_in}
 
 -- what is found is among the names
@@ -44,9 +45,9 @@ position_there (n ∷ names) x e =
           rw fails (position_there names x other))
     ]
 
-missing_there : (names : List (List ℕ)) (p : List ℕ → Bool) (x : List ℕ) → find p (distinct_names names) ≡ Some x → slice_get names (position_of names x) ≡ Some x
+missing_there : (names : List (List ℕ)) (p : List ℕ → Bool) (x : List ℕ) → find p (first_occurrences names) ≡ Some x → slice_get names (position_of names x) ≡ Some x
 missing_there names p x e =
-    position_there names x (among_distinct names x (found_among p (distinct_names names) x e))
+    position_there names x (among_distinct names x (found_among p (first_occurrences names) x e))
 
 -- the position that an answer has for a fault that has its cause
 pub named_position : (s : SettingsValue) (wasm : List ℕ) (names : List (List ℕ)) (f : GcFault) → f ≢ Memory → IsTrimFault s (trim_input_for_names wasm names) f → IsPosition names f (position_in names f)

@@ -1,14 +1,13 @@
 -- One module of an encoder: what is answered for it.
-use Rattle.std.proofs.Common.{◌≡◌, ◌≢◌, ℕ, List, map, Option, Some, None, Result, Ok, Err, IfOk, OnOk, IfErr, String, string_bytes, ap, sym, subst, ◌∙◌, inl, inr}
-use Rattle.std.specs.Borrow.{Bor}
+use Rattle.std.proofs.Common.{◌≡◌, ◌≢◌, ℕ, List, map, Option, Some, None, Result, Ok, Err, IfOk, String, string_bytes, ap, sym, subst}
 use Rattle.std.specs.Map.{lookup}
 use Rattle.std.specs.Option.{option_map}
-use Rattle.std.specs.Str.{IsUtf8, bytes_eq}
+use Rattle.std.specs.Str.{bytes_eq}
 use Rattle.std.specs.declared.alloc.AllocError.{AllocError}
 use Rattle.std.specs.declared.alloc.Global.{Global}
 use Rattle.std.specs.declared.vec.Vec.{Vec}
 use Rattle.wc_dedupe.specs.Renaming.{RenameValue}
-use Rattle.wc_encoder.specs.Adapters.{AdapterView, LibraryView, adapter_view, library_view}
+use Rattle.wc_encoder.specs.Adapters.{LibraryView, adapter_view, library_view}
 use Rattle.wc_encoder.specs.EncoderParts.{EncoderView}
 use Rattle.wc_resolve.specs.Views.{key_view}
 use Rattle.wc_validate.specs.Imports.Map.{required_entry, required_in}
@@ -19,23 +18,22 @@ use Rattle.wc_validate.specs.declared.fault.ValidateFault.TheVariants as validat
 use Rattle.wc_validate.specs.declared.place.Place.{Place}
 use Rattle.wc_world.specs.Adapters.{validation_input_of}
 use Rattle.wc_world.specs.Causes.{IsRefused}
-use Rattle.wc_world.specs.Places.{IsInAdapter, IsValidationPlace, IsWorldExplained}
+use Rattle.wc_world.specs.Places.{IsIn, IsValidationPlace}
 use Rattle.wc_world.specs.World.{IsMainRecord}
-use Rattle.wc_world.specs.declared.fault.WorldFault.{WorldFault}
 use Rattle.wc_world.specs.declared.fault.WorldFault.TheVariants.{Main, Adapter}
-use Rattle.wc_world.specs.declared.places.ModulePlace.{ModulePlace}
 use Rattle.wc_world.specs.declared.places.ModulePlace.TheVariants as place
 use Rattle.wc_world.specs.declared.places.WorldPlace.{WorldPlace}
+use Rattle.wc_record.specs.Places.{world_place_json}
 use Rattle.wc_calls.specs.Encoders.{IsEncoderOf}
 use Rattle.wc_calls.specs.FaultAnswers.{IsFaultAnswered}
 use Rattle.wc_calls.specs.MessageFaults.{IsNoEncoderCause}
-use Rattle.wc_calls.specs.Places.{IsWorldPlaceText, place_text, world_place_json}
+use Rattle.wc_calls.specs.Places.{place_text}
 use Rattle.wc_calls.specs.Private.EncoderAnswers.{IsPartPlaceFor}
-use Rattle.wc_calls.specs.Private.ModuleAnswers.{IsIn, IsInputFaultAnswer, IsInputPlace, IsInputPlaceText, IsInputRefused, IsInputValid, IsModuleFault, IsModulePlaceFor, input_of, named_adapter}
-use Rattle.wc_calls.specs.Validation.{IsAdapterPlace, IsAdapterRefused, IsAdapterValid, IsModuleRefused, IsModuleValid, IsNoModule, IsUnder, IsValidationCause, IsValidationPlaceOf}
+use Rattle.wc_calls.specs.Private.ModuleAnswers.{IsInputPlace, IsInputPlaceText, IsInputRefused, IsInputValid, IsModuleFault, IsModulePlaceFor, input_of}
+use Rattle.wc_calls.specs.Validation.{IsAdapterPlace, IsAdapterRefused, IsModuleRefused, IsModuleValid, IsUnder, IsValidationCause, IsValidationPlaceOf}
 use Rattle.wc_calls.specs.declared.answers.Answer.{Answer}
 use Rattle.wc_calls.specs.declared.message_fault.MessageFault.{MessageFault}
-use Rattle.wc_calls.specs.declared.message_fault.MessageFault.TheVariants.{Memory, Plan, Resolve, World}
+use Rattle.wc_calls.specs.declared.message_fault.MessageFault.TheVariants.{Memory, World}
 use Rattle.wc_calls.specs.declared.validation.AdapterInput.{AdapterInput}
 use Rattle.wc_calls.proofs.FaultAnswerLemmas.{answered_as, answered_by}
 
@@ -87,7 +85,7 @@ input_place_text g f o p (Err e) h is text = tt
 module _ (g : AdapterInput) (main : ModuleRecord) (recorded : IsMainRecord g.encoder.now main)
     (there : lookup (bytes_eq g.name.now) g.encoder.now.adapters ≡ Some (adapter_view g.adapter.now))
     (required : map required_entry g.required.now.entries ≡ required_in main.imports g.name.now) where
-  for_main : input_of g ≡ validation_input_of g.encoder.now main (named_adapter g)
+  for_main : input_of g ≡ validation_input_of g.encoder.now main (g.name.now, adapter_view g.adapter.now)
   for_main = ap (λ r. adapter_input g.encoder.now (option_map library_view g.adapter.now.library_info) (map key_view g.adapter.now.required_exports.keys) r) required
 
   pub module_valid : IsInputValid g → IsModuleValid g.encoder.now (Some g.name.now)
@@ -102,7 +100,7 @@ module _ (g : AdapterInput) (main : ModuleRecord) (recorded : IsMainRecord g.enc
         (main, recorded, adapter_view g.adapter.now, there, subst (λ j. IsRefused j g.adapter.now.wasm.items f) for_main h),
   )
 
-  placed_at : (f : ValidateFault) (p : Option WorldPlace) → IsInputPlace g f p → IsAdapterPlace g.encoder.now f p main (named_adapter g)
+  placed_at : (f : ValidateFault) (p : Option WorldPlace) → IsInputPlace g f p → IsAdapterPlace g.encoder.now f p main (g.name.now, adapter_view g.adapter.now)
   placed_at f None h = subst (λ j. IsUnplaced j g.adapter.now.wasm.items f) for_main h
   placed_at f (Some p) h = (h.0, subst (λ j. IsValidationPlace j g.adapter.now.wasm.items f p.place) for_main h.1)
 

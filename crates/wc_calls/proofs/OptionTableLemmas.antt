@@ -3,17 +3,19 @@ use Rattle.std.proofs.Common.{◌≡◌, ℕ, ◌+◌, ◌<◌, ◌≤◌, List,
 use Rattle.std.proofs.Math.Path.{fun_ext}
 use Rattle.std.proofs.lemmas.Bool.{cases_Bool, false≢true}
 use Rattle.std.proofs.lemmas.List.{map-append, take_all, take_more}
+use Rattle.std.proofs.lemmas.Simd.{map-map}
 use Rattle.std.proofs.lemmas.Slice.Eq.{bytes_eq-Decides}
 use Rattle.std.specs.Map.{lookup}
 use Rattle.std.specs.Option.{option_map, option_or, unwrap_or}
 use Rattle.std.specs.Str.{bytes_eq}
 use Rattle.indexmap.specs.IndexMap.{insert_entry}
 use Rattle.wc_resolve.proofs.LookupLemmas.{name_viewed}
+use Rattle.wc_json.specs.Messages.{options_message_view}
+use Rattle.wc_json.specs.declared.messages.OptionsMessage.{OptionsMessage}
 use Rattle.wc_world.specs.Options.{plain_options}
 use Rattle.wc_world.specs.declared.options.RequiredOptions.{RequiredOptions}
-use Rattle.wc_calls.specs.ImportOptions.{NamedOptions, first_options, options_message_view}
-use Rattle.wc_calls.specs.Private.OptionTables.{bits_of, table_entry}
-use Rattle.wc_calls.specs.declared.import_options.OptionsMessage.{OptionsMessage}
+use Rattle.wc_calls.specs.ImportOptions.{NamedOptions, first_options, named_options}
+use Rattle.wc_calls.specs.Private.OptionTables.{bits_of, message_entry, table_entry}
 
 -- the same is under each name
 abbrev pub HaveSameOptions : List NamedOptions → List NamedOptions → Type 0
@@ -72,13 +74,13 @@ put_last (e ∷ es) name x fresh = elim (cases_Bool (string_eq name e.0)) [
 
 -- the messages that were passed, and one more
 passed_more : (messages : List OptionsMessage) (i : ℕ) (d x : OptionsMessage) → i < length messages → x ≡ get_or messages i d
-    → map options_message_view (take (i + 1) messages) ≡ map options_message_view (take i messages) ++ options_message_view x ∷ []
+    → map message_entry (take (i + 1) messages) ≡ map message_entry (take i messages) ++ message_entry x ∷ []
 passed_more messages i d x within at =
-    ap (map options_message_view) (take_more messages i d within ∙ ap (λ m. take i messages ++ m ∷ []) (sym at))
-    ∙ map-append options_message_view (take i messages) (x ∷ [])
+    ap (map message_entry) (take_more messages i d within ∙ ap (λ m. take i messages ++ m ∷ []) (sym at))
+    ∙ map-append message_entry (take i messages) (x ∷ [])
 
 abbrev pub HasPassed : List (String Global × RequiredOptions) → List OptionsMessage → ℕ → Type 0
-HasPassed entries messages i = HaveSameOptions (map table_entry entries) (map options_message_view (take i messages))
+HasPassed entries messages i = HaveSameOptions (map table_entry entries) (map message_entry (take i messages))
 
 -- what is under a name that is seen by its text
 under_text : (entries : List (String Global × RequiredOptions)) (name : List ℕ) (b : Bool)
@@ -96,26 +98,28 @@ module _ (entries : List (String Global × RequiredOptions)) (messages : List Op
   pub passed_again : there ≡ true → HasPassed entries messages (i + 1)
   passed_again known =
       subst (HaveSameOptions (map table_entry entries)) (sym (passed_more messages i d x within at))
-      (none_more (map table_entry entries) (map options_message_view (take i messages)) (options_message_view x)
+      (none_more (map table_entry entries) (map message_entry (take i messages)) (message_entry x)
       (under_text entries (string_bytes x.name) true
       (subst (λ t. is_some (lookup (λ k. bytes_eq t (string_bytes k)) entries) ≡ true) is (sym found ∙ known))) same)
 
   -- its options are put under its name
-  pub passed_new : (after : List (String Global × RequiredOptions)) (name : String Global) → there ≡ false → string_bytes name ≡ string_bytes x.name
-      → after ≡ insert_entry string_eq entries name x.options → HasPassed after messages (i + 1)
-  passed_new after name unknown cloned put =
+  pub passed_new : (after : List (String Global × RequiredOptions)) (name : String Global) (options : RequiredOptions) → there ≡ false
+      → string_bytes name ≡ string_bytes x.name → options.0 ≡ (message_entry x).1 → after ≡ insert_entry string_eq entries name options
+      → HasPassed after messages (i + 1)
+  passed_new after name options unknown cloned set put =
       let fresh : is_some (lookup (λ k. bytes_eq (string_bytes name) (string_bytes k)) entries) ≡ false =
       subst (λ t. is_some (lookup (λ k. bytes_eq t (string_bytes k)) entries) ≡ false) (is ∙ sym cloned) (sym found ∙ unknown) in
-      let grown : map table_entry after ≡ map table_entry entries ++ options_message_view x ∷ [] =
-      ap (map table_entry) (put ∙ put_last entries name x.options fresh) ∙ (map-append table_entry entries ((name, x.options) ∷ [])
-      ∙ ap (λ n. map table_entry entries ++ (n, x.options.0) ∷ []) cloned) in
-      subst (λ es. HaveSameOptions es (map options_message_view (take (i + 1) messages))) (sym grown)
-      (subst (HaveSameOptions (map table_entry entries ++ options_message_view x ∷ [])) (sym (passed_more messages i d x within at))
-      (one_more (map table_entry entries) (map options_message_view (take i messages)) (options_message_view x) same))
+      let grown : map table_entry after ≡ map table_entry entries ++ message_entry x ∷ [] =
+      ap (map table_entry) (put ∙ put_last entries name options fresh) ∙ (map-append table_entry entries ((name, options) ∷ [])
+      ∙ rw (cloned, set) refl) in
+      subst (λ es. HaveSameOptions es (map message_entry (take (i + 1) messages))) (sym grown)
+      (subst (HaveSameOptions (map table_entry entries ++ message_entry x ∷ [])) (sym (passed_more messages i d x within at))
+      (one_more (map table_entry entries) (map message_entry (take i messages)) (message_entry x) same))
 
 -- all were passed
 pub all_passed : (entries : List (String Global × RequiredOptions)) (messages : List OptionsMessage) (i : ℕ) → length messages ≤ i → HasPassed entries messages i
-    → first_options (map table_entry entries) ≡ first_options (map options_message_view messages)
+    → first_options (map table_entry entries) ≡ first_options (map named_options (map options_message_view messages))
 all_passed entries messages i end same =
-    same_options (map table_entry entries) (map options_message_view messages)
-    (subst (λ ms. HaveSameOptions (map table_entry entries) (map options_message_view ms)) (take_all i messages end) same)
+    same_options (map table_entry entries) (map message_entry messages)
+    (subst (λ ms. HaveSameOptions (map table_entry entries) (map message_entry ms)) (take_all i messages end) same)
+    ∙ ap first_options (sym (map-map named_options options_message_view messages))

@@ -4,8 +4,8 @@ use Rattle.std.specs.declared.alloc.AllocError.{AllocError}
 use Rattle.std.specs.declared.alloc.Global.{Global}
 use Rattle.std.specs.declared.vec.Vec.{Vec}
 use Rattle.wc_resolve.specs.declared.fault.ResolveFault.{ResolveFault}
+use Rattle.wc_json.specs.Messages.{MessageView}
 use Rattle.wc_calls.specs.Encoders.{IsMessage}
-use Rattle.wc_calls.specs.Messages.{MessageView}
 use Rattle.wc_calls.specs.Places.{IsPartPlaceText, IsPartText}
 
 -- the text of a place

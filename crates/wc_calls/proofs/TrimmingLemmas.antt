@@ -1,6 +1,7 @@
 -- What trimming answers, as the answer of a call.
 use Rattle.std.proofs.Common.{◌≡◌, ◌≢◌, ◌≤◌, ◌⊎◌, ◌<◌, arith, ℕ, List, length, Result, Ok, Err, IfOk, IfErr, sym, subst, inl, inr}
-use Rattle.wc_gc.specs.Liveness.{TrimInput, distinct_names, trim_input_for_names}
+use Rattle.wc_gc.specs.Liveness.{TrimInput, trim_input_for_names}
+use Rattle.wc_maps.specs.Names.{first_occurrences}
 use Rattle.wc_gc.specs.Parts.{SettingsValue}
 use Rattle.wc_gc.specs.Trimming.{IsTrimFault}
 use Rattle.wc_gc.specs.declared.fault.GcFault.{GcFault}
@@ -15,7 +16,7 @@ one_of : (status n : ℕ) → status ≡ n → n ≤ 5 → n ≢ 3 → n ≢ 4 �
 one_of status n is most other another = subst (λ k. (k ≤ 5) × (k ≢ same_status) × (k ≢ bad_argument)) (sym is) (most, other, another)
 
 -- what is so of the names of a set is so of the names that are put into it, each once
-pub for_names : {V : Type 0} (P : TrimInput → V → Type 0) (wasm : List ℕ) (keys names : List (List ℕ)) (r : Result V GcFault) → keys ≡ distinct_names names
+pub for_names : {V : Type 0} (P : TrimInput → V → Type 0) (wasm : List ℕ) (keys names : List (List ℕ)) (r : Result V GcFault) → keys ≡ first_occurrences names
     → IfOk r (P (record { bytes = wasm; required = keys })) → IfOk r (P (trim_input_for_names wasm names))
 for_names P wasm keys names (Ok v) same h = subst (λ (ns : List (List ℕ)). P (record { bytes = wasm; required = ns }) v) same h
 for_names P wasm keys names (Err f) same h = h
@@ -29,7 +30,7 @@ too_long_of items P (Ok v) status n old is long small refused e = (items v, is, 
 too_long_of items P (Err f) status n old is long small refused e = absurd (refused.1 e)
 
 pub fault_of : {V : Type 0} (s : SettingsValue) (wasm : List ℕ) (keys names : List (List ℕ)) (r : Result V GcFault) (a : Answer) (old new : List ℕ)
-    → keys ≡ distinct_names names → IfErr r (IsTrimFault s (record { bytes = wasm; required = keys })) → IfOk r (λ v. IsBytesStatus a.status)
+    → keys ≡ first_occurrences names → IfErr r (IsTrimFault s (record { bytes = wasm; required = keys })) → IfOk r (λ v. IsBytesStatus a.status)
     → IfErr r (λ f. f ≡ Memory → a.status ≡ out_of_memory)
     → IfErr r (λ f. f ≢ Memory → a.status ≡ failed → IsTrimRefused (record { bytes = wasm; required = keys }) names f a old new)
     → a.status ≡ failed → IsTrimmingFault s wasm names a old new

@@ -5,9 +5,9 @@ use Rattle.wc_resolve.specs.Views.{KeyView}
 use Rattle.wc_resolve.specs.World.{ResolveView}
 use Rattle.wc_selection.specs.KeyNames.{request_keys}
 use Rattle.wc_selection.specs.Keys.{NamedKey, export_keys}
-use Rattle.wc_selection.specs.RequiredExports.{required_keys}
+use Rattle.wc_selection.specs.ModuleKeys.{required_keys}
 use Rattle.wc_selection.specs.Requests.{RequestValue}
-use Rattle.wc_calls.specs.Messages.{AdapterMessageView, KeyMessageView}
+use Rattle.wc_json.specs.Messages.{AdapterMessageView, KeyMessageView}
 
 -- the text of a message's key, among the keys of exports: that of the interface whose own id it is, if it is exported under
 -- this; else the text as it is

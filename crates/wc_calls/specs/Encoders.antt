@@ -8,16 +8,16 @@ use Rattle.wc_encoder.specs.Adapters.{AdapterView}
 use Rattle.wc_encoder.specs.EncoderParts.{EncoderView}
 use Rattle.wc_encoder.specs.WellFormed.{IsWellFormed}
 use Rattle.wc_json.specs.Document.{DocumentView}
+use Rattle.wc_json.specs.Messages.{AdapterMessageView, KeyMessageView, MessageView, WorldNameView, at_index, message, of_name}
 use Rattle.wc_resolve.specs.Views.{KeyView}
 use Rattle.wc_resolve.specs.World.{ResolveView}
 use Rattle.wc_selection.specs.Keys.{NamedKey, export_keys, texts_of}
-use Rattle.wc_selection.specs.RequiredExports.{AreKeysThere}
+use Rattle.wc_selection.specs.ModuleKeys.{AreKeysThere}
 use Rattle.wc_selection.specs.Requests.{given_keys}
 use Rattle.wc_selection.specs.Worlds.{IsSelected}
 use Rattle.wc_world.specs.Options.{OptionsOf}
 use Rattle.wc_calls.specs.AskedKeys.{adapter_keys, gives_none, keys_in, main_keys, request_in}
 use Rattle.wc_calls.specs.ImportOptions.{listed_options}
-use Rattle.wc_calls.specs.Messages.{AdapterMessageView, KeyMessageView, MessageView, WorldNameView, at_index, message, of_name}
 
 -- the text is JSON, no object in it repeats a member, and its value is read as the message
 abbrev pub IsMessage : List ℕ → MessageView → Type 0

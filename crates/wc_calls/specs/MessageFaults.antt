@@ -28,9 +28,10 @@ use Rattle.wc_world.specs.World.{IsWorldOf}
 use Rattle.wc_world.specs.declared.fault.WorldFault.{WorldFault}
 use Rattle.wc_world.specs.declared.fault.WorldFault.TheVariants.{Memory as world_memory}
 use Rattle.wc_json.specs.Document.{DocumentView}
+use Rattle.wc_json.specs.Messages.{AdapterMessageView, MessageView, WorldNameView, at_index, message, of_name}
 use Rattle.wc_selection.specs.KeyNames.{count_unversioned}
 use Rattle.wc_selection.specs.Keys.{NamedKey, texts_of}
-use Rattle.wc_selection.specs.RequiredExports.{AreKeysThere}
+use Rattle.wc_selection.specs.ModuleKeys.{AreKeysThere}
 use Rattle.wc_selection.specs.Requests.{RequestValue, given_keys}
 use Rattle.wc_selection.specs.Texts.{IsFirstMissing, IsFirstRepeated}
 use Rattle.wc_selection.specs.Worlds.{ArePackagesIn, AreSeveralWorlds, IsNoWorld}
@@ -38,7 +39,6 @@ use Rattle.wc_selection.specs.declared.fault.RequestFault.{RequestFault}
 use Rattle.wc_selection.specs.declared.fault.RequestFault.TheVariants as request
 use Rattle.wc_calls.specs.AskedKeys.{keys_in, request_in}
 use Rattle.wc_calls.specs.Encoders.{AreChosen, AreExporters, AreOptionsOf, IsEncoderOf, IsMessage, IsPartsOf, IsWorldNamed}
-use Rattle.wc_calls.specs.Messages.{AdapterMessageView, MessageView, WorldNameView, at_index, message, of_name}
 use Rattle.wc_calls.specs.declared.message_fault.MessageFault.{MessageFault}
 use Rattle.wc_calls.specs.declared.message_fault.MessageFault.TheVariants.{Memory, NotText, Json, UnknownWorld, Lengths, Resolve, AdapterTwice, Dedupe, Encoder, World, SeveralWorlds, PackageRange, UnknownKey, SeveralKeys, RepeatedKey, Plan}
 
@@ -187,8 +187,3 @@ IsAdaptersCause ms bytes Memory = ⊤
 IsAdaptersCause ms bytes Lengths = sizes ms ≢ length bytes
 IsAdaptersCause ms bytes (AdapterTwice name) = IsNamedTwice ms (string_bytes name)
 IsAdaptersCause ms bytes f = ⊥
-
-abbrev pub IsRenamingCause : List ℕ → MessageFault → Type 0
-IsRenamingCause bytes Memory = ⊤
-IsRenamingCause bytes (Dedupe f) = IsDedupeCause bytes f
-IsRenamingCause bytes f = ⊥

@@ -3,3 +3,4 @@ pub mod EncoderAnswers
 pub mod AskedKeys
 pub mod ModuleAnswers
 pub mod OptionTables
+pub mod TrimArguments

@@ -10,7 +10,7 @@ use Rattle.wc_gc.specs.declared.fault.GcFault.TheVariants.{Memory, MissingExport
 use Rattle.wc_calls.specs.Answers.{IsFront, failed}
 use Rattle.wc_calls.specs.FaultNumbers.{gc_fault_number}
 use Rattle.wc_calls.specs.Places.{IsTrimPlaceText}
-use Rattle.wc_calls.specs.Required.{position_of}
+use Rattle.wc_calls.specs.ExportNames.{position_of}
 use Rattle.wc_calls.specs.declared.answers.Answer.{Answer}
 
 -- how an adapter is trimmed for a main module that exports a realloc of this name, and has pages of 2^16 bytes

@@ -15,10 +15,11 @@ use Rattle.wc_world.specs.World.{IsMainRecord}
 use Rattle.wc_world.specs.declared.fault.WorldFault.{WorldFault}
 use Rattle.wc_world.specs.declared.fault.WorldFault.TheVariants.{Main, Adapter}
 use Rattle.wc_world.specs.declared.places.WorldPlace.{WorldPlace}
+use Rattle.wc_record.specs.Places.{world_place_json}
 use Rattle.wc_calls.specs.Encoders.{IsEncoderOf}
 use Rattle.wc_calls.specs.FaultAnswers.{IsFaultAnswered}
 use Rattle.wc_calls.specs.MessageFaults.{IsNoEncoderCause}
-use Rattle.wc_calls.specs.Places.{IsPartPlaceText, IsWorldPlaceText, place_text, world_place_json}
+use Rattle.wc_calls.specs.Places.{IsPartPlaceText, IsWorldPlaceText, place_text}
 use Rattle.wc_calls.specs.declared.answers.Answer.{Answer}
 use Rattle.wc_calls.specs.declared.message_fault.MessageFault.{MessageFault}
 use Rattle.wc_calls.specs.declared.message_fault.MessageFault.TheVariants.{Resolve, World}

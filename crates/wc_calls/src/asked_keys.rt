@@ -1,26 +1,34 @@
 //! Which keys of a world's exports a message asks of its modules.
 
 ghost use Rattle.std.specs.Prelude.{◌≡◌, IfErr, IfOk, OnOk, flat_map, map};
+ghost use Rattle.wc_json.specs.Messages.{adapter_message_view, exports_view, key_message_view};
 ghost use Rattle.wc_resolve.specs.Views.{key_view};
 ghost use Rattle.wc_selection.specs.KeyNames.{request_keys};
 ghost use Rattle.wc_selection.specs.Keys.{AreKeysApart, export_keys, named_key, texts_of};
-ghost use Rattle.wc_selection.specs.RequiredExports.{AreKeysThere};
+ghost use Rattle.wc_selection.specs.ModuleKeys.{AreKeysThere};
 ghost use Rattle.wc_selection.specs.Requests.{given_keys, request_value};
 ghost use Rattle.wc_selection.specs.Texts.{text_of, text_pair};
 ghost use Rattle.wc_calls.specs.AskedKeys.{adapter_keys, adapter_texts, gives_none, main_keys, main_texts, text_meant, texts_meant};
 ghost use Rattle.wc_calls.specs.MessageFaults.{IsAskedCause};
-ghost use Rattle.wc_calls.specs.Messages.{adapter_message_view, exports_view, key_message_view};
 ghost use Rattle.wc_calls.specs.Private.AskedKeys.{IsAsked, IsAskedCauseFor, IsAskedFor, IsKeyFault, IsRepeatedKey, IsUnknownKey};
 
 use crate::message_fault::MessageFault;
-use crate::messages::{AdapterMessage, KeyMessage};
 use std::alloc::{AllocError, Global};
+use wc_json::{AdapterMessage, KeyMessage};
 use wc_maps::{Seed, Set};
 use wc_resolve::{Resolve, WorldId, WorldKey};
 use wc_selection::{
     Exporter, KeyRequest, RequestFault, check_keys, count_unversioned, export_keys, request_keys,
     required_keys,
 };
+
+/// A world, and the keys of its exports that a message gives for the main module.
+#[derive(Clone, Copy)]
+pub(crate) struct AskedWorld<'a> {
+    pub resolve: &'a Resolve,
+    pub world: WorldId,
+    pub exports: &'a Option<Vec<KeyMessage>>,
+}
 
 /// What a message asks of a world's exports.
 #[derive(Drop)]
@@ -247,23 +255,22 @@ pub(crate) fn adapter_keys<'k>(
     required_keys(alloc, seed, &request, exporter, keys)
 }
 
-/// What a request asks of a world's exports. `gives_none`: whether the main module has to export nothing.
+/// What a request asks of a world's exports, which gives the main module's keys as the message does.
 fn asked_by(
     alloc: Global,
     seed: Seed,
     request: &KeyRequest<'_, '_>,
-    gives_none: bool,
-    resolve: &Resolve,
-    world: WorldId,
+    world: AskedWorld<'_>,
 ) -> Result<AskedKeys, MessageFault>
-    ensures asked { IfOk result (IsAsked (request_value request.now) gives_none
-        (request_keys (request_value request.now) resolve.now world.0)) }
-    ensures fault { IfErr result (IsAskedCause (request_value request.now)
-        (request_keys (request_value request.now) resolve.now world.0)) }
+    ensures asked { IfOk result (IsAsked (request_value request.now)
+        (gives_none (exports_view world.entry.exports.now)) (request_keys
+        (request_value request.now) world.entry.resolve.now world.entry.world.0)) }
+    ensures fault { IfErr result (IsAskedCause (request_value request.now) (request_keys
+        (request_value request.now) world.entry.resolve.now world.entry.world.0)) }
 {
-    let keys = keys_in(alloc, request, resolve, world)?;
+    let keys = keys_in(alloc, request, world.resolve, world.world)?;
     check_asked(alloc, seed, request, &keys)?;
-    let main = main_keys(alloc, seed, request, gives_none, &keys)?;
+    let main = main_keys(alloc, seed, request, gives_none(world.exports), &keys)?;
     Ok(AskedKeys { keys, main })
 }
 
@@ -272,21 +279,21 @@ pub(crate) fn asked_of<'k>(
     alloc: Global,
     seed: Seed,
     named: &'k [(WorldKey, String)],
-    exports: &'k Option<Vec<KeyMessage>>,
+    world: AskedWorld<'k>,
     adapters: &'k [AdapterMessage],
-    resolve: &Resolve,
-    world: WorldId,
 ) -> Result<AskedKeys, MessageFault>
-    ensures asked { IfOk result (IsAskedFor (map named_key named.now) (exports_view exports.now)
-        (map adapter_message_view adapters.now) resolve.now world.0) }
+    ensures asked { IfOk result (IsAskedFor (map named_key named.now)
+        (exports_view world.entry.exports.now) (map adapter_message_view adapters.now)
+        world.entry.resolve.now world.entry.world.0) }
     ensures fault { IfErr result (IsAskedCauseFor (map named_key named.now)
-        (exports_view exports.now) (map adapter_message_view adapters.now) resolve.now world.0) }
+        (exports_view world.entry.exports.now) (map adapter_message_view adapters.now)
+        world.entry.resolve.now world.entry.world.0) }
 {
-    let texts = main_texts(alloc, named, exports)?;
+    let texts = main_texts(alloc, named, world.exports)?;
     let adapter_texts = texts_of_adapters(alloc, named, adapters)?;
     let request = KeyRequest {
         exports: &texts,
         adapter_exports: &adapter_texts,
     };
-    asked_by(alloc, seed, &request, gives_none(exports), resolve, world)
+    asked_by(alloc, seed, &request, world)
 }

@@ -79,8 +79,8 @@ fn world_for(alloc: Global, input: &WorldInput, out: &mut [u8]) -> Answer
     }
 }
 
-/// Makes the world of a component, as `ComponentWorld::new` of `wc_world` does. The message is JSON: an object with the
-/// members
+/// Makes the world of a component, as `ComponentWorld::new` of `wc_world` does. The message is JSON, as
+/// `wc_json::message_from_json` reads it: an object with the members
 ///
 /// - `resolve`: worlds, interfaces, types and packages, as `wc_json` reads them;
 /// - `world`: the index of a world, or a name as `select_world` of `wc_selection` takes it;
@@ -112,7 +112,7 @@ fn world_for(alloc: Global, input: &WorldInput, out: &mut [u8]) -> Answer
 ///   `Json: adapters[0].length: not an index`. After the text is a JSON object that says what the fault is about, if it is
 ///   one of an import, an export, a section or a body (`wc_world::explain`), or of a world, an interface, a type or a
 ///   package (`wc_resolve::explain_parts`); else nothing. Both have `length` bytes, and are in the front of `out`, if
-///   `out` has so many. The members of these objects are listed in `places.rt`.
+///   `out` has so many. `wc_record::world_place_to_json` and `part_to_json` list the members of these objects.
 /// - `MEMORY`: an allocation failed.
 ///
 /// It is never `SAME` or `BAD_ARGUMENT`. `out` is as it was but for what is said here, and then after the first `length`

@@ -1,36 +1,30 @@
 //! Encoders out of messages and the bytes of their modules, and the options of lowered functions.
 
 ghost use Rattle.std.specs.Prelude.{◌≡◌, ◌++◌, ◌<◌, [], IfErr, IfNone, IfOk, IfSome, List, length, map, string_bytes, unwrap_or, ℕ};
-ghost use Rattle.std.specs.Cow.{cow_slice_items};
 ghost use Rattle.std.specs.Option.{option_map};
-ghost use Rattle.wc_dedupe.specs.Dedupe.{IsDeduped, renames_in};
 ghost use Rattle.wc_encoder.specs.Adapters.{adapter_entry, adapter_view, library_view};
 ghost use Rattle.wc_encoder.specs.WellFormed.{IsWellFormed};
 ghost use Rattle.wc_json.specs.Document.{document_view};
+ghost use Rattle.wc_json.specs.Messages.{adapter_message_view, exports_view, message_view, world_name_view};
 ghost use Rattle.wc_resolve.specs.Views.{key_view};
 ghost use Rattle.wc_selection.specs.Keys.{AreKeysApart, named_key};
 ghost use Rattle.wc_selection.specs.Worlds.{IsSelected};
 ghost use Rattle.wc_calls.specs.Encoders.{AreAdaptersOf, AreChosen, AreExporters, AreOptionsOf, IsEncoderOf, IsPartsOf, IsWorldNamed};
-ghost use Rattle.wc_calls.specs.Libraries.{library_message_view};
-ghost use Rattle.wc_calls.specs.MessageFaults.{IsAdaptersCause, IsNameCause, IsNoEncoderCause, IsPartsCause, IsRenamingCause, IsWorldNameCause, of_request};
-ghost use Rattle.wc_calls.specs.Messages.{adapter_message_view, exports_view, message_view, world_name_view};
+ghost use Rattle.wc_calls.specs.MessageFaults.{IsAdaptersCause, IsNameCause, IsNoEncoderCause, IsPartsCause, IsWorldNameCause, of_request};
 ghost use Rattle.wc_calls.specs.Private.AskedKeys.{IsExportersCause};
 ghost use Rattle.wc_calls.specs.Private.OptionTables.{table_options};
 
-use crate::asked_keys::{adapter_keys, asked_of, named_exports};
+use crate::asked_keys::{AskedWorld, adapter_keys, asked_of, named_exports};
 use crate::import_options::OptionTable;
-use crate::libraries::LibraryMessage;
 use crate::message_fault::MessageFault;
-use crate::messages::{AdapterMessage, KeyMessage, Message, WorldName};
 use std::alloc::{AllocError, Global};
 use std::borrow::CowSlice;
 use std::str;
-use wc_dedupe::ModuleImportMap;
 use wc_encoder::{Adapter, ComponentEncoder, EncoderParts, LibraryInfo, Metadata};
-use wc_json::{Document, value_from_json};
+use wc_json::{AdapterMessage, Document, Message, WorldName, message_from_json};
 use wc_maps::{Map, Seed, Set};
 use wc_resolve::{Resolve, WorldId, WorldKey};
-use wc_selection::{RequestFault, select_world};
+use wc_selection::{MainModule, RequestFault, select_world};
 
 /// The fault of a message whose world is not selected.
 fn world_fault(fault: RequestFault<'_>) -> MessageFault
@@ -81,50 +75,46 @@ fn split(bytes: &[u8], count: u32) -> Option<(&[u8], &[u8])>
     Some(bytes.split_at(count))
 }
 
-/// The library information of a message, if there is some.
-fn library_of(library: Option<LibraryMessage>) -> Option<LibraryInfo>
-    ensures { option_map library_view result ≡ option_map library_message_view library }
-{
-    match library {
-        Some(library) => Some(library.0),
-        None => None,
-    }
-}
-
 /// The adapter with these bytes, keys and library information.
 fn adapter_with(
     alloc: Global,
     wasm: &[u8],
     required_exports: Set<WorldKey>,
-    library: Option<LibraryMessage>,
+    library_info: Option<LibraryInfo>,
 ) -> Result<Adapter, AllocError>
     ensures wasm { IfOk result (λ a. (adapter_view a).wasm ≡ wasm.now) }
     ensures required { IfOk result (λ a. (adapter_view a).required_exports
         ≡ map key_view required_exports.keys) }
     ensures library { IfOk result (λ a. (adapter_view a).library_info
-        ≡ option_map library_message_view library) }
+        ≡ option_map library_view library_info) }
 {
     let wasm = Vec::from_slice(alloc, wasm)?;
     Ok(Adapter {
         wasm,
         required_exports,
-        library_info: library_of(library),
+        library_info,
     })
 }
 
-/// The adapters of messages, with these bytes one after another, and with those of the keys of exports (`keys`) that
-/// they have to export. `seed`: the seed of the maps that are made.
+/// The keys of a world's exports: with their own texts, and with those by which a message gives them.
+#[derive(Clone, Copy)]
+struct ExportKeys<'a> {
+    named: &'a [(WorldKey, String)],
+    given: &'a [(WorldKey, String)],
+}
+
+/// The adapters of messages, with these bytes one after another, and with those of the keys of exports that they have to
+/// export. `seed`: the seed of the maps that are made.
 fn adapters_of(
     alloc: Global,
     seed: Seed,
-    named: &[(WorldKey, String)],
-    keys: &[(WorldKey, String)],
+    keys: ExportKeys<'_>,
     messages: Vec<AdapterMessage>,
     bytes: &[u8],
 ) -> Result<Map<String, Adapter>, MessageFault>
-    requires { AreKeysApart (map named_key keys.now) }
-    ensures adapters { IfOk result (λ m. AreAdaptersOf (map named_key named.now)
-        (map named_key keys.now) (map adapter_message_view messages.items) bytes.now
+    requires { AreKeysApart (map named_key keys.given.now) }
+    ensures adapters { IfOk result (λ m. AreAdaptersOf (map named_key keys.entry.named.now)
+        (map named_key keys.entry.given.now) (map adapter_message_view messages.items) bytes.now
         (map adapter_entry m.entries)) }
     ensures fault { IfErr result (IsAdaptersCause
         (map adapter_message_view messages.items) bytes.now) }
@@ -139,7 +129,7 @@ fn adapters_of(
         if adapters.contains_key(message.name.as_str()) {
             return Err(MessageFault::AdapterTwice(message.name));
         }
-        let required = adapter_keys(alloc, seed, named, keys, &message)?;
+        let required = adapter_keys(alloc, seed, keys.named, keys.given, &message)?;
         let adapter = adapter_with(alloc, wasm, required, message.library_info)?;
         adapters.insert(message.name, adapter)?;
     }
@@ -161,45 +151,29 @@ struct Exporters {
 fn exporters_of(
     alloc: Global,
     seed: Seed,
-    resolve: &Resolve,
-    world: WorldId,
-    exports: &Option<Vec<KeyMessage>>,
+    world: AskedWorld<'_>,
     adapters: Vec<AdapterMessage>,
     bytes: &[u8],
 ) -> Result<Exporters, MessageFault>
-    ensures exporters { IfOk result (λ e. AreExporters resolve.now world.0
-        (exports_view exports.now) (map adapter_message_view adapters.items) bytes.now
-        (map key_view e.main.keys) (map adapter_entry e.adapters.entries)) }
-    ensures fault { IfErr result (IsExportersCause resolve.now world.0
-        (exports_view exports.now) (map adapter_message_view adapters.items) bytes.now) }
+    ensures exporters { IfOk result (λ e. AreExporters world.entry.resolve.now
+        world.entry.world.0 (exports_view world.entry.exports.now)
+        (map adapter_message_view adapters.items) bytes.now (map key_view e.main.keys)
+        (map adapter_entry e.adapters.entries)) }
+    ensures fault { IfErr result (IsExportersCause world.entry.resolve.now world.entry.world.0
+        (exports_view world.entry.exports.now) (map adapter_message_view adapters.items)
+        bytes.now) }
 {
-    let named = named_exports(alloc, resolve, world)?;
-    let asked = asked_of(alloc, seed, &named, exports, &adapters, resolve, world)?;
-    let adapters = adapters_of(alloc, seed, &named, &asked.keys, adapters, bytes)?;
+    let named = named_exports(alloc, world.resolve, world.world)?;
+    let asked = asked_of(alloc, seed, &named, world, &adapters)?;
+    let keys = ExportKeys {
+        named: &named,
+        given: &asked.keys,
+    };
+    let adapters = adapters_of(alloc, seed, keys, adapters, bytes)?;
     Ok(Exporters {
         main: asked.main,
         adapters,
     })
-}
-
-/// The bytes, copied where they are borrowed.
-fn owned(alloc: Global, bytes: CowSlice<'_, u8>) -> Result<Vec<u8>, AllocError>
-    ensures { IfOk result (λ v. v.items ≡ cow_slice_items bytes.entry) }
-{
-    match bytes {
-        CowSlice::Owned(bytes) => Ok(bytes),
-        CowSlice::Borrowed(bytes) => Vec::from_slice(alloc, bytes),
-    }
-}
-
-/// The main module with its repeated imports renamed, and the original names of these.
-fn renamed(alloc: Global, bytes: &[u8]) -> Result<(Vec<u8>, Option<ModuleImportMap>), MessageFault>
-    ensures renamed { IfOk result (λ r. IsDeduped bytes.now r.0.items (renames_in r.1)) }
-    ensures fault { IfErr result (IsRenamingCause bytes.now) }
-{
-    let (wasm, renames) = ModuleImportMap::new(alloc, CowSlice::Borrowed(bytes))?;
-    let wasm = owned(alloc, wasm)?;
-    Ok((wasm, renames))
 }
 
 /// The text, or the empty one.
@@ -212,22 +186,28 @@ fn text_or_empty(alloc: Global, text: Option<String>) -> String
     }
 }
 
-/// The encoder of a message, for the world at an index, with the bytes of the main module and those of the others.
+/// The bytes of a message's modules.
+#[derive(Clone, Copy)]
+struct ModuleBytes<'a> {
+    main: &'a [u8],
+    others: &'a [u8],
+}
+
+/// The encoder of a message, for the world at an index, with the bytes of its modules.
 fn encoder_for(
     alloc: Global,
     seed: Seed,
     message: Message,
     world: WorldId,
-    main: &[u8],
-    others: &[u8],
+    bytes: ModuleBytes<'_>,
 ) -> Result<ComponentEncoder, MessageFault>
     ensures parts { (modules : List ℕ)
-        → AreChosen (message_view message) modules world.0 main.now others.now
-        → IfOk result (IsPartsOf (message_view message) modules) }
+        → AreChosen (message_view message) modules world.0 bytes.entry.main.now
+        bytes.entry.others.now → IfOk result (IsPartsOf (message_view message) modules) }
     ensures formed { IfOk result IsWellFormed }
     ensures fault { (modules : List ℕ)
-        → AreChosen (message_view message) modules world.0 main.now others.now
-        → IfErr result (IsPartsCause (message_view message) modules) }
+        → AreChosen (message_view message) modules world.0 bytes.entry.main.now
+        bytes.entry.others.now → IfErr result (IsPartsCause (message_view message) modules) }
 {
     let Message {
         document,
@@ -241,14 +221,19 @@ fn encoder_for(
         options: _options,
     } = message;
     let resolve = Resolve::build(alloc, document.parts)?;
-    let exporters = exporters_of(alloc, seed, &resolve, world, &exports, adapters, others)?;
-    let (wasm, renames) = renamed(alloc, main)?;
+    let asked = AskedWorld {
+        resolve: &resolve,
+        world,
+        exports: &exports,
+    };
+    let exporters = exporters_of(alloc, seed, asked, adapters, bytes.others)?;
+    let main = MainModule::new(alloc, CowSlice::Borrowed(bytes.main))?;
     let rejects = reject_legacy_names.unwrap_or(false);
     let grows = realloc_via_memory_grow.unwrap_or(false);
     let hook = text_or_empty(alloc, task_hook);
     let parts = EncoderParts {
-        module: wasm,
-        module_import_map: renames,
+        module: main.wasm,
+        module_import_map: main.import_map,
         metadata: Metadata { resolve, world },
         main_module_exports: exporters.main,
         adapters: exporters.adapters,
@@ -274,7 +259,7 @@ fn encoder_with(
     let Some((main, others)) = split(modules, message.length) else {
         return Err(MessageFault::Lengths);
     };
-    encoder_for(alloc, seed, message, world, main, others)
+    encoder_for(alloc, seed, message, world, ModuleBytes { main, others })
 }
 
 /// What a component's world is made of.
@@ -299,7 +284,7 @@ pub(crate) fn world_input(
     let Ok(text) = str::from_utf8(message) else {
         return Err(MessageFault::NotText);
     };
-    let message: Message = value_from_json(alloc, seed, text)?;
+    let message = message_from_json(alloc, seed, text)?;
     let options = OptionTable::listed(alloc, seed, &message.options)?;
     let encoder = encoder_with(alloc, seed, message, modules)?;
     Ok(WorldInput { encoder, options })

@@ -1,21 +1,20 @@
 //! What the faults of messages and of their components' worlds are about.
 
 ghost use Rattle.std.specs.Prelude.{◌≡◌, ◌≢◌, ◌⊎◌, IfOk};
+ghost use Rattle.wc_json.specs.Messages.{message_view};
 ghost use Rattle.wc_calls.specs.Answers.{AreOthersOfTextZero, failed, out_of_memory};
 ghost use Rattle.wc_calls.specs.FaultAnswers.{IsFaultAnswered};
-ghost use Rattle.wc_calls.specs.Messages.{message_view};
 ghost use Rattle.wc_calls.specs.Places.{IsPartPlaceText, IsPartText, IsWorldPlaceText};
 ghost use Rattle.wc_calls.specs.Private.EncoderAnswers.{IsPartPlaceFor, IsPlaceFor};
 
 use crate::answers::{Answer, MEMORY, answer_without_bytes};
 use crate::fault_answers::answer_fault;
 use crate::message_fault::MessageFault;
-use crate::messages::Message;
 use crate::places::{part_text, world_place_text};
 use std::alloc::{AllocError, Global};
 use std::str;
 use wc_encoder::ComponentEncoder;
-use wc_json::value_from_json;
+use wc_json::{Message, message_from_json};
 use wc_maps::Seed;
 use wc_resolve::{ResolveFault, explain_parts};
 use wc_world::{WorldFault, explain};
@@ -82,7 +81,7 @@ fn text_place(
 ) -> Result<Vec<u8>, AllocError>
     ensures { IfOk result (λ v. IsPartPlaceText text.now fault v.items) }
 {
-    match value_from_json::<Message>(alloc, seed, text) {
+    match message_from_json(alloc, seed, text) {
         Ok(message) => part_place(alloc, &message, fault),
         Err(_) => Err(AllocError),
     }

@@ -1,38 +1,20 @@
 //! Which canonical options lowered functions have, by a list of a message.
-#![tactic(auto, using(wc_json::proofs::FaultLemmas::IsFaultOf_bind, wc_json::proofs::PathLemmas::Reads_at_step))]
 
 ghost use Rattle.std.specs.Prelude.{◌≡◌, IfOk, map};
 ghost use Rattle.std.specs.Map.{lookup};
 ghost use Rattle.std.specs.Option.{option_map};
 ghost use Rattle.std.specs.Str.{bytes_eq};
-ghost use Rattle.json.specs.Value.{value_view};
-ghost use Rattle.wc_json.specs.Faults.{Reads};
-ghost use Rattle.wc_world.specs.Options.{bit_if, option_bits};
-ghost use Rattle.wc_calls.specs.ImportOptions.{first_options, flag, listed_options, options_message_view, options_view};
-ghost use Rattle.wc_calls.specs.Private.OptionTables.{bits_of, table_entry, table_options};
+ghost use Rattle.wc_json.specs.Messages.{options_message_view, options_view};
+ghost use Rattle.wc_world.specs.Options.{bit_if};
+ghost use Rattle.wc_calls.specs.ImportOptions.{first_options, listed_options, named_options};
+ghost use Rattle.wc_calls.specs.Private.OptionTables.{bits_of, message_entry, table_entry, table_options};
 
 use bitflags::Flags;
-use json::Value;
 use std::alloc::{AllocError, Global};
-use wc_json::{FromJson, JsonFault, optional_member, required_member};
+use wc_json::OptionsMessage;
 use wc_maps::{Map, Seed};
 use wc_resolve::{AbiVariant, Function, Resolve};
 use wc_world::{ImportOptions, PlainOptions, RequiredOptions};
-
-/// The options of functions of a name.
-#[derive(Drop)]
-pub(crate) struct OptionsMessage {
-    pub name: String,
-    pub options: RequiredOptions,
-}
-
-/// The member of this name, which is true or false; false where it is missing or null.
-fn flag(alloc: Global, seed: Seed, object: &Value<'_>, name: &str) -> Result<bool, JsonFault>
-    ensures { Reads (λ b. b) result (flag name.now (value_view object.now)) }
-{
-    let given: Option<bool> = optional_member(alloc, seed, object, name)?;
-    Ok(given.unwrap_or(false))
-}
 
 /// The bits of options, if they are needed.
 fn bit_if(options: RequiredOptions, is_needed: bool) -> u8
@@ -41,41 +23,15 @@ fn bit_if(options: RequiredOptions, is_needed: bool) -> u8
     if is_needed { options.bits() } else { 0 }
 }
 
-/// The set of the options that are needed.
-fn option_set(memory: bool, realloc: bool, string_encoding: bool, is_async: bool) -> RequiredOptions
-    ensures { result.0 ≡ option_bits memory realloc string_encoding is_async }
+/// The set of the options that a message has.
+fn option_set(message: &OptionsMessage) -> RequiredOptions
+    ensures { result.0 ≡ (message_entry message.now).1 }
 {
-    let memory = bit_if(RequiredOptions::MEMORY, memory);
-    let realloc = bit_if(RequiredOptions::REALLOC, realloc);
-    let string_encoding = bit_if(RequiredOptions::STRING_ENCODING, string_encoding);
-    let is_async = bit_if(RequiredOptions::ASYNC, is_async);
+    let memory = bit_if(RequiredOptions::MEMORY, message.memory);
+    let realloc = bit_if(RequiredOptions::REALLOC, message.realloc);
+    let string_encoding = bit_if(RequiredOptions::STRING_ENCODING, message.string_encoding);
+    let is_async = bit_if(RequiredOptions::ASYNC, message.is_async);
     RequiredOptions::from_bits_retain(memory + (realloc + (string_encoding + is_async)))
-}
-
-impl FromJson for OptionsMessage {
-    ghost use Rattle.wc_calls.specs.ImportOptions.{NamedOptions, named_options, options_message_view};
-
-    ghost View = { NamedOptions };
-
-    ghost view = { options_message_view };
-
-    ghost reading = { named_options };
-
-    fn from_json(
-        alloc: Global,
-        seed: Seed,
-        value: &Value<'_>,
-    ) -> Result<OptionsMessage, JsonFault> {
-        let name = required_member(alloc, seed, value, "name")?;
-        let memory = flag(alloc, seed, value, "memory")?;
-        let realloc = flag(alloc, seed, value, "realloc")?;
-        let string_encoding = flag(alloc, seed, value, "string_encoding")?;
-        let is_async = flag(alloc, seed, value, "async")?;
-        Ok(OptionsMessage {
-            name,
-            options: option_set(memory, realloc, string_encoding, is_async),
-        })
-    }
 }
 
 /// The options of functions by their names; a function of another name has the plain ones.
@@ -93,12 +49,12 @@ impl OptionTable {
         messages: &[OptionsMessage],
     ) -> Result<OptionTable, AllocError>
         ensures { IfOk result (λ t. table_options t
-            ≡ first_options (map options_message_view messages.now)) }
+            ≡ first_options (map named_options (map options_message_view messages.now))) }
     {
         let mut by_name = Map::with_hasher(alloc, seed);
         for message in messages {
             if !by_name.contains_key(message.name.as_str()) {
-                by_name.insert(message.name.clone()?, message.options)?;
+                by_name.insert(message.name.clone()?, option_set(message))?;
             }
         }
         Ok(OptionTable { by_name })

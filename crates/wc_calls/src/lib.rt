@@ -30,17 +30,14 @@ mod component_plans;
 mod component_worlds;
 mod encoders;
 mod explained;
+mod export_names;
 mod fault_answers;
 mod fault_numbers;
 mod import_options;
-mod json_members;
-mod libraries;
 mod message_fault;
-mod messages;
 mod places;
 mod renames;
 mod renaming;
-mod required;
 mod trimming;
 mod validation;
 

@@ -1,6 +1,6 @@
 //! Renames as bytes.
 
-ghost use Rattle.std.specs.Prelude.{◌≡◌, ◌++◌, OnOk, IfOk, [], length};
+ghost use Rattle.std.specs.Prelude.{◌≡◌, ◌++◌, OnOk, IfOk};
 ghost use Rattle.std.specs.List.{flat_map};
 ghost use Rattle.wc_write.specs.Text.{number_text, name_text};
 ghost use Rattle.wc_dedupe.specs.Renames.{rename_value, rename_values};

@@ -7,14 +7,15 @@ ghost use Rattle.wc_gc.specs.Liveness.{trim_input, trim_input_for_names};
 ghost use Rattle.wc_gc.specs.Parts.{settings};
 ghost use Rattle.wc_gc.specs.TrimmedText.{IsTrimmed};
 ghost use Rattle.wc_calls.specs.Answers.{AreOthersOfTextZero, IsBytesStatus, IsFront, IsPut, IsTooLong, done, failed, too_small, same, bad_argument, out_of_memory};
+ghost use Rattle.wc_calls.specs.ExportNames.{texts};
 ghost use Rattle.wc_calls.specs.Places.{IsTrimPlaceText};
-ghost use Rattle.wc_calls.specs.Required.{texts};
-ghost use Rattle.wc_calls.specs.Trimming.{AreArguments, IsTrimFaultAnswer, IsTrimRefused, IsTrimmingFault, position_in};
+ghost use Rattle.wc_calls.specs.Private.TrimArguments.{IsRefusedFor, passed_input};
+ghost use Rattle.wc_calls.specs.Trimming.{AreArguments, IsTrimFaultAnswer, IsTrimmingFault, position_in};
 
 use crate::answers::{Answer, BAD_ARGUMENT, FAULT, MEMORY, answer_without_bytes, put};
+use crate::export_names::{are_texts, name_set, optional_text, position_of};
 use crate::fault_numbers::gc_fault_number;
 use crate::places::trim_place_text;
-use crate::required::{are_texts, name_set, optional_text, position_of};
 use std::alloc::{AllocError, Global};
 use wc_gc::{GcFault, explain, run};
 use wc_maps::{Seed, Set};
@@ -67,43 +68,59 @@ pub fn trim(
         return answer_without_bytes(BAD_ARGUMENT);
     }
     match optional_text(realloc) {
-        Ok(realloc) => trim_for_names(alloc, seed, wasm, required, realloc, page_size_log2, out),
+        Ok(realloc) => {
+            let passed = Arguments {
+                wasm,
+                required,
+                realloc,
+                page_size_log2,
+            };
+            trim_for_names(alloc, seed, passed, out)
+        }
         Err(_) => answer_without_bytes(BAD_ARGUMENT),
     }
 }
 
-/// The same for arguments that `run` takes.
-fn trim_for_names(
-    alloc: Global,
-    seed: Seed,
-    wasm: &[u8],
-    required: &[&[u8]],
-    realloc: Option<&str>,
+/// What an adapter is trimmed by.
+#[derive(Clone, Copy)]
+struct Arguments<'a> {
+    wasm: &'a [u8],
+    required: &'a [&'a [u8]],
+    realloc: Option<&'a str>,
     page_size_log2: u32,
-    out: &mut [u8],
-) -> Answer
-    requires some { required.now ≢ [] }
-    requires are_texts { All IsUtf8 (texts required.now) }
-    requires paged { page_size_log2 ≤ 16 }
-    ensures done { result.status ≡ done → IsPut (IsTrimmed (settings realloc.entry page_size_log2)
-        (trim_input_for_names wasm.now (texts required.now))) result.length out.old out.new }
+}
+
+/// The same for arguments that `run` takes.
+fn trim_for_names(alloc: Global, seed: Seed, passed: Arguments<'_>, out: &mut [u8]) -> Answer
+    requires some { passed.required.now ≢ [] }
+    requires are_texts { All IsUtf8 (texts passed.required.now) }
+    requires paged { passed.page_size_log2 ≤ 16 }
+    ensures done { result.status ≡ done
+        → IsPut (IsTrimmed (settings passed.entry.realloc passed.entry.page_size_log2)
+        (passed_input passed.entry)) result.length out.old out.new }
     ensures too_small { result.status ≡ too_small
-        → IsTooLong (IsTrimmed (settings realloc.entry page_size_log2)
-        (trim_input_for_names wasm.now (texts required.now))) result.length out.old }
+        → IsTooLong (IsTrimmed (settings passed.entry.realloc passed.entry.page_size_log2)
+        (passed_input passed.entry)) result.length out.old }
     ensures fault { result.status ≡ failed
-        → IsTrimmingFault (settings realloc.entry page_size_log2) wasm.now (texts required.now)
-        result out.old out.new }
+        → IsTrimmingFault (settings passed.entry.realloc passed.entry.page_size_log2)
+        passed.entry.wasm.now (texts passed.entry.required.now) result out.old out.new }
     ensures module_length { result.status ≢ failed → result.module_length ≡ result.length }
     ensures unchanged { result.status ≢ done → result.status ≢ failed → out.new ≡ out.old }
     ensures statuses { (result.status ≤ 5) × (result.status ≢ same)
         × (result.status ≢ bad_argument) }
     ensures others { AreOthersOfTextZero result }
 {
-    let Ok(names) = name_set(alloc, seed, required) else {
+    let Ok(names) = name_set(alloc, seed, passed.required) else {
         return answer_without_bytes(MEMORY);
     };
-    let trimmed = run(alloc, wasm, &names, realloc, page_size_log2);
-    put_trimmed(alloc, wasm, &names, &trimmed, required, out)
+    let trimmed = run(
+        alloc,
+        passed.wasm,
+        &names,
+        passed.realloc,
+        passed.page_size_log2,
+    );
+    put_trimmed(alloc, passed, &names, &trimmed, out)
 }
 
 /// What a fault of trimming is about, as JSON; no bytes where there is no place.
@@ -123,10 +140,9 @@ fn fault_place(
 /// Writes what trimming answered for an adapter and names; of a fault what it is about.
 fn put_trimmed(
     alloc: Global,
-    wasm: &[u8],
+    passed: Arguments<'_>,
     names: &Set<String>,
     trimmed: &Result<Vec<u8>, GcFault>,
-    required: &[&[u8]],
     out: &mut [u8],
 ) -> Answer
     ensures module_length { result.status ≢ failed → result.module_length ≡ result.length }
@@ -142,37 +158,33 @@ fn put_trimmed(
         ⊎ (result.status ≡ out_of_memory)) }
     ensures memory { IfErr trimmed.now (λ f. f ≡ GcFault.Memory
         → result.status ≡ out_of_memory) }
-    ensures fault { IfErr trimmed.now (λ f. f ≢ GcFault.Memory → result.status ≡ failed
-        → IsTrimRefused (trim_input wasm.now names.now.keys) (texts required.now) f result
-        out.old out.new) }
+    ensures fault { IfErr trimmed.now (λ f. f ≢ GcFault.Memory
+        → IsRefusedFor passed.entry names.now.keys f result out.old out.new) }
     ensures unchanged { result.status ≢ done → result.status ≢ failed → out.new ≡ out.old }
     ensures others { AreOthersOfTextZero result }
 {
     match trimmed {
         Ok(bytes) => put(bytes.as_slice(), &[], out),
         Err(GcFault::Memory) => answer_without_bytes(MEMORY),
-        Err(fault) => answer_trim_fault(alloc, wasm, names, fault, required, out),
+        Err(fault) => answer_trim_fault(alloc, passed, names, fault, out),
     }
 }
 
 /// Answers a fault of trimming with what it is about.
 fn answer_trim_fault(
     alloc: Global,
-    wasm: &[u8],
+    passed: Arguments<'_>,
     names: &Set<String>,
     fault: &GcFault,
-    required: &[&[u8]],
     out: &mut [u8],
 ) -> Answer
-    ensures fault { result.status ≡ failed
-        → IsTrimRefused (trim_input wasm.now names.now.keys) (texts required.now) fault.now
-        result out.old out.new }
+    ensures fault { IsRefusedFor passed.entry names.now.keys fault.now result out.old out.new }
     ensures unchanged { result.status ≢ failed → out.new ≡ out.old }
     ensures statuses { (result.status ≡ failed) ⊎ (result.status ≡ out_of_memory) }
     ensures others { AreOthersOfTextZero result }
 {
-    match fault_place(alloc, wasm, names, fault) {
-        Ok(place) => put_trim_fault(fault, &place, required, out),
+    match fault_place(alloc, passed.wasm, names, fault) {
+        Ok(place) => put_trim_fault(fault, &place, passed.required, out),
         Err(_) => answer_without_bytes(MEMORY),
     }
 }

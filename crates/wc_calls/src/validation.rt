@@ -1,4 +1,4 @@
-//! The call that validates one module of a component.
+//! The call that validates one module of a main.
 
 ghost use Rattle.std.specs.Prelude.{◌≡◌, ◌≢◌, ◌≤◌, ◌⊎◌, IfErr, IfOk, OnOk, Some, map, string_bytes};
 ghost use Rattle.std.specs.Map.{lookup};
@@ -7,10 +7,11 @@ ghost use Rattle.std.specs.Str.{bytes_eq};
 ghost use Rattle.wc_encoder.specs.Adapters.{adapter_view};
 ghost use Rattle.wc_validate.specs.Imports.Map.{required_entry, required_in};
 ghost use Rattle.wc_validate.specs.Validated.{IsValidateCause, module_record};
+ghost use Rattle.wc_world.specs.Places.{IsIn};
 ghost use Rattle.wc_world.specs.World.{IsMainRecord};
 ghost use Rattle.wc_calls.specs.Answers.{AreOthersOfFaultZero, AreOthersOfTextZero, IsCheckStatus, IsModuleStatus, bad_argument, done, failed, out_of_memory, same, too_small};
 ghost use Rattle.wc_calls.specs.FaultAnswers.{IsFaultAnswered};
-ghost use Rattle.wc_calls.specs.Private.ModuleAnswers.{IsIn, IsInputFaultAnswer, IsInputPlaceText, IsInputRefused, IsInputValid, IsModuleFault, IsModulePlaceFor, input_of};
+ghost use Rattle.wc_calls.specs.Private.ModuleAnswers.{IsInputFaultAnswer, IsInputPlaceText, IsInputRefused, IsInputValid, IsModuleFault, IsModulePlaceFor, input_of};
 ghost use Rattle.wc_calls.specs.Validation.{IsModuleValid, IsNoModule, IsNoModuleOf, IsValidOf, IsValidationFaultOf};
 
 use crate::answers::{Answer, BAD_ARGUMENT, DONE, MEMORY, answer_without_bytes};
@@ -37,6 +38,13 @@ struct AdapterInput<'a> {
     required: &'a Map<String, FuncType>,
     name: &'a str,
     adapter: &'a Adapter,
+}
+
+/// An encoder, and what is recorded of its main module, which is valid.
+#[derive(Clone, Copy)]
+struct ValidMain<'a> {
+    encoder: &'a ComponentEncoder,
+    record: &'a ValidatedModule,
 }
 
 /// A place in the adapter or the library of a name.
@@ -187,81 +195,73 @@ fn validate_with(
 /// Answers whether the adapter or the library of a name is valid.
 fn validate_adapter(
     alloc: Global,
-    encoder: &ComponentEncoder,
-    main: &ValidatedModule,
+    main: ValidMain<'_>,
     name: &str,
     adapter: &Adapter,
     out: &mut [u8],
 ) -> Answer
-    requires main { IsMainRecord encoder.now (module_record main.now) }
-    requires there { lookup (bytes_eq name.now) encoder.now.adapters
+    requires main { IsMainRecord main.encoder.now (module_record main.record.now) }
+    requires there { lookup (bytes_eq name.now) main.encoder.now.adapters
         ≡ Some (adapter_view adapter.now) }
-    ensures done { result.status ≡ done → IsModuleValid encoder.now (Some name.now) }
+    ensures done { result.status ≡ done
+        → IsModuleValid main.entry.encoder.now (Some name.now) }
     ensures fault { result.status ≡ failed
-        → IsFaultAnswered (IsModuleFault encoder.now (Some name.now))
-        (IsModulePlaceFor encoder.now) result out.old out.new }
+        → IsFaultAnswered (IsModuleFault main.entry.encoder.now (Some name.now))
+        (IsModulePlaceFor main.entry.encoder.now) result out.old out.new }
     ensures unchanged { result.status ≢ failed → out.new ≡ out.old }
     ensures statuses { IsCheckStatus result.status }
     ensures others { AreOthersOfFaultZero result }
 {
-    match main.imports.required_from_adapter(alloc, name) {
+    match main.record.imports.required_from_adapter(alloc, name) {
         Ok(required) => {
             let input = AdapterInput {
-                encoder,
+                encoder: main.encoder,
                 required: &required,
                 name,
                 adapter,
             };
-            validate_with(alloc, main, input, out)
+            validate_with(alloc, main.record, input, out)
         }
         Err(_) => answer_without_bytes(MEMORY),
     }
 }
 
 /// Answers whether the adapter or the library of a name is valid, if there is one.
-fn validate_under(
-    alloc: Global,
-    encoder: &ComponentEncoder,
-    main: &ValidatedModule,
-    name: &str,
-    out: &mut [u8],
-) -> Answer
-    requires { IsMainRecord encoder.now (module_record main.now) }
-    ensures done { result.status ≡ done → IsModuleValid encoder.now (Some name.now) }
-    ensures bad_argument { result.status ≡ bad_argument → IsNoModule encoder.now (Some name.now) }
+fn validate_under(alloc: Global, main: ValidMain<'_>, name: &str, out: &mut [u8]) -> Answer
+    requires { IsMainRecord main.encoder.now (module_record main.record.now) }
+    ensures done { result.status ≡ done
+        → IsModuleValid main.entry.encoder.now (Some name.now) }
+    ensures bad_argument { result.status ≡ bad_argument
+        → IsNoModule main.entry.encoder.now (Some name.now) }
     ensures fault { result.status ≡ failed
-        → IsFaultAnswered (IsModuleFault encoder.now (Some name.now))
-        (IsModulePlaceFor encoder.now) result out.old out.new }
+        → IsFaultAnswered (IsModuleFault main.entry.encoder.now (Some name.now))
+        (IsModulePlaceFor main.entry.encoder.now) result out.old out.new }
     ensures unchanged { result.status ≢ failed → out.new ≡ out.old }
     ensures statuses { IsModuleStatus result.status }
     ensures others { AreOthersOfFaultZero result }
 {
-    match encoder.adapters().get(name) {
-        Some(adapter) => validate_adapter(alloc, encoder, main, name, adapter, out),
+    match main.encoder.adapters().get(name) {
+        Some(adapter) => validate_adapter(alloc, main, name, adapter, out),
         None => answer_without_bytes(BAD_ARGUMENT),
     }
 }
 
 /// The same for a name that may be no text.
-fn validate_named(
-    alloc: Global,
-    encoder: &ComponentEncoder,
-    main: &ValidatedModule,
-    name: &[u8],
-    out: &mut [u8],
-) -> Answer
-    requires { IsMainRecord encoder.now (module_record main.now) }
-    ensures done { result.status ≡ done → IsModuleValid encoder.now (Some name.now) }
-    ensures bad_argument { result.status ≡ bad_argument → IsNoModule encoder.now (Some name.now) }
+fn validate_named(alloc: Global, main: ValidMain<'_>, name: &[u8], out: &mut [u8]) -> Answer
+    requires { IsMainRecord main.encoder.now (module_record main.record.now) }
+    ensures done { result.status ≡ done
+        → IsModuleValid main.entry.encoder.now (Some name.now) }
+    ensures bad_argument { result.status ≡ bad_argument
+        → IsNoModule main.entry.encoder.now (Some name.now) }
     ensures fault { result.status ≡ failed
-        → IsFaultAnswered (IsModuleFault encoder.now (Some name.now))
-        (IsModulePlaceFor encoder.now) result out.old out.new }
+        → IsFaultAnswered (IsModuleFault main.entry.encoder.now (Some name.now))
+        (IsModulePlaceFor main.entry.encoder.now) result out.old out.new }
     ensures unchanged { result.status ≢ failed → out.new ≡ out.old }
     ensures statuses { IsModuleStatus result.status }
     ensures others { AreOthersOfFaultZero result }
 {
     match str::from_utf8(name) {
-        Ok(name) => validate_under(alloc, encoder, main, name, out),
+        Ok(name) => validate_under(alloc, main, name, out),
         Err(_) => answer_without_bytes(BAD_ARGUMENT),
     }
 }
@@ -292,27 +292,22 @@ fn answer_main_fault(
 }
 
 /// Answers whether the module that is asked for is valid, where the main module is.
-fn validate_other(
-    alloc: Global,
-    encoder: &ComponentEncoder,
-    main: &ValidatedModule,
-    adapter: Option<&[u8]>,
-    out: &mut [u8],
-) -> Answer
-    requires { IsMainRecord encoder.now (module_record main.now) }
+fn validate_other(alloc: Global, main: ValidMain<'_>, name: Option<&[u8]>, out: &mut [u8]) -> Answer
+    requires { IsMainRecord main.encoder.now (module_record main.record.now) }
     ensures done { result.status ≡ done
-        → IsModuleValid encoder.now (option_map (λ n. n.now) adapter.entry) }
+        → IsModuleValid main.entry.encoder.now (option_map (λ n. n.now) name.entry) }
     ensures bad_argument { result.status ≡ bad_argument
-        → IsNoModule encoder.now (option_map (λ n. n.now) adapter.entry) }
+        → IsNoModule main.entry.encoder.now (option_map (λ n. n.now) name.entry) }
     ensures fault { result.status ≡ failed
-        → IsFaultAnswered (IsModuleFault encoder.now (option_map (λ n. n.now) adapter.entry))
-        (IsModulePlaceFor encoder.now) result out.old out.new }
+        → IsFaultAnswered
+        (IsModuleFault main.entry.encoder.now (option_map (λ n. n.now) name.entry))
+        (IsModulePlaceFor main.entry.encoder.now) result out.old out.new }
     ensures unchanged { result.status ≢ failed → out.new ≡ out.old }
     ensures statuses { IsModuleStatus result.status }
     ensures others { AreOthersOfFaultZero result }
 {
-    match adapter {
-        Some(name) => validate_named(alloc, encoder, main, name, out),
+    match name {
+        Some(name) => validate_named(alloc, main, name, out),
         None => answer_without_bytes(DONE),
     }
 }
@@ -338,7 +333,10 @@ fn validate_for(
     let bytes = encoder.module();
     let import_map = encoder.module_import_map();
     match validate_module(alloc, encoder, bytes, import_map) {
-        Ok(main) => validate_other(alloc, encoder, &main, adapter, out),
+        Ok(record) => {
+            let record = &record;
+            validate_other(alloc, ValidMain { encoder, record }, adapter, out)
+        }
         Err(fault) => answer_main_fault(alloc, encoder, fault, out),
     }
 }

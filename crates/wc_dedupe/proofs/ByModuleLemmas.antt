@@ -9,7 +9,8 @@ use Rattle.std.specs.Cmp.Lexicographic.{slice_cmp}
 use Rattle.std.proofs.lemmas.Map.Text.{is_eq-slice_cmp}
 use Rattle.std.proofs.lemmas.Bool.{true≢false, cases_eq}
 use Rattle.std.proofs.lemmas.Slice.Eq.{bytes_eq-Decides}
-use Rattle.wc_dedupe.specs.NamesInModules.{name_records, name_record_of, Records, Gives}
+use Rattle.wc_dedupe.specs.NamesInModules.{name_records, Records, Gives}
+use Rattle.wc_maps.specs.Names.{under_name}
 use Rattle.wc_dedupe.specs.Renaming.{name_with_number}
 use Rattle.wc_dedupe.specs.declared.names_in_modules.NameRecord.{NameRecord}
 
@@ -17,29 +18,29 @@ use Rattle.wc_dedupe.specs.declared.names_in_modules.NameRecord.{NameRecord}
 abbrev pub entry_of : {Y : Type 0} → List (String Y × NameRecord) → List ℕ → Option NameRecord
 entry_of es q = lookup (is_at (λ k. slice_cmp nat_cmp q (string_bytes k))) es
 
-pub name_record_of_records : {Y : Type 0} (es : List (String Y × NameRecord)) (q : List ℕ) → name_record_of (name_records es) q ≡ option_map (λ (g : NameRecord). g.rename) (entry_of es q)
-name_record_of_records [] q = refl
-name_record_of_records (e ∷ es) q =
-    subst (λ (t : Bool). cond (bytes_eq q (string_bytes e.0)) (Some e.1.rename) (name_record_of (name_records es) q) ≡ option_map (λ (g : NameRecord). g.rename) (cond t (Some e.1) (entry_of es q))) (sym (is_eq-slice_cmp q (string_bytes e.0)))
-    (elim (bytes_eq q (string_bytes e.0)) as (λ b. cond b (Some e.1.rename) (name_record_of (name_records es) q) ≡ option_map (λ (g : NameRecord). g.rename) (cond b (Some e.1) (entry_of es q)))
-    [ true ↦ refl | false ↦ name_record_of_records es q ])
+pub under_name-name_records : {Y : Type 0} (es : List (String Y × NameRecord)) (q : List ℕ) → under_name (name_records es) q ≡ option_map (λ (g : NameRecord). g.rename) (entry_of es q)
+under_name-name_records [] q = refl
+under_name-name_records (e ∷ es) q =
+    subst (λ (t : Bool). cond (bytes_eq q (string_bytes e.0)) (Some e.1.rename) (under_name (name_records es) q) ≡ option_map (λ (g : NameRecord). g.rename) (cond t (Some e.1) (entry_of es q))) (sym (is_eq-slice_cmp q (string_bytes e.0)))
+    (elim (bytes_eq q (string_bytes e.0)) as (λ b. cond b (Some e.1.rename) (under_name (name_records es) q) ≡ option_map (λ (g : NameRecord). g.rename) (cond b (Some e.1) (entry_of es q)))
+    [ true ↦ refl | false ↦ under_name-name_records es q ])
 
-pub name_records_free : {Y : Type 0} (es : List (String Y × NameRecord)) (q : List ℕ) → is_some (entry_of es q) ≡ false → name_record_of (name_records es) q ≡ None
-name_records_free es q e = rw (name_record_of_records es q) (free (entry_of es q) e)
+pub name_records_free : {Y : Type 0} (es : List (String Y × NameRecord)) (q : List ℕ) → is_some (entry_of es q) ≡ false → under_name (name_records es) q ≡ None
+name_records_free es q e = rw (under_name-name_records es q) (free (entry_of es q) e)
   where
     free : (o : Option NameRecord) → is_some o ≡ false → option_map (λ (g : NameRecord). g.rename) o ≡ None
     free None h = refl
     free (Some g) h = absurd (true≢false h)
 
-pub name_records_taken : {Y : Type 0} (es : List (String Y × NameRecord)) (q : List ℕ) → IsSome (entry_of es q) → IsSome (name_record_of (name_records es) q)
-name_records_taken es q e = rw (name_record_of_records es q) (taken (entry_of es q) e)
+pub name_records_taken : {Y : Type 0} (es : List (String Y × NameRecord)) (q : List ℕ) → IsSome (entry_of es q) → IsSome (under_name (name_records es) q)
+name_records_taken es q e = rw (under_name-name_records es q) (taken (entry_of es q) e)
   where
     taken : (o : Option NameRecord) → IsSome o → IsSome (option_map (λ (g : NameRecord). g.rename) o)
     taken None h = h
     taken (Some g) h = refl
 
-pub taken_from_name_records : {Y : Type 0} (es : List (String Y × NameRecord)) (q : List ℕ) → IsSome (name_record_of (name_records es) q) → IsSome (entry_of es q)
-taken_from_name_records es q e = taken (entry_of es q) (rw (name_record_of_records es q) at e)
+pub taken_from_name_records : {Y : Type 0} (es : List (String Y × NameRecord)) (q : List ℕ) → IsSome (under_name (name_records es) q) → IsSome (entry_of es q)
+taken_from_name_records es q e = taken (entry_of es q) (rw (under_name-name_records es q) at e)
   where
     taken : (o : Option NameRecord) → IsSome (option_map (λ (g : NameRecord). g.rename) o) → IsSome o
     taken None h = h
@@ -47,8 +48,8 @@ taken_from_name_records es q e = taken (entry_of es q) (rw (name_record_of_recor
 
 -- an entry that is put changes the record of its name alone
 pub name_records_put : {Y : Type 0} (es fs : List (String Y × NameRecord)) (name : List ℕ) (m : NameRecord) → ((q : List ℕ) → entry_of fs q ≡ update bytes_eq (entry_of es) name (Some m) q)
-    → Records (name_record_of (name_records es)) (name_record_of (name_records fs)) name m.rename
-name_records_put es fs name m h q = rw (name_record_of_records es q, name_record_of_records fs q, h q) (put (bytes_eq name q) (entry_of es q))
+    → Records (under_name (name_records es)) (under_name (name_records fs)) name m.rename
+name_records_put es fs name m h q = rw (under_name-name_records es q, under_name-name_records fs q, h q) (put (bytes_eq name q) (entry_of es q))
   where
     put : (b : Bool) (o : Option NameRecord) → option_map (λ (g : NameRecord). g.rename) (cond b (Some m) o) ≡ cond b (Some m.rename) (option_map (λ (g : NameRecord). g.rename) o)
     put true o = refl
@@ -57,9 +58,9 @@ name_records_put es fs name m h q = rw (name_record_of_records es q, name_record
 -- another next number changes no record
 pub name_records_stay : {Y : Type 0} (es fs : List (String Y × NameRecord)) (original : List ℕ) (m : NameRecord) (n : ℕ) → entry_of es original ≡ Some m
     → ((q : List ℕ) → entry_of fs q ≡ update bytes_eq (entry_of es) original (Some (record { next = n; rename = m.rename })) q)
-    → (q : List ℕ) → name_record_of (name_records fs) q ≡ name_record_of (name_records es) q
+    → (q : List ℕ) → under_name (name_records fs) q ≡ under_name (name_records es) q
 name_records_stay es fs original m n there h q =
-    rw (name_record_of_records es q, name_record_of_records fs q, h q)
+    rw (under_name-name_records es q, under_name-name_records fs q, h q)
     (elim (bytes_eq original q) as (λ b. bytes_eq original q ≡ b → option_map (λ (g : NameRecord). g.rename) (cond b (Some (record { next = n; rename = m.rename })) (entry_of es q)) ≡ option_map (λ (g : NameRecord). g.rename) (entry_of es q)) [
       | true ↦ λ same. let at_q : entry_of es q ≡ Some m = subst (λ (x : List ℕ). entry_of es x ≡ Some m) ((bytes_eq-Decides original q).0 same) there in rw at_q refl
       | false ↦ λ differs. refl
@@ -113,12 +114,12 @@ module _ {Y : Type 0} (es fs : List (String Y × NameRecord)) (original : List �
   pub tried_original : Tried (entry_of fs)
   tried_original = tried_update (entry_of es) (entry_of fs) original (record { next = 2; rename = None }) put tried (omega arith) (λ k a b. absurd (omega arith))
 
-  pub gives_original : is_some (entry_of es original) ≡ false → Gives (name_record_of (name_records es)) (name_record_of (name_records fs)) original 0 None
+  pub gives_original : is_some (entry_of es original) ≡ false → Gives (under_name (name_records es)) (under_name (name_records fs)) original 0 None
   gives_original free = (name_records_free es original free, name_records_put es fs original _ put)
 
 -- an original name with a number: the table after its name was put, and then its `next`
 module _ {Y : Type 0} (es fs gs : List (String Y × NameRecord)) (original name : List ℕ) (number index : ℕ) (after : NameRecord) (tried : Tried (entry_of es))
-    (least : (k : ℕ) → 2 ≤ k → k < number → IsSome (name_record_of (name_records es) (name_with_number original k)))
+    (least : (k : ℕ) → 2 ≤ k → k < number → IsSome (under_name (name_records es) (name_with_number original k)))
     (from_two : 2 ≤ number) (spelled : name ≡ name_with_number original number)
     (put : (q : List ℕ) → entry_of fs q ≡ update bytes_eq (entry_of es) name (Some (record { next = 2; rename = Some index })) q)
     (there : entry_of fs original ≡ Some after)
@@ -136,7 +137,7 @@ module _ {Y : Type 0} (es fs gs : List (String Y × NameRecord)) (original name 
       (tried_update (entry_of es) (entry_of fs) name (record { next = 2; rename = Some index }) put tried (omega arith) (λ k a b. absurd (omega arith)))
       (omega arith) below_next
 
-  pub gives_number : IsSome (entry_of es original) → name_record_of (name_records es) name ≡ None → Gives (name_record_of (name_records es)) (name_record_of (name_records gs)) original index (Some name)
+  pub gives_number : IsSome (entry_of es original) → under_name (name_records es) name ≡ None → Gives (under_name (name_records es)) (under_name (name_records gs)) original index (Some name)
   gives_number taken free = (
     name_records_taken es original taken,
     record { number = number; from_two = from_two; spelled = spelled; free = λ given. absurd (true≢false (sym given ∙ ap is_some free)); least = least },

@@ -2,7 +2,7 @@
 -- the rename to it, or None again where it is an original name.
 use Rattle.std.specs.Prelude.{◌≡◌, ℕ, ◌<◌, ◌≤◌, cond, List, map, String, string_bytes, Option, Some, None}
 use Rattle.std.specs.Option.{IsSome}
-use Rattle.std.specs.Map.{lookup, update}
+use Rattle.std.specs.Map.{update}
 use Rattle.std.specs.Str.{bytes_eq}
 use Rattle.std.specs.BTreeMap.{BTreeMap, get_by_text}
 use Rattle.wc_dedupe.specs.Renaming.{name_with_number, IsLeastNumberedName}
@@ -11,10 +11,6 @@ use Rattle.wc_dedupe.specs.declared.names_in_modules.NameRecord.{NameRecord}
 -- the names of a table, each with the index of its rename
 abbrev pub name_records : {Y : Type 0} → List (String Y × NameRecord) → List (List ℕ × Option ℕ)
 name_records es = map (λ e. (string_bytes e.0, e.1.rename)) es
-
--- the record of a name
-abbrev pub name_record_of : List (List ℕ × Option ℕ) → List ℕ → Option (Option ℕ)
-name_record_of table n = lookup (bytes_eq n) table
 
 -- with each number from 2 below its `next` a name is a name that an import has
 abbrev pub IsTried : {Y : Type 0} → BTreeMap (String Y) NameRecord → Type 0

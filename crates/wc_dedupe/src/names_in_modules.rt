@@ -42,7 +42,8 @@ impl Model for NameTable {
 }
 
 impl NameTable {
-    ghost use Rattle.wc_dedupe.specs.NamesInModules.{name_record_of, Gives};
+    ghost use Rattle.wc_dedupe.specs.NamesInModules.{Gives};
+    ghost use Rattle.wc_maps.specs.Names.{under_name};
 
     /// A table with no names.
     fn new(alloc: Global) -> NameTable
@@ -55,7 +56,7 @@ impl NameTable {
 
     /// The index of the rename to `name`, where there is one.
     fn rename(&self, name: &str) -> Option<usize>
-        ensures { result ≡ option_flatten (name_record_of self.now name.now) }
+        ensures { result ≡ option_flatten (under_name self.now name.now) }
     {
         match self.names.get(name) {
             Some(name_record) => name_record.rename,
@@ -72,7 +73,7 @@ impl NameTable {
         index: usize,
     ) -> Result<Option<String>, AllocError>
         ensures { IfOk result (λ name. Gives
-            (name_record_of self.old) (name_record_of self.new) original.now index
+            (under_name self.old) (under_name self.new) original.now index
             (option_map string_bytes name)) }
     {
         let Some(name_record) = self.names.get(original).copied() else {

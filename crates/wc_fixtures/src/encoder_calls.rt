@@ -4,12 +4,24 @@ use crate::encoder_fields::{put_adapters, put_encoder, put_item, put_which};
 use crate::encoder_fixture::{described_encoder, library_item, main_or_adapter};
 use crate::resolve_calls::{argument_words, put_answer};
 use crate::shown_worlds::put_world;
-use crate::stop::Stop;
+use crate::stop::{Stop, put_answered};
 use crate::words::Words;
-use std::alloc::{AllocError, Global};
+use std::alloc::Global;
 use wc_encoder::{ComponentEncoder, EncoderFault};
 use wc_rows::lines::Lines;
 use wc_rows::rows::Row;
+
+/// The calls on the encoder that the input describes, and from `Faults` on those that need none.
+#[derive(Clone, Copy)]
+pub enum Call {
+    Build,
+    Encoder,
+    Adapters,
+    World,
+    Faults,
+    ItemClone,
+    WhichClone,
+}
 
 /// The text of each fault, in the order of `EncoderFault`.
 fn put_faults(out: &mut Lines) {
@@ -63,70 +75,65 @@ fn put_encoded_world<'a>(encoder: &ComponentEncoder, out: &mut Lines) -> Result<
 
 /// What a call asks of an encoder.
 fn put_of_encoder<'a>(
-    call: &str,
+    call: Call,
     encoder: &ComponentEncoder,
     out: &mut Lines,
 ) -> Result<(), Stop<'a>> {
     encoder.well_formedness();
-    if call == "encoder" {
-        put_encoder(out, encoder);
-    } else if call == "encoder_adapters" {
-        put_adapters(out, encoder);
-    } else if call == "encoder_world" {
-        put_encoded_world(encoder, out)?;
-    } else {
-        out.push_str("ok\n");
+    match call {
+        Call::Encoder => put_encoder(out, encoder),
+        Call::Adapters => put_adapters(out, encoder),
+        Call::World => return put_encoded_world(encoder, out),
+        _ => out.push_str("ok\n"),
     }
     Ok(())
 }
 
 /// The answer of a call on the encoder that the input describes.
-fn answer_on_encoder<'a>(alloc: Global, row: &'a Row<'a>, out: &mut Lines) -> Result<(), Stop<'a>> {
+fn answer_on_encoder<'a>(
+    alloc: Global,
+    call: Call,
+    row: &'a Row<'a>,
+    out: &mut Lines,
+) -> Result<(), Stop<'a>> {
     match described_encoder(alloc, row) {
-        Ok(encoder) => put_of_encoder(row.call, &encoder, out),
+        Ok(encoder) => put_of_encoder(call, &encoder, out),
         Err(stop) => Err(stop),
     }
 }
 
-fn answered<'a>(alloc: Global, row: &'a Row<'a>, out: &mut Lines) -> Result<(), Stop<'a>> {
-    let mut words = argument_words(alloc, row)?;
-    if row.call == "encoder_faults" {
-        put_faults(out);
-    } else if row.call == "item_clone" {
-        item_clone(&mut words, out)?;
-    } else if row.call == "which_clone" {
-        which_clone(&mut words, out)?;
-    } else {
-        answer_on_encoder(alloc, row, out)?;
+fn answer_on_words<'a>(
+    call: Call,
+    row: &'a Row<'a>,
+    words: &mut Words,
+    out: &mut Lines,
+) -> Result<(), Stop<'a>> {
+    match call {
+        Call::Faults => {
+            put_faults(out);
+            Ok(())
+        }
+        Call::ItemClone => item_clone(words, out),
+        Call::WhichClone => which_clone(words, out),
+        _ => answer_on_encoder(words.alloc, call, row, out),
     }
+}
+
+fn answered<'a>(
+    alloc: Global,
+    call: Call,
+    row: &'a Row<'a>,
+    out: &mut Lines,
+) -> Result<(), Stop<'a>> {
+    let mut words = argument_words(alloc, row)?;
+    answer_on_words(call, row, &mut words, out)?;
     words.end()?;
     Ok(())
 }
 
-/// The calls on encoders.
-const OWN: [&str; 7] = [
-    "encoder_build",
-    "encoder",
-    "encoder_adapters",
-    "encoder_world",
-    "encoder_faults",
-    "item_clone",
-    "which_clone",
-];
-
-fn is_own(call: &str) -> bool {
-    OWN.iter().any(|name| *name == call)
-}
-
-/// The answer of a call on encoders. False where the call is none.
-pub fn answer(alloc: Global, row: &Row<'_>, out: &mut Lines) -> Result<bool, AllocError> {
-    if !is_own(row.call) {
-        return Ok(false);
-    }
+/// Appends the answer of a call on encoders.
+pub fn answer(alloc: Global, call: Call, row: &Row<'_>, out: &mut Lines) {
     let mut lines = Lines::new(alloc);
-    match answered(alloc, row, &mut lines) {
-        Ok(()) => out.push_str(lines.text()?),
-        Err(stop) => stop.put(out)?,
-    }
-    Ok(true)
+    let answered = answered(alloc, call, row, &mut lines);
+    put_answered(out, answered, &lines);
 }

@@ -1,15 +1,32 @@
-//! The calls on keys and versions, which need no `Resolve`.
+//! The calls that need no `Resolve`: on keys, versions, handles and functions.
 
 use crate::functions::complete_function;
-use crate::members::{package_name, version_of, world_key};
-use crate::resolve_calls::put_answer;
+use crate::members::{handle, package_name, version_of, world_key};
+use crate::resolve_calls::{argument_words, put_answer, put_found};
+use crate::shown_kinds::put_complete_function;
 use crate::shown_names::{put_key, put_name, put_package_name};
-use crate::stop::Stop;
+use crate::stop::{Stop, put_answered};
 use crate::words::Words;
+use std::alloc::Global;
 use std::hash::{DefaultHasher, Hash, Hasher};
 use wc_resolve::laws::keys_hash_alike;
-use wc_resolve::{Function, PackageName, WorldKey};
+use wc_resolve::{Function, PackageName, ResolveFault, WorldKey};
 use wc_rows::lines::Lines;
+use wc_rows::rows::Row;
+
+/// These calls, and that for the texts of faults.
+#[derive(Clone, Copy)]
+pub enum Call {
+    KeyClone,
+    KeysEqual,
+    VersionCompatTrack,
+    IsVersionCompatTrack,
+    PackageNameClone,
+    LegacyCoreExportName,
+    HandleResource,
+    FunctionClone,
+    Faults,
+}
 
 fn hash_of(key: &WorldKey) -> u64 {
     let mut state = DefaultHasher::new();
@@ -95,33 +112,70 @@ fn put_core_export_name<'a>(
     Ok(())
 }
 
-/// The calls on keys and versions.
-const ON_KEYS: [&str; 6] = [
-    "key_clone",
-    "keys_equal",
-    "version_compat_track",
-    "is_version_compat_track",
-    "package_name_clone",
-    "legacy_core_export_name",
-];
-
-pub fn is_on_keys(call: &str) -> bool {
-    ON_KEYS.iter().any(|name| *name == call)
+/// The resource of a handle.
+fn handle_resource<'a>(words: &mut Words, out: &mut Lines) -> Result<(), Stop<'a>> {
+    put_found(out, 't', Some(handle(words)?.resource().0));
+    Ok(())
 }
 
-/// The answer of a call on keys and versions.
-pub fn key_call<'a>(call: &str, words: &mut Words, out: &mut Lines) -> Result<(), Stop<'a>> {
-    if call == "key_clone" {
-        key_clone(words, out)
-    } else if call == "keys_equal" {
-        keys_equal(words, out)
-    } else if call == "version_compat_track" {
-        version_compat_track(words, out)
-    } else if call == "is_version_compat_track" {
-        is_version_compat_track(words, out)
-    } else if call == "package_name_clone" {
-        package_name_clone(words, out)
-    } else {
-        legacy_core_export_name(words, out)
+/// The copy of a function, on a line.
+fn function_clone<'a>(words: &mut Words, out: &mut Lines) -> Result<(), Stop<'a>> {
+    let function = complete_function(words)?;
+    put_complete_function(out, &function.clone(words.alloc)?);
+    out.push('\n');
+    Ok(())
+}
+
+/// The text of each fault, in the order of `ResolveFault`.
+fn put_faults(out: &mut Lines) {
+    let faults = [
+        ResolveFault::Memory,
+        ResolveFault::IdRange,
+        ResolveFault::Cycle,
+        ResolveFault::Unnamed,
+        ResolveFault::KeyMismatch,
+        ResolveFault::NameClash,
+        ResolveFault::BadCharacter,
+        ResolveFault::ByValueResource,
+        ResolveFault::Empty,
+    ];
+    for fault in faults {
+        writeln!(out, "{fault}");
     }
+}
+
+fn answer_on_words<'a>(call: Call, words: &mut Words, out: &mut Lines) -> Result<(), Stop<'a>> {
+    match call {
+        Call::KeyClone => key_clone(words, out),
+        Call::KeysEqual => keys_equal(words, out),
+        Call::VersionCompatTrack => version_compat_track(words, out),
+        Call::IsVersionCompatTrack => is_version_compat_track(words, out),
+        Call::PackageNameClone => package_name_clone(words, out),
+        Call::LegacyCoreExportName => legacy_core_export_name(words, out),
+        Call::HandleResource => handle_resource(words, out),
+        Call::FunctionClone => function_clone(words, out),
+        Call::Faults => {
+            put_faults(out);
+            Ok(())
+        }
+    }
+}
+
+fn answered<'a>(
+    alloc: Global,
+    call: Call,
+    row: &'a Row<'a>,
+    out: &mut Lines,
+) -> Result<(), Stop<'a>> {
+    let mut words = argument_words(alloc, row)?;
+    answer_on_words(call, &mut words, out)?;
+    words.end()?;
+    Ok(())
+}
+
+/// Appends the answer of such a call.
+pub fn answer(alloc: Global, call: Call, row: &Row<'_>, out: &mut Lines) {
+    let mut lines = Lines::new(alloc);
+    let answered = answered(alloc, call, row, &mut lines);
+    put_answered(out, answered, &lines);
 }

@@ -10,6 +10,21 @@ use std::alloc::{AllocError, Global};
 use wc_resolve::{Function, InterfaceId, Resolve, TypeId, WorldItem, WorldKey};
 use wc_rows::lines::Lines;
 
+/// These calls.
+#[derive(Clone, Copy)]
+pub enum Call {
+    IdOf,
+    CanonicalizedIdOf,
+    NameWorldKey,
+    ImplementsInterface,
+    ExternalIdValue,
+    InterfaceDirectDeps,
+    FindFuturesAndStreams,
+    NthFutureOrStream,
+    IsCanonicalId,
+    QualifiedName,
+}
+
 /// A text, or `none`, on a line.
 fn put_text(out: &mut Lines, text: &Option<String>) {
     put_optional_name(out, text);
@@ -214,48 +229,23 @@ fn qualified_name<'a>(
     Ok(())
 }
 
-/// The calls by which crates look up names. False where the call is none of these.
-pub fn lookup_call<'a>(
-    call: &str,
-    resolve: &Resolve,
-    words: &mut Words,
-    out: &mut Lines,
-) -> Result<bool, Stop<'a>> {
-    if call == "nth_future_or_stream" {
-        nth_future_or_stream(resolve, words, out)?;
-    } else if call == "is_canonical_id" {
-        is_canonical_id(resolve, words, out)?;
-    } else if call == "qualified_name" {
-        qualified_name(resolve, words, out)?;
-    } else {
-        return Ok(false);
-    }
-    Ok(true)
-}
-
-/// False where the call is none of these.
+/// The answer of such a call.
 pub fn name_call<'a>(
-    call: &str,
+    call: Call,
     resolve: &Resolve,
     words: &mut Words,
     out: &mut Lines,
-) -> Result<bool, Stop<'a>> {
-    if call == "id_of" {
-        id_of(resolve, words, out)?;
-    } else if call == "canonicalized_id_of" {
-        canonicalized_id_of(resolve, words, out)?;
-    } else if call == "name_world_key" {
-        name_world_key(resolve, words, out)?;
-    } else if call == "implements_interface" {
-        implements_interface(resolve, words, out)?;
-    } else if call == "external_id_value" {
-        external_id_value(resolve, words, out)?;
-    } else if call == "interface_direct_deps" {
-        interface_direct_deps(resolve, words, out)?;
-    } else if call == "find_futures_and_streams" {
-        find_futures_and_streams(resolve, words, out)?;
-    } else {
-        return Ok(false);
+) -> Result<(), Stop<'a>> {
+    match call {
+        Call::IdOf => id_of(resolve, words, out),
+        Call::CanonicalizedIdOf => canonicalized_id_of(resolve, words, out),
+        Call::NameWorldKey => name_world_key(resolve, words, out),
+        Call::ImplementsInterface => implements_interface(resolve, words, out),
+        Call::ExternalIdValue => external_id_value(resolve, words, out),
+        Call::InterfaceDirectDeps => interface_direct_deps(resolve, words, out),
+        Call::FindFuturesAndStreams => find_futures_and_streams(resolve, words, out),
+        Call::NthFutureOrStream => nth_future_or_stream(resolve, words, out),
+        Call::IsCanonicalId => is_canonical_id(resolve, words, out),
+        Call::QualifiedName => qualified_name(resolve, words, out),
     }
-    Ok(true)
 }

@@ -2,21 +2,34 @@
 
 use crate::fixture::fixture_of;
 use crate::functions::complete_function;
-use crate::key_calls::{is_on_keys, key_call};
 use crate::live_calls::live_call;
-use crate::members::{handle, package_name};
-use crate::name_calls::{lookup_call, name_call};
-use crate::shown_kinds::put_complete_function;
+use crate::members::package_name;
+use crate::name_calls::{self, name_call};
 use crate::shown_names::put_id;
 use crate::shown_worlds::{put_interface, put_package, put_type_def, put_world};
-use crate::signature_calls::signature_call;
-use crate::stop::Stop;
+use crate::signature_calls::wasm_signature;
+use crate::stop::{Stop, put_answered};
 use crate::types::type_id;
 use crate::words::Words;
-use std::alloc::{AllocError, Global};
-use wc_resolve::{Function, InterfaceId, PackageId, Resolve, ResolveFault, WorldId};
+use std::alloc::Global;
+use wc_resolve::{InterfaceId, PackageId, Resolve, WorldId};
 use wc_rows::lines::Lines;
 use wc_rows::rows::Row;
+
+/// The calls on the `Resolve` that the input describes.
+#[derive(Clone, Copy)]
+pub enum Call {
+    Build,
+    Has,
+    TypeDef,
+    Interface,
+    Package,
+    World,
+    PackageNamed,
+    Name(name_calls::Call),
+    Signature,
+    LiveTypes,
+}
 
 /// The words after a call, as a line.
 pub fn argument_words<'a>(alloc: Global, row: &Row<'_>) -> Result<Words, Stop<'a>> {
@@ -47,12 +60,13 @@ pub fn put_found(out: &mut Lines, letter: char, index: Option<u32>) {
     out.push('\n');
 }
 
-fn build(resolve: &Resolve, out: &mut Lines) {
+fn build<'a>(resolve: &Resolve, out: &mut Lines) -> Result<(), Stop<'a>> {
     resolve.well_formedness();
     resolve.listings_unique();
     resolve.futures_unique();
     resolve.flat_types_unique();
     out.push_str("ok\n");
+    Ok(())
 }
 
 fn type_def<'a>(resolve: &Resolve, words: &mut Words, out: &mut Lines) -> Result<(), Stop<'a>> {
@@ -119,156 +133,56 @@ fn package_named<'a>(
     Ok(())
 }
 
-/// The calls on a `Resolve` alone.
+/// What a call answers of a `Resolve`, but for live types.
 fn resolve_call<'a>(
-    call: &str,
+    call: Call,
     resolve: &Resolve,
     words: &mut Words,
     out: &mut Lines,
-) -> Result<bool, Stop<'a>> {
-    if call == "resolve_build" {
-        build(resolve, out);
-    } else if call == "has" {
-        has(resolve, words, out)?;
-    } else if call == "type_def" {
-        type_def(resolve, words, out)?;
-    } else if call == "interface" {
-        interface(resolve, words, out)?;
-    } else if call == "package" {
-        package(resolve, words, out)?;
-    } else if call == "world" {
-        world(resolve, words, out)?;
-    } else if call == "package_named" {
-        package_named(resolve, words, out)?;
-    } else {
-        return Ok(false);
-    }
-    Ok(true)
-}
-
-/// The text of each fault, in the order of `ResolveFault`.
-fn put_faults(out: &mut Lines) {
-    let faults = [
-        ResolveFault::Memory,
-        ResolveFault::IdRange,
-        ResolveFault::Cycle,
-        ResolveFault::Unnamed,
-        ResolveFault::KeyMismatch,
-        ResolveFault::NameClash,
-        ResolveFault::BadCharacter,
-        ResolveFault::ByValueResource,
-        ResolveFault::Empty,
-    ];
-    for fault in faults {
-        writeln!(out, "{fault}");
-    }
-}
-
-/// The calls that need no `Resolve`.
-fn lone_call<'a>(call: &str, words: &mut Words, out: &mut Lines) -> Result<(), Stop<'a>> {
-    if is_on_keys(call) {
-        return key_call(call, words, out);
-    }
-    if call == "handle_resource" {
-        put_found(out, 't', Some(handle(words)?.resource().0));
-    } else if call == "function_clone" {
-        put_copy(words.alloc, &complete_function(words)?, out)?;
-    } else {
-        put_faults(out);
-    }
-    Ok(())
-}
-
-/// The copy of a function, on a line.
-fn put_copy(alloc: Global, function: &Function, out: &mut Lines) -> Result<(), AllocError> {
-    put_complete_function(out, &function.clone(alloc)?);
-    out.push('\n');
-    Ok(())
-}
-
-/// The calls on a `Resolve`.
-const ON_RESOLVE: [&str; 19] = [
-    "resolve_build",
-    "has",
-    "type_def",
-    "interface",
-    "package",
-    "world",
-    "package_named",
-    "id_of",
-    "canonicalized_id_of",
-    "name_world_key",
-    "implements_interface",
-    "external_id_value",
-    "interface_direct_deps",
-    "find_futures_and_streams",
-    "nth_future_or_stream",
-    "is_canonical_id",
-    "qualified_name",
-    "wasm_signature",
-    "live_types",
-];
-
-fn is_on_resolve(call: &str) -> bool {
-    ON_RESOLVE.iter().any(|name| *name == call)
-}
-
-/// The calls that need no `Resolve`.
-const ALONE: [&str; 3] = ["resolve_faults", "handle_resource", "function_clone"];
-
-fn is_alone(call: &str) -> bool {
-    is_on_keys(call) || ALONE.iter().any(|name| *name == call)
-}
-
-/// The answer of a call on the `Resolve` that the input describes.
-fn answer_on_resolve<'a>(
-    alloc: Global,
-    row: &'a Row<'a>,
-    words: &mut Words,
-    out: &mut Lines,
 ) -> Result<(), Stop<'a>> {
-    let resolve = resolve_of(alloc, &row.input)?;
-    answer_by(&resolve, row, words, out)
+    match call {
+        Call::Build => build(resolve, out),
+        Call::Has => has(resolve, words, out),
+        Call::TypeDef => type_def(resolve, words, out),
+        Call::Interface => interface(resolve, words, out),
+        Call::Package => package(resolve, words, out),
+        Call::World => world(resolve, words, out),
+        Call::PackageNamed => package_named(resolve, words, out),
+        Call::Name(call) => name_call(call, resolve, words, out),
+        _ => wasm_signature(resolve, words, out),
+    }
 }
 
+/// What a call answers of a `Resolve`; `input` has the script of live types.
 fn answer_by<'a>(
+    call: Call,
     resolve: &Resolve,
-    row: &'a Row<'a>,
+    input: &[&'a str],
     words: &mut Words,
     out: &mut Lines,
 ) -> Result<(), Stop<'a>> {
-    if resolve_call(row.call, resolve, words, out)? || name_call(row.call, resolve, words, out)? {
-        return Ok(());
+    if matches!(call, Call::LiveTypes) {
+        return live_call(words.alloc, resolve, input, out);
     }
-    if lookup_call(row.call, resolve, words, out)? {
-        return Ok(());
-    }
-    if signature_call(row.call, resolve, words, out)? {
-        return Ok(());
-    }
-    live_call(words.alloc, resolve, &row.input, out)
+    resolve_call(call, resolve, words, out)
 }
 
-fn answered<'a>(alloc: Global, row: &'a Row<'a>, out: &mut Lines) -> Result<(), Stop<'a>> {
+fn answered<'a>(
+    alloc: Global,
+    call: Call,
+    row: &'a Row<'a>,
+    out: &mut Lines,
+) -> Result<(), Stop<'a>> {
     let mut words = argument_words(alloc, row)?;
-    if is_on_resolve(row.call) {
-        answer_on_resolve(alloc, row, &mut words, out)?;
-    } else {
-        lone_call(row.call, &mut words, out)?;
-    }
+    let resolve = resolve_of(alloc, &row.input)?;
+    answer_by(call, &resolve, &row.input, &mut words, out)?;
     words.end()?;
     Ok(())
 }
 
-/// The answer of a call on worlds. False where the call is none.
-pub fn answer(alloc: Global, row: &Row<'_>, out: &mut Lines) -> Result<bool, AllocError> {
-    if !is_on_resolve(row.call) && !is_alone(row.call) {
-        return Ok(false);
-    }
+/// Appends the answer of a call on a `Resolve`.
+pub fn answer(alloc: Global, call: Call, row: &Row<'_>, out: &mut Lines) {
     let mut lines = Lines::new(alloc);
-    match answered(alloc, row, &mut lines) {
-        Ok(()) => out.push_str(lines.text()?),
-        Err(stop) => stop.put(out)?,
-    }
-    Ok(true)
+    let answered = answered(alloc, call, row, &mut lines);
+    put_answered(out, answered, &lines);
 }

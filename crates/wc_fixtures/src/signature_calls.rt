@@ -61,7 +61,8 @@ fn put_signature(out: &mut Lines, signature: &WasmSignature) {
     }
 }
 
-fn wasm_signature<'a>(
+/// The core signature of a function.
+pub fn wasm_signature<'a>(
     resolve: &Resolve,
     words: &mut Words,
     out: &mut Lines,
@@ -74,19 +75,4 @@ fn wasm_signature<'a>(
     let signature = resolve.wasm_signature(words.alloc, abi, &function)?;
     put_signature(out, &signature);
     Ok(())
-}
-
-/// False where the call is none of these.
-pub fn signature_call<'a>(
-    call: &str,
-    resolve: &Resolve,
-    words: &mut Words,
-    out: &mut Lines,
-) -> Result<bool, Stop<'a>> {
-    if call == "wasm_signature" {
-        wasm_signature(resolve, words, out)?;
-    } else {
-        return Ok(false);
-    }
-    Ok(true)
 }

@@ -26,16 +26,23 @@ impl<'a> Stop<'a> {
         }
     }
 
-    /// Writes it after an answer; Err where memory ran out.
-    pub fn put(self, out: &mut Lines) -> Result<(), AllocError> {
+    /// Writes it after an answer, which is short where memory ran out.
+    fn put(self, out: &mut Lines) {
         match self {
-            Stop::Memory => return Err(AllocError),
+            Stop::Memory => out.lack_memory(),
             Stop::Line(why, line) => writeln!(out, "bad row: {why}: {line}"),
             Stop::Missing(why) => writeln!(out, "bad row: {why}"),
             Stop::Resolve(fault) => writeln!(out, "fault {fault}"),
             Stop::Encoder(fault) => writeln!(out, "fault {fault}"),
         }
-        Ok(())
+    }
+}
+
+/// Writes the lines of a call that was answered, or why it was not.
+pub fn put_answered(out: &mut Lines, answered: Result<(), Stop<'_>>, lines: &Lines) {
+    match answered {
+        Ok(()) => out.push_lines(lines),
+        Err(stop) => stop.put(out),
     }
 }
 

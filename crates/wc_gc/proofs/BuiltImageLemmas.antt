@@ -24,7 +24,7 @@ use Rattle.wc_read.specs.declared.types.GlobalType.{GlobalType}
 use Rattle.wc_read.specs.declared.types.ImportType.TheVariants.{Func, Table, Memory, Global}
 use Rattle.wc_write.specs.BodyText.{body_text}
 use Rattle.wc_write.specs.BuiltValues.{def_seen, item_seen, written_module, IsExport, IsWritableMemory, IsInitialiser, HasInitialiser, HasImportsFirst, IsBuilt, IsWritable}
-use Rattle.wc_write.specs.ModuleText.{BuiltValue, built_imports, init_text}
+use Rattle.wc_write.specs.ModuleText.{BuiltValue, built_imports, operators_text}
 use Rattle.wc_write.specs.Spaces.{imports_of, defined_contents}
 use Rattle.wc_write.specs.Values.{IsU32, IsBody, IsFuncType, IsImport, IsTable, IsValType}
 use Rattle.wc_write.proofs.SpaceLemmas.{map_again}
@@ -181,7 +181,7 @@ module _ (m : ModuleValue) (kept : ItemIndex → Bool) where
 
     can_move : AllByRecursion HasShortInit (map (global_written new) (kept_in kept Globals m.globals)) → (n : ℕ) (g : GlobalValue) → kept (Globals, n) ≡ true → slice_get m.globals n ≡ Some g
         → CanMove (length m.types) types (length m.funcs) functions new (λ k. kept (Globals, k)) are_new.globals
-        (λ g. item_seen init_text (global_written new g)) (λ g. refl) n g
+        (λ g. item_seen operators_text (global_written new g)) (λ g. refl) n g
     can_move short n g h e done done' long moved typed =
         let can = has_initialiser n g e in
         let below = slice_get_within m.globals n g e in
@@ -197,11 +197,11 @@ module _ (m : ModuleValue) (kept : ItemIndex → Bool) where
         (kept_item_at HasShortInit (global_written new) (λ k. kept (Globals, k)) m.globals n g short h e) typed
 
     pub globals_typed : AllByRecursion HasShortInit (map (global_written new) (kept_in kept Globals m.globals))
-        → AreTyped types functions (map (item_seen init_text) (map (global_written new) (kept_in kept Globals m.globals)))
+        → AreTyped types functions (map (item_seen operators_text) (map (global_written new) (kept_in kept Globals m.globals)))
     globals_typed short =
-        subst (AreTyped types functions) (sym (map_again (item_seen init_text) (global_written new) (kept_in kept Globals m.globals)))
+        subst (AreTyped types functions) (sym (map_again (item_seen operators_text) (global_written new) (kept_in kept Globals m.globals)))
         (kept_typed (length m.types) types (length m.funcs) functions new (λ k. kept (Globals, k)) are_new.globals
-        (λ g. item_seen init_text (global_written new g)) (λ g. refl) m.globals v.initialised (can_move short))
+        (λ g. item_seen operators_text (global_written new g)) (λ g. refl) m.globals v.initialised (can_move short))
 
 -- an image whose functions can be spelled
 
@@ -254,7 +254,7 @@ module _ (m : ModuleValue) (exports : List ExportValue) (kept : ItemIndex → Bo
       let same = are_new.globals n is_live in
       let r = rank_below (live Globals) m.globals n h is_live in
       let one = length-map (kept_in kept Globals m.globals) (global_written new) in
-      let two = length-map image.globals (item_seen init_text) in
+      let two = length-map image.globals (item_seen operators_text) in
       omega (arith, same, r, one, two)
 
   index_there : (kind : ExportKind) (n : ℕ) → n < count_of m kind → IsTrue (kept (space_of kind, n)) → new (space_of kind) n < count_of (written_module image) kind
@@ -285,7 +285,7 @@ module _ (m : ModuleValue) (exports : List ExportValue) (kept : ItemIndex → Bo
     memories = omega (arith, bounded_kept (live Memories) m.memories, v.bounded.memories);
     globals = (
         let one = length-map (kept_in kept Globals m.globals) (global_written new) in
-        let two = length-map image.globals (item_seen init_text) in
+        let two = length-map image.globals (item_seen operators_text) in
         omega (arith, one, two, bounded_kept (live Globals) m.globals, v.bounded.globals)
         );
   }
@@ -323,7 +323,7 @@ module _ (m : ModuleValue) (exports : List ExportValue) (kept : ItemIndex → Bo
   named = record {
     types = names;
     tables = kept_tables_named m kept w v k.named new (length types) (length funcs) are_new;
-    globals = All-map (λ (g : GlobalValue). HasTypeIndex (length types) g.ty.content_type) (item_seen init_text) image.globals
+    globals = All-map (λ (g : GlobalValue). HasTypeIndex (length types) g.ty.content_type) (item_seen operators_text) image.globals
         (kept_globals_named m kept w v k.named new (length types) (length funcs) are_new);
   }
 

@@ -17,7 +17,7 @@ use Rattle.wc_read.proofs.DecodingLemmas.{init_found}
 use Rattle.wc_write.specs.Spaces.{imports_of, import_by, DefinedValue, defined, defined_by, defined_types, defined_contents}
 use Rattle.wc_write.specs.Text.{FitsSize, global_text}
 use Rattle.wc_write.specs.Values.{IsImport, IsImportType}
-use Rattle.wc_write.specs.ModuleText.{BuiltValue, SizesFit, SizeFits, OptionalSection, optional_sections, init_text, defined_global_text}
+use Rattle.wc_write.specs.ModuleText.{BuiltValue, SizesFit, SizeFits, OptionalSection, optional_sections, operators_text, defined_global_text}
 use Rattle.wc_write.specs.BuiltValues.{def_seen, item_seen, is_import, is_imported, IsInitialiser, HasInitialiser}
 use Rattle.wc_write.proofs.VectorTextLemmas.{back_shorter}
 use Rattle.wc_write.proofs.ContentLemmas.{all_item_sizes_fit}
@@ -115,17 +115,17 @@ module _ (new : Renumbering) (keeps : KeepsBits new) where
 -- texts of initialisers are short, where the contents of sections are
 
 abbrev pub HasShortInit : ItemValue GlobalType (List InstrValue) → Type 0
-HasShortInit g = IfLocal (λ is. FitsSize (init_text is)) g.def
+HasShortInit g = IfLocal (λ is. FitsSize (operators_text is)) g.def
 
 pub short_inits : (b : BuiltValue) → SizesFit b → AllByRecursion HasShortInit b.globals
 unfolding optional_sections
 short_inits b fits =
     let sections = recursion_from_All (λ (p : OptionalSection). SizeFits p.content) (optional_sections b) fits in
     let texts = all_item_sizes_fit defined_global_text (defined b.globals) sections.1.1.1.1.1.0 in
-    let inits = each_weaker (λ (o : DefinedValue GlobalType (List InstrValue)). length (defined_global_text o) < 2 ^ 32) (λ (o : DefinedValue GlobalType (List InstrValue)). FitsSize (init_text o.content)) (defined b.globals)
-    (λ o h. back_shorter (global_text o.ty) (init_text o.content) (2 ^ 32) h) (recursion_from_All (λ (o : DefinedValue GlobalType (List InstrValue)). length (defined_global_text o) < 2 ^ 32) (defined b.globals) texts) in
-    each_weaker (λ (i : ItemValue GlobalType (List InstrValue)). IfSome (defined_by i.ty i.def) (λ o. FitsSize (init_text o.content))) HasShortInit b.globals (λ i h. defined_to (λ is. FitsSize (init_text is)) i.ty i.def h)
-    (all_give (λ (o : DefinedValue GlobalType (List InstrValue)). FitsSize (init_text o.content)) (λ (i : ItemValue GlobalType (List InstrValue)). defined_by i.ty i.def) b.globals inits)
+    let inits = each_weaker (λ (o : DefinedValue GlobalType (List InstrValue)). length (defined_global_text o) < 2 ^ 32) (λ (o : DefinedValue GlobalType (List InstrValue)). FitsSize (operators_text o.content)) (defined b.globals)
+    (λ o h. back_shorter (global_text o.ty) (operators_text o.content) (2 ^ 32) h) (recursion_from_All (λ (o : DefinedValue GlobalType (List InstrValue)). length (defined_global_text o) < 2 ^ 32) (defined b.globals) texts) in
+    each_weaker (λ (i : ItemValue GlobalType (List InstrValue)). IfSome (defined_by i.ty i.def) (λ o. FitsSize (operators_text o.content))) HasShortInit b.globals (λ i h. defined_to (λ is. FitsSize (operators_text is)) i.ty i.def h)
+    (all_give (λ (o : DefinedValue GlobalType (List InstrValue)). FitsSize (operators_text o.content)) (λ (i : ItemValue GlobalType (List InstrValue)). defined_by i.ty i.def) b.globals inits)
 
 -- what holds of all that is kept holds of a kept item
 pub kept_item_at : {A B : Type 0} (P : B → Type 0) (f : A → B) (has : ℕ → Bool) (xs : List A) (n : ℕ) (x : A) → AllByRecursion P (map f (kept_items has (length xs) xs)) → has n ≡ true → slice_get xs n ≡ Some x → P (f x)

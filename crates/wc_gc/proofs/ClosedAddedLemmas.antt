@@ -1,6 +1,5 @@
 -- What is added to an adapter names what its image has.
-use Rattle.std.proofs.Common.{◌≡◌, ℕ, ◌+◌, ◌<◌, List, [], ◌∷◌, ◌++◌, length, refl, sym, ◌∙◌, ap, subst, Bool, true, false, cond, Option, Some, None, arith}
-use Rattle.std.proofs.Common.{nat_eq, ◌⊎◌, inl, inr}
+use Rattle.std.proofs.Common.{◌≡◌, ℕ, ◌+◌, ◌<◌, List, [], ◌∷◌, ◌++◌, length, refl, sym, ◌∙◌, ap, subst, Bool, true, false, cond, Option, Some, None, arith, nat_eq, ◌⊎◌, inl, inr}
 use Rattle.std.specs.Prelude.{IfSome, IsTrue, is_some, nat_lt, not, ◌&&◌, ◌||◌, unwrap_or}
 use Rattle.std.specs.List.{AllByRecursion}
 use Rattle.std.proofs.lemmas.Bool.{false≢true, le-ltb, lt-ltb, ltb-true, and_parts}
@@ -12,13 +11,12 @@ use Rattle.wc_read.specs.Types.{FuncTypeValue}
 use Rattle.wc_read.specs.declared.operators.Space.TheVariants.{Types, Funcs, Tables, Memories, Globals}
 use Rattle.wc_write.specs.BuiltValues.{item_seen}
 use Rattle.wc_gc.specs.AddedCode.{empty_type, growing_body, realloc_type, stack_body}
-use Rattle.wc_gc.specs.Decoded.{FuncCode, ItemIndex, decode, is_in}
-use Rattle.wc_gc.specs.Edited.{EditedModule, called_realloc, growing_func, growing_position, import_func, lazy_func, lazy_position, memory_of, one_if, only_if}
-use Rattle.wc_gc.specs.Edited.{stack_of, start_func, start_position, state_of, types_added}
+use Rattle.wc_gc.specs.Decoded.{FuncCode, ItemIndex, decode, is_in, is_code}
+use Rattle.wc_gc.specs.Edited.{EditedModule, called_realloc, growing_func, growing_position, import_func, lazy_func, lazy_position, memory_of, one_if, only_if, stack_of, start_func, start_position, state_of, types_added}
 use Rattle.wc_gc.specs.Entries.{body_refs, code_body_refs, func_refs, func_type_refs}
 use Rattle.wc_gc.specs.Found.{FoundValue, found_in, is_empty}
 use Rattle.wc_gc.specs.Parts.{SettingsValue, first_of, is_any, is_lazy, last_of, parts_of}
-use Rattle.wc_gc.specs.Unfolding.{in_image, is_code}
+use Rattle.wc_gc.specs.Unfolding.{in_image}
 use Rattle.wc_gc.specs.declared.parts.Parts.{Parts}
 use Rattle.wc_gc.proofs.AddedUnderLemmas.{first_has, growing_by, last_has, members}
 use Rattle.wc_gc.proofs.BuiltPartLemmas.{each_weaker}

@@ -1,6 +1,5 @@
 -- What the image of a trimmed adapter has is there and is code, and names what the image has alone.
-use Rattle.std.proofs.Common.{◌≡◌, ◌≢◌, ℕ, zero, suc, ◌+◌, ◌-◌, ◌<◌, ◌≤◌, List, [], ◌∷◌, ◌++◌, length, map, refl, sym, ◌∙◌, ap, subst, Bool, true, false, cond}
-use Rattle.std.proofs.Common.{Option, Some, None, arith, ◌⊎◌, inl, inr}
+use Rattle.std.proofs.Common.{◌≡◌, ◌≢◌, ℕ, zero, suc, ◌+◌, ◌-◌, ◌<◌, ◌≤◌, List, [], ◌∷◌, ◌++◌, length, map, refl, sym, ◌∙◌, ap, subst, Bool, true, false, cond, Option, Some, None, arith, ◌⊎◌, inl, inr}
 use Rattle.std.specs.Prelude.{Contains, IsTrue, is_some, nat_lt, not, ◌&&◌, ◌||◌, filter}
 use Rattle.std.specs.List.{AllByRecursion, list_any, range_with_len, slice_get}
 use Rattle.std.specs.Option.{option_map, option_map_or}
@@ -19,15 +18,14 @@ use Rattle.wc_read.proofs.OptionsLemmas.{some_same}
 use Rattle.wc_write.specs.BuiltValues.{def_seen, item_seen, IsWritable}
 use Rattle.wc_write.proofs.WritableModuleLemmas.{spelled_writable}
 use Rattle.wc_gc.specs.Causes.{DecidesLive, has_page_size_at}
-use Rattle.wc_gc.specs.Decoded.{DecodedModule, FuncCode, ItemIndex, decode, exported_item, is_in, size_of}
+use Rattle.wc_gc.specs.Decoded.{DecodedModule, FuncCode, ItemIndex, decode, exported_item, is_in, size_of, is_code}
 use Rattle.wc_gc.specs.Edited.{EditedModule, edit, edited_def, growing_code, is_exported_func, lazy_position, memory_of, one_if, replaced, with_call}
-use Rattle.wc_gc.specs.Entries.{body_refs, code_refs, def_refs, entry_at, entry_refs, func_entry, func_refs, memory_entry, no_entry, refs_in, table_entry}
-use Rattle.wc_gc.specs.Entries.{type_entry, val_type_refs, func_type_refs}
+use Rattle.wc_gc.specs.Entries.{body_refs, code_refs, def_refs, entry_at, entry_refs, func_entry, func_refs, memory_entry, no_entry, refs_in, table_entry, type_entry, val_type_refs, func_type_refs}
 use Rattle.wc_gc.specs.Found.{FoundValue, found_in, is_empty, is_realloc, is_realloc_at, main_module}
 use Rattle.wc_gc.specs.KeptExports.{kept_exports}
 use Rattle.wc_gc.specs.Parts.{SettingsValue, adds_growing, is_any, parts_of}
 use Rattle.wc_gc.specs.InRange.{is_item_in_range, is_body_in_range, is_def_in_range, is_entry_in_range}
-use Rattle.wc_gc.specs.Unfolding.{IsClosed, TrimmedIsClosed, TrimmedUnfolds, has_code, is_code, edited_module}
+use Rattle.wc_gc.specs.Unfolding.{IsClosed, TrimmedIsClosed, TrimmedUnfolds, has_code, edited_module}
 use Rattle.wc_gc.specs.declared.parts.Parts.{Parts}
 use Rattle.wc_gc.specs.declared.fault.GcFault.TheVariants.{LiveBody, ReallocMemory}
 use Rattle.wc_gc.proofs.BuiltImageLemmas.{func_at, global_at}
@@ -47,8 +45,7 @@ use Rattle.wc_gc.proofs.ReachLemmas.{there_from}
 use Rattle.wc_gc.proofs.SpelledItemLemmas.{all_joined}
 use Rattle.wc_gc.proofs.TrimmedTextLemmas.{live_in_range}
 use Rattle.wc_gc.proofs.TypedGlobalLemmas.{get_front}
-use Rattle.wc_gc.proofs.ClosedAddedLemmas.{AreParts, AreThere, Has, IsClosedFunc, added_types_name_none, added_closed, found, func_has, growing_names, live_has}
-use Rattle.wc_gc.proofs.ClosedAddedLemmas.{memory_has, parts_are, with_added}
+use Rattle.wc_gc.proofs.ClosedAddedLemmas.{AreParts, AreThere, Has, IsClosedFunc, added_types_name_none, added_closed, found, func_has, growing_names, live_has, memory_has, parts_are, with_added}
 
 -- what is live is there
 

@@ -11,9 +11,8 @@ use Rattle.wc_read.specs.Items.{DefValue, imported, local}
 use Rattle.wc_read.specs.declared.core_module.Module.{Module}
 use Rattle.wc_read.specs.declared.items.Item.{Item}
 use Rattle.wc_read.specs.declared.operators.Space.TheVariants.{Funcs}
-use Rattle.wc_gc.specs.Decoded.{DecodedModule, decoded_module, func_code}
+use Rattle.wc_gc.specs.Decoded.{DecodedModule, decoded_module, func_code, is_code}
 use Rattle.wc_gc.specs.Image.{kept_items}
-use Rattle.wc_gc.specs.NewBodies.{is_coded}
 use Rattle.wc_gc.specs.InRange.{is_item_in_range, is_def_in_range, is_entry_in_range}
 use Rattle.wc_gc.proofs.ReachLemmas.{func_at}
 use Rattle.wc_gc.proofs.RankLemmas.{range_more}
@@ -74,12 +73,12 @@ module _ {A : Type 0} (P : A → Type 0) (has : ℕ → Bool) (xs : List A) (eac
 
 -- live functions have code
 
-coded : (m : DecodedModule) (d : DefValue (Option BodyValue)) → is_def_in_range m d ≡ true → is_coded d ≡ true
+coded : (m : DecodedModule) (d : DefValue (Option BodyValue)) → is_def_in_range m d ≡ true → is_code d ≡ true
 coded m (imported k n) h = refl
 coded m (local None) h = absurd cc
 coded m (local (Some b)) h = refl
 
-pub live_coded : (a : Module) (n : ℕ) (f : Item ℕ (Bor (List ℕ))) → is_item_in_range (decoded_module a) (Funcs, n) ≡ true → slice_get a.funcs.items n ≡ Some f → is_coded (func_code f).def ≡ true
+pub live_coded : (a : Module) (n : ℕ) (f : Item ℕ (Bor (List ℕ))) → is_item_in_range (decoded_module a) (Funcs, n) ≡ true → slice_get a.funcs.items n ≡ Some f → is_code (func_code f).def ≡ true
 live_coded a n f h at = coded (decoded_module a) (func_code f).def (sym (ap (is_entry_in_range (decoded_module a)) (func_at a (Funcs, n) f refl at)) ∙ h)
 
 -- items with their indices

@@ -9,7 +9,8 @@ use Rattle.std.specs.Prelude.{string_bytes}
 use Rattle.std.specs.List.{list_any, filter}
 use Rattle.std.specs.Str.{bytes_eq}
 use Rattle.indexmap.specs.IndexSet.{insert_key}
-use Rattle.wc_gc.specs.Liveness.{distinct_names, names_of}
+use Rattle.wc_gc.specs.Liveness.{names_of}
+use Rattle.wc_maps.specs.Names.{first_occurrences}
 
 abbrev pub same_text : String Global → String Global → Bool
 same_text a b = bytes_eq (string_bytes a) (string_bytes b)
@@ -78,19 +79,19 @@ insert_after name other names =
     ]
 
 -- one more name after others
-distinct_more : (names : List (List ℕ)) (name : List ℕ) → distinct_names (names ++ name ∷ []) ≡ insert_key bytes_eq (distinct_names names) name
+distinct_more : (names : List (List ℕ)) (name : List ℕ) → first_occurrences (names ++ name ∷ []) ≡ insert_key bytes_eq (first_occurrences names) name
 distinct_more [] name = refl
-distinct_more (x ∷ names) name = ap (λ l. x ∷ filter (differs x) l) (distinct_more names name) ∙ sym (insert_after x name (distinct_names names))
+distinct_more (x ∷ names) name = ap (λ l. x ∷ filter (differs x) l) (distinct_more names name) ∙ sym (insert_after x name (first_occurrences names))
 
 -- the set after its name for one more text
-pub set_more : (keys : List (String Global)) (names : List (List ℕ)) (name : String Global) (text : List ℕ) → names_of keys ≡ distinct_names names
-    → string_bytes name ≡ text → names_of (insert_key same_text keys name) ≡ distinct_names (names ++ text ∷ [])
+pub set_more : (keys : List (String Global)) (names : List (List ℕ)) (name : String Global) (text : List ℕ) → names_of keys ≡ first_occurrences names
+    → string_bytes name ≡ text → names_of (insert_key same_text keys name) ≡ first_occurrences (names ++ text ∷ [])
 set_more keys names name text known same =
     text_more keys name ∙ (ap (λ l. insert_key bytes_eq l (string_bytes name)) known
-    ∙ (ap (insert_key bytes_eq (distinct_names names)) same ∙ sym (distinct_more names text)))
+    ∙ (ap (insert_key bytes_eq (first_occurrences names)) same ∙ sym (distinct_more names text)))
 
 -- where there is a name, one is in the set
-pub some_keys : (keys : List (String Global)) (names : List (List ℕ)) → names_of keys ≡ distinct_names names → names ≢ [] → keys ≢ []
+pub some_keys : (keys : List (String Global)) (names : List (List ℕ)) → names_of keys ≡ first_occurrences names → names ≢ [] → keys ≢ []
 some_keys keys [] same some = λ e. some refl
 some_keys keys (x ∷ names) same some = λ e. let none : names_of keys ≡ [] = ap (map string_bytes) e in absurd cc
 
@@ -112,10 +113,10 @@ among_filter p (n ∷ names) x e =
           rw (among_filter p names x rest) (or-true _))
     ]
 
-pub among_distinct : (names : List (List ℕ)) (x : List ℕ) → list_any (bytes_eq x) (distinct_names names) ≡ true → list_any (bytes_eq x) names ≡ true
+pub among_distinct : (names : List (List ℕ)) (x : List ℕ) → list_any (bytes_eq x) (first_occurrences names) ≡ true → list_any (bytes_eq x) names ≡ true
 among_distinct [] x e = e
 among_distinct (n ∷ names) x e =
-    elim (or_cases (bytes_eq x n) (list_any (bytes_eq x) (filter (differs n) (distinct_names names))) e) [
+    elim (or_cases (bytes_eq x n) (list_any (bytes_eq x) (filter (differs n) (first_occurrences names))) e) [
       | inl is ↦ rw is refl
-      | inr rest ↦ rw (among_distinct names x (among_filter (differs n) (distinct_names names) x rest)) (or-true _)
+      | inr rest ↦ rw (among_distinct names x (among_filter (differs n) (first_occurrences names) x rest)) (or-true _)
     ]

@@ -1,6 +1,5 @@
 -- The exports of a trimmed adapter are those of the adapter that are required, with their types.
-use Rattle.std.proofs.Common.{◌≡◌, ◌≢◌, ℕ, ◌+◌, ◌-◌, ◌<◌, List, [], ◌∷◌, ◌++◌, length, map, set, get_or, refl, sym, ◌∙◌, ap, subst, Bool, true, false, not}
-use Rattle.std.proofs.Common.{Option, Some, None, ◌⊎◌, inl, inr, arith}
+use Rattle.std.proofs.Common.{◌≡◌, ◌≢◌, ℕ, ◌+◌, ◌-◌, ◌<◌, List, [], ◌∷◌, ◌++◌, length, map, set, get_or, refl, sym, ◌∙◌, ap, subst, Bool, true, false, not, Option, Some, None, ◌⊎◌, inl, inr, arith}
 use Rattle.std.specs.Prelude.{All, Contains, IsTrue, fold, position}
 use Rattle.std.specs.List.{AllByRecursion, slice_get, swap_remove}
 use Rattle.std.specs.Option.{option_and_then, option_map, option_map_or}
@@ -22,7 +21,7 @@ use Rattle.wc_read.specs.declared.exports.ExportKind.TheVariants as export
 use Rattle.wc_read.specs.declared.operators.Space.TheVariants.{Types, Funcs, Tables, Memories, Globals}
 use Rattle.wc_write.specs.BodyText.{body_text}
 use Rattle.wc_write.specs.BuiltValues.{item_seen, written_module}
-use Rattle.wc_write.specs.ModuleText.{BuiltValue, init_text}
+use Rattle.wc_write.specs.ModuleText.{BuiltValue, operators_text}
 use Rattle.wc_write.specs.Values.{AreBytes}
 use Rattle.wc_gc.specs.Causes.{DecidesLive}
 use Rattle.wc_gc.specs.Counts.{count_below}
@@ -237,7 +236,7 @@ module _ (bytes : List ℕ) (required : List (List ℕ)) (v : ModuleValue) (live
       let r = count_below (λ k. live (Globals, k)) n in
       let written = slice_get-map (global_written ranks) kept r
       ∙ ap (option_map (global_written ranks)) (rank_at (λ k. live (Globals, k)) v.globals n g.0 g.1 l) in
-      ap (option_map ty) (slice_get-map (item_seen init_text) image.globals r ∙ ap (option_map (item_seen init_text)) written)
+      ap (option_map ty) (slice_get-map (item_seen operators_text) image.globals r ∙ ap (option_map (item_seen operators_text)) written)
       ∙ sym (ap (λ o. option_map (item_under ranks) (option_map ty o)) g.1)
 
   kept_same : (e : ExportValue) → Contains exports e

@@ -24,7 +24,8 @@ use Rattle.wc_gc.specs.Found.{FoundValue, is_realloc}
 use Rattle.wc_gc.specs.Image.{kept_items, kept_of, new_body, new_export, new_func, new_global, new_table, rank, renumber_body}
 use Rattle.wc_gc.specs.Parts.{SettingsValue, parts_of}
 use Rattle.wc_gc.specs.Traces.{AddsNothing, AreClosed, all_items}
-use Rattle.wc_gc.specs.Unfolding.{built_module, is_code, renumber_func, renumber_global}
+use Rattle.wc_gc.specs.Unfolding.{built_module, renumber_func, renumber_global}
+use Rattle.wc_gc.specs.Decoded.{is_code}
 use Rattle.wc_gc.specs.declared.parts.Parts.{Parts}
 use Rattle.wc_gc.proofs.BuiltPartLemmas.{each_weaker}
 use Rattle.wc_gc.proofs.CutCodeLemmas.{Agrees, body_agrees, func_type_agrees, global_agrees, table_agrees}

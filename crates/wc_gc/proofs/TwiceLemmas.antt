@@ -38,7 +38,8 @@ use Rattle.wc_gc.specs.InRange.{is_item_in_range, is_def_in_range, is_entry_in_r
 use Rattle.wc_gc.specs.Traces.{AddsNothing, AreClosed, TrimTwice, all_items}
 use Rattle.wc_gc.specs.TrimmedText.{IsTrimmed}
 use Rattle.wc_gc.specs.Trimming.{IsImageText, IsLaterCause, IsTrimCause}
-use Rattle.wc_gc.specs.Unfolding.{built_module, is_code, renumber_func, renumber_global}
+use Rattle.wc_gc.specs.Unfolding.{built_module, renumber_func, renumber_global}
+use Rattle.wc_gc.specs.Decoded.{is_code}
 use Rattle.wc_gc.specs.declared.fault.GcFault.{GcFault}
 use Rattle.wc_gc.specs.declared.fault.GcFault.TheVariants.{Memory, Read, MissingExport, UnsupportedSection, LiveBody, SeveralNamed, LiveTable}
 use Rattle.wc_gc.specs.declared.fault.GcFault.TheVariants.{SeveralMemories, LocalMemory, ReallocType, ReallocMemory, TooLarge}

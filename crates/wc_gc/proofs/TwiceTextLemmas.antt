@@ -16,7 +16,7 @@ use Rattle.wc_read.specs.declared.types.GlobalType.{GlobalType}
 use Rattle.wc_read.proofs.DecodingLemmas.{body_found, init_found}
 use Rattle.wc_write.specs.BodyText.{body_text}
 use Rattle.wc_write.specs.BuiltValues.{IsRead, IsReadBody, IsReadInit, def_seen, item_seen, written_module}
-use Rattle.wc_write.specs.ModuleText.{BuiltValue, init_text}
+use Rattle.wc_write.specs.ModuleText.{BuiltValue, operators_text}
 use Rattle.wc_write.specs.Spaces.{DefinedValue, defined, defined_by, defined_contents}
 use Rattle.wc_gc.specs.Decoded.{FuncCode, GlobalCode, decode}
 use Rattle.wc_gc.specs.KeptExports.{export_names, is_required, kept_exports, without}
@@ -45,19 +45,19 @@ bodies_read (x ∷ xs) h =
 
 one_init : (d : DefValue (List InstrValue)) (ty : GlobalType) (ds : List (DefinedValue GlobalType (List InstrValue)))
     → AllByRecursion IsReadInit (map (λ o. o.content) (cons_option (defined_by ty d) ds))
-    → (def_seen init_in (def_seen init_text d) ≡ def_seen Some d) × AllByRecursion IsReadInit (map (λ o. o.content) ds)
+    → (def_seen init_in (def_seen operators_text d) ≡ def_seen Some d) × AllByRecursion IsReadInit (map (λ o. o.content) ds)
 one_init (imported m n) ty ds h = (refl, h)
-one_init (local is) ty ds h = (ap local (init_found (init_text is) is h.0.0), h.1)
+one_init (local is) ty ds h = (ap local (init_found (operators_text is) is h.0.0), h.1)
 
 abbrev pub global_of : GlobalType → DefValue (Option (List InstrValue)) → GlobalCode
 global_of ty d = record { ty = ty; def = d }
 
 inits_read : (xs : List (ItemValue GlobalType (List InstrValue))) → AllByRecursion IsReadInit (defined_contents xs)
-    → map (item_seen init_in) (map (item_seen init_text) xs) ≡ map (item_seen Some) xs
+    → map (item_seen init_in) (map (item_seen operators_text) xs) ≡ map (item_seen Some) xs
 inits_read [] h = refl
 inits_read (x ∷ xs) h =
     let one = one_init x.def x.ty (defined xs) h in
-    ap (λ d. global_of x.ty d ∷ map (item_seen init_in) (map (item_seen init_text) xs)) one.0 ∙ ap (λ ys. item_seen Some x ∷ ys) (inits_read xs one.1)
+    ap (λ d. global_of x.ty d ∷ map (item_seen init_in) (map (item_seen operators_text) xs)) one.0 ∙ ap (λ ys. item_seen Some x ∷ ys) (inits_read xs one.1)
 
 pub built_read : (b : BuiltValue) → IsRead b → decode (written_module b) ≡ built_module b
 built_read b is =

@@ -14,7 +14,7 @@ use Rattle.wc_read.proofs.DecodingLemmas.{init_found}
 use Rattle.wc_read.proofs.OptionsLemmas.{some_same}
 use Rattle.wc_write.specs.Text.{FitsSize}
 use Rattle.wc_write.specs.Values.{IsInstr}
-use Rattle.wc_write.specs.ModuleText.{init_text}
+use Rattle.wc_write.specs.ModuleText.{operators_text}
 use Rattle.wc_write.specs.BuiltValues.{def_seen, IsInitialiser, HasInitialiser}
 use Rattle.wc_write.proofs.ContentLemmas.{init_spelled}
 use Rattle.wc_gc.specs.Decoded.{ItemIndex}
@@ -30,8 +30,8 @@ each_instr may (i ∷ is) refs all =
     ((all-left may (instr_refs i) (code_refs is) refs, all.0), each_instr may is (all-right may (instr_refs i) (code_refs is) refs) all.1)
 
 module _ (may : ItemIndex → Type 0) (old after : InitScope) (new : Renumbering) (f : Follows may old after new) (t : ValType) where
-  code_moves : (bytes : List ℕ) (is : List InstrValue) → init_in bytes ≡ Some is → IsInitialiser is → AllByRecursion may (code_refs is) → IsInitialiser (renumber_code new is) → FitsSize (init_text (renumber_code new is))
-      → IsTyped old t bytes → IsTyped after (renumber_val_type new t) (init_text (renumber_code new is))
+  code_moves : (bytes : List ℕ) (is : List InstrValue) → init_in bytes ≡ Some is → IsInitialiser is → AllByRecursion may (code_refs is) → IsInitialiser (renumber_code new is) → FitsSize (operators_text (renumber_code new is))
+      → IsTyped old t bytes → IsTyped after (renumber_val_type new t) (operators_text (renumber_code new is))
   code_moves bytes is found can refs can' fits typed =
       let same : typed.operators ≡ is = some_same typed.operators is (sym (init_found bytes typed.operators typed.has_operators) ∙ found) in
       let cut : is ≡ typed.front ++ (end_value ∷ []) = sym same ∙ typed.cut in
@@ -46,11 +46,11 @@ module _ (may : ItemIndex → Type 0) (old after : InitScope) (new : Renumbering
 
   -- initialisers that can be spelled, before and after
   pub def_moves : (d : DefValue (List ℕ)) → HasInitialiser d → AllByRecursion may (def_refs init_refs (def_seen init_in d)) → IfLocal IsInitialiser (def_seen (new_init new) (def_seen init_in d))
-      → IfLocal (λ is. FitsSize (init_text is)) (def_seen (new_init new) (def_seen init_in d)) → IsTypedDef old t d
-      → IsTypedDef after (renumber_val_type new t) (def_seen init_text (def_seen (new_init new) (def_seen init_in d)))
+      → IfLocal (λ is. FitsSize (operators_text is)) (def_seen (new_init new) (def_seen init_in d)) → IsTypedDef old t d
+      → IsTypedDef after (renumber_val_type new t) (def_seen operators_text (def_seen (new_init new) (def_seen init_in d)))
   def_moves (imported m n) can refs can' fits typed = tt
   def_moves (local bytes) can refs can' fits typed =
       let found : init_in bytes ≡ Some can.0 = init_found bytes can.0 can.1 in
-      subst (λ (o : Option (List InstrValue)). IsTyped after (renumber_val_type new t) (init_text (new_init new o))) (sym found)
+      subst (λ (o : Option (List InstrValue)). IsTyped after (renumber_val_type new t) (operators_text (new_init new o))) (sym found)
       (code_moves bytes can.0 found can.2 (subst (λ (o : Option (List InstrValue)). AllByRecursion may (init_refs o)) found refs)
-      (subst (λ (o : Option (List InstrValue)). IsInitialiser (new_init new o)) found can') (subst (λ (o : Option (List InstrValue)). FitsSize (init_text (new_init new o))) found fits) typed)
+      (subst (λ (o : Option (List InstrValue)). IsInitialiser (new_init new o)) found can') (subst (λ (o : Option (List InstrValue)). FitsSize (operators_text (new_init new o))) found fits) typed)

@@ -1,5 +1,5 @@
 -- A module with its code: bodies and initialisers as operators, none where bytes spell no code.
-use Rattle.std.specs.Prelude.{ℕ, List, map, length, Bool, nat_lt, Option}
+use Rattle.std.specs.Prelude.{ℕ, List, map, length, Bool, true, nat_lt, Option, is_some}
 use Rattle.std.specs.Borrow.{Bor}
 use Rattle.wc_read.specs.Types.{FuncTypeValue}
 use Rattle.wc_read.specs.Exports.{ExportValue}
@@ -7,7 +7,7 @@ use Rattle.wc_read.specs.Operators.{InstrValue}
 use Rattle.wc_read.specs.Bodies.{BodyValue}
 use Rattle.wc_read.specs.Decoding.{body_in, init_in}
 use Rattle.wc_read.specs.Names.{GlobalNameValue}
-use Rattle.wc_read.specs.Items.{ItemValue, TableValue, MemoryValue, func_value, global_value}
+use Rattle.wc_read.specs.Items.{DefValue, imported, local, ItemValue, TableValue, MemoryValue, func_value, global_value}
 use Rattle.wc_read.specs.declared.items.Item.{Item}
 use Rattle.wc_read.specs.Modules.{ModuleValue, module_value}
 use Rattle.wc_read.specs.declared.core_module.Module.{Module}
@@ -24,6 +24,11 @@ FuncCode = ItemValue ℕ (Option BodyValue)
 
 abbrev pub GlobalCode : Type 0
 GlobalCode = ItemValue GlobalType (Option (List InstrValue))
+
+-- an item that is imported, or whose body or initialiser is code
+abbrev pub is_code : {C : Type 0} → DefValue (Option C) → Bool
+is_code (imported m n) = true
+is_code (local c) = is_some c
 
 pub record DecodedModule : Type 0 where
   pub types : List FuncTypeValue

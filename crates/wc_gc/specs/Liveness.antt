@@ -1,7 +1,7 @@
 -- What liveness answers: the reached items, or why there are none.
-use Rattle.std.specs.Prelude.{◌≡◌, ◌≢◌, ℕ, ◌<◌, List, [], ◌∷◌, length, map, filter, not, Bool, false, AllPairs, IsTrue, Contains, IsSome, Some, None, String, string_bytes, ◌↔◌}
+use Rattle.std.specs.Prelude.{◌≡◌, ◌≢◌, ℕ, ◌<◌, List, [], length, map, Bool, false, AllPairs, IsTrue, Contains, IsSome, Some, None, String, string_bytes, ◌↔◌}
 use Rattle.std.specs.Prelude.{◌⊎◌}
-use Rattle.std.specs.Str.{bytes_eq}
+use Rattle.wc_maps.specs.Names.{first_occurrences}
 use Rattle.wc_read.specs.Faults.{SpellsNothing}
 use Rattle.wc_read.specs.Sections.{IsComponent}
 use Rattle.wc_read.specs.Modules.{ModuleValue, SpellsModule}
@@ -64,18 +64,13 @@ pub record TrimInput : Type 0 where
 abbrev pub names_of : {A : Type 0} → List (String A) → List (List ℕ)
 names_of names = map string_bytes names
 
--- names without repeats, each where it is first
-abbrev pub distinct_names : List (List ℕ) → List (List ℕ)
-distinct_names [] = []
-distinct_names (name ∷ names) = name ∷ filter (λ other. not (bytes_eq name other)) (distinct_names names)
-
 -- an adapter, and the exports of a set of names
 abbrev pub trim_input : {A : Type 0} → List ℕ → List (String A) → TrimInput
 trim_input bytes names = record { bytes = bytes; required = names_of names }
 
 -- an adapter, and the exports of these names, of which some may be repeated
 abbrev pub trim_input_for_names : List ℕ → List (List ℕ) → TrimInput
-trim_input_for_names bytes names = record { bytes = bytes; required = distinct_names names }
+trim_input_for_names bytes names = record { bytes = bytes; required = first_occurrences names }
 
 -- other bytes, of which the same exports are required
 abbrev pub with_bytes : TrimInput → List ℕ → TrimInput

@@ -1,11 +1,10 @@
 -- The bodies that are written.
-use Rattle.std.specs.Prelude.{ℕ, ◌+◌, List, ◌++◌, Bool, true, ◌&&◌, cond, Option, Some, None, is_some, unwrap_or, []}
+use Rattle.std.specs.Prelude.{ℕ, ◌+◌, List, ◌++◌, Bool, ◌&&◌, cond, Option, Some, None, unwrap_or, []}
 use Rattle.std.specs.List.{flat_map}
 use Rattle.std.specs.Option.{option_map, option_to_list}
 use Rattle.wc_read.specs.Operators.{InstrValue}
 use Rattle.wc_read.specs.Bodies.{BodyValue}
 use Rattle.wc_read.specs.Decoding.{body_in}
-use Rattle.wc_read.specs.Items.{DefValue, imported, local}
 use Rattle.wc_read.specs.Renumbering.{Renumbering}
 use Rattle.wc_read.specs.declared.operators.Space.TheVariants.{Funcs}
 use Rattle.wc_write.specs.OperatorText.{instr_text}
@@ -45,8 +44,3 @@ body_written (Stack b) = stack_body_written b
 -- the text of operators that are left, under new indices
 abbrev pub text_left : Renumbering → Option (List InstrValue) → List ℕ
 text_left new left = flat_map instr_text (renumber_code new (unwrap_or left []))
-
--- a function that is imported, or has a body that is code
-abbrev pub is_coded : DefValue (Option BodyValue) → Bool
-is_coded (imported m n) = true
-is_coded (local b) = is_some b

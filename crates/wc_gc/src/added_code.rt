@@ -6,7 +6,8 @@ ghost use Rattle.wc_write.specs.BodyText.{body_text};
 ghost use Rattle.wc_write.specs.Values.{IsU32};
 ghost use Rattle.wc_gc.specs.AddedCode.{allocation, allocation_once, growing_body, growth, shifted, stack_body, stack_code, trap_unless};
 ghost use Rattle.wc_gc.specs.AddedCodeRuns.{IsGrowingRealloc, IsStackCode, SpellsOnly};
-ghost use Rattle.wc_gc.specs.Private.MachineOperators.{code_text, operator_text};
+ghost use Rattle.wc_gc.specs.Private.MachineOperators.{operator_text};
+ghost use Rattle.wc_write.specs.ModuleText.{operators_text};
 
 use crate::machine_laws::{added_bodies_are_spellable, growing_body_grows, stack_body_allocates};
 use crate::machine_operators::MachineOperator::{
@@ -140,7 +141,7 @@ fn append_stack_code(
     state: Option<u32>,
 ) -> Result<(), AllocError>
     ensures { OnOk result (out.new.items
-        ≡ out.old.items ++ code_text (stack_code realloc sp state)) }
+        ≡ out.old.items ++ operators_text (stack_code realloc sp state)) }
 {
     match state {
         Some(state) => append_allocation_once(out, realloc, sp, state),
@@ -157,7 +158,7 @@ fn append_allocation_once(
     state: u32,
 ) -> Result<(), AllocError>
     ensures { OnOk result (out.new.items
-        ≡ out.old.items ++ code_text (allocation_once realloc sp state)) }
+        ≡ out.old.items ++ operators_text (allocation_once realloc sp state)) }
 {
     append_code(
         out,
@@ -188,7 +189,7 @@ fn append_code(out: &mut Vec<u8>, code: &[MachineOperator]) -> Result<(), AllocE
 fn append_trap_unless(out: &mut Vec<u8>, local: u32, number: u32) -> Result<(), AllocError>
     requires { number < 2 ^ 31 }
     ensures { OnOk result (out.new.items
-        ≡ out.old.items ++ code_text (trap_unless local number)) }
+        ≡ out.old.items ++ operators_text (trap_unless local number)) }
 {
     append_code(
         out,
@@ -206,7 +207,7 @@ fn append_trap_unless(out: &mut Vec<u8>, local: u32, number: u32) -> Result<(), 
 /// Appends the growth of memory 0 by a number of pages, with a trap where it is refused.
 fn append_growth(out: &mut Vec<u8>, pages: u32) -> Result<(), AllocError>
     requires { pages < 2 ^ 31 }
-    ensures { OnOk result (out.new.items ≡ out.old.items ++ code_text (growth pages 0)) }
+    ensures { OnOk result (out.new.items ≡ out.old.items ++ operators_text (growth pages 0)) }
 {
     append_code(
         out,
@@ -226,7 +227,7 @@ fn append_growth(out: &mut Vec<u8>, pages: u32) -> Result<(), AllocError>
 
 /// Appends the call of a realloc for a stack, and sets the stack pointer to the end of the block.
 fn append_allocation(out: &mut Vec<u8>, realloc: u32, sp: u32) -> Result<(), AllocError>
-    ensures { OnOk result (out.new.items ≡ out.old.items ++ code_text (allocation realloc sp)) }
+    ensures { OnOk result (out.new.items ≡ out.old.items ++ operators_text (allocation realloc sp)) }
 {
     append_code(
         out,
@@ -247,7 +248,7 @@ fn append_allocation(out: &mut Vec<u8>, realloc: u32, sp: u32) -> Result<(), All
 fn append_shift(out: &mut Vec<u8>, page_size_log2: u32) -> Result<(), AllocError>
     requires { page_size_log2 ≤ 16 }
     ensures { OnOk result (out.new.items
-        ≡ out.old.items ++ code_text (shifted page_size_log2)) }
+        ≡ out.old.items ++ operators_text (shifted page_size_log2)) }
 {
     if page_size_log2 == 0 {
         return Ok(());

@@ -7,11 +7,11 @@ ghost use Rattle.wc_read.specs.Items.{def_value, item_value};
 ghost use Rattle.wc_read.specs.declared.operators.Space.TheVariants.{Funcs, Globals, Memories, Types};
 ghost use Rattle.wc_write.specs.BuiltValues.{def_seen};
 ghost use Rattle.wc_gc.specs.AddedCode.{growing_body, stack_body};
-ghost use Rattle.wc_gc.specs.Decoded.{func_code};
+ghost use Rattle.wc_gc.specs.Decoded.{func_code, is_code};
 ghost use Rattle.wc_gc.specs.Edited.{added_types, called_realloc, edited_body, memory_of, one_if, only_if, replaced, stack_of, start_of, start_type, state_of};
 ghost use Rattle.wc_gc.specs.Found.{found_value};
 ghost use Rattle.wc_gc.specs.Image.{new_body};
-ghost use Rattle.wc_gc.specs.NewBodies.{body_written, call_added, is_coded};
+ghost use Rattle.wc_gc.specs.NewBodies.{body_written, call_added};
 ghost use Rattle.wc_gc.specs.NewIndices.{new_of};
 
 use crate::found::{Found, MAIN_MODULE, imports_realloc};
@@ -54,7 +54,7 @@ impl<'a, 'n> Edit<'a, 'n> {
 
     /// A function of the adapter.
     pub fn edited_func(self, func: &Func<'a>, exported: bool) -> NewFunc<'a, 'n>
-        requires { is_coded (func_code func.now).def ≡ true }
+        requires { is_code (func_code func.now).def ≡ true }
         ensures { item_value body_written result
             ≡ new_edited self.entry exported (func_code func.now) }
     {

@@ -15,8 +15,9 @@ use Rattle.wc_json.specs.Functions.{function}
 use Rattle.wc_json.specs.Ids.{index}
 use Rattle.wc_json.specs.Interfaces.{interface}
 use Rattle.wc_json.specs.Maps.{entries_after, name_map}
-use Rattle.wc_json.specs.ToJson.{function_json, index_json, interface_json, members_json, name_map_json}
-use Rattle.wc_json.proofs.TypeRoundTripLemmas.{function-function_json, index-index_json, nullable-index_json, nullable-string}
+use Rattle.wc_json.specs.Shapes.{number_json}
+use Rattle.wc_json.specs.ToJson.{function_json, interface_json, members_json, name_map_json}
+use Rattle.wc_json.proofs.TypeRoundTripLemmas.{function-function_json, index-number_json, nullable-number_json, nullable-string}
 use Rattle.wc_resolve.specs.Views.{InterfaceView}
 
 -- a test that decides equality is false also for the two in the other order
@@ -103,15 +104,15 @@ name_map-name_map_json : {A : Type 0} (write : A → Json) (read : Json → Read
 name_map-name_map_json write read Fits back es distinct fits = entries_after-members_json bytes_eq bytes_eq-Decides (λ k. k) (λ k a. k) write read Fits
     (λ e h. refl) back es (IsDistinct-from_AllPairs bytes_eq-Decides (map (λ e. e.0) es) distinct) fits
 
-pub name_map-index_json : (es : List (List ℕ × ℕ)) → HasDistinctKeys es → All IdEntryFits es → name_map index (name_map_json index_json es) ≡ Ok es
-name_map-index_json es distinct fits = name_map-name_map_json index_json index IdEntryFits (λ e h. index-index_json e.1 h) es distinct fits
+pub name_map-number_json : (es : List (List ℕ × ℕ)) → HasDistinctKeys es → All IdEntryFits es → name_map index (name_map_json number_json es) ≡ Ok es
+name_map-number_json es distinct fits = name_map-name_map_json number_json index IdEntryFits (λ e h. index-number_json e.1 h) es distinct fits
 
 pub interface-interface_json : (i : InterfaceView) → InterfaceFits i → interface (interface_json i) ≡ Ok i
 interface-interface_json i fits =
     rw (
       nullable-string i.name,
-      name_map-index_json i.types fits.type_names fits.types,
+      name_map-number_json i.types fits.type_names fits.types,
       name_map-name_map_json function_json function FunctionEntryFits (λ e h. function-function_json e.1 h) i.functions fits.function_names fits.functions,
-      nullable-index_json i.in_package fits.in_package,
-      nullable-index_json i.clone_of fits.clone_of,
+      nullable-number_json i.in_package fits.in_package,
+      nullable-number_json i.clone_of fits.clone_of,
     ) refl

@@ -1,7 +1,7 @@
 -- Memory that runs out only while the path of a fault is made.
-use Rattle.std.proofs.Common.{◌≡◌, ◌≢◌, ℕ, List, [], ◌∷◌, ◌++◌, Bool, true, false, cond, if◌then◌else◌, Result, Ok, Err, refl, sym, ap, subst}
-use Rattle.wc_json.specs.Faults.{Fault, IsFaultBelow, NeedsMemoryForPaths, NeedsNoMemory, Reading, Reads, ◌>>=◌}
-use Rattle.wc_json.specs.Paths.{IsReadAt, at_step, fault_at, is_word, join, key_step, variant_step}
+use Rattle.std.proofs.Common.{◌≡◌, ◌≢◌, ℕ, List, [], ◌∷◌, ◌++◌, Bool, true, false, cond, if◌then◌else◌, Result, Ok, Err, refl, sym, subst}
+use Rattle.wc_json.specs.Faults.{IsFaultBelow, NeedsMemoryForPaths, NeedsNoMemory, Reading, Reads, ◌>>=◌}
+use Rattle.wc_json.specs.Paths.{IsReadAt, at_step, is_word, join, key_step, variant_step}
 use Rattle.wc_json.specs.declared.fault.JsonFault.{JsonFault}
 use Rattle.wc_json.specs.declared.fault.JsonFault.TheVariants.{Memory, NotJson, RepeatedMember, Wrong}
 

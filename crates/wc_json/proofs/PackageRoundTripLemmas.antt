@@ -14,7 +14,7 @@ use Rattle.wc_json.specs.Fits.{PackageFits, PackageNameFits}
 use Rattle.wc_json.specs.Packages.{name_from_parts, name_in_namespace, package_and_worlds, package_name, parts_or_refusal, split_once}
 use Rattle.wc_json.specs.ToJson.{package_json, package_name_text, version_suffix}
 use Rattle.wc_json.proofs.IdLemmas.{cond-not_true}
-use Rattle.wc_json.proofs.MapRoundTripLemmas.{name_map-index_json}
+use Rattle.wc_json.proofs.MapRoundTripLemmas.{name_map-number_json}
 
 -- texts cut at their first separator c
 module _ (c : ℕ) (is_itself : (c == c) ≡ true) where
@@ -69,6 +69,6 @@ pub package_and_worlds-package_json : (p : PackageView × List (List ℕ × ℕ)
 package_and_worlds-package_json p fits =
     rw (
       package_name-package_name_text p.0.name fits.name,
-      name_map-index_json p.0.interfaces fits.interface_names fits.interfaces,
-      name_map-index_json p.1 fits.world_names fits.worlds,
+      name_map-number_json p.0.interfaces fits.interface_names fits.interfaces,
+      name_map-number_json p.1 fits.world_names fits.worlds,
     ) refl

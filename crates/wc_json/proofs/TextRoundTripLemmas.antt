@@ -1,5 +1,5 @@
 -- Documents that are written as texts are read back.
-use Rattle.std.proofs.Common.{◌≡◌, ℕ, List, [], ◌∷◌, Option, Ok, All, IfSome, IsSomeAnd, codes, refl, sym, subst, arith, suc}
+use Rattle.std.proofs.Common.{◌≡◌, ℕ, ◌<◌, ◌^◌, List, [], ◌∷◌, Option, Ok, All, IfSome, IsSomeAnd, codes, refl, sym, subst, arith, suc}
 use Rattle.std.specs.Bool.{⊤}
 use Rattle.std.specs.List.{AllByRecursion, zip}
 use Rattle.std.proofs.lemmas.List.Elements.{All-from_recursion}
@@ -16,14 +16,15 @@ use Rattle.wc_resolve.specs.declared.types.TypeOwner.TheVariants.{World, Interfa
 use Rattle.wc_resolve.specs.declared.types.WitType.{WitType}
 use Rattle.wc_resolve.specs.declared.types.WitType.TheVariants.{Bool, U8, U16, U32, U64, S8, S16, S32, S64, F32, F64, Char, String, ErrorContext, Id}
 use Rattle.wc_json.specs.Document.{DocumentView, document_of}
-use Rattle.wc_json.specs.Fits.{CaseFits, DefinedTypeFits, DocumentFits, FitsU32, FunctionEntryFits, FunctionFits, FunctionKindFits, HandleFits, HasDistinctKeys, HasDistinctTexts, IdEntryFits, InterfaceFits, ItemFits, KindFits, NamedTypeFits, OwnerFits, PackageFits, TypeFits, WorldEntryFits, WorldFits}
+use Rattle.wc_json.specs.Fits.{CaseFits, DefinedTypeFits, DocumentFits, FunctionEntryFits, FunctionFits, FunctionKindFits, HandleFits, HasDistinctKeys, HasDistinctTexts, IdEntryFits, InterfaceFits, ItemFits, KindFits, NamedTypeFits, OwnerFits, PackageFits, TypeFits, WorldEntryFits, WorldFits}
 use Rattle.wc_json.specs.Laws.{document_text}
-use Rattle.wc_json.specs.ToJson.{document_json, function_json, function_kind_json, handle_json, index_json, interface_json, item_json, key_text, kind_json, label_json, list_json, name_map_json, named_type_json, nullable_json, owner_json, package_json, package_name_text, type_json, variant_case_json, wit_type_json, world_items_json, world_json}
+use Rattle.wc_json.specs.Shapes.{nullable_json, number_json}
+use Rattle.wc_json.specs.ToJson.{document_json, function_json, function_kind_json, handle_json, interface_json, item_json, key_text, kind_json, label_json, list_json, name_map_json, named_type_json, owner_json, package_json, package_name_text, type_json, variant_case_json, wit_type_json, world_items_json, world_json}
 use Rattle.wc_json.proofs.DocumentRoundTripLemmas.{document_of-document_json}
-use Rattle.wc_json.proofs.WritableLemmas.{AreDistinct_counted, AreWritable-cons, AreWritable-nil, IsWritable, IsWritable-index_json, IsWritable-le, IsWritable-list_json, IsWritable-map, IsWritable-null, IsWritable-nullable_json, IsWritable-nullable_string, IsWritable-object, IsWritable-string, IsWritable-variant_json}
+use Rattle.wc_json.proofs.WritableLemmas.{AreDistinct_counted, AreWritable-cons, AreWritable-nil, IsWritable, IsWritable-number_json, IsWritable-le, IsWritable-list_json, IsWritable-map, IsWritable-null, IsWritable-nullable_json, IsWritable-nullable_string, IsWritable-object, IsWritable-string, IsWritable-variant_json}
 
 IsWritable-wit_type_json : (bound : ℕ) (t : WitType) → TypeFits t → IsWritable bound (wit_type_json t)
-IsWritable-wit_type_json bound (Id t) fits = IsWritable-index_json bound t.0 fits
+IsWritable-wit_type_json bound (Id t) fits = IsWritable-number_json bound t.0 fits
 IsWritable-wit_type_json bound Bool fits = IsWritable-string bound (codes "bool")
 IsWritable-wit_type_json bound U8 fits = IsWritable-string bound (codes "u8")
 IsWritable-wit_type_json bound U16 fits = IsWritable-string bound (codes "u16")
@@ -42,8 +43,8 @@ IsWritable-wit_type_json bound ErrorContext fits = IsWritable-string bound (code
 IsWritable-nullable_type : (bound : ℕ) (t : Option WitType) → IfSome t TypeFits → IsWritable bound (nullable_json wit_type_json t)
 IsWritable-nullable_type bound t fits = IsWritable-nullable_json bound wit_type_json TypeFits (IsWritable-wit_type_json bound) t fits
 
-IsWritable-nullable_index : (bound : ℕ) (n : Option ℕ) → IfSome n FitsU32 → IsWritable bound (nullable_json index_json n)
-IsWritable-nullable_index bound n fits = IsWritable-nullable_json bound index_json FitsU32 (IsWritable-index_json bound) n fits
+IsWritable-nullable_index : (bound : ℕ) (n : Option ℕ) → IfSome n (λ n. n < 2 ^ 32) → IsWritable bound (nullable_json number_json n)
+IsWritable-nullable_index bound n fits = IsWritable-nullable_json bound number_json (λ n. n < 2 ^ 32) (IsWritable-number_json bound) n fits
 
 -- types and functions
 
@@ -67,11 +68,11 @@ IsWritable-label_json l fits = IsWritable-variant_json (codes "name") (IsWritabl
 IsWritable-function_kind_json : (k : FunctionKind) → FunctionKindFits k → IsWritable 2 (function_kind_json k)
 IsWritable-function_kind_json Freestanding fits = IsWritable-string 2 (codes "freestanding")
 IsWritable-function_kind_json AsyncFreestanding fits = IsWritable-string 2 (codes "async-freestanding")
-IsWritable-function_kind_json (Method t) fits = IsWritable-variant_json (codes "method") (IsWritable-index_json 1 t.0 fits)
-IsWritable-function_kind_json (AsyncMethod t) fits = IsWritable-variant_json (codes "async-method") (IsWritable-index_json 1 t.0 fits)
-IsWritable-function_kind_json (Static t) fits = IsWritable-variant_json (codes "static") (IsWritable-index_json 1 t.0 fits)
-IsWritable-function_kind_json (AsyncStatic t) fits = IsWritable-variant_json (codes "async-static") (IsWritable-index_json 1 t.0 fits)
-IsWritable-function_kind_json (Constructor t) fits = IsWritable-variant_json (codes "constructor") (IsWritable-index_json 1 t.0 fits)
+IsWritable-function_kind_json (Method t) fits = IsWritable-variant_json (codes "method") (IsWritable-number_json 1 t.0 fits)
+IsWritable-function_kind_json (AsyncMethod t) fits = IsWritable-variant_json (codes "async-method") (IsWritable-number_json 1 t.0 fits)
+IsWritable-function_kind_json (Static t) fits = IsWritable-variant_json (codes "static") (IsWritable-number_json 1 t.0 fits)
+IsWritable-function_kind_json (AsyncStatic t) fits = IsWritable-variant_json (codes "async-static") (IsWritable-number_json 1 t.0 fits)
+IsWritable-function_kind_json (Constructor t) fits = IsWritable-variant_json (codes "constructor") (IsWritable-number_json 1 t.0 fits)
 
 IsWritable-function_json : (f : FunctionView) → FunctionFits f → IsWritable 3 (function_json f)
 IsWritable-function_json f fits =
@@ -85,8 +86,8 @@ IsWritable-function_json f fits =
 -- kinds and defined types
 
 IsWritable-handle_json : (h : Handle) → HandleFits h → IsWritable 3 (handle_json h)
-IsWritable-handle_json (Own t) fits = IsWritable-variant_json (codes "own") (IsWritable-index_json 2 t.0 fits)
-IsWritable-handle_json (Borrow t) fits = IsWritable-variant_json (codes "borrow") (IsWritable-index_json 2 t.0 fits)
+IsWritable-handle_json (Own t) fits = IsWritable-variant_json (codes "own") (IsWritable-number_json 2 t.0 fits)
+IsWritable-handle_json (Borrow t) fits = IsWritable-variant_json (codes "borrow") (IsWritable-number_json 2 t.0 fits)
 
 -- a list of labels
 IsWritable-labels : (ls : List (List ℕ)) → IsWritable 2 (list_json label_json ls)
@@ -121,8 +122,8 @@ IsWritable-kind_json (stream_kind t) fits = IsWritable-variant_json (codes "stre
 IsWritable-kind_json (alias_kind t) fits = IsWritable-variant_json (codes "type") (IsWritable-wit_type_json 3 t fits)
 
 IsWritable-owner_json : (o : TypeOwner) → OwnerFits o → IsWritable 4 (owner_json o)
-IsWritable-owner_json (World w) fits = IsWritable-variant_json (codes "world") (IsWritable-index_json 3 w.0 fits)
-IsWritable-owner_json (Interface i) fits = IsWritable-variant_json (codes "interface") (IsWritable-index_json 3 i.0 fits)
+IsWritable-owner_json (World w) fits = IsWritable-variant_json (codes "world") (IsWritable-number_json 3 w.0 fits)
+IsWritable-owner_json (Interface i) fits = IsWritable-variant_json (codes "interface") (IsWritable-number_json 3 i.0 fits)
 IsWritable-owner_json no_owner fits = IsWritable-null 4
 
 IsWritable-type_json : (t : TypeView) → DefinedTypeFits t → IsWritable 6 (type_json t)
@@ -141,8 +142,8 @@ IsWritable-name_map : {A : Type 0} (bound : ℕ) (write : A → Json) (Fits : Li
     → IsWritable (suc bound) (name_map_json write es)
 IsWritable-name_map bound write Fits each es distinct fits = IsWritable-map (λ k. k) write Fits bound each es distinct fits
 
-IsWritable-id_map : (bound : ℕ) (es : List (List ℕ × ℕ)) → HasDistinctKeys es → All IdEntryFits es → IsWritable (suc bound) (name_map_json index_json es)
-IsWritable-id_map bound es distinct fits = IsWritable-name_map bound index_json IdEntryFits (λ e h. IsWritable-index_json bound e.1 h) es distinct fits
+IsWritable-id_map : (bound : ℕ) (es : List (List ℕ × ℕ)) → HasDistinctKeys es → All IdEntryFits es → IsWritable (suc bound) (name_map_json number_json es)
+IsWritable-id_map bound es distinct fits = IsWritable-name_map bound number_json IdEntryFits (λ e h. IsWritable-number_json bound e.1 h) es distinct fits
 
 IsWritable-interface_json : (i : InterfaceView) → InterfaceFits i → IsWritable 6 (interface_json i)
 IsWritable-interface_json i fits =
@@ -158,11 +159,11 @@ IsWritable-interface_json i fits =
 IsWritable-item_json : (i : ItemView) → ItemFits i → IsWritable 4 (item_json i)
 IsWritable-item_json (interface_item n external_id) fits =
     IsWritable-variant_json (codes "interface") (IsWritable-object
-    (AreWritable-cons (IsWritable-index_json 2 n fits)
+    (AreWritable-cons (IsWritable-number_json 2 n fits)
     (AreWritable-cons (IsWritable-nullable_string 2 external_id) AreWritable-nil))
     (AreDistinct_counted (codes "id" ∷ codes "external_id" ∷ []) refl))
 IsWritable-item_json (function_item f) fits = IsWritable-variant_json (codes "function") (IsWritable-function_json f fits)
-IsWritable-item_json (type_item n) fits = IsWritable-variant_json (codes "type") (IsWritable-index_json 3 n fits)
+IsWritable-item_json (type_item n) fits = IsWritable-variant_json (codes "type") (IsWritable-number_json 3 n fits)
 
 IsWritable-world_items_json : (es : List (KeyView × ItemView)) → HasDistinctTexts es → All WorldEntryFits es → IsWritable 5 (world_items_json es)
 IsWritable-world_items_json es distinct fits =

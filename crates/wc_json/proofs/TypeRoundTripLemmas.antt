@@ -17,13 +17,14 @@ use Rattle.wc_resolve.specs.declared.types.TypeOwner.TheVariants.{World, Interfa
 use Rattle.wc_resolve.specs.declared.types.WitType.{WitType}
 use Rattle.wc_resolve.specs.declared.types.WitType.TheVariants.{Bool, U8, U16, U32, U64, S8, S16, S32, S64, F32, F64, Char, String, ErrorContext, Id}
 use Rattle.wc_json.specs.Faults.{Reading, ◌>>=◌}
-use Rattle.wc_json.specs.Fits.{CaseFits, DefinedTypeFits, FitsU32, FunctionFits, FunctionKindFits, HandleFits, KindFits, NamedTypeFits, OwnerFits, TypeFits}
+use Rattle.wc_json.specs.Fits.{CaseFits, DefinedTypeFits, FunctionFits, FunctionKindFits, HandleFits, KindFits, NamedTypeFits, OwnerFits, TypeFits}
 use Rattle.wc_json.specs.FromJson.{items_from, nullable, some, text}
 use Rattle.wc_json.specs.Functions.{function, function_kind, kind_of_resource, kind_with_resource}
 use Rattle.wc_json.specs.Ids.{index, index_of_digits}
 use Rattle.wc_json.specs.Kinds.{handle, kind, label}
 use Rattle.wc_json.specs.Paths.{at_step, variant_step}
-use Rattle.wc_json.specs.ToJson.{function_json, function_kind_json, handle_json, index_json, items_json, kind_json, label_json, named_type_json, nullable_json, owner_json, type_json, variant_case_json, variant_json, wit_type_json}
+use Rattle.wc_json.specs.Shapes.{nullable_json, number_json}
+use Rattle.wc_json.specs.ToJson.{function_json, function_kind_json, handle_json, items_json, kind_json, label_json, named_type_json, owner_json, type_json, variant_case_json, variant_json, wit_type_json}
 use Rattle.wc_json.specs.Types.{defined_type, owner}
 use Rattle.wc_json.specs.WitTypes.{named_type, variant_case, wit_type}
 use Rattle.wc_json.proofs.IdLemmas.{is_numeral-IsNumeral}
@@ -32,20 +33,20 @@ numeral_without_plus : (ds : List ℕ) → IsNumeral 10 ds → get_or ds 0 0 ≢
 numeral_without_plus [] numeral e = absurd (let bad : 0 < 0 = numeral.0 in omega (arith, bad))
 numeral_without_plus (c ∷ cs) numeral e = let digit = digit_from_value c numeral.1.0 in omega (arith, digit, e)
 
-pub index_of_digits-decimal : (n : ℕ) → FitsU32 n → index_of_digits (decimal n) ≡ Ok n
+pub index_of_digits-decimal : (n : ℕ) → n < 2 ^ 32 → index_of_digits (decimal n) ≡ Ok n
 index_of_digits-decimal n fits =
     let read = decimal_is_IsNumeral n (omega (arith, fits)) in
     rw (is_numeral-IsNumeral (decimal n) read.0, read.1, lt-ltb n (2 ^ 32) fits) refl
 
-pub without_leading_plus-decimal : (n : ℕ) → FitsU32 n → without_leading_plus (decimal n) ≡ decimal n
+pub without_leading_plus-decimal : (n : ℕ) → n < 2 ^ 32 → without_leading_plus (decimal n) ≡ decimal n
 without_leading_plus-decimal n fits = without_leading_plus_none (decimal n) (numeral_without_plus (decimal n) (decimal_is_IsNumeral n (omega (arith, fits))).0)
 
-pub index-index_json : (n : ℕ) → FitsU32 n → index (index_json n) ≡ Ok n
-index-index_json n fits = ap index_of_digits (without_leading_plus-decimal n fits) ∙ index_of_digits-decimal n fits
+pub index-number_json : (n : ℕ) → n < 2 ^ 32 → index (number_json n) ≡ Ok n
+index-number_json n fits = ap index_of_digits (without_leading_plus-decimal n fits) ∙ index_of_digits-decimal n fits
 
-pub nullable-index_json : (n : Option ℕ) → IfSome n FitsU32 → nullable index (nullable_json index_json n) ≡ Ok n
-nullable-index_json None fits = refl
-nullable-index_json (Some n) fits = ap some (index-index_json n fits)
+pub nullable-number_json : (n : Option ℕ) → IfSome n (λ n. n < 2 ^ 32) → nullable index (nullable_json number_json n) ≡ Ok n
+nullable-number_json None fits = refl
+nullable-number_json (Some n) fits = ap some (index-number_json n fits)
 
 pub nullable-string : (n : Option (List ℕ)) → nullable text (nullable_json string n) ≡ Ok n
 nullable-string None = refl
@@ -75,7 +76,7 @@ wit_type-wit_type_json F64 fits = refl
 wit_type-wit_type_json Char fits = refl
 wit_type-wit_type_json String fits = refl
 wit_type-wit_type_json ErrorContext fits = refl
-wit_type-wit_type_json (Id t) fits = ap (λ (r : Reading ℕ). r >>= (λ n. Ok (Id (record { 0 = n })))) (index-index_json t.0 fits)
+wit_type-wit_type_json (Id t) fits = ap (λ (r : Reading ℕ). r >>= (λ n. Ok (Id (record { 0 = n })))) (index-number_json t.0 fits)
 
 nullable-some_type : (t : WitType) → nullable wit_type (wit_type_json t) ≡ some (wit_type (wit_type_json t))
 nullable-some_type Bool = refl
@@ -106,9 +107,9 @@ variant_case-variant_case_json p fits = rw (nullable-wit_type_json p.1 fits) ref
 
 -- functions
 
-kind_with_resource-variant_json : (name : List ℕ) (n : ℕ) → FitsU32 n
-    → kind_with_resource (variant_json name (index_json n)) ≡ at_step (variant_step name) (kind_of_resource name n)
-kind_with_resource-variant_json name n fits = rw (index-index_json n fits) refl
+kind_with_resource-variant_json : (name : List ℕ) (n : ℕ) → n < 2 ^ 32
+    → kind_with_resource (variant_json name (number_json n)) ≡ at_step (variant_step name) (kind_of_resource name n)
+kind_with_resource-variant_json name n fits = rw (index-number_json n fits) refl
 
 function_kind-function_kind_json : (k : FunctionKind) → FunctionKindFits k → function_kind (function_kind_json k) ≡ Ok k
 function_kind-function_kind_json Freestanding fits = refl
@@ -130,8 +131,8 @@ function-function_json f fits =
 -- kinds and defined types
 
 handle-handle_json : (h : Handle) → HandleFits h → handle (handle_json h) ≡ Ok h
-handle-handle_json (Own t) fits = rw (index-index_json t.0 fits) refl
-handle-handle_json (Borrow t) fits = rw (index-index_json t.0 fits) refl
+handle-handle_json (Own t) fits = rw (index-number_json t.0 fits) refl
+handle-handle_json (Borrow t) fits = rw (index-number_json t.0 fits) refl
 
 labels_back : (n : ℕ) (ls : List (List ℕ)) → items_from label n (items_json label_json ls) ≡ Ok ls
 labels_back n [] = refl
@@ -159,8 +160,8 @@ owner_if_any (Interface i) = Some (Interface i)
 owner_if_any no_owner = None
 
 nullable-owner_json : (o : TypeOwner) → OwnerFits o → nullable owner (owner_json o) ≡ Ok (owner_if_any o)
-nullable-owner_json (World w) fits = rw (index-index_json w.0 fits) refl
-nullable-owner_json (Interface i) fits = rw (index-index_json i.0 fits) refl
+nullable-owner_json (World w) fits = rw (index-number_json w.0 fits) refl
+nullable-owner_json (Interface i) fits = rw (index-number_json i.0 fits) refl
 nullable-owner_json no_owner fits = refl
 
 unwrap_or-owner_if_any : (o : TypeOwner) → unwrap_or (owner_if_any o) no_owner ≡ o

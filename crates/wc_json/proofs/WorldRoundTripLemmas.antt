@@ -16,7 +16,7 @@ use Rattle.wc_json.specs.Keys.{is_id_key, is_id_rest, item_key, rest_after}
 use Rattle.wc_json.specs.ToJson.{item_json, key_text, world_items_json, world_json}
 use Rattle.wc_json.specs.Worlds.{item, items, world}
 use Rattle.wc_json.proofs.MapRoundTripLemmas.{IsDistinct-from_texts, entries_after-members_json}
-use Rattle.wc_json.proofs.TypeRoundTripLemmas.{function-function_json, index-index_json, nullable-index_json, nullable-string}
+use Rattle.wc_json.proofs.TypeRoundTripLemmas.{function-function_json, index-number_json, nullable-number_json, nullable-string}
 
 -- the keys of interfaces
 
@@ -78,9 +78,9 @@ key_view_eq-Decides (interface_key i) (interface_key j) = (λ e. ap interface_ke
 -- items and worlds
 
 item-item_json : (i : ItemView) → ItemFits i → item (item_json i) ≡ Ok i
-item-item_json (interface_item n external_id) fits = rw (index-index_json n fits, nullable-string external_id) refl
+item-item_json (interface_item n external_id) fits = rw (index-number_json n fits, nullable-string external_id) refl
 item-item_json (function_item f) fits = rw (function-function_json f fits) refl
-item-item_json (type_item n) fits = rw (index-index_json n fits) refl
+item-item_json (type_item n) fits = rw (index-number_json n fits) refl
 
 items-world_items_json : (es : List (KeyView × ItemView)) → HasDistinctTexts es → All WorldEntryFits es → items (world_items_json es) ≡ Ok es
 items-world_items_json es distinct fits =
@@ -94,5 +94,5 @@ world-world_json p fits =
     rw (
       items-world_items_json p.0.imports fits.import_keys fits.imports,
       items-world_items_json p.0.exports fits.export_keys fits.exports,
-      nullable-index_json p.1 fits.in_package,
+      nullable-number_json p.1 fits.in_package,
     ) refl

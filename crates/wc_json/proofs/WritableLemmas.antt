@@ -1,6 +1,6 @@
 -- Values that can be printed and parsed again: their numbers are numbers, no object repeats a member, and they nest no
 -- deeper than a bound.
-use Rattle.std.proofs.Common.{◌≡◌, ◌≢◌, ℕ, suc, ◌≤◌, List, [], ◌∷◌, length, map, Option, Some, None, All, AllPairs, IfSome, refl, ap, arith, subst}
+use Rattle.std.proofs.Common.{◌≡◌, ◌≢◌, ℕ, ◌<◌, ◌^◌, suc, ◌≤◌, List, [], ◌∷◌, length, map, Option, Some, None, All, AllPairs, IfSome, refl, ap, arith, subst}
 use Rattle.std.specs.List.{IsDistinct}
 use Rattle.std.specs.Set.{distinct_count}
 use Rattle.std.specs.Str.{bytes_eq}
@@ -13,8 +13,8 @@ use Rattle.json.specs.Json.{Json, null, string, object, Items, Members, no_membe
 use Rattle.json.specs.Strict.{AreDistinct, HasUniqueKeys, ItemsHaveUniqueKeys, MembersHaveUniqueKeys, keys}
 use Rattle.json.specs.Tree.{HasNumbers, ItemsHaveNumbers, MembersHaveNumbers, depth, items_depth, members_depth}
 use Rattle.json.proofs.Printed.Decimals.{IsNumber-decimal}
-use Rattle.wc_json.specs.Fits.{FitsU32}
-use Rattle.wc_json.specs.ToJson.{index_json, items_json, list_json, members_json, nullable_json, variant_json}
+use Rattle.wc_json.specs.Shapes.{nullable_json, number_json}
+use Rattle.wc_json.specs.ToJson.{items_json, list_json, members_json, variant_json}
 
 pub record IsWritable (bound : ℕ) (j : Json) : Type 0 where
   pub numbers : HasNumbers j
@@ -41,8 +41,8 @@ IsWritable-string bound s = record { numbers = tt; unique = tt; shallow = omega 
 pub IsWritable-null : (bound : ℕ) → IsWritable bound null
 IsWritable-null bound = record { numbers = tt; unique = tt; shallow = omega arith }
 
-pub IsWritable-index_json : (bound n : ℕ) → FitsU32 n → IsWritable bound (index_json n)
-IsWritable-index_json bound n fits = record { numbers = IsNumber-decimal n (omega (arith, fits)); unique = tt; shallow = omega arith }
+pub IsWritable-number_json : (bound n : ℕ) → n < 2 ^ 32 → IsWritable bound (number_json n)
+IsWritable-number_json bound n fits = record { numbers = IsNumber-decimal n (omega (arith, fits)); unique = tt; shallow = omega arith }
 
 pub IsWritable-nullable_json : {A : Type 0} (bound : ℕ) (write : A → Json) (Fits : A → Type 0) → ((x : A) → Fits x → IsWritable bound (write x))
     → (o : Option A) → IfSome o Fits → IsWritable bound (nullable_json write o)

@@ -1,13 +1,12 @@
 -- What a whole text is read as.
-use Rattle.std.specs.Prelude.{◌≡◌, ℕ, List, map, Option, None, Ok, codes, ⊤, IsSomeAnd}
+use Rattle.std.specs.Prelude.{ℕ, List, map, Option, Ok, codes}
 use Rattle.std.specs.Option.{option_map}
 use Rattle.json.specs.Json.{Json}
-use Rattle.json.specs.Strict.{HasUniqueKeys}
 use Rattle.wc_resolve.specs.World.{ResolveView}
 use Rattle.wc_resolve.specs.ResolveParts.{parts_view}
 use Rattle.wc_resolve.specs.declared.ids.PackageId.{PackageId}
-use Rattle.wc_json.specs.Faults.{Reading, HasFault, ◌>>=◌}
-use Rattle.wc_json.specs.FromJson.{list}
+use Rattle.wc_json.specs.Faults.{Reading, ◌>>=◌}
+use Rattle.wc_json.specs.FromJson.{IsCauseOf, IsReadFrom, list}
 use Rattle.wc_json.specs.Interfaces.{interface}
 use Rattle.wc_json.specs.Members.{required_member}
 use Rattle.wc_json.specs.Packages.{package_and_worlds, world_entries}
@@ -15,7 +14,6 @@ use Rattle.wc_json.specs.Types.{defined_type}
 use Rattle.wc_json.specs.Worlds.{world}
 use Rattle.wc_json.specs.declared.document.Document.{Document}
 use Rattle.wc_json.specs.declared.fault.JsonFault.{JsonFault}
-use Rattle.wc_json.specs.declared.fault.JsonFault.TheVariants.{Memory, NotJson, RepeatedMember, Wrong}
 
 -- the parts, the package of each world, and the worlds of each package by their names
 pub record DocumentView : Type 0 where
@@ -44,12 +42,9 @@ document_of j = do
 
 -- the text's value has no object that repeats a member, and is read as this document
 abbrev pub IsDocument : Option Json → Document → Type 0
-IsDocument read d = IsSomeAnd read (λ j. HasUniqueKeys j × (document_of j ≡ Ok (document_view d)))
+IsDocument = IsReadFrom document_view document_of
 
 -- memory ran out; or the text is not JSON; or its value has an object that repeats a member; or the value is without
 -- these, and this is its first fault
 abbrev pub IsJsonCause : Option Json → JsonFault → Type 0
-IsJsonCause read Memory = ⊤
-IsJsonCause read NotJson = read ≡ None
-IsJsonCause read RepeatedMember = IsSomeAnd read (λ j. ¬ HasUniqueKeys j)
-IsJsonCause read (Wrong path problem) = IsSomeAnd read (λ j. HasUniqueKeys j × HasFault (Wrong path problem) (document_of j))
+IsJsonCause = IsCauseOf document_of

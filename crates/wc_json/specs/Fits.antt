@@ -15,11 +15,8 @@ use Rattle.wc_resolve.specs.declared.types.WitType.TheVariants.{Id}
 use Rattle.wc_json.specs.Document.{DocumentView}
 use Rattle.wc_json.specs.ToJson.{key_text}
 
-abbrev pub FitsU32 : ℕ → Type 0
-FitsU32 n = n < 2 ^ 32
-
 abbrev pub TypeFits : WitType → Type 0
-TypeFits (Id t) = FitsU32 t.0
+TypeFits (Id t) = t.0 < 2 ^ 32
 TypeFits t = ⊤
 
 abbrev pub NamedTypeFits : List ℕ × WitType → Type 0
@@ -31,11 +28,11 @@ CaseFits p = IfSome p.1 TypeFits
 abbrev pub FunctionKindFits : FunctionKind → Type 0
 FunctionKindFits Freestanding = ⊤
 FunctionKindFits AsyncFreestanding = ⊤
-FunctionKindFits (Method t) = FitsU32 t.0
-FunctionKindFits (AsyncMethod t) = FitsU32 t.0
-FunctionKindFits (Static t) = FitsU32 t.0
-FunctionKindFits (AsyncStatic t) = FitsU32 t.0
-FunctionKindFits (Constructor t) = FitsU32 t.0
+FunctionKindFits (Method t) = t.0 < 2 ^ 32
+FunctionKindFits (AsyncMethod t) = t.0 < 2 ^ 32
+FunctionKindFits (Static t) = t.0 < 2 ^ 32
+FunctionKindFits (AsyncStatic t) = t.0 < 2 ^ 32
+FunctionKindFits (Constructor t) = t.0 < 2 ^ 32
 
 pub record FunctionFits (f : FunctionView) : Type 0 where
   pub kind : FunctionKindFits f.kind
@@ -43,8 +40,8 @@ pub record FunctionFits (f : FunctionView) : Type 0 where
   pub outcome : IfSome f.outcome TypeFits
 
 abbrev pub HandleFits : Handle → Type 0
-HandleFits (Own t) = FitsU32 t.0
-HandleFits (Borrow t) = FitsU32 t.0
+HandleFits (Own t) = t.0 < 2 ^ 32
+HandleFits (Borrow t) = t.0 < 2 ^ 32
 
 abbrev pub KindFits : KindView → Type 0
 KindFits (record_kind fields) = All NamedTypeFits fields
@@ -62,8 +59,8 @@ KindFits (stream_kind t) = IfSome t TypeFits
 KindFits (alias_kind t) = TypeFits t
 
 abbrev pub OwnerFits : TypeOwner → Type 0
-OwnerFits (World w) = FitsU32 w.0
-OwnerFits (Interface i) = FitsU32 i.0
+OwnerFits (World w) = w.0 < 2 ^ 32
+OwnerFits (Interface i) = i.0 < 2 ^ 32
 OwnerFits no_owner = ⊤
 
 pub record DefinedTypeFits (t : TypeView) : Type 0 where
@@ -75,7 +72,7 @@ abbrev pub HasDistinctKeys : {L A : Type 0} → List (L × A) → Type 0
 HasDistinctKeys es = AllPairs (λ a b. a ≢ b) (map (λ e. e.0) es)
 
 abbrev pub IdEntryFits : List ℕ × ℕ → Type 0
-IdEntryFits e = FitsU32 e.1
+IdEntryFits e = e.1 < 2 ^ 32
 
 abbrev pub FunctionEntryFits : List ℕ × FunctionView → Type 0
 FunctionEntryFits e = FunctionFits e.1
@@ -85,8 +82,8 @@ pub record InterfaceFits (i : InterfaceView) : Type 0 where
   pub type_names : HasDistinctKeys i.types
   pub functions : All FunctionEntryFits i.functions
   pub function_names : HasDistinctKeys i.functions
-  pub in_package : IfSome i.in_package FitsU32
-  pub clone_of : IfSome i.clone_of FitsU32
+  pub in_package : IfSome i.in_package (λ n. n < 2 ^ 32)
+  pub clone_of : IfSome i.clone_of (λ n. n < 2 ^ 32)
 
 -- a plain key is not spelled as the id of its own interface, and the id that is a key is that of its own interface
 abbrev pub PlainKeyFits : List ℕ → ItemView → Type 0
@@ -104,9 +101,9 @@ KeyFits (plain_key name) i = PlainKeyFits name i
 KeyFits (interface_key n) i = InterfaceKeyFits n i
 
 abbrev pub ItemFits : ItemView → Type 0
-ItemFits (interface_item n external_id) = FitsU32 n
+ItemFits (interface_item n external_id) = n < 2 ^ 32
 ItemFits (function_item f) = FunctionFits f
-ItemFits (type_item n) = FitsU32 n
+ItemFits (type_item n) = n < 2 ^ 32
 
 abbrev pub WorldEntryFits : KeyView × ItemView → Type 0
 WorldEntryFits e = KeyFits e.0 e.1 × ItemFits e.1
@@ -120,7 +117,7 @@ pub record WorldFits (p : WorldView × Option ℕ) : Type 0 where
   pub import_keys : HasDistinctTexts p.0.imports
   pub exports : All WorldEntryFits p.0.exports
   pub export_keys : HasDistinctTexts p.0.exports
-  pub in_package : IfSome p.1 FitsU32
+  pub in_package : IfSome p.1 (λ n. n < 2 ^ 32)
 
 -- no colon in the namespace and no `@` in the name
 pub record PackageNameFits (p : PackageNameView) : Type 0 where

@@ -14,6 +14,9 @@ pub mod Keys
 pub mod Worlds
 pub mod Packages
 pub mod Document
+pub mod Libraries
+pub mod Messages
+pub mod Shapes
 pub mod ToJson
 pub mod Fits
 pub mod Laws

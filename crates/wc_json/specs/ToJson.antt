@@ -1,7 +1,7 @@
 -- The JSON value that each thing is written as, in the form in which wit-parser writes it.
-use Rattle.std.specs.Prelude.{ℕ, List, [], ◌∷◌, ◌++◌, Option, Some, None, codes, decimal}
+use Rattle.std.specs.Prelude.{ℕ, List, [], ◌∷◌, ◌++◌, map, Option, Some, None, codes, decimal}
 use Rattle.std.specs.List.{zip}
-use Rattle.json.specs.Json.{Json, null, number, string, array, object, Items, no_items, item, Members, no_members, member}
+use Rattle.json.specs.Json.{Json, null, string, array, object, Items, Members, no_members, member}
 use Rattle.semver.specs.Identifiers.{parts_text}
 use Rattle.wc_resolve.specs.Views.{FunctionView, InterfaceView, TypeView, KindView, record_kind, resource_kind, handle_kind, flags_kind, tuple_kind, variant_kind, enum_kind, option_kind, result_kind, list_kind, future_kind, stream_kind, alias_kind, KeyView, plain_key, interface_key, ItemView, interface_item, function_item, type_item, WorldView, PackageNameView, PackageView}
 use Rattle.wc_resolve.specs.declared.functions.FunctionKind.{FunctionKind}
@@ -13,26 +13,18 @@ use Rattle.wc_resolve.specs.declared.types.TypeOwner.TheVariants.{World, Interfa
 use Rattle.wc_resolve.specs.declared.types.WitType.{WitType}
 use Rattle.wc_resolve.specs.declared.types.WitType.TheVariants.{Bool, U8, U16, U32, U64, S8, S16, S32, S64, F32, F64, Char, String, ErrorContext, Id}
 use Rattle.wc_json.specs.Document.{DocumentView}
+use Rattle.wc_json.specs.Shapes.{items_of, members_of, nullable_json, number_json}
 
 -- shapes
 
-abbrev pub index_json : ℕ → Json
-index_json n = number (decimal n)
-
-abbrev pub nullable_json : {A : Type 0} → (A → Json) → Option A → Json
-nullable_json write None = null
-nullable_json write (Some a) = write a
-
 abbrev pub items_json : {A : Type 0} → (A → Json) → List A → Items
-items_json write [] = no_items
-items_json write (x ∷ xs) = item (write x) (items_json write xs)
+items_json write xs = items_of (map write xs)
 
 abbrev pub list_json : {A : Type 0} → (A → Json) → List A → Json
 list_json write xs = array (items_json write xs)
 
 abbrev pub members_json : {L A : Type 0} → (L → List ℕ) → (A → Json) → List (L × A) → Members
-members_json text write [] = no_members
-members_json text write (e ∷ es) = member (text e.0) (write e.1) (members_json text write es)
+members_json text write es = members_of (map (λ e. (text e.0, write e.1)) es)
 
 abbrev pub name_map_json : {A : Type 0} → (A → Json) → List (List ℕ × A) → Json
 name_map_json write es = object (members_json (λ name. name) write es)
@@ -58,7 +50,7 @@ wit_type_json F64 = string (codes "f64")
 wit_type_json Char = string (codes "char")
 wit_type_json String = string (codes "string")
 wit_type_json ErrorContext = string (codes "error-context")
-wit_type_json (Id t) = index_json t.0
+wit_type_json (Id t) = number_json t.0
 
 abbrev pub named_type_json : List ℕ × WitType → Json
 named_type_json p =
@@ -69,11 +61,11 @@ named_type_json p =
 abbrev pub function_kind_json : FunctionKind → Json
 function_kind_json Freestanding = string (codes "freestanding")
 function_kind_json AsyncFreestanding = string (codes "async-freestanding")
-function_kind_json (Method t) = variant_json (codes "method") (index_json t.0)
-function_kind_json (AsyncMethod t) = variant_json (codes "async-method") (index_json t.0)
-function_kind_json (Static t) = variant_json (codes "static") (index_json t.0)
-function_kind_json (AsyncStatic t) = variant_json (codes "async-static") (index_json t.0)
-function_kind_json (Constructor t) = variant_json (codes "constructor") (index_json t.0)
+function_kind_json (Method t) = variant_json (codes "method") (number_json t.0)
+function_kind_json (AsyncMethod t) = variant_json (codes "async-method") (number_json t.0)
+function_kind_json (Static t) = variant_json (codes "static") (number_json t.0)
+function_kind_json (AsyncStatic t) = variant_json (codes "async-static") (number_json t.0)
+function_kind_json (Constructor t) = variant_json (codes "constructor") (number_json t.0)
 
 abbrev pub function_json : FunctionView → Json
 function_json f =
@@ -93,8 +85,8 @@ variant_case_json p =
     no_members))
 
 abbrev pub handle_json : Handle → Json
-handle_json (Own t) = variant_json (codes "own") (index_json t.0)
-handle_json (Borrow t) = variant_json (codes "borrow") (index_json t.0)
+handle_json (Own t) = variant_json (codes "own") (number_json t.0)
+handle_json (Borrow t) = variant_json (codes "borrow") (number_json t.0)
 
 abbrev pub kind_json : KindView → Json
 kind_json (record_kind fields) = variant_json (codes "record") (variant_json (codes "fields") (list_json named_type_json fields))
@@ -115,8 +107,8 @@ kind_json (stream_kind t) = variant_json (codes "stream") (nullable_json wit_typ
 kind_json (alias_kind t) = variant_json (codes "type") (wit_type_json t)
 
 abbrev pub owner_json : TypeOwner → Json
-owner_json (World w) = variant_json (codes "world") (index_json w.0)
-owner_json (Interface i) = variant_json (codes "interface") (index_json i.0)
+owner_json (World w) = variant_json (codes "world") (number_json w.0)
+owner_json (Interface i) = variant_json (codes "interface") (number_json i.0)
 owner_json no_owner = null
 
 abbrev pub type_json : TypeView → Json
@@ -131,10 +123,10 @@ type_json t =
 abbrev pub interface_json : InterfaceView → Json
 interface_json i =
     object (member (codes "name") (nullable_json string i.name)
-    (member (codes "types") (name_map_json index_json i.types)
+    (member (codes "types") (name_map_json number_json i.types)
     (member (codes "functions") (name_map_json function_json i.functions)
-    (member (codes "package") (nullable_json index_json i.in_package)
-    (member (codes "clone_of") (nullable_json index_json i.clone_of)
+    (member (codes "package") (nullable_json number_json i.in_package)
+    (member (codes "clone_of") (nullable_json number_json i.clone_of)
     no_members)))))
 
 abbrev pub key_text : KeyView → List ℕ
@@ -143,11 +135,11 @@ key_text (interface_key n) = codes "interface-" ++ decimal n
 
 abbrev pub item_json : ItemView → Json
 item_json (interface_item n external_id) =
-    variant_json (codes "interface") (object (member (codes "id") (index_json n)
+    variant_json (codes "interface") (object (member (codes "id") (number_json n)
     (member (codes "external_id") (nullable_json string external_id)
     no_members)))
 item_json (function_item f) = variant_json (codes "function") (function_json f)
-item_json (type_item n) = variant_json (codes "type") (index_json n)
+item_json (type_item n) = variant_json (codes "type") (number_json n)
 
 abbrev pub world_items_json : List (KeyView × ItemView) → Json
 world_items_json es = object (members_json key_text item_json es)
@@ -158,7 +150,7 @@ world_json p =
     object (member (codes "name") (string p.0.name)
     (member (codes "imports") (world_items_json p.0.imports)
     (member (codes "exports") (world_items_json p.0.exports)
-    (member (codes "package") (nullable_json index_json p.1)
+    (member (codes "package") (nullable_json number_json p.1)
     no_members))))
 
 abbrev pub version_suffix : Option (ℕ × ℕ × ℕ × List ℕ × List ℕ) → List ℕ
@@ -173,8 +165,8 @@ package_name_text p = p.namespace ++ (58 ∷ (p.name ++ version_suffix p.version
 abbrev pub package_json : PackageView × List (List ℕ × ℕ) → Json
 package_json p =
     object (member (codes "name") (string (package_name_text p.0.name))
-    (member (codes "interfaces") (name_map_json index_json p.0.interfaces)
-    (member (codes "worlds") (name_map_json index_json p.1)
+    (member (codes "interfaces") (name_map_json number_json p.0.interfaces)
+    (member (codes "worlds") (name_map_json number_json p.1)
     no_members)))
 
 abbrev pub document_json : DocumentView → Json

@@ -7,9 +7,9 @@ ghost use Rattle.wc_json.specs.Document.{IsJsonCause, IsDocument, document_of, d
 ghost use Rattle.wc_json.specs.Faults.{Reads};
 
 use crate::JsonFault;
-use crate::from_json::FromJson;
+use crate::from_json::{FromJson, value_from_json};
 use crate::members::required_member;
-use json::{Scratch, Value};
+use json::Value;
 use std::alloc::{AllocError, Global};
 use wc_maps::{Map, Seed};
 use wc_resolve::{Package, PackageId, Parts, World, WorldId};
@@ -103,7 +103,5 @@ pub fn document_from_json(alloc: Global, seed: Seed, text: &str) -> Result<Docum
     ensures ok { IfOk result (IsDocument (document text.now)) }
     ensures fault { IfErr result (IsJsonCause (document text.now)) }
 {
-    let mut scratch = Scratch::new(alloc);
-    let value = Value::parse_strict(alloc, text, &mut scratch)?;
-    document_of(alloc, seed, &value)
+    value_from_json(alloc, seed, text)
 }

@@ -14,6 +14,9 @@
 //! Whether the parts are well-formed is left to `wc_resolve::Resolve::build`; no id is known to be in
 //! range before.
 //!
+//! `message_from_json` reads what a component is encoded from: a resolved world, one of its worlds, keys
+//! of its exports and options, but not the bytes of modules.
+//!
 //! Other texts that hold a resolved world are read in the same way: `FromJson` is what is read,
 //! `value_from_json` reads it from a text, and its members are read by `required_member` and
 //! `optional_member`.
@@ -29,8 +32,10 @@ mod interfaces;
 mod keys;
 mod kinds;
 pub mod laws;
+mod libraries;
 mod maps;
 mod members;
+mod messages;
 mod packages;
 mod paths;
 mod types;
@@ -42,4 +47,7 @@ pub use escape::escaped;
 pub use fault::{JsonFault, Problem};
 pub use from_json::{FromJson, value_from_json};
 pub use members::{optional_member, required_member};
+pub use messages::{
+    AdapterMessage, KeyMessage, Message, OptionsMessage, WorldName, message_from_json,
+};
 pub use paths::{at_member, fault_here};

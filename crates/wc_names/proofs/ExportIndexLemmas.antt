@@ -29,7 +29,8 @@ use Rattle.wc_resolve.proofs.KeyLemmas.{keys_law, nat_from}
 use Rattle.wc_resolve.proofs.SearchLemmas.{contains_cons, contains_head, contains_none, contains_tail}
 use Rattle.wc_resolve.proofs.ViewedLemmas.{all_unviewed}
 use Rattle.wc_resolve.proofs.WellFormedLemmas.{interface_names_in}
-use Rattle.wc_names.specs.Keys.{as_function, as_interface, item_under, key_eq, under_name}
+use Rattle.wc_names.specs.Keys.{as_function, as_interface, item_under, key_eq}
+use Rattle.wc_maps.specs.Names.{under_name}
 use Rattle.wc_names.proofs.KeyLemmas.{lookup_passes}
 
 -- keys that are equal by the test are equal

@@ -6,7 +6,8 @@ use Rattle.std.specs.Option.{option_map, option_or, option_and_then}
 use Rattle.indexmap.specs.IndexMap.{insert_entry}
 use Rattle.wc_names.specs.Finds.{Finds}
 use Rattle.wc_names.specs.First.{FirstOf}
-use Rattle.wc_names.specs.InterfaceIndex.{KeepsFirst, with_first, IsKeyOf, InterfaceNamesView, IsTrackEntry, TrackNameView, interface_names_view, is_index, is_text, is_track_name, keyed_view, track_name_in, track_name_view}
+use Rattle.wc_names.specs.Views.{keyed_view}
+use Rattle.wc_names.specs.InterfaceIndex.{KeepsFirst, with_first, IsKeyOf, InterfaceNamesView, IsTrackEntry, TrackNameView, interface_names_view, is_index, is_text, is_track_name, track_name_in, track_name_view}
 use Rattle.wc_names.proofs.SearchLemmas.{IsFirstInRest, none_found, rest_after, rest_is_all, first_found}
 use Rattle.std.specs.declared.alloc.AllocError.{AllocError}
 use Rattle.std.specs.Borrow.{Bor}

@@ -19,7 +19,8 @@ use Rattle.wc_resolve.proofs.LookupLemmas.{lookup_viewed}
 use Rattle.wc_resolve.proofs.WellFormedLemmas.{all_get, interface_names_in}
 use Rattle.wc_encoder.proofs.PairLemmas.{pairs_head, pairs_tail}
 use Rattle.wc_encoder.specs.Entries.{Entries}
-use Rattle.wc_names.specs.Keys.{as_function, as_type, function_at, key_eq, item_under, type_named, under_name, world_entries}
+use Rattle.wc_names.specs.Keys.{as_function, as_type, function_at, key_eq, item_under, type_named, world_entries}
+use Rattle.wc_maps.specs.Names.{under_name}
 
 -- keys are equal where contracts see equal keys
 pub keys_viewed : (a b : WorldKey) → world_key_eq.it a b ≡ key_eq (key_view a) (key_view b)

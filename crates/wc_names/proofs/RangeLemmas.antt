@@ -17,7 +17,8 @@ use Rattle.wc_resolve.proofs.WellFormedLemmas.{IsUsableItem, export_functions_us
 use Rattle.wc_encoder.specs.Entries.{Entries}
 use Rattle.wc_names.specs.First.{FirstOf}
 use Rattle.wc_names.specs.Interfaces.{FoundInterface, IsCanonicalEntry, IsEntryOf, IsIdMatch, IsMemberOf, NamesInterface, id_matches}
-use Rattle.wc_names.specs.Keys.{as_function, as_interface, function_at, if_resource, item_under, key_eq, resource_at, under_name, world_entries}
+use Rattle.wc_names.specs.Keys.{as_function, as_interface, function_at, if_resource, item_under, key_eq, resource_at, world_entries}
+use Rattle.wc_maps.specs.Names.{under_name}
 use Rattle.wc_names.specs.Payloads.{HasPayload}
 use Rattle.wc_names.specs.Schemes.{Scheme, legacy, standard}
 use Rattle.wc_names.specs.Views.{typed}

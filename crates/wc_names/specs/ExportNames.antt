@@ -15,7 +15,8 @@ use Rattle.wc_names.specs.declared.export_names.ExportSyntax.{ExportSyntax}
 use Rattle.wc_names.specs.declared.export_names.ExportSyntax.TheVariants.{Standard, Legacy}
 use Rattle.wc_names.specs.First.{FirstOf}
 use Rattle.wc_names.specs.Interfaces.{FoundInterface}
-use Rattle.wc_names.specs.Keys.{as_function, as_interface, item_under, resource_at, under_name}
+use Rattle.wc_names.specs.Keys.{as_function, as_interface, item_under, resource_at}
+use Rattle.wc_maps.specs.Names.{under_name}
 use Rattle.wc_names.specs.Schemes.{Scheme, standard, legacy}
 use Rattle.wc_names.specs.Texts.{Lacks}
 

@@ -4,20 +4,19 @@ use Rattle.std.specs.Map.{lookup}
 use Rattle.std.specs.Option.{option_map, option_and_then}
 use Rattle.wc_names.specs.Finds.{Finds}
 use Rattle.wc_names.specs.First.{FirstOf}
-use Rattle.std.specs.Borrow.{Bor}
 use Rattle.std.specs.Str.{bytes_eq}
 use Rattle.std.specs.declared.alloc.Global.{Global}
 use Rattle.wc_resolve.specs.declared.ids.InterfaceId.{InterfaceId}
-use Rattle.wc_resolve.specs.declared.worlds.WorldKey.{WorldKey}
 use Rattle.wc_resolve.specs.Names.{track}
 use Rattle.wc_resolve.specs.Queries.{VersionView, qualified_name}
-use Rattle.wc_resolve.specs.Views.{ItemView, KeyView, PackageNameView, key_view}
+use Rattle.wc_resolve.specs.Views.{ItemView, KeyView, PackageNameView}
 use Rattle.wc_resolve.specs.World.{ResolveView}
 use Rattle.wc_encoder.specs.Entries.{Entries}
 use Rattle.wc_names.specs.declared.interface_index.TrackName.{TrackName}
 use Rattle.wc_names.specs.declared.interface_index.IdIndex.{IdIndex}
 use Rattle.wc_names.specs.declared.interface_index.InterfaceIndex.{InterfaceIndex}
 use Rattle.wc_names.specs.declared.interface_index.InterfaceIndex.TheVariants.{CanonicalIds, FullIds}
+use Rattle.wc_names.specs.Views.{keyed_view}
 use Rattle.wc_names.specs.Interfaces.{FoundInterface, InterfaceTexts, IsCanonicalEntry, IsCloneOf, IsEntryOf, canonical_ids, full_ids, under_own_key}
 
 -- the key that an entry has, and what it gives; an entry has one key at most
@@ -83,10 +82,6 @@ KeepsClones r entries kept = KeepsFirst (IsCloneEntry r) is_index under_own_key 
 -- interfaces are kept by their tracks
 abbrev pub KeepsTracks : ResolveView → Entries → List (TrackName × InterfaceId) → Type 0
 KeepsTracks r entries kept = KeepsFirst (IsTrackEntry r) is_track_name under_own_key entries kept
-
--- an interface and its key
-abbrev pub keyed_view : Bor WorldKey × InterfaceId → FoundInterface
-keyed_view f = (key_view f.0.now, f.1.0)
 
 -- what is looked up by ids: clones, and interfaces on tracks
 pub record IsIdIndex (r : ResolveView) (entries : Entries) (index : IdIndex) : Type 0 where

@@ -13,7 +13,8 @@ use Rattle.wc_resolve.specs.Names.{track}
 use Rattle.wc_resolve.specs.World.{ResolveView}
 use Rattle.wc_encoder.specs.Entries.{Entries}
 use Rattle.wc_names.specs.First.{FirstOf}
-use Rattle.wc_names.specs.Keys.{as_interface, item_under, under_name}
+use Rattle.wc_names.specs.Keys.{as_interface, item_under}
+use Rattle.wc_maps.specs.Names.{under_name}
 use Rattle.wc_names.specs.Schemes.{Scheme, standard, legacy}
 use Rattle.std.specs.declared.alloc.AllocError.{AllocError}
 use Rattle.wc_names.specs.Finds.{Finds}

@@ -6,6 +6,7 @@ use Rattle.std.specs.Str.{bytes_eq}
 use Rattle.wc_resolve.specs.Views.{KindView, resource_kind, KeyView, plain_key, interface_key, ItemView, interface_item, function_item, type_item, FunctionView, InterfaceView, WorldView}
 use Rattle.wc_resolve.specs.World.{ResolveView, kind_at}
 use Rattle.wc_encoder.specs.Entries.{Entries}
+use Rattle.wc_maps.specs.Names.{under_name}
 
 abbrev pub is_plain_key : List ℕ → KeyView → Bool
 is_plain_key n (plain_key m) = bytes_eq n m
@@ -59,10 +60,6 @@ interface_scope key i = record { key = Some key; interface = Some i }
 -- the key of an import for a resource, function or intrinsic of this name
 abbrev pub scope_key : Scope → List ℕ → KeyView
 scope_key scope name = unwrap_or scope.key (plain_key name)
-
--- what is listed under a name
-abbrev pub under_name : {X : Type 0} → List (List ℕ × X) → List ℕ → Option X
-under_name entries name = lookup (bytes_eq name) entries
 
 -- the type of a name: of an interface, or of the world, which are those that it imports
 abbrev pub type_named : ResolveView → WorldView → Option ℕ → List ℕ → Option ℕ

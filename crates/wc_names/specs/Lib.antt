@@ -20,3 +20,4 @@ pub mod ExportViews
 pub mod ExportIndex
 pub mod Exports
 pub mod Laws
+pub mod Private

@@ -1,11 +1,14 @@
 -- What contracts see of imports: texts as their bytes, ids as indices.
-use Rattle.std.specs.Prelude.{ℕ, List, Bool, false, Option, string_bytes}
+use Rattle.std.specs.Prelude.{ℕ, List, Bool, false, Option, Some, None, string_bytes}
+use Rattle.std.specs.Borrow.{Bor}
 use Rattle.std.specs.Option.{option_map}
 use Rattle.wc_read.specs.declared.types.ValType.{ValType}
 use Rattle.wc_read.specs.declared.types.MemoryType.{MemoryType}
 use Rattle.wc_read.specs.declared.exports.ExportKind.{ExportKind}
 use Rattle.wc_read.specs.Types.{FuncTypeValue, func_type_value}
 use Rattle.wc_resolve.specs.declared.functions.AbiVariant.{AbiVariant}
+use Rattle.wc_resolve.specs.declared.ids.InterfaceId.{InterfaceId}
+use Rattle.wc_resolve.specs.declared.worlds.WorldKey.{WorldKey}
 use Rattle.wc_resolve.specs.Dependencies.{id_of_interface}
 use Rattle.wc_resolve.specs.Views.{KeyView, key_view, FunctionView, function_view}
 use Rattle.wc_encoder.specs.declared.encoding.StringEncoding.{StringEncoding}
@@ -19,6 +22,7 @@ use Rattle.wc_names.specs.declared.async_values.Operation.{Operation}
 use Rattle.wc_names.specs.declared.async_values.Operation.TheVariants as operation
 use Rattle.wc_names.specs.declared.imports.Import.{Import}
 use Rattle.wc_names.specs.declared.imports.Import.TheVariants as imports
+use Rattle.wc_names.specs.declared.imports.FunctionImport.{FunctionImport}
 
 -- the index of a future or stream type, and the name of a function that has it as a parameter or result; or a future or
 -- a stream without a payload
@@ -150,3 +154,22 @@ import_view (imports.FutureCancelRead info is_async) = async_value value.Future 
 import_view (imports.FutureCancelWrite info is_async) = async_value value.Future operation.CancelWrite is_async (payload_view info)
 import_view (imports.FutureDropReadable info) = async_value value.Future operation.DropReadable false (payload_view info)
 import_view (imports.FutureDropWritable info) = async_value value.Future operation.DropWritable false (payload_view info)
+
+-- a function that a world imports: the key and the id of its interface, if it is of one; its name, and how it is lowered
+pub record FunctionImportView : Type 0 where
+  pub interface : Option (KeyView × ℕ)
+  pub name : List ℕ
+  pub abi : AbiVariant
+
+-- an interface and its key
+abbrev pub keyed_view : Bor WorldKey × InterfaceId → KeyView × ℕ
+keyed_view i = (key_view i.0.now, i.1.0)
+
+abbrev pub function_import_view : FunctionImport → FunctionImportView
+function_import_view f = record { interface = option_map keyed_view f.interface; name = f.name.now; abi = f.abi }
+
+-- the function that an import is, if it is one
+abbrev pub function_import : ImportView → Option FunctionImportView
+function_import (world_func key name abi) = Some (record { interface = None; name = name; abi = abi })
+function_import (interface_func key i name abi) = Some (record { interface = Some (key, i); name = name; abi = abi })
+function_import i = None

@@ -339,39 +339,3 @@ impl<'a> ExportNames<'a> {
         }
     }
 }
-
-/// The function that one export of this name is for.
-pub(crate) fn matched_export<'a>(
-    alloc: Global,
-    syntax: ExportSyntax,
-    name: &str,
-    resolve: &'a Resolve,
-    world: WorldId,
-    keys: &'a Set<WorldKey>,
-) -> Result<Option<(&'a WorldKey, Option<InterfaceId>, &'a Function)>, AllocError>
-    requires { world.0 < length resolve.now.worlds }
-    ensures { IfOk result (λ found. Finds (option_map export_target found)
-        (NamesFunctionExport syntax resolve.now (world_exports resolve.now world.0)
-        (map key_view keys.now.keys) name.now)) }
-{
-    let names = ExportNames::new(alloc, syntax, resolve, world, keys)?;
-    names.function(alloc, name)
-}
-
-/// The resource whose destructor one export of this name is.
-pub(crate) fn matched_destructor(
-    alloc: Global,
-    syntax: ExportSyntax,
-    name: &str,
-    resolve: &Resolve,
-    world: WorldId,
-    keys: &Set<WorldKey>,
-) -> Result<Option<TypeId>, AllocError>
-    requires { world.0 < length resolve.now.worlds }
-    ensures { IfOk result (λ found. Finds (option_map id_index found)
-        (NamesDestructor syntax resolve.now (world_exports resolve.now world.0)
-        (map key_view keys.now.keys) name.now)) }
-{
-    let names = ExportNames::new(alloc, syntax, resolve, world, keys)?;
-    Ok(names.destructed(name))
-}

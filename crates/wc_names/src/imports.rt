@@ -258,8 +258,41 @@ pub enum Import {
     FutureDropWritable(PayloadInfo),
 }
 
+/// A function that a world imports: one of its own, or one of an interface that it imports.
+#[derive(Clone, Copy, Debug)]
+pub struct FunctionImport<'a> {
+    /// The key and the id of the function's interface; `None` if it is a function of the world itself.
+    pub interface: Option<(&'a WorldKey, InterfaceId)>,
+    /// The function's name.
+    pub name: &'a str,
+    /// How it is lowered.
+    pub abi: AbiVariant,
+}
+
 impl Import {
-    ghost use Rattle.wc_names.specs.Views.{import_view};
+    ghost use Rattle.std.specs.Option.{option_map};
+    ghost use Rattle.wc_names.specs.Views.{function_import, function_import_view, import_view};
+    ghost use Rattle.wc_names.specs.Private.Imports.{IsFunctionImport, IsFutureImport, IsItemImport, IsPlainImport, IsResourceImport, IsStreamImport, IsThreadImport, OwnsNothing};
+
+    /// The function of the world, or of an interface that it imports, that this import is; `None` if it is none, as a
+    /// built-in and what another module of the component exports are.
+    pub fn function(&self) -> Option<FunctionImport<'_>>
+        ensures { option_map function_import_view result ≡ function_import (import_view self.now) }
+    {
+        match self {
+            Import::WorldFunc(_, name, abi) => Some(FunctionImport {
+                interface: None,
+                name,
+                abi: *abi,
+            }),
+            Import::InterfaceFunc(key, id, name, abi) => Some(FunctionImport {
+                interface: Some((key, *id)),
+                name,
+                abi: *abi,
+            }),
+            _ => None,
+        }
+    }
 
     /// A copy of this import.
     ///
@@ -269,63 +302,191 @@ impl Import {
     pub fn clone(&self, alloc: Global) -> Result<Import, AllocError>
         ensures { IfOk result (λ i. import_view i ≡ import_view self.now) }
     {
-        Ok(match self {
-            Import::WorldFunc(key, name, abi) => {
-                Import::WorldFunc(key.clone(alloc)?, String::from_str(alloc, name)?, *abi)
-            }
-            Import::InterfaceFunc(key, id, name, abi) => Import::InterfaceFunc(
+        match self {
+            Import::WorldFunc(..) | Import::InterfaceFunc(..) => self.clone_function(alloc),
+            Import::AdapterExport { .. }
+            | Import::MainModuleExport { .. }
+            | Import::Item(_)
+            | Import::ExportedTaskReturn(..) => self.clone_item(alloc),
+            Import::ImportedResourceDrop(..)
+            | Import::ExportedResourceDrop(..)
+            | Import::ExportedResourceNew(..)
+            | Import::ExportedResourceRep(..) => self.clone_resource(alloc),
+            Import::StreamNew(_)
+            | Import::StreamRead { .. }
+            | Import::StreamWrite { .. }
+            | Import::StreamForward(_)
+            | Import::StreamCancelRead { .. }
+            | Import::StreamCancelWrite { .. }
+            | Import::StreamDropReadable(_)
+            | Import::StreamDropWritable(_) => self.clone_stream(alloc),
+            Import::FutureNew(_)
+            | Import::FutureRead { .. }
+            | Import::FutureWrite { .. }
+            | Import::FutureForward(_)
+            | Import::FutureCancelRead { .. }
+            | Import::FutureCancelWrite { .. }
+            | Import::FutureDropReadable(_)
+            | Import::FutureDropWritable(_) => self.clone_future(alloc),
+            _ => Ok(self.copy()),
+        }
+    }
+
+    /// A copy of a function of the world or of one of its interfaces.
+    fn clone_function(&self, alloc: Global) -> Result<Import, AllocError>
+        requires { IsFunctionImport (import_view self.now) }
+        ensures { IfOk result (λ i. import_view i ≡ import_view self.now) }
+    {
+        match self {
+            Import::WorldFunc(key, name, abi) => Ok(Import::WorldFunc(
+                key.clone(alloc)?,
+                String::from_str(alloc, name)?,
+                *abi,
+            )),
+            Import::InterfaceFunc(key, id, name, abi) => Ok(Import::InterfaceFunc(
                 key.clone(alloc)?,
                 *id,
                 String::from_str(alloc, name)?,
                 *abi,
-            ),
-            Import::ImportedResourceDrop(key, interface, id) => {
-                Import::ImportedResourceDrop(key.clone(alloc)?, *interface, *id)
-            }
-            Import::ExportedResourceDrop(key, id) => {
-                Import::ExportedResourceDrop(key.clone(alloc)?, *id)
-            }
-            Import::ExportedResourceNew(key, id) => {
-                Import::ExportedResourceNew(key.clone(alloc)?, *id)
-            }
-            Import::ExportedResourceRep(key, id) => {
-                Import::ExportedResourceRep(key.clone(alloc)?, *id)
-            }
-            Import::AdapterExport { adapter, func, ty } => Import::AdapterExport {
+            )),
+            _ => unreachable!(),
+        }
+    }
+
+    /// A copy of an item of another module or of a library, or of `task.return`.
+    fn clone_item(&self, alloc: Global) -> Result<Import, AllocError>
+        requires { IsItemImport (import_view self.now) }
+        ensures { IfOk result (λ i. import_view i ≡ import_view self.now) }
+    {
+        match self {
+            Import::AdapterExport { adapter, func, ty } => Ok(Import::AdapterExport {
                 adapter: String::from_str(alloc, adapter)?,
                 func: String::from_str(alloc, func)?,
                 ty: ty.clone(alloc)?,
-            },
-            Import::MainModuleMemory(ty) => Import::MainModuleMemory(*ty),
-            Import::MainModuleExport { name, kind } => Import::MainModuleExport {
+            }),
+            Import::MainModuleExport { name, kind } => Ok(Import::MainModuleExport {
                 name: String::from_str(alloc, name)?,
                 kind: *kind,
-            },
-            Import::Item(item) => Import::Item(item.clone(alloc)?),
-            Import::ExportedTaskReturn(key, interface, function) => Import::ExportedTaskReturn(
+            }),
+            Import::Item(item) => Ok(Import::Item(item.clone(alloc)?)),
+            Import::ExportedTaskReturn(key, interface, function) => Ok(Import::ExportedTaskReturn(
                 key.clone(alloc)?,
                 *interface,
                 function.clone(alloc)?,
-            ),
-            Import::ContextGet { ty, slot } => Import::ContextGet {
-                ty: *ty,
-                slot: *slot,
-            },
-            Import::ContextSet { ty, slot } => Import::ContextSet {
-                ty: *ty,
-                slot: *slot,
-            },
-            Import::TlsBaseGet { ty } => Import::TlsBaseGet { ty: *ty },
-            Import::TlsBaseSet { ty } => Import::TlsBaseSet { ty: *ty },
-            Import::ErrorContextNew { encoding } => Import::ErrorContextNew {
-                encoding: *encoding,
-            },
-            Import::ErrorContextDebugMessage { encoding } => {
-                Import::ErrorContextDebugMessage {
-                    encoding: *encoding,
-                }
+            )),
+            _ => unreachable!(),
+        }
+    }
+
+    /// A copy of a built-in of a resource.
+    fn clone_resource(&self, alloc: Global) -> Result<Import, AllocError>
+        requires { IsResourceImport (import_view self.now) }
+        ensures { IfOk result (λ i. import_view i ≡ import_view self.now) }
+    {
+        match self {
+            Import::ImportedResourceDrop(key, interface, id) => {
+                Ok(Import::ImportedResourceDrop(key.clone(alloc)?, *interface, *id))
             }
-            Import::SubtaskCancel { async_ } => Import::SubtaskCancel { async_: *async_ },
+            Import::ExportedResourceDrop(key, id) => {
+                Ok(Import::ExportedResourceDrop(key.clone(alloc)?, *id))
+            }
+            Import::ExportedResourceNew(key, id) => {
+                Ok(Import::ExportedResourceNew(key.clone(alloc)?, *id))
+            }
+            Import::ExportedResourceRep(key, id) => {
+                Ok(Import::ExportedResourceRep(key.clone(alloc)?, *id))
+            }
+            _ => unreachable!(),
+        }
+    }
+
+    /// A copy of a built-in of a stream.
+    fn clone_stream(&self, alloc: Global) -> Result<Import, AllocError>
+        requires { IsStreamImport (import_view self.now) }
+        ensures { IfOk result (λ i. import_view i ≡ import_view self.now) }
+    {
+        match self {
+            Import::StreamNew(info) => Ok(Import::StreamNew(info.clone(alloc)?)),
+            Import::StreamForward(info) => Ok(Import::StreamForward(info.clone(alloc)?)),
+            Import::StreamDropReadable(info) => Ok(Import::StreamDropReadable(info.clone(alloc)?)),
+            Import::StreamDropWritable(info) => Ok(Import::StreamDropWritable(info.clone(alloc)?)),
+            Import::StreamRead { async_, info } => Ok(Import::StreamRead {
+                async_: *async_,
+                info: info.clone(alloc)?,
+            }),
+            Import::StreamWrite { async_, info } => Ok(Import::StreamWrite {
+                async_: *async_,
+                info: info.clone(alloc)?,
+            }),
+            Import::StreamCancelRead { info, async_ } => Ok(Import::StreamCancelRead {
+                info: info.clone(alloc)?,
+                async_: *async_,
+            }),
+            Import::StreamCancelWrite { info, async_ } => Ok(Import::StreamCancelWrite {
+                info: info.clone(alloc)?,
+                async_: *async_,
+            }),
+            _ => unreachable!(),
+        }
+    }
+
+    /// A copy of a built-in of a future.
+    fn clone_future(&self, alloc: Global) -> Result<Import, AllocError>
+        requires { IsFutureImport (import_view self.now) }
+        ensures { IfOk result (λ i. import_view i ≡ import_view self.now) }
+    {
+        match self {
+            Import::FutureNew(info) => Ok(Import::FutureNew(info.clone(alloc)?)),
+            Import::FutureForward(info) => Ok(Import::FutureForward(info.clone(alloc)?)),
+            Import::FutureDropReadable(info) => Ok(Import::FutureDropReadable(info.clone(alloc)?)),
+            Import::FutureDropWritable(info) => Ok(Import::FutureDropWritable(info.clone(alloc)?)),
+            Import::FutureRead { async_, info } => Ok(Import::FutureRead {
+                async_: *async_,
+                info: info.clone(alloc)?,
+            }),
+            Import::FutureWrite { async_, info } => Ok(Import::FutureWrite {
+                async_: *async_,
+                info: info.clone(alloc)?,
+            }),
+            Import::FutureCancelRead { info, async_ } => Ok(Import::FutureCancelRead {
+                info: info.clone(alloc)?,
+                async_: *async_,
+            }),
+            Import::FutureCancelWrite { info, async_ } => Ok(Import::FutureCancelWrite {
+                info: info.clone(alloc)?,
+                async_: *async_,
+            }),
+            _ => unreachable!(),
+        }
+    }
+
+    /// A copy of an import that owns nothing: the memory of the main module, or a built-in of neither a resource, a
+    /// future nor a stream.
+    fn copy(&self) -> Import
+        requires { OwnsNothing (import_view self.now) }
+        ensures { import_view result ≡ import_view self.now }
+    {
+        match *self {
+            Import::MainModuleMemory(ty) => Import::MainModuleMemory(ty),
+            Import::ContextGet { ty, slot } => Import::ContextGet { ty, slot },
+            Import::ContextSet { ty, slot } => Import::ContextSet { ty, slot },
+            Import::TlsBaseGet { ty } => Import::TlsBaseGet { ty },
+            Import::TlsBaseSet { ty } => Import::TlsBaseSet { ty },
+            Import::ErrorContextNew { encoding } => Import::ErrorContextNew { encoding },
+            Import::ErrorContextDebugMessage { encoding } => Import::ErrorContextDebugMessage {
+                encoding,
+            },
+            Import::SubtaskCancel { async_ } => Import::SubtaskCancel { async_ },
+            _ => self.copy_plain(),
+        }
+    }
+
+    /// A copy of a built-in without parameters.
+    fn copy_plain(&self) -> Import
+        requires { IsPlainImport (import_view self.now) }
+        ensures { import_view result ≡ import_view self.now }
+    {
+        match *self {
             Import::ExportedTaskCancel => Import::ExportedTaskCancel,
             Import::ErrorContextDrop => Import::ErrorContextDrop,
             Import::BackpressureInc => Import::BackpressureInc,
@@ -336,6 +497,16 @@ impl Import {
             Import::WaitableSetDrop => Import::WaitableSetDrop,
             Import::WaitableJoin => Import::WaitableJoin,
             Import::SubtaskDrop => Import::SubtaskDrop,
+            _ => self.copy_thread(),
+        }
+    }
+
+    /// A copy of a built-in of threads.
+    fn copy_thread(&self) -> Import
+        requires { IsThreadImport (import_view self.now) }
+        ensures { import_view result ≡ import_view self.now }
+    {
+        match *self {
             Import::ThreadIndex => Import::ThreadIndex,
             Import::ThreadNewIndirect => Import::ThreadNewIndirect,
             Import::ThreadResumeLater => Import::ThreadResumeLater,
@@ -345,46 +516,7 @@ impl Import {
             Import::ThreadYieldThenResume => Import::ThreadYieldThenResume,
             Import::ThreadSuspendThenPromote => Import::ThreadSuspendThenPromote,
             Import::ThreadYieldThenPromote => Import::ThreadYieldThenPromote,
-            Import::StreamNew(info) => Import::StreamNew(info.clone(alloc)?),
-            Import::StreamForward(info) => Import::StreamForward(info.clone(alloc)?),
-            Import::StreamDropReadable(info) => Import::StreamDropReadable(info.clone(alloc)?),
-            Import::StreamDropWritable(info) => Import::StreamDropWritable(info.clone(alloc)?),
-            Import::StreamRead { async_, info } => Import::StreamRead {
-                async_: *async_,
-                info: info.clone(alloc)?,
-            },
-            Import::StreamWrite { async_, info } => Import::StreamWrite {
-                async_: *async_,
-                info: info.clone(alloc)?,
-            },
-            Import::StreamCancelRead { info, async_ } => Import::StreamCancelRead {
-                info: info.clone(alloc)?,
-                async_: *async_,
-            },
-            Import::StreamCancelWrite { info, async_ } => Import::StreamCancelWrite {
-                info: info.clone(alloc)?,
-                async_: *async_,
-            },
-            Import::FutureNew(info) => Import::FutureNew(info.clone(alloc)?),
-            Import::FutureForward(info) => Import::FutureForward(info.clone(alloc)?),
-            Import::FutureDropReadable(info) => Import::FutureDropReadable(info.clone(alloc)?),
-            Import::FutureDropWritable(info) => Import::FutureDropWritable(info.clone(alloc)?),
-            Import::FutureRead { async_, info } => Import::FutureRead {
-                async_: *async_,
-                info: info.clone(alloc)?,
-            },
-            Import::FutureWrite { async_, info } => Import::FutureWrite {
-                async_: *async_,
-                info: info.clone(alloc)?,
-            },
-            Import::FutureCancelRead { info, async_ } => Import::FutureCancelRead {
-                info: info.clone(alloc)?,
-                async_: *async_,
-            },
-            Import::FutureCancelWrite { info, async_ } => Import::FutureCancelWrite {
-                info: info.clone(alloc)?,
-                async_: *async_,
-            },
-        })
+            _ => unreachable!(),
+        }
     }
 }

@@ -5,7 +5,8 @@ ghost use Rattle.std.specs.Prelude.{◌≡◌, All, IfOk, OnOk, map, string_byte
 ghost use Rattle.std.specs.Option.{option_map};
 ghost use Rattle.wc_resolve.specs.Ranges.{IsKeyIn};
 ghost use Rattle.wc_resolve.specs.Views.{ItemView, item_view, key_view, package_name_view, world_entry};
-ghost use Rattle.wc_names.specs.InterfaceIndex.{IsKeyOf, KeepsFirst, with_first, IsCloneEntry, IsTrackEntry, is_text, keyed_view, track_name_in, track_name_view, IsIdIndex, interface_names_view, KeepsClones, KeepsTracks};
+ghost use Rattle.wc_names.specs.Views.{keyed_view};
+ghost use Rattle.wc_names.specs.InterfaceIndex.{IsKeyOf, KeepsFirst, with_first, IsCloneEntry, IsTrackEntry, is_text, track_name_in, track_name_view, IsIdIndex, interface_names_view, KeepsClones, KeepsTracks};
 ghost use Rattle.wc_names.specs.Interfaces.{IsCanonicalEntry, under_own_key, IsAbout, IsCloneOf, IsEntryOf, IsIdMatch, IsTextMatch, canonical_ids, found_interface, full_ids, id_matches, text_matches, IsFirstOnTrack, FindsOwnKey};
 ghost use Rattle.std.specs.Map.{lookup};
 ghost use Rattle.wc_resolve.specs.World.{ResolveView};

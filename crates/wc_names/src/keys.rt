@@ -6,7 +6,8 @@ ghost use Rattle.std.specs.Option.{IsSome, option_and_then, option_map};
 ghost use Rattle.wc_resolve.specs.Dependencies.{id_of_interface};
 ghost use Rattle.wc_resolve.specs.Roots.{id_index};
 ghost use Rattle.wc_resolve.specs.Views.{function_entry, function_view, interface_entry, interface_key, item_view, key_view, plain_key, type_entry, world_entry};
-ghost use Rattle.wc_names.specs.Keys.{as_function, as_interface, as_type, item_under, resource_at, under_name};
+ghost use Rattle.wc_names.specs.Keys.{as_function, as_interface, as_type, item_under, resource_at};
+ghost use Rattle.wc_maps.specs.Names.{under_name};
 
 use std::alloc::{AllocError, Global};
 use wc_maps::Map;

@@ -5,7 +5,6 @@ ghost use Rattle.wc_names.specs.Imports.{NamesFunctionAs};
 ghost use Rattle.wc_names.specs.Schemes.{legacy};
 
 use crate::environment::environment_import;
-use crate::export_index::{matched_destructor, matched_export};
 use crate::interfaces::legacy_interface;
 use crate::payloads::async_value_import;
 use crate::texts::{after, pointer_type, slot};
@@ -266,7 +265,8 @@ impl<'h> NameMangling for Legacy<'h> {
         world: WorldId,
         exports: &'a Set<WorldKey>,
     ) -> Result<Option<(&'a WorldKey, Option<InterfaceId>, &'a Function)>, AllocError> {
-        matched_export(alloc, ExportSyntax::Legacy, name, resolve, world, exports)
+        let names = self.export_names(alloc, resolve, world, exports)?;
+        names.function(alloc, name)
     }
 
     fn match_wit_resource_dtor<'a>(
@@ -277,7 +277,8 @@ impl<'h> NameMangling for Legacy<'h> {
         world: WorldId,
         exports: &'a Set<WorldKey>,
     ) -> Result<Option<TypeId>, AllocError> {
-        matched_destructor(alloc, ExportSyntax::Legacy, name, resolve, world, exports)
+        let names = self.export_names(alloc, resolve, world, exports)?;
+        Ok(names.destructed(name))
     }
 }
 

@@ -61,7 +61,7 @@ mod texts;
 pub use export_index::ExportNames;
 pub use export_names::ExportSyntax;
 pub use exports::Export;
-pub use imports::{Import, PayloadInfo, PayloadType};
+pub use imports::{FunctionImport, Import, PayloadInfo, PayloadType};
 pub use interface_index::InterfaceNames;
 pub use legacy::Legacy;
 pub use mangling::{MaybeAsyncLowered, NameIndexes, NameMangling};

@@ -1,6 +1,5 @@
 //! The standard scheme.
 
-use crate::export_index::{matched_destructor, matched_export};
 use crate::interfaces::standard_interface;
 use crate::texts::before;
 use crate::{
@@ -192,7 +191,8 @@ impl NameMangling for Standard {
         world: WorldId,
         exports: &'a Set<WorldKey>,
     ) -> Result<Option<(&'a WorldKey, Option<InterfaceId>, &'a Function)>, AllocError> {
-        matched_export(alloc, ExportSyntax::Standard, name, resolve, world, exports)
+        let names = self.export_names(alloc, resolve, world, exports)?;
+        names.function(alloc, name)
     }
 
     fn match_wit_resource_dtor<'a>(
@@ -203,7 +203,8 @@ impl NameMangling for Standard {
         world: WorldId,
         exports: &'a Set<WorldKey>,
     ) -> Result<Option<TypeId>, AllocError> {
-        matched_destructor(alloc, ExportSyntax::Standard, name, resolve, world, exports)
+        let names = self.export_names(alloc, resolve, world, exports)?;
+        Ok(names.destructed(name))
     }
 }
 

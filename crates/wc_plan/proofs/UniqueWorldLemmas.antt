@@ -1,7 +1,7 @@
 -- Of an encoder and options there is one world at most.
 use Rattle.std.proofs.Common.{◌≡◌, ◌↔◌, ℕ, List, [], ◌∷◌, ◌++◌, Bool, true, false, Option, Some, None, IsTrue, filter, refl, sym, ap, subst, ◌∙◌}
 use Rattle.std.specs.Prelude.{IsSome, is_some}
-use Rattle.std.specs.List.{AllZip, flat_map}
+use Rattle.std.specs.List.{AllZip}
 use Rattle.wc_read.specs.Laws.{HasOneValue}
 use Rattle.wc_read.specs.Modules.{SpellsModule}
 use Rattle.wc_resolve.specs.World.{ResolveView}
@@ -18,9 +18,9 @@ use Rattle.wc_world.specs.Lowered.{all_entries, lowered, lowerer_of}
 use Rattle.wc_world.specs.Options.{OptionsOf}
 use Rattle.wc_world.specs.Slots.{imports_of}
 use Rattle.wc_world.specs.Used.{AreUsed, Used, UsedView}
-use Rattle.wc_world.specs.Views.{ComponentWorldView, NamedWorldAdapter, WorldAdapterView}
-use Rattle.wc_world.specs.World.{AreAdapters, IsAdapterOf, IsBorrowedLibrary, IsTrimmedAdapter, IsTrimmedOrLibrary, IsWorldOf}
-use Rattle.wc_plan.specs.Laws.{IsSameAdapter, IsSameWorld, WorldsUnique}
+use Rattle.wc_world.specs.Views.{NamedWorldAdapter, WorldAdapterView}
+use Rattle.wc_world.specs.World.{AreAdapters, IsAdapterOf, IsTrimmedAdapter, IsTrimmedOrLibrary}
+use Rattle.wc_plan.specs.Laws.{IsSameAdapter, WorldsUnique}
 use Rattle.wc_plan.proofs.SameWorldLemmas.{flat_same}
 
 same_test : (a b : Bool) (P : Type 0) → IsTrue a ↔ P → IsTrue b ↔ P → a ≡ b

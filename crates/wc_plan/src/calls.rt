@@ -25,16 +25,18 @@ pub(crate) fn call_of(
     ensures { (owner : OwnerView) → IfOk result (λ c. option_map (call_view owner) c
         ≡ call_of resolve.now owner (import_view import.now)) }
 {
-    match import {
-        Import::WorldFunc(_, name, abi) => {
-            let name = String::from_str(alloc, name)?;
-            Ok(Some((None, (name, *abi))))
-        }
-        Import::InterfaceFunc(key, _, name, abi) => {
+    let Some(function) = import.function() else {
+        return Ok(None);
+    };
+    match function.interface {
+        Some((key, _id)) => {
             let interface = resolve.name_world_key(alloc, key)?;
-            let name = String::from_str(alloc, name)?;
-            Ok(Some((Some(interface), (name, *abi))))
+            let name = String::from_str(alloc, function.name)?;
+            Ok(Some((Some(interface), (name, function.abi))))
         }
-        _ => Ok(None),
+        None => {
+            let name = String::from_str(alloc, function.name)?;
+            Ok(Some((None, (name, function.abi))))
+        }
     }
 }

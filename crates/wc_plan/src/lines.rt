@@ -1,8 +1,9 @@
 //! Plans as lines.
 
-ghost use Rattle.std.specs.Prelude.{◌≡◌, IfErr, OnErr, OnOk, false, flat_map, map, string_bytes, true, unwrap_or};
+ghost use Rattle.std.specs.Prelude.{◌≡◌, IfErr, OnErr, OnOk, flat_map, map, string_bytes, true, unwrap_or};
 ghost use Rattle.std.specs.Option.{option_map};
 ghost use Rattle.std.specs.Io.KnownBytes.{Appends};
+ghost use Rattle.wc_write.specs.Puts.{Puts, PutsAny};
 ghost use Rattle.wc_plan.specs.Lines.{call_text, called_text, needs_text, owner_text, plan_text, slot_text, use_line};
 ghost use Rattle.wc_plan.specs.PlanViews.{owner_view, plan_view, use_view};
 
@@ -38,10 +39,8 @@ pub fn write_plan<S: Sink>(plan: &Plan, out: &mut S) -> Result<(), PlanFault>
 
 /// Puts a line for each use, in order.
 fn put_uses<S: Sink>(out: &mut S, uses: &[Use]) -> Result<(), PutFailed>
-    ensures written { OnOk result (Appends (S.written out.old) (S.written out.new)
-        (flat_map use_line (map use_view uses.now))) }
-    ensures works { OnOk result (S.is_failed out.new ≡ S.is_failed out.old) }
-    ensures fails { OnErr result (S.is_failed out.new ≡ true) }
+    ensures { PutsAny S.written S.is_failed out.old out.new
+        (flat_map use_line (map use_view uses.now)) result }
 {
     for one in uses {
         put_use(out, one)?;
@@ -51,11 +50,7 @@ fn put_uses<S: Sink>(out: &mut S, uses: &[Use]) -> Result<(), PutFailed>
 
 /// Puts the line of a use.
 fn put_use<S: Sink>(out: &mut S, one: &Use) -> Result<(), PutFailed>
-    ensures written { OnOk result (Appends (S.written out.old) (S.written out.new)
-        (use_line (use_view one.now))) }
-    ensures refuses { OnOk result (S.is_failed out.old ≡ false) }
-    ensures works { OnOk result (S.is_failed out.new ≡ false) }
-    ensures fails { OnErr result (S.is_failed out.new ≡ true) }
+    ensures { Puts S.written S.is_failed out.old out.new (use_line (use_view one.now)) result }
 {
     put_owner(out, &one.module)?;
     out.put(SPACE)?;
@@ -65,11 +60,8 @@ fn put_use<S: Sink>(out: &mut S, one: &Use) -> Result<(), PutFailed>
 
 /// Puts `main` or `adapter NAME`.
 fn put_owner<S: Sink>(out: &mut S, owner: &Owner) -> Result<(), PutFailed>
-    ensures written { OnOk result (Appends (S.written out.old) (S.written out.new)
-        (owner_text (owner_view owner.now))) }
-    ensures refuses { OnOk result (S.is_failed out.old ≡ false) }
-    ensures works { OnOk result (S.is_failed out.new ≡ false) }
-    ensures fails { OnErr result (S.is_failed out.new ≡ true) }
+    ensures { Puts S.written S.is_failed out.old out.new
+        (owner_text (owner_view owner.now)) result }
 {
     match owner {
         Owner::Main => out.put(b"main"),
@@ -82,11 +74,8 @@ fn put_owner<S: Sink>(out: &mut S, owner: &Owner) -> Result<(), PutFailed>
 
 /// Puts the interface, the name and how the function is called.
 fn put_called<S: Sink>(out: &mut S, one: &Use) -> Result<(), PutFailed>
-    ensures written { OnOk result (Appends (S.written out.old) (S.written out.new)
-        (called_text (use_view one.now).call)) }
-    ensures refuses { OnOk result (S.is_failed out.old ≡ false) }
-    ensures works { OnOk result (S.is_failed out.new ≡ false) }
-    ensures fails { OnErr result (S.is_failed out.new ≡ true) }
+    ensures { Puts S.written S.is_failed out.old out.new
+        (called_text (use_view one.now).call) result }
 {
     out.put(text_or(&one.interface, "$root").as_bytes())?;
     out.put(SPACE)?;
@@ -97,11 +86,7 @@ fn put_called<S: Sink>(out: &mut S, one: &Use) -> Result<(), PutFailed>
 
 /// Puts the slot, the realloc, and the end of the line.
 fn put_needs<S: Sink>(out: &mut S, one: &Use) -> Result<(), PutFailed>
-    ensures written { OnOk result (Appends (S.written out.old) (S.written out.new)
-        (needs_text (use_view one.now))) }
-    ensures refuses { OnOk result (S.is_failed out.old ≡ false) }
-    ensures works { OnOk result (S.is_failed out.new ≡ false) }
-    ensures fails { OnErr result (S.is_failed out.new ≡ true) }
+    ensures { Puts S.written S.is_failed out.old out.new (needs_text (use_view one.now)) result }
 {
     out.put(b" slot ")?;
     put_slot(out, one.slot)?;
@@ -112,11 +97,7 @@ fn put_needs<S: Sink>(out: &mut S, one: &Use) -> Result<(), PutFailed>
 
 /// Puts a slot, or `-`.
 fn put_slot<S: Sink>(out: &mut S, slot: Option<u64>) -> Result<(), PutFailed>
-    ensures written { OnOk result (Appends (S.written out.old) (S.written out.new)
-        (slot_text slot)) }
-    ensures refuses { OnOk result (S.is_failed out.old ≡ false) }
-    ensures works { OnOk result (S.is_failed out.new ≡ false) }
-    ensures fails { OnErr result (S.is_failed out.new ≡ true) }
+    ensures { Puts S.written S.is_failed out.old out.new (slot_text slot) result }
 {
     match slot {
         Some(slot) => {

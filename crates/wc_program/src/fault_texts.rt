@@ -6,7 +6,7 @@
 
 ghost use Rattle.std.specs.Prelude.{◌≡◌, ◌++◌};
 ghost use Rattle.wc_program.specs.FaultTexts.{read_fault_text, write_fault_text, dedupe_fault_text, gc_fault_text, carried_text, missing_text};
-ghost use Rattle.wc_program.specs.Puts.{Puts};
+ghost use Rattle.wc_write.specs.Puts.{Puts};
 
 use crate::printable::Printable;
 use wc_dedupe::DedupeFault;

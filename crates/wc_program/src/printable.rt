@@ -1,7 +1,7 @@
 //! Texts that can be printed.
 
 ghost use Rattle.std.specs.Prelude.{◌++◌, ℕ, List};
-ghost use Rattle.wc_program.specs.Puts.{Puts};
+ghost use Rattle.wc_write.specs.Puts.{Puts};
 
 use wc_write::{PutFailed, Sink};
 

@@ -1,5 +1,5 @@
 -- Exports (WebAssembly core specification, 2.5.10 and 5.5.10).
-use Rattle.std.specs.Prelude.{◌≡◌, ℕ, List, ◌∷◌, ◌++◌}
+use Rattle.std.specs.Prelude.{◌≡◌, ℕ, List, ◌∷◌, ◌++◌, codes}
 use Rattle.wc_read.specs.Formats.{Format, SpellsNumber, SpellsName, SpellsVector}
 use Rattle.wc_read.specs.declared.exports.ExportKind.{ExportKind}
 use Rattle.wc_read.specs.declared.exports.ExportKind.TheVariants.{Func, Table, Memory, Global}
@@ -20,6 +20,13 @@ export_kind_code Func = 0
 export_kind_code Table = 1
 export_kind_code Memory = 2
 export_kind_code Global = 3
+
+-- the name of a kind, as in the text format (6.5.13)
+abbrev pub export_kind_name : ExportKind → List ℕ
+export_kind_name Func = codes "func"
+export_kind_name Table = codes "table"
+export_kind_name Memory = codes "memory"
+export_kind_name Global = codes "global"
 
 -- a name, the byte of a kind, an index
 pub record SpellsExport (bytes : List ℕ) (e : ExportValue) : Type 0 where

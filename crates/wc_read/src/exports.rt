@@ -1,7 +1,8 @@
 //! Exports.
 
+ghost use Rattle.std.specs.Prelude.{◌≡◌};
 ghost use Rattle.wc_read.specs.Reading.Bytes.{GivesWithoutMemory};
-ghost use Rattle.wc_read.specs.Exports.{ExportValue, export_value};
+ghost use Rattle.wc_read.specs.Exports.{ExportValue, export_kind_name, export_value};
 ghost use Rattle.wc_read.specs.Reading.Exports.{export_kind_at, export_at};
 
 use crate::fault::ReadFault;
@@ -15,6 +16,20 @@ pub enum ExportKind {
     Table,
     Memory,
     Global,
+}
+
+impl ExportKind {
+    /// The name of the kind, as the text format has it (6.5.13): `func`, `table`, `memory` or `global`.
+    pub fn name(self) -> &'static str
+        ensures { result.now ≡ export_kind_name self }
+    {
+        match self {
+            ExportKind::Func => "func",
+            ExportKind::Table => "table",
+            ExportKind::Memory => "memory",
+            ExportKind::Global => "global",
+        }
+    }
 }
 
 /// An export (2.5.10): its name, a slice of the bytes that it was read from, and an index into the space of its kind.

@@ -1,2 +1,3 @@
 pub mod ShapeLemmas
 pub mod UsedLemmas
+pub mod LibraryRoundTripLemmas

@@ -1,13 +1,13 @@
 -- Types of core modules as JSON.
-use Rattle.std.specs.Prelude.{ℕ, List, [], ◌∷◌, map, codes}
+use Rattle.std.specs.Prelude.{[], ◌∷◌, map, codes}
 use Rattle.json.specs.Json.{Json, boolean, string}
+use Rattle.wc_read.specs.Exports.{export_kind_name}
 use Rattle.wc_read.specs.Types.{FuncTypeValue}
 use Rattle.wc_read.specs.declared.exports.ExportKind.{ExportKind}
-use Rattle.wc_read.specs.declared.exports.ExportKind.TheVariants.{Func, Table, Memory, Global}
 use Rattle.wc_read.specs.declared.types.MemoryType.{MemoryType}
 use Rattle.wc_read.specs.declared.types.ValType.{ValType}
 use Rattle.wc_read.specs.declared.types.ValType.TheVariants.{I32, I64, F32, F64, V128, FuncRef, ExternRef, FuncRefNonNull, ExternRefNonNull, TypeRef}
-use Rattle.wc_record.specs.Shapes.{array_of, nullable_json, number_json, object_of}
+use Rattle.wc_json.specs.Shapes.{array_of, nullable_json, number_json, object_of}
 
 -- a value type: its name, or a reference to functions of a type, by its index
 abbrev pub val_type_json : ValType → Json
@@ -32,11 +32,5 @@ memory_type_json m =
     ∷ (codes "maximum", nullable_json number_json m.maximum) ∷ (codes "page_size_log2", nullable_json number_json m.page_size_log2) ∷ []
     )
 
-abbrev pub export_kind_text : ExportKind → List ℕ
-export_kind_text Func = codes "func"
-export_kind_text Table = codes "table"
-export_kind_text Memory = codes "memory"
-export_kind_text Global = codes "global"
-
 abbrev pub export_kind_json : ExportKind → Json
-export_kind_json k = string (export_kind_text k)
+export_kind_json k = string (export_kind_name k)

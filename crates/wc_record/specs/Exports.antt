@@ -14,9 +14,9 @@ abbrev pub key_and_name_json : List ℕ → KeyView → List ℕ → Json
 key_and_name_json kind key name = object_of_kind kind (key_field key ∷ name_field name ∷ [])
 
 abbrev pub export_json : ExportView → Json
-export_json (exported_func key name abi) = world_function_json (codes "world-func") key name abi
+export_json (exported_func key name abi) = world_function_json key name abi
 export_json (exported_func_post_return key) = key_kind (codes "world-func-post-return") key
-export_json (exported_interface_func key id name abi) = interface_function_json (codes "interface-func") key id name abi
+export_json (exported_interface_func key id name abi) = interface_function_json key id name abi
 export_json (exported_interface_func_post_return key name) = key_and_name_json (codes "interface-func-post-return") key name
 export_json (resource_dtor id) = object_of_kind (codes "resource-dtor") (type_id_field id ∷ [])
 export_json (exported_memory ty) = object_of_kind (codes "memory") ((codes "type", memory_type_json ty) ∷ [])

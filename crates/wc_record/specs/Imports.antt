@@ -12,7 +12,8 @@ use Rattle.wc_resolve.specs.Views.{KeyView}
 use Rattle.wc_resolve.specs.declared.functions.AbiVariant.{AbiVariant}
 use Rattle.wc_record.specs.CoreTypes.{export_kind_json, func_type_json, memory_type_json, val_type_json}
 use Rattle.wc_record.specs.Libraries.{library_item_json}
-use Rattle.wc_record.specs.Shapes.{Field, nullable_json, number_json, object_of, object_of_kind, plain_kind}
+use Rattle.wc_json.specs.Shapes.{Field, nullable_json, number_json, object_of}
+use Rattle.wc_record.specs.Shapes.{object_of_kind, plain_kind}
 use Rattle.wc_record.specs.Wit.{abi_json, encoding_json, key_json}
 
 -- members that several kinds have
@@ -34,12 +35,12 @@ val_type_field ty = (codes "type", val_type_json ty)
 
 -- kinds by their members
 
-abbrev pub world_function_json : List ℕ → KeyView → List ℕ → AbiVariant → Json
-world_function_json kind key name abi = object_of_kind kind (key_field key ∷ name_field name ∷ (codes "abi", abi_json abi) ∷ [])
+abbrev pub world_function_json : KeyView → List ℕ → AbiVariant → Json
+world_function_json key name abi = object_of_kind (codes "world-func") (key_field key ∷ name_field name ∷ (codes "abi", abi_json abi) ∷ [])
 
-abbrev pub interface_function_json : List ℕ → KeyView → ℕ → List ℕ → AbiVariant → Json
-interface_function_json kind key id name abi =
-    object_of_kind kind (key_field key ∷ (codes "interface", number_json id) ∷ name_field name ∷ (codes "abi", abi_json abi) ∷ [])
+abbrev pub interface_function_json : KeyView → ℕ → List ℕ → AbiVariant → Json
+interface_function_json key id name abi =
+    object_of_kind (codes "interface-func") (key_field key ∷ (codes "interface", number_json id) ∷ name_field name ∷ (codes "abi", abi_json abi) ∷ [])
 
 abbrev pub key_and_type_json : List ℕ → KeyView → ℕ → Json
 key_and_type_json kind key id = object_of_kind kind (key_field key ∷ type_id_field id ∷ [])
@@ -129,8 +130,8 @@ builtin_json thread_suspend_then_promote = plain_kind (codes "thread-suspend-the
 builtin_json thread_yield_then_promote = plain_kind (codes "thread-yield-then-promote")
 
 abbrev pub import_json : ImportView → Json
-import_json (world_func key name abi) = world_function_json (codes "world-func") key name abi
-import_json (interface_func key id name abi) = interface_function_json (codes "interface-func") key id name abi
+import_json (world_func key name abi) = world_function_json key name abi
+import_json (interface_func key id name abi) = interface_function_json key id name abi
 import_json (imported_resource_drop key interface id) = imported_drop_json key interface id
 import_json (exported_resource_drop key id) = key_and_type_json (codes "exported-resource-drop") key id
 import_json (exported_resource_new key id) = key_and_type_json (codes "exported-resource-new") key id

@@ -1,8 +1,10 @@
 pub mod CoreTypes
 pub mod Exports
 pub mod Imports
+pub mod Laws
 pub mod Libraries
 pub mod Modules
+pub mod Places
 pub mod Plans
 pub mod Shapes
 pub mod Texts

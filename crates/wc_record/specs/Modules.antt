@@ -8,7 +8,8 @@ use Rattle.wc_validate.specs.Validated.{ModuleRecord}
 use Rattle.wc_record.specs.Exports.{export_json}
 use Rattle.wc_record.specs.Imports.{import_json}
 use Rattle.wc_record.specs.Libraries.{which_json}
-use Rattle.wc_record.specs.Shapes.{array_of, object_of, object_of_kind}
+use Rattle.wc_json.specs.Shapes.{array_of, object_of}
+use Rattle.wc_record.specs.Shapes.{object_of_kind}
 
 -- an import, and an export, under its name
 

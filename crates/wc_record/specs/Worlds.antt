@@ -2,7 +2,7 @@
 use Rattle.std.specs.Prelude.{ℕ, List, [], ◌∷◌, map, length, filter, Option, Bool, codes}
 use Rattle.std.specs.List.{filter_map}
 use Rattle.std.specs.Option.{option_map}
-use Rattle.json.specs.Json.{Json, boolean, string}
+use Rattle.json.specs.Json.{Json, string}
 use Rattle.wc_dedupe.specs.Dedupe.{renames_in}
 use Rattle.wc_dedupe.specs.Renaming.{RenameValue}
 use Rattle.wc_encoder.specs.Distinct.{exported_interfaces}
@@ -11,7 +11,8 @@ use Rattle.wc_world.specs.Used.{UsedView}
 use Rattle.wc_world.specs.Views.{ComponentWorldView, ImportedView, LoweringKey, LoweringView, NamedWorldAdapter, direct, indirect, resource_drop}
 use Rattle.wc_record.specs.Libraries.{library_json}
 use Rattle.wc_record.specs.Modules.{module_json}
-use Rattle.wc_record.specs.Shapes.{array_of, nullable_json, number_json, object_of, object_of_kind}
+use Rattle.wc_json.specs.Shapes.{array_of, nullable_json, number_json, object_of}
+use Rattle.wc_record.specs.Shapes.{object_of_kind}
 use Rattle.wc_record.specs.Wit.{abi_json, signature_json}
 
 -- a renamed import

@@ -1,8 +1,8 @@
 //! Types of core modules.
 
-ghost use Rattle.std.specs.Prelude.{◌≡◌, OnOk};
+ghost use Rattle.std.specs.Prelude.{OnOk};
 ghost use Rattle.wc_read.specs.declared.types.ValType.TheVariants.{TypeRef};
-ghost use Rattle.wc_record.specs.CoreTypes.{export_kind_text, val_type_json};
+ghost use Rattle.wc_record.specs.CoreTypes.{val_type_json};
 ghost use Rattle.wc_record.specs.Shapes.{PutsJson};
 
 use crate::objects::{begin_object, end_object, put_list_member, put_member};
@@ -86,18 +86,6 @@ impl ToJson for MemoryType {
     }
 }
 
-/// The name of a kind of exports.
-fn export_kind_text(kind: ExportKind) -> &'static str
-    ensures { result.now ≡ export_kind_text kind }
-{
-    match kind {
-        ExportKind::Func => "func",
-        ExportKind::Table => "table",
-        ExportKind::Memory => "memory",
-        ExportKind::Global => "global",
-    }
-}
-
 impl ToJson for ExportKind {
     ghost use Rattle.wc_read.specs.declared.exports.ExportKind.{ExportKind as export_kind};
     ghost use Rattle.wc_record.specs.CoreTypes.{export_kind_json};
@@ -109,6 +97,6 @@ impl ToJson for ExportKind {
     ghost json = { export_kind_json };
 
     fn write(&self, out: &mut Writer) -> Result<(), AllocError> {
-        out.string(export_kind_text(*self))
+        out.string(self.name())
     }
 }

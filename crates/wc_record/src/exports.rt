@@ -44,14 +44,12 @@ impl ToJson for Export {
 
     fn write(&self, out: &mut Writer) -> Result<(), AllocError> {
         match self {
-            Export::WorldFunc(key, name, abi) => {
-                put_world_function(out, "world-func", key, name, *abi)
-            }
+            Export::WorldFunc(key, name, abi) => { put_world_function(out, key, name, *abi) }
             Export::WorldFuncPostReturn(key) => {
                 put_kind_with(out, "world-func-post-return", "key", key)
             }
             Export::InterfaceFunc(key, id, name, abi) => {
-                put_interface_function(out, "interface-func", key, *id, name, *abi)
+                put_interface_function(out, key, *id, name, *abi)
             }
             Export::InterfaceFuncPostReturn(key, name) => {
                 put_key_and_name(out, "interface-func-post-return", key, name)

@@ -22,16 +22,15 @@ use wc_resolve::{AbiVariant, InterfaceId, TypeId, WorldKey};
 /// Writes a function of the world.
 pub(crate) fn put_world_function(
     out: &mut Writer,
-    kind: &str,
     key: &WorldKey,
     name: &str,
     abi: AbiVariant,
 ) -> Result<(), AllocError>
     ensures { OnOk result (PutsJson out.old out.new
-        (world_function_json kind.now (key_view key.now) name.now abi)) }
+        (world_function_json (key_view key.now) name.now abi)) }
 {
     begin_object(out)?;
-    put_kind(out, kind)?;
+    put_kind(out, "world-func")?;
     put_member(out, "key", key)?;
     put_member(out, "name", &name)?;
     put_member(out, "abi", &abi)?;
@@ -41,17 +40,16 @@ pub(crate) fn put_world_function(
 /// Writes a function of an interface.
 pub(crate) fn put_interface_function(
     out: &mut Writer,
-    kind: &str,
     key: &WorldKey,
     id: InterfaceId,
     name: &str,
     abi: AbiVariant,
 ) -> Result<(), AllocError>
     ensures { OnOk result (PutsJson out.old out.new
-        (interface_function_json kind.now (key_view key.now) id.0 name.now abi)) }
+        (interface_function_json (key_view key.now) id.0 name.now abi)) }
 {
     begin_object(out)?;
-    put_kind(out, kind)?;
+    put_kind(out, "interface-func")?;
     put_member(out, "key", key)?;
     put_member(out, "interface", &id)?;
     put_member(out, "name", &name)?;
@@ -234,11 +232,9 @@ impl ToJson for Import {
 
     fn write(&self, out: &mut Writer) -> Result<(), AllocError> {
         match self {
-            Import::WorldFunc(key, name, abi) => {
-                put_world_function(out, "world-func", key, name, *abi)
-            }
+            Import::WorldFunc(key, name, abi) => { put_world_function(out, key, name, *abi) }
             Import::InterfaceFunc(key, id, name, abi) => {
-                put_interface_function(out, "interface-func", key, *id, name, *abi)
+                put_interface_function(out, key, *id, name, *abi)
             }
             Import::ImportedResourceDrop(key, interface, id) => {
                 put_imported_drop(out, key, *interface, *id)

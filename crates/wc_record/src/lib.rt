@@ -1,6 +1,7 @@
-//! A component's world, and a plan, as JSON: what `ComponentWorld::new` of `wc_world` and `plan` of `wc_plan` answer,
-//! for programs that share no types. The texts have no spaces, and the same order for the same input. All maps are lists
-//! of objects, so that every reader of JSON keeps their order.
+//! A component's world, a plan, and what faults are about, as JSON: what `ComponentWorld::new` of `wc_world` and `plan` of
+//! `wc_plan` answer, and what these crates' explanations of faults do, for programs that share no types. The texts have no
+//! spaces, and the same order for the same input. All maps are lists of objects, so that every reader of JSON keeps their
+//! order.
 //!
 //! Ids are indices, as in the JSON that worlds are read from (`wc_json`).
 #![tactic(auto)]
@@ -8,15 +9,18 @@
 mod core_types;
 mod exports;
 mod imports;
+pub mod laws;
 mod libraries;
 mod maps;
 mod modules;
 mod objects;
+mod places;
 mod plans;
 mod to_json;
 mod used;
 mod wit;
 mod worlds;
 
+pub use places::{part_to_json, trim_place_to_json, world_place_to_json};
 pub use plans::plan_to_json;
 pub use worlds::world_to_json;

@@ -3,7 +3,8 @@
 ghost use Rattle.std.specs.Prelude.{OnOk, [], map, ◌∷◌};
 ghost use Rattle.json.specs.Json.{Json};
 ghost use Rattle.json.specs.Token.{begin_array, end_array};
-ghost use Rattle.wc_record.specs.Shapes.{Puts, PutsJson, array_of};
+ghost use Rattle.wc_json.specs.Shapes.{array_of};
+ghost use Rattle.wc_record.specs.Shapes.{Puts, PutsJson};
 
 use json::Writer;
 use std::alloc::AllocError;
@@ -44,7 +45,7 @@ impl ToJson for bool {
 
 impl ToJson for u32 {
     ghost use Rattle.std.specs.Prelude.{ℕ};
-    ghost use Rattle.wc_record.specs.Shapes.{number_json};
+    ghost use Rattle.wc_json.specs.Shapes.{number_json};
 
     ghost View = { ℕ };
 
@@ -59,7 +60,7 @@ impl ToJson for u32 {
 
 impl ToJson for u64 {
     ghost use Rattle.std.specs.Prelude.{ℕ};
-    ghost use Rattle.wc_record.specs.Shapes.{number_json};
+    ghost use Rattle.wc_json.specs.Shapes.{number_json};
 
     ghost View = { ℕ };
 
@@ -69,6 +70,21 @@ impl ToJson for u64 {
 
     fn write(&self, out: &mut Writer) -> Result<(), AllocError> {
         out.u64(*self)
+    }
+}
+
+impl ToJson for usize {
+    ghost use Rattle.std.specs.Prelude.{ℕ};
+    ghost use Rattle.wc_json.specs.Shapes.{number_json};
+
+    ghost View = { ℕ };
+
+    ghost view = { λ n. n };
+
+    ghost json = { number_json };
+
+    fn write(&self, out: &mut Writer) -> Result<(), AllocError> {
+        out.u64(*self as u64)
     }
 }
 
@@ -106,7 +122,7 @@ impl ToJson for String {
 impl<T: ToJson> ToJson for Option<T> {
     ghost use Rattle.std.specs.Prelude.{Option};
     ghost use Rattle.std.specs.Option.{option_map};
-    ghost use Rattle.wc_record.specs.Shapes.{nullable_json};
+    ghost use Rattle.wc_json.specs.Shapes.{nullable_json};
 
     ghost View = { Option T.View };
 
@@ -151,7 +167,7 @@ pub(crate) fn put_list<T: ToJson>(out: &mut Writer, items: &[T]) -> Result<(), A
 /// The values in order.
 impl<T: ToJson> ToJson for Vec<T> {
     ghost use Rattle.std.specs.Prelude.{List, map};
-    ghost use Rattle.wc_record.specs.Shapes.{array_of};
+    ghost use Rattle.wc_json.specs.Shapes.{array_of};
 
     ghost View = { List T.View };
 

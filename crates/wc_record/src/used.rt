@@ -47,8 +47,8 @@ impl ToJson for UsedInterfaces {
 
 /// Adds the interface that an item is, if it is one.
 fn add_interface(interfaces: &mut Vec<InterfaceId>, item: &WorldItem) -> Result<(), AllocError>
-    ensures { OnOk result (interface_ids interfaces.new.items
-        ≡ interface_ids interfaces.old.items ++ cons_option (item_interface (item_view item.now)) []) }
+    ensures { OnOk result (interface_ids interfaces.new.items ≡ interface_ids interfaces.old.items
+        ++ cons_option (item_interface (item_view item.now)) []) }
 {
     match item {
         WorldItem::Interface { id, .. } => interfaces.push(*id)?,

@@ -3,9 +3,9 @@
 ghost use Rattle.std.specs.Prelude.{◌≡◌, IfOk, OnOk, codes, map};
 ghost use Rattle.std.specs.Option.{option_copied};
 ghost use Rattle.std.specs.Str.{IsUtf8};
-ghost use Rattle.json.specs.Json.{string};
 ghost use Rattle.wc_dedupe.specs.Dedupe.{renames_in};
-ghost use Rattle.wc_record.specs.Shapes.{PutsField, array_of};
+ghost use Rattle.wc_json.specs.Shapes.{array_of};
+ghost use Rattle.wc_record.specs.Shapes.{PutsField};
 ghost use Rattle.wc_record.specs.Texts.{world_text};
 ghost use Rattle.wc_record.specs.Worlds.{rename_json};
 ghost use Rattle.wc_resolve.specs.Signatures.{signature_view};
@@ -83,7 +83,7 @@ impl<'a, 'b> EntryToJson<&'a str> for WorldAdapter<'b> {
 
 impl ToJson for RequiredOptions {
     ghost use Rattle.std.specs.Prelude.{ℕ};
-    ghost use Rattle.wc_record.specs.Shapes.{number_json};
+    ghost use Rattle.wc_json.specs.Shapes.{number_json};
 
     ghost View = { ℕ };
 

@@ -127,12 +127,11 @@ core_settled types flats abi v made there =
     (agree_payload flat_types_kept (flat_entry flats) (flat_of types) v.outcome (λ s e. table_agree types flats made s (answer_in (length types) v.outcome in_signature.1 s e)))
 
 -- the signature of a function, from the flat types of its parameters and its result
-pub core_made : (flat : ℕ → List WasmType) (abi : AbiVariant) (f : Function) (params results : List WasmType) (has_result : Bool) (named : List (String Global × WitType)) → named ≡ f.params.items
-    → params ≡ take flat_types_kept (flatten_types flat (map (λ p. p.1) named)) → results ≡ flat_payload flat f.result → has_result ≡ is_some f.result
-    → core_of abi f.kind params results has_result ≡ flatten_functype flat abi (function_view f)
-core_made flat abi f params results has_result named same made given each =
+pub core_made : (flat : ℕ → List WasmType) (abi : AbiVariant) (f : Function) (params results : List WasmType) (named : List (String Global × WitType)) → named ≡ f.params.items
+    → params ≡ take flat_types_kept (flatten_types flat (map (λ p. p.1) named)) → results ≡ flat_payload flat f.result
+    → core_of abi f.kind params results (is_some f.result) ≡ flatten_functype flat abi (function_view f)
+core_made flat abi f params results named same made given =
     let full : List WasmType = flatten_types flat (map (λ p. p.1) (map named_view f.params.items)) in
     let read : flatten_types flat (map (λ p. p.1) named) ≡ full = ap (λ z. flatten_types flat (map (λ p. p.1) z)) same ∙ ap (flatten_types flat) (sym (named_values f.params.items)) in
     let agree : AgreeAtFront flat_types_kept params full = ap (λ z. take flat_types_kept z) (made ∙ ap (λ z. take flat_types_kept z) read) ∙ agree_cut flat_types_kept full in
-    core_agree abi f.kind params full results (flat_payload flat f.result) has_result agree (ap (λ z. take flat_types_kept z) given)
-    ∙ ap (λ z. core_of abi f.kind full (flat_payload flat f.result) z) each
+    core_agree abi f.kind params full results (flat_payload flat f.result) (is_some f.result) agree (ap (λ z. take flat_types_kept z) given)

@@ -129,21 +129,20 @@ fn returned_types(abi: AbiVariant, indirect_result: bool, results: &[WasmType]) 
     }
 }
 
-/// The core signature, by the flat types of the parameters and of the result, and by whether there is a result.
+/// The core signature of a function, by the flat types of its parameters and of its result.
 fn core_of(
     alloc: Global,
     abi: AbiVariant,
-    kind: FunctionKind,
+    function: &Function,
     params: Vec<WasmType>,
     results: &[WasmType],
-    has_result: bool,
 ) -> Result<WasmSignature, AllocError>
-    ensures { IfOk result (λ s. signature_view s ≡
-        core_of abi kind params.items results.now has_result) }
+    ensures { IfOk result (λ s. signature_view s ≡ core_of abi function.now.kind params.items
+        results.now (is_some function.now.result)) }
 {
     let indirect_params = params.len() > max_flat_params_of(abi);
-    let retptr = has_indirect_result(abi, results, has_result);
-    let mut params = passed_types(abi, kind, params)?;
+    let retptr = has_indirect_result(abi, results, function.result.is_some());
+    let mut params = passed_types(abi, function.kind, params)?;
     params.extend_from_slice(result_pointer(abi, retptr))?;
     let results = Vec::from_slice(alloc, returned_types(abi, retptr, results))?;
     Ok(WasmSignature {
@@ -166,12 +165,5 @@ pub(crate) fn signature_of(
 {
     let params = flat_fields(alloc, flats, &function.params)?;
     let results = flat_payload(flats, function.result);
-    core_of(
-        alloc,
-        abi,
-        function.kind,
-        params,
-        results,
-        function.result.is_some(),
-    )
+    core_of(alloc, abi, function, params, results)
 }

@@ -5,9 +5,8 @@ use crate::input::bytes_of;
 use crate::lines::Lines;
 use crate::read_calls::answer_module;
 use crate::rows::Row;
-use crate::table::named;
 use crate::values::{put_bytes_lines, put_fault, put_import};
-use std::alloc::{AllocError, Global};
+use std::alloc::Global;
 use std::borrow::CowSlice;
 use wc_dedupe::{DedupeFault, ModuleImportMap};
 use wc_read::{Import, Section, frames, read_imports};
@@ -17,8 +16,9 @@ const HEADER: &[u8] = b"\0asm\x01\0\0\0";
 
 const IMPORT_SECTION: u8 = 2;
 
+/// The calls on bytes and on described imports.
 #[derive(Clone, Copy)]
-enum Call {
+pub enum Call {
     Borrowed,
     Owned,
     /// The imports of a module of these imports, once it is renamed.
@@ -29,23 +29,13 @@ enum Call {
     Read,
 }
 
-const CALLS: [(&str, Call); 5] = [
-    ("dedupe", Call::Borrowed),
-    ("dedupe_owned", Call::Owned),
-    ("dedupe_imports", Call::Imports),
-    ("original_names", Call::Originals),
-    ("read_deduped", Call::Read),
-];
-
-/// Appends the answer of a call of `wc_dedupe`, and says whether the row's is one.
-pub fn answer(alloc: Global, row: &Row<'_>, out: &mut Lines) -> Result<bool, AllocError> {
-    match named(&CALLS, row.call) {
-        Some(Call::Imports) => answer_imports(alloc, row, out),
-        Some(Call::Originals) => answer_originals(alloc, row, out),
-        Some(call) => answer_bytes(alloc, call, row, out),
-        None => return Ok(false),
+/// Appends the answer of a call of `wc_dedupe`.
+pub fn answer(alloc: Global, call: Call, row: &Row<'_>, out: &mut Lines) {
+    match call {
+        Call::Imports => answer_imports(alloc, row, out),
+        Call::Originals => answer_originals(alloc, row, out),
+        _ => answer_bytes(alloc, call, row, out),
     }
-    Ok(true)
 }
 
 fn answer_bytes(alloc: Global, call: Call, row: &Row<'_>, out: &mut Lines) {

@@ -1,10 +1,8 @@
 //! The texts of faults: whether `Display` writes the text that is proved of `Printable`.
 
 use crate::lines::Lines;
-use crate::rows::Row;
-use crate::table::named;
 use crate::values::put_bytes_lines;
-use std::alloc::{AllocError, Global};
+use std::alloc::Global;
 use std::fmt::Display;
 use wc_dedupe::DedupeFault;
 use wc_gc::GcFault;
@@ -13,8 +11,9 @@ use wc_read::ReadFault;
 use wc_write::{PutFailed, WriteFault, WriterSink};
 use wctrim_command::ToolFault;
 
+/// Whose faults.
 #[derive(Clone, Copy)]
-enum Call {
+pub enum Call {
     Read,
     Write,
     Dedupe,
@@ -22,25 +21,15 @@ enum Call {
     Tool,
 }
 
-const CALLS: [(&str, Call); 5] = [
-    ("read_faults", Call::Read),
-    ("write_faults", Call::Write),
-    ("dedupe_faults", Call::Dedupe),
-    ("gc_faults", Call::Gc),
-    ("tool_faults", Call::Tool),
-];
-
-/// Appends the answer of a call for the texts of faults, and says whether the row's is one.
-pub fn answer(alloc: Global, row: &Row<'_>, out: &mut Lines) -> Result<bool, AllocError> {
-    match named(&CALLS, row.call) {
-        Some(Call::Read) => put_read_faults(alloc, out),
-        Some(Call::Write) => put_write_faults(alloc, out),
-        Some(Call::Dedupe) => put_dedupe_faults(alloc, out),
-        Some(Call::Gc) => put_gc_faults(alloc, out),
-        Some(Call::Tool) => put_tool_faults(alloc, out),
-        None => return Ok(false),
+/// Appends the answer of a call for the texts of faults.
+pub fn answer(alloc: Global, call: Call, out: &mut Lines) {
+    match call {
+        Call::Read => put_read_faults(alloc, out),
+        Call::Write => put_write_faults(alloc, out),
+        Call::Dedupe => put_dedupe_faults(alloc, out),
+        Call::Gc => put_gc_faults(alloc, out),
+        Call::Tool => put_tool_faults(alloc, out),
     }
-    Ok(true)
 }
 
 /// The text that `Display` writes of a fault, and after it the bytes of the proved text, where that is another one.

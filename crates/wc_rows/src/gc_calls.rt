@@ -6,8 +6,6 @@ use crate::input::{bad_row, bytes_of};
 use crate::lines::Lines;
 use crate::rows::Row;
 use crate::seeds::row_seed;
-use crate::set_calls::answer_set;
-use crate::table::named;
 use crate::values::{put_bytes_lines, put_fault, put_place};
 use std::alloc::{AllocError, Global};
 use wc_gc::{GcFault, LiveSet, Liveness, RangeSet, explain, liveness_counted, run};
@@ -15,7 +13,7 @@ use wc_maps::Set;
 
 /// The calls on bytes and names.
 #[derive(Clone, Copy)]
-enum Call {
+pub enum Call {
     /// `liveness_counted NAME..`: what the exports of these names reach.
     Liveness,
     /// `trim NAME..`: the adapter, cut to what the exports of these names reach.
@@ -27,25 +25,8 @@ enum Call {
     Explain,
 }
 
-const CALLS: [(&str, Call); 4] = [
-    ("liveness_counted", Call::Liveness),
-    ("trim", Call::Trim),
-    ("trim_for", Call::TrimFor),
-    ("explain_trim", Call::Explain),
-];
-
-/// Appends the answer of a call of `wc_gc`, and says whether the row's is one.
-pub fn answer(alloc: Global, row: &Row<'_>, out: &mut Lines) -> Result<bool, AllocError> {
-    match named(&CALLS, row.call) {
-        Some(call) => {
-            answer_call(alloc, call, row, out);
-            Ok(true)
-        }
-        None => Ok(answer_set(alloc, row, out)),
-    }
-}
-
-fn answer_call(alloc: Global, call: Call, row: &Row<'_>, out: &mut Lines) {
+/// Appends the answer of a call of `wc_gc`.
+pub fn answer(alloc: Global, call: Call, row: &Row<'_>, out: &mut Lines) {
     if let Ok(bytes) = bytes_of(alloc, &row.input, out) {
         answer_on_bytes(alloc, call, row, &bytes, out);
     }
@@ -53,9 +34,22 @@ fn answer_call(alloc: Global, call: Call, row: &Row<'_>, out: &mut Lines) {
 
 fn answer_on_bytes(alloc: Global, call: Call, row: &Row<'_>, bytes: &[u8], out: &mut Lines) {
     match names_from(alloc, row, first_name(call)) {
-        Ok(names) => answer_on_names(alloc, call, row, bytes, &names, out),
+        Ok(names) => {
+            let adapter = Adapter {
+                bytes,
+                names: &names,
+            };
+            answer_on_names(alloc, call, row, &adapter, out);
+        }
         Err(_) => out.lack_memory(),
     }
+}
+
+/// An adapter, and the names of the exports that are required of it.
+#[derive(Clone, Copy)]
+struct Adapter<'a> {
+    bytes: &'a [u8],
+    names: &'a Set<String>,
 }
 
 /// The place of the first argument that is a name.
@@ -85,24 +79,16 @@ fn answer_on_names(
     alloc: Global,
     call: Call,
     row: &Row<'_>,
-    bytes: &[u8],
-    names: &Set<String>,
+    adapter: &Adapter<'_>,
     out: &mut Lines,
 ) {
     match call {
-        Call::Liveness => put_answer(liveness_counted(alloc, bytes, names), out),
-        Call::Trim => answer_trim(alloc, bytes, names, None, Some(16), out),
+        Call::Liveness => put_answer(liveness_counted(alloc, adapter.bytes, adapter.names), out),
+        Call::Trim => answer_trim(alloc, adapter, None, Some(16), out),
         Call::TrimFor => {
-            answer_trim(
-                alloc,
-                bytes,
-                names,
-                realloc_of(row),
-                page_size_log2_in(row),
-                out,
-            );
+            answer_trim(alloc, adapter, realloc_of(row), page_size_log2_in(row), out);
         }
-        Call::Explain => answer_explain(alloc, bytes, names, out),
+        Call::Explain => answer_explain(alloc, adapter, out),
     }
 }
 
@@ -115,8 +101,7 @@ fn put_answer(found: Result<Liveness<RangeSet>, GcFault>, out: &mut Lines) {
 
 fn answer_trim(
     alloc: Global,
-    bytes: &[u8],
-    names: &Set<String>,
+    adapter: &Adapter<'_>,
     realloc: Option<&str>,
     page_size_log2: Option<u32>,
     out: &mut Lines,
@@ -124,7 +109,8 @@ fn answer_trim(
     requires { IfSome page_size_log2 (λ p. p ≤ 16) }
 {
     match page_size_log2 {
-        Some(page_size_log2) if !names.is_empty() => {
+        Some(page_size_log2) if !adapter.names.is_empty() => {
+            let (bytes, names) = (adapter.bytes, adapter.names);
             put_trimmed(run(alloc, bytes, names, realloc, page_size_log2), out);
         }
         _ => {
@@ -150,25 +136,19 @@ fn page_size_log2_in(row: &Row<'_>) -> Option<u32>
     }
 }
 
-fn answer_explain(alloc: Global, bytes: &[u8], names: &Set<String>, out: &mut Lines) {
-    if names.is_empty() {
+fn answer_explain(alloc: Global, adapter: &Adapter<'_>, out: &mut Lines) {
+    if adapter.names.is_empty() {
         let _ = bad_row(out, "no names", "");
         return;
     }
-    match run(alloc, bytes, names, None, 16) {
+    match run(alloc, adapter.bytes, adapter.names, None, 16) {
         Ok(_) => out.push_str("ok\n"),
-        Err(fault) => put_explained(alloc, bytes, names, fault, out),
+        Err(fault) => put_explained(alloc, adapter, fault, out),
     }
 }
 
-fn put_explained(
-    alloc: Global,
-    bytes: &[u8],
-    names: &Set<String>,
-    fault: GcFault,
-    out: &mut Lines,
-) {
-    let place = explain(alloc, bytes, names, &fault);
+fn put_explained(alloc: Global, adapter: &Adapter<'_>, fault: GcFault, out: &mut Lines) {
+    let place = explain(alloc, adapter.bytes, adapter.names, &fault);
     put_fault(out, fault);
     put_place(out, place);
 }

@@ -6,35 +6,27 @@ use crate::lines::Lines;
 use crate::rows::Row;
 use crate::seeds::row_seed;
 use crate::set_calls::put_flag;
-use crate::table::named;
 use crate::values::put_fault;
 use std::alloc::{AllocError, Global};
 use wc_gc::{BitVec, GcFault, LiveSet, Liveness, RangeSet, liveness_counted, run};
 use wc_maps::Set;
 use wc_read::read_module;
 
+/// The calls on such modules and sets.
 #[derive(Clone, Copy)]
-enum Call {
+pub enum Call {
     Fronts,
     CallChain,
     Inserted,
 }
 
-const CALLS: [(&str, Call); 3] = [
-    ("fronts", Call::Fronts),
-    ("call_chain", Call::CallChain),
-    ("inserted", Call::Inserted),
-];
-
-/// Appends the answer of a call on such modules, and says whether the row's is one.
-pub fn answer(alloc: Global, row: &Row<'_>, out: &mut Lines) -> Result<bool, AllocError> {
-    match named(&CALLS, row.call) {
-        Some(Call::Fronts) => answer_fronts(alloc, row, out),
-        Some(Call::CallChain) => answer_call_chain(alloc, row, out),
-        Some(Call::Inserted) => answer_inserted(alloc, row, out),
-        None => return Ok(false),
+/// Appends the answer of a call on such modules.
+pub fn answer(alloc: Global, call: Call, row: &Row<'_>, out: &mut Lines) {
+    match call {
+        Call::Fronts => answer_fronts(alloc, row, out),
+        Call::CallChain => answer_call_chain(alloc, row, out),
+        Call::Inserted => answer_inserted(alloc, row, out),
     }
-    Ok(true)
 }
 
 /// `fronts NAME..`: of each front of a module, whether it is read and whether it is trimmed to the exports of these

@@ -28,12 +28,11 @@ impl<T: Drop> From<AllocFailed<T>> for Stop {
     }
 }
 
-/// Whether the row's call was a library's own, where that is known or the row can't be read.
-pub fn answered(answer: Result<bool, Stop>) -> Result<bool, AllocError> {
-    match answer {
-        Ok(is_own) => Ok(is_own),
-        Err(Stop::BadRow) => Ok(true),
-        Err(Stop::Memory) => Err(AllocError),
+/// Ends an answer: it is short where memory ran out for the call.
+pub fn end_answer(answered: Result<(), Stop>, out: &mut Lines) {
+    match answered {
+        Err(Stop::Memory) => out.lack_memory(),
+        Ok(()) | Err(Stop::BadRow) => {}
     }
 }
 

@@ -4,18 +4,14 @@ use crate::input::bytes_of;
 use crate::lines::Lines;
 use crate::read_calls::answer_module;
 use crate::rows::Row;
-use std::alloc::{AllocError, Global};
+use std::alloc::Global;
 
-/// Calls all laws, and then answers a row of `laws` as one of `read_module`. Says whether the row's call is `laws`.
-pub fn answer(alloc: Global, row: &Row<'_>, out: &mut Lines) -> Result<bool, AllocError> {
-    if row.call != "laws" {
-        return Ok(false);
-    }
+/// Calls all laws, and then answers a row of `laws` as one of `read_module`.
+pub fn answer(alloc: Global, row: &Row<'_>, out: &mut Lines) {
     call_laws();
     if let Ok(bytes) = bytes_of(alloc, &row.input, out) {
         answer_module(alloc, &bytes, out);
     }
-    Ok(true)
 }
 
 fn call_laws() {

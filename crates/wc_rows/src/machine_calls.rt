@@ -10,8 +10,9 @@ use std::alloc::{AllocError, Global};
 use wc_gc::{allocate_stack_via_realloc, realloc_via_memory_grow};
 use wc_read::{Body, Locals, read_body};
 
+/// The calls of code that trimming adds, and of runs.
 #[derive(Clone, Copy)]
-enum Call {
+pub enum Call {
     /// `realloc_via_memory_grow EXPONENT`
     Growing,
     /// `allocate_stack_via_realloc REALLOC STACK-POINTER [STATE]`
@@ -21,21 +22,13 @@ enum Call {
     Machine,
 }
 
-const CALLS: [(&str, Call); 3] = [
-    ("realloc_via_memory_grow", Call::Growing),
-    ("allocate_stack_via_realloc", Call::Stack),
-    ("machine", Call::Machine),
-];
-
-/// Appends the answer of a call, and says whether the row's is one of these.
-pub fn answer(alloc: Global, row: &Row<'_>, out: &mut Lines) -> Result<bool, AllocError> {
-    match named(&CALLS, row.call) {
-        Some(Call::Growing) => put_code(growing_body(alloc, &row.arguments, out), out),
-        Some(Call::Stack) => put_code(stack_body(alloc, &row.arguments, out), out),
-        Some(Call::Machine) => answer_machine(alloc, row, out),
-        None => return Ok(false),
+/// Appends the answer of a call.
+pub fn answer(alloc: Global, call: Call, row: &Row<'_>, out: &mut Lines) {
+    match call {
+        Call::Growing => put_code(growing_body(alloc, &row.arguments, out), out),
+        Call::Stack => put_code(stack_body(alloc, &row.arguments, out), out),
+        Call::Machine => answer_machine(alloc, row, out),
     }
-    Ok(true)
 }
 
 fn put_code(code: Option<Vec<u8>>, out: &mut Lines) {

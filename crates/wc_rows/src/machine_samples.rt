@@ -4,8 +4,7 @@ use crate::input::bad_row;
 use crate::lines::Lines;
 use crate::machine::{Machine, Outcome};
 use crate::rows::Row;
-use crate::table::named;
-use std::alloc::{AllocError, Global};
+use std::alloc::Global;
 use wc_gc::{allocate_stack_via_realloc, realloc_via_memory_grow};
 use wc_read::{Instr, read_body};
 
@@ -34,28 +33,13 @@ impl Numbers {
 
 /// `growing_samples SEED COUNT`, `lazy_samples SEED COUNT`: in how many of so many runs the code did what it has to.
 #[derive(Clone, Copy)]
-enum Call {
+pub enum Call {
     Growing,
     Lazy,
 }
 
-const CALLS: [(&str, Call); 2] = [
-    ("growing_samples", Call::Growing),
-    ("lazy_samples", Call::Lazy),
-];
-
-/// Appends the answer of a call, and says whether the row's is one of these.
-pub fn answer(alloc: Global, row: &Row<'_>, out: &mut Lines) -> Result<bool, AllocError> {
-    match named(&CALLS, row.call) {
-        Some(call) => {
-            answer_call(alloc, call, row, out);
-            Ok(true)
-        }
-        None => Ok(false),
-    }
-}
-
-fn answer_call(alloc: Global, call: Call, row: &Row<'_>, out: &mut Lines) {
+/// Appends the answer of a call.
+pub fn answer(alloc: Global, call: Call, row: &Row<'_>, out: &mut Lines) {
     match (number(row, 0), number(row, 1)) {
         (Some(seed), Some(count)) => put_samples(alloc, call, seed, count, out),
         _ => {

@@ -8,15 +8,15 @@ use crate::operators::{put_body, put_form, put_init, put_opcode, put_refs};
 use crate::rows::Row;
 use crate::table::named;
 use crate::values::{put_fault, put_func_type, put_imports};
-use std::alloc::{AllocError, Global};
+use std::alloc::Global;
 use wc_read::{
     Body, Form, FuncType, MemoryType, Opcode, ValType, form_of, frames, read_body, read_imports,
     read_init, read_module, refs,
 };
 
-/// The calls on bytes.
+/// The calls on bytes, and from `FormOf` on those on arguments.
 #[derive(Clone, Copy)]
-enum OnBytes {
+pub enum Call {
     Frames,
     Imports,
     Module,
@@ -24,70 +24,37 @@ enum OnBytes {
     Body,
     Refs,
     Counts,
-}
-
-const ON_BYTES: [(&str, OnBytes); 7] = [
-    ("frames", OnBytes::Frames),
-    ("read_imports", OnBytes::Imports),
-    ("read_module", OnBytes::Module),
-    ("read_init", OnBytes::Init),
-    ("read_body", OnBytes::Body),
-    ("refs", OnBytes::Refs),
-    ("count_operators", OnBytes::Counts),
-];
-
-/// The calls on arguments.
-#[derive(Clone, Copy)]
-enum OnArguments {
     FormOf,
     Forms,
     PageSize,
     FuncType,
 }
 
-const ON_ARGUMENTS: [(&str, OnArguments); 4] = [
-    ("form_of", OnArguments::FormOf),
-    ("forms", OnArguments::Forms),
-    ("page_size", OnArguments::PageSize),
-    ("func_type", OnArguments::FuncType),
-];
-
-/// Appends the answer of a call of `wc_read`, and says whether the row's is one.
-pub fn answer(alloc: Global, row: &Row<'_>, out: &mut Lines) -> Result<bool, AllocError> {
-    match named(&ON_BYTES, row.call) {
-        Some(call) => {
-            answer_bytes(alloc, call, row, out);
-            Ok(true)
-        }
-        None => Ok(answer_other(alloc, row, out)),
+/// Appends the answer of a call of `wc_read`.
+pub fn answer(alloc: Global, call: Call, row: &Row<'_>, out: &mut Lines) {
+    match call {
+        Call::FormOf => answer_form(row, out),
+        Call::Forms => answer_forms(row, out),
+        Call::PageSize => answer_page_size(row, out),
+        Call::FuncType => answer_func_type(alloc, row, out),
+        _ => answer_bytes(alloc, call, row, out),
     }
 }
 
-fn answer_bytes(alloc: Global, call: OnBytes, row: &Row<'_>, out: &mut Lines) {
+fn answer_bytes(alloc: Global, call: Call, row: &Row<'_>, out: &mut Lines) {
     if let Ok(bytes) = bytes_of(alloc, &row.input, out) {
         answer_on_bytes(alloc, call, &bytes, out);
     }
 }
 
-fn answer_on_bytes(alloc: Global, call: OnBytes, bytes: &[u8], out: &mut Lines) {
+fn answer_on_bytes(alloc: Global, call: Call, bytes: &[u8], out: &mut Lines) {
     match call {
-        OnBytes::Frames => answer_frames(alloc, bytes, out),
-        OnBytes::Imports => answer_imports(alloc, bytes, out),
-        OnBytes::Module => answer_module(alloc, bytes, out),
-        OnBytes::Init => answer_init(alloc, bytes, out),
+        Call::Frames => answer_frames(alloc, bytes, out),
+        Call::Imports => answer_imports(alloc, bytes, out),
+        Call::Module => answer_module(alloc, bytes, out),
+        Call::Init => answer_init(alloc, bytes, out),
         _ => answer_body(alloc, call, bytes, out),
     }
-}
-
-fn answer_other(alloc: Global, row: &Row<'_>, out: &mut Lines) -> bool {
-    match named(&ON_ARGUMENTS, row.call) {
-        Some(OnArguments::FormOf) => answer_form(row, out),
-        Some(OnArguments::Forms) => answer_forms(row, out),
-        Some(OnArguments::PageSize) => answer_page_size(row, out),
-        Some(OnArguments::FuncType) => answer_func_type(alloc, row, out),
-        None => return false,
-    }
-    true
 }
 
 fn answer_frames(alloc: Global, bytes: &[u8], out: &mut Lines) {
@@ -120,17 +87,17 @@ fn answer_init(alloc: Global, bytes: &[u8], out: &mut Lines) {
 }
 
 /// The calls on a body.
-fn answer_body(alloc: Global, call: OnBytes, bytes: &[u8], out: &mut Lines) {
+fn answer_body(alloc: Global, call: Call, bytes: &[u8], out: &mut Lines) {
     match read_body(alloc, bytes) {
         Ok(body) => put_of_body(call, &body, out),
         Err(fault) => put_fault(out, fault),
     }
 }
 
-fn put_of_body(call: OnBytes, body: &Body<'_>, out: &mut Lines) {
+fn put_of_body(call: Call, body: &Body<'_>, out: &mut Lines) {
     match call {
-        OnBytes::Refs => put_first_refs(body, out),
-        OnBytes::Counts => put_counts(body, out),
+        Call::Refs => put_first_refs(body, out),
+        Call::Counts => put_counts(body, out),
         _ => put_body(out, body),
     }
 }

@@ -3,32 +3,24 @@
 use crate::input::bad_row;
 use crate::lines::Lines;
 use crate::rows::Row;
-use crate::table::named;
 use std::alloc::{AllocError, Global};
 use wc_gc::{BitVec, LiveSet, RangeSet, Ranks};
 
+/// The calls on a set.
 #[derive(Clone, Copy)]
-enum Call {
+pub enum Call {
     BitVec,
     RangeSet,
     Rank,
 }
 
-const CALLS: [(&str, Call); 3] = [
-    ("bit_vec", Call::BitVec),
-    ("range_set", Call::RangeSet),
-    ("rank", Call::Rank),
-];
-
-/// Appends the answer of a call on a set, and says whether the row's is one.
-pub fn answer_set(alloc: Global, row: &Row<'_>, out: &mut Lines) -> bool {
-    match named(&CALLS, row.call) {
-        Some(Call::BitVec) => answer_bit_vec(alloc, row, out),
-        Some(Call::RangeSet) => answer_range_set(alloc, row, out),
-        Some(Call::Rank) => answer_rank(alloc, row, out),
-        None => return false,
+/// Appends the answer of a call on a set.
+pub fn answer(alloc: Global, call: Call, row: &Row<'_>, out: &mut Lines) {
+    match call {
+        Call::BitVec => answer_bit_vec(alloc, row, out),
+        Call::RangeSet => answer_range_set(alloc, row, out),
+        Call::Rank => answer_rank(alloc, row, out),
     }
-    true
 }
 
 /// `bit_vec`, with lines `insert NUMBER` and `contains NUMBER`: a line for what each answers.

@@ -6,15 +6,15 @@ use crate::input::{bad_row, bytes_of};
 use crate::lines::Lines;
 use crate::rows::Row;
 use crate::seeds::row_seed;
-use crate::table::named;
 use crate::tool_calls::{named_command, put_answer};
-use std::alloc::{AllocError, Global};
+use std::alloc::Global;
 use std::io::{self, Write};
 use wc_write::{PutFailed, Sink, WriterSink};
 use wctrim_command::{Command, execute};
 
+/// The calls of sinks that fail.
 #[derive(Clone, Copy)]
-enum Call {
+pub enum Call {
     Writer,
     /// `execute_failing COMMAND PUTS`: the command, over a sink that fails after so many puts.
     Failing,
@@ -23,20 +23,12 @@ enum Call {
     EachFailing,
 }
 
-const CALLS: [(&str, Call); 3] = [
-    ("writer_sink", Call::Writer),
-    ("execute_failing", Call::Failing),
-    ("each_put_failing", Call::EachFailing),
-];
-
-/// Appends the answer of a call of a sink, and says whether the row's is one.
-pub fn answer(alloc: Global, row: &Row<'_>, out: &mut Lines) -> Result<bool, AllocError> {
-    match named(&CALLS, row.call) {
-        Some(Call::Writer) => answer_writer(alloc, row, out),
-        Some(call) => answer_bytes(alloc, call, row, out),
-        None => return Ok(false),
+/// Appends the answer of a call of a sink.
+pub fn answer(alloc: Global, call: Call, row: &Row<'_>, out: &mut Lines) {
+    match call {
+        Call::Writer => answer_writer(alloc, row, out),
+        _ => answer_bytes(alloc, call, row, out),
     }
-    Ok(true)
 }
 
 /// A writer that fails at one write and at one flush, counted from 1; at 0 it fails at none.

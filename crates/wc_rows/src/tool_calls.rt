@@ -7,7 +7,6 @@ use crate::input::{bad_row, bytes_of};
 use crate::lines::Lines;
 use crate::rows::Row;
 use crate::seeds::row_seed;
-use crate::table::named;
 use crate::values::{put_bytes_lines, put_fault};
 use std::alloc::{AllocError, Global};
 use std::{io, str};
@@ -18,8 +17,9 @@ use wctrim_command::{Command, ToolFault, execute, parse, run};
 /// Bytes of room for what is printed and written, made before a command runs. So memory runs out in the command alone.
 const ROOM: usize = 4096;
 
+/// The calls of a command line, a command and the program.
 #[derive(Clone, Copy)]
-enum Call {
+pub enum Call {
     Parse,
     /// `execute COMMAND`, `execute trim NAME..`
     Execute,
@@ -27,20 +27,12 @@ enum Call {
     Program,
 }
 
-const CALLS: [(&str, Call); 3] = [
-    ("parse", Call::Parse),
-    ("execute", Call::Execute),
-    ("run_program", Call::Program),
-];
-
-/// Appends the answer of a call of `wctrim_command`, and says whether the row's is one.
-pub fn answer(alloc: Global, row: &Row<'_>, out: &mut Lines) -> Result<bool, AllocError> {
-    match named(&CALLS, row.call) {
-        Some(Call::Parse) => answer_parse(alloc, row, out),
-        Some(call) => answer_bytes(alloc, call, row, out),
-        None => return Ok(false),
+/// Appends the answer of a call of `wctrim_command`.
+pub fn answer(alloc: Global, call: Call, row: &Row<'_>, out: &mut Lines) {
+    match call {
+        Call::Parse => answer_parse(alloc, row, out),
+        _ => answer_bytes(alloc, call, row, out),
     }
-    Ok(true)
 }
 
 fn arguments_of(alloc: Global, lines: &[&str]) -> Result<Vec<String>, AllocError> {

@@ -8,12 +8,11 @@ use crate::operators::{
     put_block_type, put_immediates, put_index, put_lane, put_opcode, space_word,
 };
 use crate::rows::Row;
-use crate::table::named;
 use crate::values::{
     put_def, put_fault, put_import_names, put_memory_type, put_mutable, put_table_limits,
     put_val_type,
 };
-use std::alloc::{AllocError, Global};
+use std::alloc::Global;
 use wc_gc::{realloc_via_memory_grow, run};
 use wc_maps::Set;
 use wc_read::{
@@ -24,8 +23,9 @@ use wc_read::{
 /// The exponent of the page size of all memories.
 const PAGE: u32 = 16;
 
+/// Which unfolding.
 #[derive(Clone, Copy)]
-enum Call {
+pub enum Call {
     /// `unfolding EXPORT DEPTH`: of the item that a module exports.
     Plain,
     /// `unfolding_trimmed`: the same after the module was trimmed to that export.
@@ -34,24 +34,8 @@ enum Call {
     Edited,
 }
 
-const CALLS: [(&str, Call); 3] = [
-    ("unfolding", Call::Plain),
-    ("unfolding_trimmed", Call::Trimmed),
-    ("unfolding_edited", Call::Edited),
-];
-
-/// Appends the answer of a call, and says whether the row's is one of these.
-pub fn answer(alloc: Global, row: &Row<'_>, out: &mut Lines) -> Result<bool, AllocError> {
-    match named(&CALLS, row.call) {
-        Some(call) => {
-            answer_call(alloc, call, row, out);
-            Ok(true)
-        }
-        None => Ok(false),
-    }
-}
-
-fn answer_call(alloc: Global, call: Call, row: &Row<'_>, out: &mut Lines) {
+/// Appends the answer of a call.
+pub fn answer(alloc: Global, call: Call, row: &Row<'_>, out: &mut Lines) {
     if let Ok(bytes) = bytes_of(alloc, &row.input, out) {
         answer_on_bytes(alloc, call, row, &bytes, out);
     }
@@ -93,6 +77,15 @@ fn answer_edited(alloc: Global, row: &Row<'_>, bytes: &[u8], out: &mut Lines) {
     }
 }
 
+/// Where items are unfolded.
+#[derive(Clone, Copy)]
+struct Source<'a, 'b> {
+    alloc: Global,
+    module: &'a Module<'b>,
+    /// The body of what replaces imports of the main module's realloc.
+    realloc: Option<&'a [u8]>,
+}
+
 /// The unfolding of what a row asks for, in the module that bytes are; a realloc is the body of what replaces imports.
 fn put_read(alloc: Global, row: &Row<'_>, bytes: &[u8], realloc: Option<&[u8]>, out: &mut Lines) {
     match read_module(alloc, bytes) {
@@ -108,26 +101,24 @@ fn put_asked(
     realloc: Option<&[u8]>,
     out: &mut Lines,
 ) {
+    let source = Source {
+        alloc,
+        module,
+        realloc,
+    };
     let name = row.arguments.first().copied().unwrap_or("");
     let depth = row.arguments.get(1).copied().unwrap_or("");
     match depth.parse::<u32>() {
-        Ok(depth) => put_export(alloc, name, depth, module, realloc, out),
+        Ok(depth) => put_export(&source, name, depth, out),
         Err(_) => {
             let _ = bad_row(out, "no depth", depth);
         }
     }
 }
 
-fn put_export(
-    alloc: Global,
-    name: &str,
-    depth: u32,
-    module: &Module<'_>,
-    realloc: Option<&[u8]>,
-    out: &mut Lines,
-) {
-    match exported(module, name) {
-        Some(item) => put_unfolding(alloc, module, realloc, item, depth, out),
+fn put_export(source: &Source<'_, '_>, name: &str, depth: u32, out: &mut Lines) {
+    match exported(source.module, name) {
+        Some(item) => put_unfolding(source, item, depth, out),
         None => {
             out.quoted("no export ", name);
             out.end();
@@ -162,21 +153,12 @@ struct Waiting {
 }
 
 /// The lines of an item's unfolding.
-fn put_unfolding(
-    alloc: Global,
-    module: &Module<'_>,
-    realloc: Option<&[u8]>,
-    item: (Space, u32),
-    depth: u32,
-    out: &mut Lines,
-) {
-    let mut left = Vec::new(alloc);
+fn put_unfolding(source: &Source<'_, '_>, item: (Space, u32), depth: u32, out: &mut Lines) {
+    let mut left = Vec::new(source.alloc);
     push_waiting(&mut left, item, 0, out);
     for _ in 0..u64::MAX {
         match left.pop() {
-            Some(next) if next.level < depth => {
-                put_next(alloc, module, realloc, next, &mut left, out);
-            }
+            Some(next) if next.level < depth => put_next(source, next, &mut left, out),
             Some(next) => put_lines(out, next.level, ".."),
             None => return,
         }
@@ -190,19 +172,12 @@ fn push_waiting(left: &mut Vec<Waiting>, item: (Space, u32), level: u32, out: &m
 }
 
 /// The lines of an item itself; those that it names are put before all that is left.
-fn put_next(
-    alloc: Global,
-    module: &Module<'_>,
-    realloc: Option<&[u8]>,
-    next: Waiting,
-    left: &mut Vec<Waiting>,
-    out: &mut Lines,
-) {
+fn put_next(source: &Source<'_, '_>, next: Waiting, left: &mut Vec<Waiting>, out: &mut Lines) {
     let mut entry = Entry {
-        lines: Lines::new(alloc),
-        named: Vec::new(alloc),
+        lines: Lines::new(source.alloc),
+        named: Vec::new(source.alloc),
     };
-    put_entry(alloc, module, realloc, next.item, &mut entry);
+    put_entry(source, next.item, &mut entry);
     put_text(out, next.level, &entry.lines);
     push_named(left, &entry.named, next.level.saturating_add(1), out);
 }
@@ -250,20 +225,14 @@ impl Entry {
     }
 }
 
-fn put_entry(
-    alloc: Global,
-    module: &Module<'_>,
-    realloc: Option<&[u8]>,
-    item: (Space, u32),
-    entry: &mut Entry,
-) {
+fn put_entry(source: &Source<'_, '_>, item: (Space, u32), entry: &mut Entry) {
     let index = item.1 as usize;
     match item.0 {
-        Space::Types => put_type(module, index, entry),
-        Space::Funcs => put_func(alloc, module, realloc, index, entry),
-        Space::Tables => put_table(module, index, entry),
-        Space::Memories => put_memory(module, index, &mut entry.lines),
-        Space::Globals => put_global(alloc, module, index, entry),
+        Space::Types => put_type(source.module, index, entry),
+        Space::Funcs => put_func(source, index, entry),
+        Space::Tables => put_table(source.module, index, entry),
+        Space::Memories => put_memory(source.module, index, &mut entry.lines),
+        Space::Globals => put_global(source.alloc, source.module, index, entry),
     }
 }
 
@@ -326,24 +295,18 @@ fn put_memory(module: &Module<'_>, index: usize, out: &mut Lines) {
     put_def(out, &memory.def);
 }
 
-fn put_func(
-    alloc: Global,
-    module: &Module<'_>,
-    realloc: Option<&[u8]>,
-    index: usize,
-    entry: &mut Entry,
-) {
-    let Some(func) = module.funcs.get(index) else {
+fn put_func(source: &Source<'_, '_>, index: usize, entry: &mut Entry) {
+    let Some(func) = source.module.funcs.get(index) else {
         return put_none(&mut entry.lines);
     };
     entry.name(Space::Types, func.ty);
     entry.lines.push_str("func");
-    match (func.def, realloc) {
+    match (func.def, source.realloc) {
         (Def::Import(module, name), Some(body)) if is_realloc(module, name) => {
-            put_body(alloc, body, entry);
+            put_body(source.alloc, body, entry);
         }
         (Def::Import(module, name), _) => put_import_names(&mut entry.lines, module, name),
-        (Def::Local(body), _) => put_body(alloc, body, entry),
+        (Def::Local(body), _) => put_body(source.alloc, body, entry),
     }
 }
 

@@ -5,82 +5,51 @@ use crate::imports::imports_of;
 use crate::input::{bad_row, bytes_of};
 use crate::lines::Lines;
 use crate::rows::Row;
-use crate::table::named;
 use crate::values::{put_bytes_lines, put_fault};
-use std::alloc::{AllocError, Global};
+use std::alloc::Global;
 use wc_read::{Body, Def, Func, read_body, read_imports, read_module};
 use wc_write::{
     Built, WriteFault, append_import_section, append_raw_section, raw_section, write_body,
     write_import_section, write_module,
 };
 
-/// The calls on bytes.
+/// The calls on imports and contents of sections, and from `RewriteImports` on those on bytes.
 #[derive(Clone, Copy)]
-enum OnBytes {
+pub enum Call {
+    Imports,
+    AppendImports,
+    Section,
+    AppendSection,
     RewriteImports,
     WriteBody,
     WriteBodies,
     WriteModule,
 }
 
-const ON_BYTES: [(&str, OnBytes); 4] = [
-    ("rewrite_import_section", OnBytes::RewriteImports),
-    ("write_body", OnBytes::WriteBody),
-    ("write_bodies", OnBytes::WriteBodies),
-    ("write_module", OnBytes::WriteModule),
-];
-
-/// The calls on imports and contents of sections.
-#[derive(Clone, Copy)]
-enum OnParts {
-    Imports,
-    AppendImports,
-    Section,
-    AppendSection,
-}
-
-const ON_PARTS: [(&str, OnParts); 4] = [
-    ("write_import_section", OnParts::Imports),
-    ("append_import_section", OnParts::AppendImports),
-    ("raw_section", OnParts::Section),
-    ("append_raw_section", OnParts::AppendSection),
-];
-
-/// Appends the answer of a call of `wc_write`, and says whether the row's is one.
-pub fn answer(alloc: Global, row: &Row<'_>, out: &mut Lines) -> Result<bool, AllocError> {
-    match named(&ON_BYTES, row.call) {
-        Some(call) => {
-            answer_bytes(alloc, call, row, out);
-            Ok(true)
-        }
-        None => Ok(answer_other(alloc, row, out)),
+/// Appends the answer of a call of `wc_write`.
+pub fn answer(alloc: Global, call: Call, row: &Row<'_>, out: &mut Lines) {
+    match call {
+        Call::Imports => answer_import_section(alloc, row, out),
+        Call::AppendImports => answer_appended_imports(alloc, row, out),
+        Call::Section => answer_raw_section(alloc, row, out),
+        Call::AppendSection => answer_appended_section(alloc, row, out),
+        _ => answer_bytes(alloc, call, row, out),
     }
 }
 
-fn answer_bytes(alloc: Global, call: OnBytes, row: &Row<'_>, out: &mut Lines) {
+fn answer_bytes(alloc: Global, call: Call, row: &Row<'_>, out: &mut Lines) {
     if let Ok(bytes) = bytes_of(alloc, &row.input, out) {
         answer_on_bytes(alloc, call, &bytes, out);
     }
 }
 
-fn answer_on_bytes(alloc: Global, call: OnBytes, bytes: &[u8], out: &mut Lines) {
+fn answer_on_bytes(alloc: Global, call: Call, bytes: &[u8], out: &mut Lines) {
     match call {
-        OnBytes::RewriteImports => answer_rewritten_imports(alloc, bytes, out),
-        OnBytes::WriteBody => put_body_text(alloc, bytes, out),
-        OnBytes::WriteBodies => answer_bodies(alloc, bytes, out),
-        OnBytes::WriteModule => answer_module(alloc, bytes, out),
+        Call::RewriteImports => answer_rewritten_imports(alloc, bytes, out),
+        Call::WriteBody => put_body_text(alloc, bytes, out),
+        Call::WriteBodies => answer_bodies(alloc, bytes, out),
+        _ => answer_module(alloc, bytes, out),
     }
-}
-
-fn answer_other(alloc: Global, row: &Row<'_>, out: &mut Lines) -> bool {
-    match named(&ON_PARTS, row.call) {
-        Some(OnParts::Imports) => answer_import_section(alloc, row, out),
-        Some(OnParts::AppendImports) => answer_appended_imports(alloc, row, out),
-        Some(OnParts::Section) => answer_raw_section(alloc, row, out),
-        Some(OnParts::AppendSection) => answer_appended_section(alloc, row, out),
-        None => return false,
-    }
-    true
 }
 
 /// The bytes that were written, or why there are none.

@@ -9,7 +9,7 @@ use Rattle.std.specs.Str.{bytes_eq}
 use Rattle.wc_resolve.specs.declared.worlds.WorldKey.{WorldKey}
 use Rattle.wc_selection.specs.Keys.{named_key, texts_of}
 use Rattle.wc_selection.specs.Requests.{RequestValue}
-use Rattle.wc_selection.specs.RequiredExports.{is_pair, is_required, is_required_of_main}
+use Rattle.wc_selection.specs.ModuleKeys.{is_pair, is_required, is_required_of_main}
 use Rattle.wc_selection.specs.Texts.{is_in, second_parts, text_of, text_pair}
 
 any_map : {A B : Type 0} (f : A → B) (p : B → Bool) (xs : List A) → list_any p (map f xs) ≡ list_any (λ x. p (f x)) xs

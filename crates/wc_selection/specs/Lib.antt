@@ -4,4 +4,4 @@ pub mod Worlds
 pub mod Keys
 pub mod Requests
 pub mod KeyNames
-pub mod RequiredExports
+pub mod ModuleKeys

@@ -15,7 +15,7 @@ mod world;
 mod write;
 
 use crate::examples::world::Summary;
-use std::alloc::{AllocError, Global};
+use std::alloc::Global;
 use std::str;
 use wc_encoder::{ComponentEncoder, EncoderFault};
 use wc_gc::GcFault;
@@ -24,7 +24,7 @@ use wc_plan::PlanFault;
 use wc_resolve::{Parts, Resolve, ResolveFault, World, WorldId};
 use wc_rows::gc_calls::names_from;
 use wc_rows::imports::imports_of;
-use wc_rows::input::{Stop, answered, bad_row, bytes_of};
+use wc_rows::input::{Stop, bad_row, bytes_of, end_answer};
 use wc_rows::lines::Lines;
 use wc_rows::rows::Row;
 use wc_rows::seeds::row_seed;
@@ -32,9 +32,10 @@ use wc_rows::table::named;
 use wc_rows::values::{put_bytes_lines, put_fault};
 use wctrim_command::ToolFault;
 
-/// Appends the answer of an example, and says whether the row's call is one.
-pub(crate) fn answer(alloc: Global, row: &Row<'_>, out: &mut Lines) -> Result<bool, AllocError> {
-    answered(answer_call(alloc, row, out))
+/// Appends the answer of an example.
+pub(crate) fn answer(alloc: Global, row: &Row<'_>, out: &mut Lines) {
+    let answered = answer_call(alloc, row, out);
+    end_answer(answered, out);
 }
 
 /// The examples by their names.
@@ -73,15 +74,11 @@ const EXAMPLES: [(&str, Example); 14] = [
     ("can_use_slot_1", Example::CanUseSlot1),
 ];
 
-fn answer_call(alloc: Global, row: &Row<'_>, out: &mut Lines) -> Result<bool, Stop> {
-    if row.call != "example" {
-        return Ok(false);
-    }
+fn answer_call(alloc: Global, row: &Row<'_>, out: &mut Lines) -> Result<(), Stop> {
     match named(&EXAMPLES, argument(row, 0)) {
-        Some(example) => answer_example(alloc, example, row, out)?,
-        None => return Err(bad_row(out, "no example", argument(row, 0))),
+        Some(example) => answer_example(alloc, example, row, out),
+        None => Err(bad_row(out, "no example", argument(row, 0))),
     }
-    Ok(true)
 }
 
 fn answer_example(

@@ -1,29 +1,21 @@
 //! Calls of `wc_json`: texts read as resolved worlds.
 
-use std::alloc::{AllocError, Global};
+use std::alloc::Global;
 use wc_fixtures::shown_names::{put_id, put_name};
 use wc_fixtures::shown_worlds::{put_interface, put_package, put_type_def, put_world};
 use wc_json::{Document, JsonFault, document_from_json};
 use wc_maps::Map;
 use wc_resolve::{PackageId, Parts, WorldId};
-use wc_rows::input::{Stop, answered};
+use wc_rows::input::{Stop, end_answer};
 use wc_rows::lines::Lines;
 use wc_rows::rows::Row;
 use wc_rows::seeds::row_seed;
 use wc_rows::values::put_fault;
 
-/// Appends the answer of a call of `wc_json`, and says whether the row's is one.
-pub(crate) fn answer(alloc: Global, row: &Row<'_>, out: &mut Lines) -> Result<bool, AllocError> {
-    answered(answer_call(alloc, row, out))
-}
-
-fn answer_call(alloc: Global, row: &Row<'_>, out: &mut Lines) -> Result<bool, Stop> {
-    if row.call == "document" {
-        answer_document(alloc, &row.input, out)?;
-    } else {
-        return Ok(false);
-    }
-    Ok(true)
+/// Appends the answer of the call of `wc_json`.
+pub(crate) fn answer(alloc: Global, row: &Row<'_>, out: &mut Lines) {
+    let answered = answer_document(alloc, &row.input, out);
+    end_answer(answered, out);
 }
 
 /// `document`: the text that the lines of input are, with a line feed after each; its types, interfaces, packages and

@@ -3,7 +3,7 @@
 use crate::examples::calls::trim_to_write;
 use std::alloc::{AllocError, Global};
 use wc_calls::{Answer, MEMORY, dedupe, plan, trim, validate, world};
-use wc_rows::input::{Stop, answered, bad_row, bytes_of};
+use wc_rows::input::{Stop, bad_row, bytes_of, end_answer};
 use wc_rows::lines::Lines;
 use wc_rows::rows::Row;
 use wc_rows::seeds::row_seed;
@@ -12,29 +12,30 @@ use wc_rows::values::put_bytes_lines;
 /// Each byte of a buffer before a call.
 const UNTOUCHED: u8 = 0xee;
 
-/// Appends the answer of a call of `wc_calls`, and says whether the row's is one.
-pub(crate) fn answer(alloc: Global, row: &Row<'_>, out: &mut Lines) -> Result<bool, AllocError> {
-    answered(answer_call(alloc, row, out))
+/// The calls on a module, and from `World` on those on a message.
+#[derive(Clone, Copy)]
+pub(crate) enum Call {
+    Dedupe,
+    Trim,
+    TrimToWrite,
+    World,
+    Plan,
+    Validate,
 }
 
-fn answer_call(alloc: Global, row: &Row<'_>, out: &mut Lines) -> Result<bool, Stop> {
-    if row.call == "dedupe_into" {
-        answer_dedupe(alloc, row, out)?;
-    } else if row.call == "trim_into" {
-        answer_trim(alloc, row, out)?;
-    } else if row.call == "trim_to_write" {
-        answer_trim_to_write(alloc, row, out)?;
-    } else if is_on_message(row.call) {
-        answer_message(alloc, row, out)?;
-    } else {
-        return Ok(false);
+/// Appends the answer of a call of `wc_calls`.
+pub(crate) fn answer(alloc: Global, call: Call, row: &Row<'_>, out: &mut Lines) {
+    let answered = answer_call(alloc, call, row, out);
+    end_answer(answered, out);
+}
+
+fn answer_call(alloc: Global, call: Call, row: &Row<'_>, out: &mut Lines) -> Result<(), Stop> {
+    match call {
+        Call::Dedupe => answer_dedupe(alloc, row, out),
+        Call::Trim => answer_trim(alloc, row, out),
+        Call::TrimToWrite => answer_trim_to_write(alloc, row, out),
+        _ => answer_message(alloc, call, row, out),
     }
-    Ok(true)
-}
-
-/// Whether a call takes a message.
-fn is_on_message(call: &str) -> bool {
-    call == "world_into" || call == "plan_into" || call == "validate_into"
 }
 
 /// `dedupe_into ROOM`: a module, its repeated imports renamed, in a buffer of so many bytes.
@@ -51,8 +52,7 @@ fn answer_dedupe(alloc: Global, row: &Row<'_>, out: &mut Lines) -> Result<(), St
 fn answer_trim(alloc: Global, row: &Row<'_>, out: &mut Lines) -> Result<(), Stop> {
     let wasm = bytes_of(alloc, &row.input, out)?;
     let names = names_of(alloc, row, out)?;
-    let buffer = buffer_of(alloc, row, out)?;
-    put_trimmed(alloc, row, &wasm, &names, buffer, out)
+    put_trimmed(alloc, row, &wasm, &names, out)
 }
 
 fn put_trimmed(
@@ -60,9 +60,9 @@ fn put_trimmed(
     row: &Row<'_>,
     wasm: &[u8],
     names: &[Vec<u8>],
-    buffer: Vec<u8>,
     out: &mut Lines,
 ) -> Result<(), Stop> {
+    let mut buffer = buffer_of(alloc, row, out)?;
     let Some(page_size_log2) = page_size_log2_in(row) else {
         return Err(bad_row(out, "no exponent", row.call));
     };
@@ -75,7 +75,6 @@ fn put_trimmed(
     } else {
         None
     };
-    let mut buffer = buffer;
     let seed = row_seed();
     let answer = trim(
         alloc,
@@ -103,7 +102,7 @@ fn answer_trim_to_write(alloc: Global, row: &Row<'_>, out: &mut Lines) -> Result
 /// `world_into ROOM LINES`, `plan_into ROOM LINES`: the world of a component, or its plan, in a buffer of so many bytes. So
 /// many lines of input are the message, and the others the bytes of modules. `validate_into ROOM LINES [NAME]`: whether its
 /// main module is valid, or the adapter or the library of a name.
-fn answer_message(alloc: Global, row: &Row<'_>, out: &mut Lines) -> Result<(), Stop> {
+fn answer_message(alloc: Global, call: Call, row: &Row<'_>, out: &mut Lines) -> Result<(), Stop> {
     let Some((message, bytes)) = parts_of(row) else {
         return Err(bad_row(out, "no message", row.call));
     };
@@ -111,37 +110,41 @@ fn answer_message(alloc: Global, row: &Row<'_>, out: &mut Lines) -> Result<(), S
     let modules = bytes_of(alloc, bytes, out)?;
     let names = names_of(alloc, row, out)?;
     let mut buffer = buffer_of(alloc, row, out)?;
-    let answer = answer_to(
-        alloc,
-        row.call,
-        message.as_bytes(),
-        &modules,
-        &names,
-        &mut buffer,
-    );
+    let asked = Asked {
+        message: message.as_bytes(),
+        modules: &modules,
+        names: &names,
+    };
+    let answer = answer_to(alloc, call, &asked, &mut buffer);
     put_answer(&answer, &buffer, out);
     Ok(())
 }
 
-/// What a call answers to a message.
-fn answer_to(
-    alloc: Global,
-    call: &str,
-    message: &[u8],
-    modules: &[u8],
-    names: &[Vec<u8>],
-    buffer: &mut [u8],
-) -> Answer {
-    let seed = row_seed();
-    if call == "plan_into" {
-        return plan(alloc, seed, message, modules, buffer);
-    }
-    if call == "world_into" {
-        return world(alloc, seed, message, modules, buffer);
-    }
+fn first_of(names: &[Vec<u8>]) -> Option<&[u8]> {
     match names.first() {
-        Some(name) => validate(alloc, seed, message, modules, Some(name.as_slice()), buffer),
-        None => validate(alloc, seed, message, modules, None, buffer),
+        Some(name) => Some(name.as_slice()),
+        None => None,
+    }
+}
+
+/// A message, the bytes of the modules that it speaks of, and the name of one of them, if there is one.
+#[derive(Clone, Copy)]
+struct Asked<'a> {
+    message: &'a [u8],
+    modules: &'a [u8],
+    names: &'a [Vec<u8>],
+}
+
+/// What a call answers to a message.
+fn answer_to(alloc: Global, call: Call, asked: &Asked<'_>, buffer: &mut [u8]) -> Answer {
+    let (seed, message, modules) = (row_seed(), asked.message, asked.modules);
+    match call {
+        Call::Plan => plan(alloc, seed, message, modules, buffer),
+        Call::World => world(alloc, seed, message, modules, buffer),
+        _ => {
+            let name = first_of(asked.names);
+            validate(alloc, seed, message, modules, name, buffer)
+        }
     }
 }
 

@@ -2,9 +2,11 @@
 #![tactic(auto)]
 
 mod answers;
+mod calls;
 mod component;
 mod examples;
 mod json_calls;
+mod law_calls;
 mod library_calls;
 mod plan_tool_calls;
 mod program;

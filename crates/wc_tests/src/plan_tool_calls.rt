@@ -3,7 +3,7 @@
 use std::alloc::{AllocError, Global};
 use std::{io, str};
 use wc_program::{DirectoryStore, FileStore, Output, Shell};
-use wc_rows::input::{Stop, answered, bad_row, bytes_of};
+use wc_rows::input::{Stop, bad_row, bytes_of, end_answer};
 use wc_rows::lines::Lines;
 use wc_rows::rows::Row;
 use wc_rows::seeds::row_seed;
@@ -14,24 +14,29 @@ use wcplan_command::{Command, NoCommand, parse, run};
 /// Bytes of room for what is printed, made before the program runs. So memory runs out in the program alone.
 const ROOM: usize = 4096;
 
-/// Appends the answer of a call of `wcplan_command`, and says whether the row's is one.
-pub(crate) fn answer(alloc: Global, row: &Row<'_>, out: &mut Lines) -> Result<bool, AllocError> {
-    answered(answer_call(alloc, row, out))
+/// The calls of a command line and the program.
+#[derive(Clone, Copy)]
+pub(crate) enum Call {
+    Parse,
+    Program,
+    /// The program, over an output for faults that takes nothing.
+    Mute,
+    Failing,
 }
 
-fn answer_call(alloc: Global, row: &Row<'_>, out: &mut Lines) -> Result<bool, Stop> {
-    if row.call == "parse_wcplan" {
-        answer_parse(alloc, row, out)?;
-    } else if row.call == "wcplan" {
-        answer_program(alloc, row, (u32::MAX, u32::MAX), &row.arguments, out)?;
-    } else if row.call == "wcplan_mute" {
-        answer_program(alloc, row, (u32::MAX, 0), &row.arguments, out)?;
-    } else if row.call == "wcplan_failing" {
-        answer_failing(alloc, row, out)?;
-    } else {
-        return Ok(false);
+/// Appends the answer of a call of `wcplan_command`.
+pub(crate) fn answer(alloc: Global, call: Call, row: &Row<'_>, out: &mut Lines) {
+    let answered = answer_call(alloc, call, row, out);
+    end_answer(answered, out);
+}
+
+fn answer_call(alloc: Global, call: Call, row: &Row<'_>, out: &mut Lines) -> Result<(), Stop> {
+    match call {
+        Call::Parse => answer_parse(alloc, row, out),
+        Call::Program => answer_program(alloc, row, (u32::MAX, u32::MAX), &row.arguments, out),
+        Call::Mute => answer_program(alloc, row, (u32::MAX, 0), &row.arguments, out),
+        Call::Failing => answer_failing(alloc, row, out),
     }
-    Ok(true)
 }
 
 fn texts_of(alloc: Global, lines: &[&str]) -> Result<Vec<String>, AllocError> {

@@ -14,15 +14,16 @@ use Rattle.wc_validate.specs.declared.imports.first_functions.FirstFunctions.{Fi
 use Rattle.wc_validate.specs.declared.imports.instances.ImportInstance.{ImportInstance}
 use Rattle.wc_validate.specs.Imports.AdapterTypes.{first_some}
 use Rattle.wc_validate.specs.Imports.Entries.{InstanceRecord, names_of}
-use Rattle.wc_validate.specs.Imports.FirstFunctions.{HasFirstFunctions, first_functions, function_at, placed_function, placed_functions, position_entry, positions_under}
+use Rattle.wc_validate.specs.Imports.FirstFunctions.{HasFirstFunctions, first_functions, function_at, placed_function, placed_functions, positions_under}
+use Rattle.wc_resolve.specs.Views.{named_view}
 use Rattle.wc_validate.specs.Imports.Map.{first_of_names, function_of}
 use Rattle.wc_validate.specs.Imports.Instances.{import_entry, instance_entry, instance_view}
-use Rattle.wc_validate.specs.Private.Imports.Required.{HasFirsts}
+use Rattle.wc_validate.specs.Private.Imports.AdapterFunctions.{HasFirsts}
 use Rattle.wc_validate.proofs.FirstPositionLemmas.{image_at}
 use Rattle.wc_validate.proofs.IndexLemmas.{first_some_none, lookup_push}
 use Rattle.wc_validate.proofs.PutLemmas.{is_called, record_found, record_none}
 use Rattle.wc_validate.proofs.InstanceLemmas.{other, same}
-use Rattle.wc_validate.proofs.RequiredLemmas.{others}
+use Rattle.wc_validate.proofs.AdapterFunctionLemmas.{others}
 
 module _ {E : Type 0} (p q : E → Bool) where
   swap_at : (x : E) (xs : List E) (a b : Bool) → p x ≡ a → q x ≡ b → filter p (filter q xs) ≡ filter q (filter p xs)
@@ -185,7 +186,7 @@ required_there names =
     ∙ (ap (map (on_value type_of)) (firsts_twice (described 0 names)) ∙ (firsts_image type_of (described 0 names) ∙ ap first_of_names (typed_is 0 names))))))
 
 by_entries : (names : Names) (es : List (String Global × ℕ))
-    → filter_map (λ (e : String Global × ℕ). function_at names e.1) es ≡ filter_map (function_by names) (map position_entry es)
+    → filter_map (λ (e : String Global × ℕ). function_at names e.1) es ≡ filter_map (function_by names) (map named_view es)
 by_entries names [] = refl
 by_entries names (e ∷ es) = ap (λ z. cons_option (function_at names e.1) z) (by_entries names es)
 
@@ -196,7 +197,7 @@ module _ (first : FirstFunctions) (es : List (String Global × ImportInstance)) 
   under : positions_under first adapter ≡ first_of_names (placed_functions 0 names)
   under = h adapter ∙ (ap (λ o. option_map_or first_functions o []) (record_found es adapter instance (sym found)) ∙ ap first_functions view)
 
-  pub required_kept : (positions : List (String Global × ℕ)) → positions_under first adapter ≡ map position_entry positions
+  pub required_kept : (positions : List (String Global × ℕ)) → positions_under first adapter ≡ map named_view positions
       → first_of_names (filter_map (λ (e : String Global × ℕ). function_at names e.1) positions) ≡ first_of_names (filter_map function_of names)
   required_kept positions kept =
       ap first_of_names (by_entries names positions) ∙ (ap (λ z. first_of_names (filter_map (function_by names) z)) (sym kept ∙ under) ∙ required_there names)
@@ -228,19 +229,19 @@ placed_pushed n (y ∷ xs) x = at (placed_function n y) (placed_pushed (suc n) x
       ap (λ k. placed_functions (suc n) xs ++ cons_option (placed_function k x) []) e))
 
 abbrev pub HasPlaced : List (String Global × Import) → List (String Global × ℕ) → Type 0
-HasPlaced passed positions = HasFirsts (map position_entry positions) (placed_functions 0 (map import_entry passed))
+HasPlaced passed positions = HasFirsts (map named_view positions) (placed_functions 0 (map import_entry passed))
 
 pub placed_none : (positions : List (String Global × ℕ)) → positions ≡ [] → HasPlaced [] positions
-placed_none positions none = (ap (map position_entry) none, λ name. ap (λ z. lookup (bytes_eq name) (map position_entry z)) none)
+placed_none positions none = (ap (map named_view) none, λ name. ap (λ z. lookup (bytes_eq name) (map named_view z)) none)
 
 pub placed_more : (passed : List (String Global × Import)) (e : String Global × Import) (old new : List (String Global × ℕ)) (position : ℕ)
-    → ((before : List (List ℕ × ℕ)) → HasFirsts (map position_entry old) before → HasFirsts (map position_entry new)
+    → ((before : List (List ℕ × ℕ)) → HasFirsts (map named_view old) before → HasFirsts (map named_view new)
     (before ++ cons_option (placed_function position (import_entry e)) []))
     → HasPlaced passed old → position ≡ length passed → HasPlaced (passed ++ e ∷ []) new
 placed_more passed e old new position more h at =
     let at_position : position ≡ 0 + length (map import_entry passed) = at
     ∙ (sym (length-map passed import_entry) ∙ (let z : length (map import_entry passed) ≡ 0 + length (map import_entry passed) = omega arith in z)) in
-    subst (λ z. HasFirsts (map position_entry new) z)
+    subst (λ z. HasFirsts (map named_view new) z)
     (ap (λ n. placed_functions 0 (map import_entry passed) ++ cons_option (placed_function n (import_entry e)) []) at_position
     ∙ (sym (placed_pushed 0 (map import_entry passed) (import_entry e)) ∙ ap (placed_functions 0) (sym (map-append import_entry passed (e ∷ [])))))
     (more (placed_functions 0 (map import_entry passed)) h)

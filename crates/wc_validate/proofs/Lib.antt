@@ -15,7 +15,7 @@ pub mod ArgumentLemmas
 pub mod RecorderLemmas
 pub mod WholeLemmas
 pub mod ImportRecordLemmas
-pub mod RequiredLemmas
+pub mod AdapterFunctionLemmas
 pub mod ValidateLemmas
 pub mod LawLemmas
 pub mod ExclusionLemmas

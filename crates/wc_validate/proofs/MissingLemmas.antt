@@ -44,7 +44,7 @@ use Rattle.wc_validate.specs.Imports.Map.{required_entry}
 use Rattle.wc_validate.specs.Places.{IsFirstFailing, IsFirstLacking, IsFirstUnexported, IsFunctionLack, IsFunctionPlace, IsKeyPlace, IsLack, IsSecondMemory, PlaceView, an_export, SubjectView, difference_of, missing_export, missing_function, place_view}
 use Rattle.wc_validate.specs.Private.Explained.{HasRecordedImports, IsNotExported, IsOfKey, IsSaidApart, IsCallbackExplained, IsFunctionLackAt, IsLackAt, IsLackNamed, IsLackOf, IsMemoryExplained, IsMissingExplained, IsMissingFrom, IsModuleExplained, IsRetyped, IsSaidAs, IsSecondNamed, IsUncalled}
 use Rattle.wc_validate.specs.NameScopes.{HasItsWorld, name_scope_of}
-use Rattle.wc_validate.specs.Private.RequiredExports.{HasKeysNamed, required_of}
+use Rattle.wc_validate.specs.Private.Requirements.{HasKeysNamed, required_of}
 use Rattle.wc_validate.specs.Texts.{name_not_exported}
 use Rattle.wc_validate.specs.Private.ExportedFunctions.{IsExportIndexOf}
 use Rattle.wc_validate.specs.Private.ValidationInputs.{validation_input_of}

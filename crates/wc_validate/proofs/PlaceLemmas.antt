@@ -355,7 +355,7 @@ other_mismatch e keys m es i f wanted stop other = (i, stop.0, stop.1, other)
 
 pub export_explained : (j : ValidationInput) (m : Module) (c : ExportContext) (es : List RawExport) → HasRecordedImports j (module_value m)
     → IsNameScopeOf j.encoder (name_scope_of c.names) → c.standard.keys ≡ j.keys → es ≡ m.exports.items → (x : RefusedExport) (f : ValidateFault)
-    → IsExportStopIn c m es x → (r : Result (Option Place) AllocError) → IsMismatchExplained m es x.index x.fault f r → IfOk r (IsModuleExplained j (module_value m) f)
+    → IsExportStopIn c m es x → (r : Result (Option Place) AllocError) → IsMismatchExplained m es x f r → IfOk r (IsModuleExplained j (module_value m) f)
 export_explained j m c es imports names keys same x f stop r h = shown r (h (name_scope_of c.names) c.standard.keys stop) where
   shown : (r : Result (Option Place) AllocError)
       → IfOk r (λ answer. MatchOption answer (IsOtherMismatch (name_scope_of c.names) c.standard.keys (module_value m) (map export_value es) f)

@@ -14,7 +14,7 @@ use Rattle.indexmap.specs.IndexMap.{insert_entry}
 use Rattle.wc_names.specs.declared.imports.Import.{Import}
 use Rattle.wc_validate.specs.Imports.Entries.{InstanceRecord, all_of, names_of, Records, IsAllRecorded, IsNameRecorded}
 use Rattle.wc_validate.specs.Imports.Instances.{import_entry, instance_view, instance_entry, add_to, put_in, IsFree, IsInstanceFault, IsWholeFault, IsWholePut}
-use Rattle.wc_validate.specs.Private.Imports.Required.{IsOneEntry}
+use Rattle.wc_validate.specs.Private.Imports.AdapterFunctions.{IsOneEntry}
 use Rattle.wc_validate.specs.declared.fault.ValidateFault.{ValidateFault}
 use Rattle.wc_validate.specs.declared.fault.ValidateFault.TheVariants.{Memory}
 use Rattle.wc_names.specs.Views.{ImportView, import_view}

@@ -55,7 +55,7 @@ use Rattle.wc_validate.specs.Private.Exports.Classify.{AreNamesBy}
 use Rattle.wc_validate.specs.Exports.Record.{AreExports, AreRecordedBy, AreRefusedBy, IsExportsFault, core_exports, exports_in}
 use Rattle.wc_validate.specs.Requirements.{IsFirstUnmet, IsShortfall, IsUnmetFault, Requirement, callbacks, interface_functions, one_memory, requirements, typed_function, world_function}
 use Rattle.wc_validate.specs.Private.ValidationInputs.{HasRecordedExports, HasRefusedExports}
-use Rattle.wc_validate.specs.Private.RequiredExports.{AreMetBy, IsUnmetBy}
+use Rattle.wc_validate.specs.Private.Requirements.{AreMetBy, IsUnmetBy}
 use Rattle.wc_validate.specs.Validated.{IsValidateCause, IsExportsRecord, IsImportsCause, IsImportsRecord, IsModuleCause, IsRecordOf, IsImportScopeFor, IsNameScopeOf, ValidationInput, module_record}
 
 -- what names are looked up in, for an encoder

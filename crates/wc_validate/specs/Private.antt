@@ -4,5 +4,5 @@ pub mod Explained
 pub mod Exports
 pub mod Externs
 pub mod Imports
-pub mod RequiredExports
+pub mod Requirements
 pub mod ValidationInputs

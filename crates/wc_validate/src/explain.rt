@@ -19,7 +19,7 @@ mod refused;
 use crate::ValidateFault;
 use crate::explain::exports::{export_place, first_mismatched};
 use crate::explain::imports::{first_refused, import_place};
-use crate::explain::missing::missing_place;
+use crate::explain::missing::{RecordedModule, missing_place};
 use crate::exports::classify::ExportContext;
 use crate::exports::record::record_exports;
 use crate::place::Place;
@@ -53,7 +53,13 @@ fn explain_missing(
 {
     context.names.resolve.well_formedness();
     match record_exports(alloc, context, module, &module.exports) {
-        Ok(recorded) => missing_place(alloc, &recorded, &context.names, module, required, fault),
+        Ok(recorded) => {
+            let exports = RecordedModule {
+                module,
+                recorded: &recorded,
+            };
+            missing_place(alloc, exports, &context.names, required, fault)
+        }
         // No export is refused, so an allocation failed.
         Err(_) => Err(AllocError),
     }
@@ -78,10 +84,7 @@ fn explain_exports(
         validation_input.required.keys,
     )?;
     match first_mismatched(alloc, &context, module, &module.exports) {
-        Some(refused) => {
-            let (index, cause) = (refused.index, refused.fault);
-            export_place(alloc, module, &module.exports, index, cause, fault)
-        }
+        Some(refused) => export_place(alloc, module, &module.exports, refused, fault),
         None => explain_missing(alloc, &context, module, validation_input.required, fault),
     }
 }

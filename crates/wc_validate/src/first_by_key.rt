@@ -3,7 +3,7 @@
 ghost use Rattle.std.specs.Prelude.{◌≡◌, ◌∷◌, [], List, None, ℕ};
 ghost use Rattle.wc_resolve.specs.Views.{KeyView, key_view};
 ghost use Rattle.wc_validate.specs.FirstByKey.{position_called, IsKeyKept, IsNameKept, IsPositionKept};
-ghost use Rattle.wc_validate.specs.Private.Imports.Required.{ArePositionsAdded};
+ghost use Rattle.wc_validate.specs.Private.Imports.AdapterFunctions.{ArePositionsAdded};
 
 use crate::imports::instances::one_entry;
 use std::alloc::{AllocError, Global};

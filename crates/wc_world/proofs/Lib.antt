@@ -2,7 +2,7 @@ pub mod UsedLemmas
 pub mod UsedWalkLemmas
 pub mod FoundLemmas
 pub mod SlotLemmas
-pub mod RequiredLemmas
+pub mod ImportedItemLemmas
 pub mod LoweringLemmas
 pub mod NameLemmas
 pub mod KeyedLemmas

@@ -13,7 +13,7 @@ use Rattle.wc_resolve.proofs.ListUnionLemmas.{list_union_append}
 use Rattle.wc_resolve.proofs.ListingLemmas.{complete_none}
 use Rattle.wc_resolve.proofs.SearchLemmas.{contains_head}
 use Rattle.wc_world.specs.Live.{by_owner, IsWithoutRepeats, live_from}
-use Rattle.wc_world.specs.Private.Required.{is_in}
+use Rattle.wc_world.specs.Private.ImportedItems.{is_in}
 use Rattle.wc_world.proofs.OwnerLemmas.{repeats_front}
 
 pub adds_none : (r : ResolveView) (live : List ℕ) → AddsListings r live live []

@@ -5,10 +5,10 @@ use Rattle.std.specs.Str.{bytes_eq}
 use Rattle.std.specs.String.{string_eq}
 use Rattle.std.specs.declared.alloc.Global.{Global}
 use Rattle.std.proofs.lemmas.List.{map-append}
-use Rattle.wc_validate.specs.Imports.Entries.{first_occurrences}
+use Rattle.wc_maps.specs.Names.{first_occurrences}
 use Rattle.wc_validate.proofs.InstanceLemmas.{new_module, old_module}
 use Rattle.wc_world.specs.Adapters.{HasNames}
-use Rattle.wc_world.proofs.RequiredLemmas.{added_last, bytes_turned}
+use Rattle.wc_world.proofs.ImportedItemLemmas.{added_last, bytes_turned}
 
 module _ (old new : List (String Global)) (k : String Global) (m : List ℕ) (passed : List (List ℕ)) (is : string_bytes k ≡ m) (put : new ≡ cond (list_any (string_eq k) old) old (old ++ k ∷ []))
     (updates : (q : String Global) → list_any (string_eq q) new ≡ cond (string_eq k q) true (list_any (string_eq q) old)) (h : HasNames old passed) where

@@ -21,7 +21,7 @@ use Rattle.wc_resolve.specs.Roots.{indices}
 use Rattle.wc_resolve.specs.World.{ResolveView}
 use Rattle.wc_resolve.proofs.KeyLemmas.{nat_from}
 use Rattle.wc_resolve.proofs.ListUnionLemmas.{list_union_append, list_union_has, with_new}
-use Rattle.wc_world.specs.Private.Required.{is_in}
+use Rattle.wc_world.specs.Private.ImportedItems.{is_in}
 use Rattle.wc_world.specs.Live.{IsWithoutRepeats, by_owner, is_owned_by}
 use Rattle.wc_world.specs.Used.{same_interface}
 use Rattle.wc_world.proofs.UsedLemmas.{turned}

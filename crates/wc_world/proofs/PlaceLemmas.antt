@@ -22,9 +22,9 @@ use Rattle.wc_validate.specs.declared.fault.ValidateFault.{ValidateFault}
 use Rattle.wc_validate.specs.declared.fault.ValidateFault.TheVariants as validate
 use Rattle.wc_validate.specs.declared.place.Place.{Place}
 use Rattle.wc_world.specs.Adapters.{NamedAdapter, is_adapter_needed, required_names}
-use Rattle.wc_world.specs.Places.{IsMainRefused, IsNeededUnder, IsNotTrimmed, IsTrimUnreached, IsValidationPlace, IsWorldExplained}
+use Rattle.wc_world.specs.Places.{IsIn, IsMainRefused, IsNeededUnder, IsNotTrimmed, IsTrimUnreached, IsValidationPlace, IsWorldExplained}
 use Rattle.wc_world.specs.Private.AdapterInput.{IsInputFault, IsInputRecord, IsInputTrimmedText, IsNeeded, main_of, named_adapter, required_of}
-use Rattle.wc_world.specs.Private.Explained.{IsAdapterAnswer, IsIn, IsInputAnswer, IsInputMinimized, IsMinimizedAnswer, IsNamedAnswer, IsRefusal, IsTrimAnswer, IsTrimRefusal, IsUnderAnswer, IsValidationAnswer, input_of}
+use Rattle.wc_world.specs.Private.Explained.{IsAdapterAnswer, IsInputAnswer, IsInputMinimized, IsMinimizedAnswer, IsNamedAnswer, IsRefusal, IsTrimAnswer, IsTrimRefusal, IsUnderAnswer, IsValidationAnswer, input_of}
 use Rattle.wc_world.specs.World.{IsMainRecord, adapter_trim_input}
 use Rattle.wc_world.specs.declared.adapters.AdapterInput.{AdapterInput}
 use Rattle.wc_world.specs.declared.fault.WorldFault.{WorldFault}

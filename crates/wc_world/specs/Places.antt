@@ -87,6 +87,10 @@ IsInMain p = p.adapter ≡ None
 abbrev pub IsInAdapter : List ℕ → WorldPlace → Type 0
 IsInAdapter name p = option_map string_bytes p.adapter ≡ Some name
 
+-- a place with the name of its adapter; nothing, if there is none
+abbrev pub IsIn : List ℕ → Option ModulePlace → Option WorldPlace → Type 0
+IsIn name place answer = MatchOption answer (place ≡ None) (λ (p : WorldPlace). IsInAdapter name p × (place ≡ Some p.place))
+
 -- the place of a fault
 abbrev pub IsWorldPlace : EncoderView → WorldFault → WorldPlace → Type 0
 IsWorldPlace e (Main f) p = IsInMain p × IsValidationPlace (main_input e e.module_import_map) e.module_bytes f p.place

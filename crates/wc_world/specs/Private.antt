@@ -2,4 +2,4 @@
 pub mod AdapterInput
 pub mod Explained
 pub mod LoweringContext
-pub mod Required
+pub mod ImportedItems

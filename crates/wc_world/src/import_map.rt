@@ -15,9 +15,9 @@ ghost use Rattle.wc_world.specs.Private.LoweringContext.{AddsEntryOnOk, ForLower
 
 use crate::adapter::WorldAdapter;
 use crate::imported::{ImportedInterface, Lowering};
+use crate::imported_items::imported_by;
 use crate::lowering::{KeyedLowering, Lowerings, distinct_keys, push_interface, world_lowerings};
 use crate::options::ImportOptions;
-use crate::required::required_by;
 use std::alloc::{AllocError, Global};
 use wc_encoder::ComponentEncoder;
 use wc_maps::{Map, Seed};
@@ -205,11 +205,11 @@ pub(crate) fn import_map_of<'a, O: ImportOptions>(
     let metadata = encoder.metadata();
     let resolve = &metadata.resolve;
     resolve.well_formedness();
-    let required = required_by(alloc, main, adapters)?;
+    let imported = imported_by(alloc, main, adapters)?;
     let context = Lowerings {
         resolve,
         options,
-        required: &required,
+        imported: &imported,
         has_memory: main.imports.imported_memory().is_some(),
         seed: *adapters.hasher(),
     };

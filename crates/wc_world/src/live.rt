@@ -10,7 +10,8 @@ ghost use Rattle.wc_resolve.specs.Views.{function_view, item_view, key_view, wor
 ghost use Rattle.wc_resolve.specs.World.{ResolveView};
 ghost use Rattle.wc_encoder.specs.Dependencies.{AreItemsIn};
 ghost use Rattle.wc_encoder.specs.Entries.{entries_of};
-ghost use Rattle.wc_names.specs.Keys.{as_type, item_under, under_name};
+ghost use Rattle.wc_names.specs.Keys.{as_type, item_under};
+ghost use Rattle.wc_maps.specs.Names.{under_name};
 ghost use Rattle.wc_names.specs.Laws.{IsImportIn};
 ghost use Rattle.wc_names.specs.Payloads.{HasPayload};
 ghost use Rattle.wc_names.specs.Views.{import_view, payload_type_view, payload_view};

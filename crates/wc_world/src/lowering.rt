@@ -6,13 +6,13 @@ ghost use Rattle.wc_resolve.specs.WellFormed.{IsUsable};
 ghost use Rattle.wc_encoder.specs.Entries.{entries_of};
 ghost use Rattle.wc_names.specs.Imports.{import_abi};
 ghost use Rattle.wc_world.specs.Lowered.{AreKeysDistinct, IsLowerable, Lowerer, called_lowering, function_lowerings, item_lowerings, lowerings_of_functions, lowerings_of_interface, lowerings_of_types, needs_main_memory, own_lowerings, resource_name, type_lowerings};
-ghost use Rattle.wc_world.specs.Private.Required.{interface_index};
+ghost use Rattle.wc_world.specs.Private.ImportedItems.{interface_index};
 ghost use Rattle.wc_world.specs.WorldViews.{lowering_entry, lowering_view};
 ghost use Rattle.wc_world.specs.Private.LoweringContext.{AddsLowerings, ForLowerer, lowered_in};
 
 use crate::imported::Lowering;
+use crate::imported_items::ImportedItems;
 use crate::options::{ImportOptions, RequiredOptions};
-use crate::required::Required;
 use bitflags::Flags;
 use std::alloc::{AllocError, Global};
 use wc_maps::{Map, Seed};
@@ -26,7 +26,7 @@ pub(crate) struct Lowerings<'a, O: ImportOptions> {
     pub(crate) resolve: &'a Resolve,
     pub(crate) options: &'a O,
     /// The functions and drops that are imported.
-    pub(crate) required: &'a Required,
+    pub(crate) imported: &'a ImportedItems,
     /// Whether the main module imports its memory, which is then there before the main module is.
     pub(crate) has_memory: bool,
     /// The seed of the maps that are made.
@@ -110,7 +110,7 @@ fn push_call<O: ImportOptions>(
 {
     let function = callee.function;
     if !context
-        .required
+        .imported
         .has_function(alloc, callee.interface, &function.name, is_async)?
     {
         return Ok(());
@@ -158,7 +158,7 @@ pub(crate) fn push_type<O: ImportOptions>(
     let Some(name) = resource_name(context.resolve, id) else {
         return Ok(());
     };
-    if !context.required.has_drop(id) {
+    if !context.imported.has_drop(id) {
         return Ok(());
     }
     let key = (format!(in alloc; "{name}_drop")?, AbiVariant::GuestImport);

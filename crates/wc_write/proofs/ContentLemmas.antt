@@ -23,7 +23,7 @@ use Rattle.wc_write.specs.OperatorText.{instr_text}
 use Rattle.wc_write.specs.BodyText.{body_text}
 use Rattle.wc_write.specs.Spaces.{DefinedValue}
 use Rattle.wc_write.specs.Values.{IsValType, IsFuncType, IsImport, IsTable, IsInstr}
-use Rattle.wc_write.specs.ModuleText.{func_type_text, export_text, init_text, defined_global_text, code_text, items_content, SizeFits}
+use Rattle.wc_write.specs.ModuleText.{func_type_text, export_text, operators_text, defined_global_text, code_text, items_content, SizeFits}
 use Rattle.wc_write.specs.BuiltValues.{IsExport, IsWritableMemory, IsInitialiser}
 use Rattle.wc_write.proofs.NumberTextLemmas.{number_some}
 use Rattle.wc_write.proofs.TextLemmas.{number_32, name_spelled, global_spelled, table_spelled, memory_spelled, import_spelled}
@@ -104,11 +104,11 @@ memories_content ms all fitting = content_spelled SpellsMemory memory_text IsWri
 
 -- globals and their initialisers
 
-pub init_spelled : (is : List InstrValue) → IsInitialiser is → length (init_text is) < 2 ^ 32 → SpellsInit (init_text is) is
+pub init_spelled : (is : List InstrValue) → IsInitialiser is → length (operators_text is) < 2 ^ 32 → SpellsInit (operators_text is) is
 init_spelled is h short = (items_spelled SpellsInstr instr_text IsInstr instr_spelled is h.can_be_spelled short, h.is_init)
 
 abbrev pub made_global : DefinedValue GlobalType (List InstrValue) → LocalGlobalValue
-made_global g = record { ty = g.ty; init = init_text g.content }
+made_global g = record { ty = g.ty; init = operators_text g.content }
 
 abbrev pub IsDefinedGlobal : DefinedValue GlobalType (List InstrValue) → Type 0
 IsDefinedGlobal g = IsValType g.ty.content_type × IsInitialiser g.content
@@ -120,7 +120,7 @@ defined_global_spelled g h short = record {
   operators = g.content;
   cut = refl;
   has_type = global_spelled g.ty h.0;
-  has_init = init_spelled g.content h.1 (back_shorter (global_text g.ty) (init_text g.content) _ short);
+  has_init = init_spelled g.content h.1 (back_shorter (global_text g.ty) (operators_text g.content) _ short);
 }
 
 global_some : (g : DefinedValue GlobalType (List InstrValue)) → 0 < length (defined_global_text g)
@@ -129,7 +129,7 @@ global_some g = omega (
   val_type_some g.ty.content_type,
   length-append (val_type_text g.ty.content_type)
       (mutable_code g.ty.mutable ∷ []),
-  length-append (global_text g.ty) (init_text g.content),
+  length-append (global_text g.ty) (operators_text g.content),
 )
 
 pub globals_content : (gs : List (DefinedValue GlobalType (List InstrValue))) → All IsDefinedGlobal gs → SizeFits (items_content defined_global_text gs) → MatchOption (items_content defined_global_text gs) (map made_global gs ≡ []) (λ content. SpellsVector SpellsLocalGlobal content (map made_global gs))

@@ -72,26 +72,26 @@ no_prefix b f e = by (b == 0xfc) (b == 0xfd) (b == 0xfe) refl refl refl
     by false false false p q r = rw (p, q, r) refl
 
 -- a number in the table has 32 bits
-misc_high : (n : ℕ) → 18 ≤ n → misc_form n ≡ None
+misc_high : (n : ℕ) → 2 ^ 32 ≤ n → misc_form n ≡ None
 unfolding misc_form
 misc_high n high = grind (arith, nat_tests)
 
-vector_high : (n : ℕ) → 276 ≤ n → vector_form n ≡ None
+vector_high : (n : ℕ) → 2 ^ 32 ≤ n → vector_form n ≡ None
 unfolding vector_form
 vector_high n high = grind (arith, nat_tests)
 
-atomic_high : (n : ℕ) → 79 ≤ n → atomic_form n ≡ None
+atomic_high : (n : ℕ) → 2 ^ 32 ≤ n → atomic_form n ≡ None
 unfolding atomic_form
 atomic_high n high = grind (arith, nat_tests)
 
-below : (n limit : ℕ) (o : Option Form) (f : Form) → limit < 2 ^ 32 → (limit ≤ n → o ≡ None) → o ≡ Some f → n < 2 ^ 32
-below n limit o f small none e = elim (cases_lt n limit) [
-  | inl lt ↦ omega arith
+below : (n : ℕ) (o : Option Form) (f : Form) → (2 ^ 32 ≤ n → o ≡ None) → o ≡ Some f → n < 2 ^ 32
+below n o f none e = elim (cases_lt n (2 ^ 32)) [
+  | inl lt ↦ lt
   | inr le ↦ absurd (some_none f (sym e ∙ none le))
 ]
 
 pub opcode_spelled : (o : Opcode) (f : Form) → form_of o ≡ Some f → SpellsOpcode (opcode_text o) o
 opcode_spelled (Byte b) f e = (refl, no_prefix b f e)
-opcode_spelled (Misc n) f e = (_, refl, number_32 n (below n 18 (misc_form n) f (omega arith) (misc_high n) e))
-opcode_spelled (Vector n) f e = (_, refl, number_32 n (below n 276 (vector_form n) f (omega arith) (vector_high n) e))
-opcode_spelled (Atomic n) f e = (_, refl, number_32 n (below n 79 (atomic_form n) f (omega arith) (atomic_high n) e))
+opcode_spelled (Misc n) f e = (_, refl, number_32 n (below n (misc_form n) f (misc_high n) e))
+opcode_spelled (Vector n) f e = (_, refl, number_32 n (below n (vector_form n) f (vector_high n) e))
+opcode_spelled (Atomic n) f e = (_, refl, number_32 n (below n (atomic_form n) f (atomic_high n) e))

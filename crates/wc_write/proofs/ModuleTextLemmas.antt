@@ -28,7 +28,7 @@ use Rattle.wc_read.proofs.ModulesLemmas.{modules_one}
 use Rattle.wc_write.specs.Text.{number_text, global_text}
 use Rattle.wc_write.specs.BodyText.{body_text}
 use Rattle.wc_write.specs.Spaces.{imports_of, DefinedValue, defined, defined_types, defined_contents}
-use Rattle.wc_write.specs.ModuleText.{BuiltValue, built_imports, defined_global_text, code_text, init_text, optional_sections, optional_section_text, built_text, SizesFit}
+use Rattle.wc_write.specs.ModuleText.{BuiltValue, built_imports, defined_global_text, code_text, operators_text, optional_sections, optional_section_text, built_text, SizesFit}
 use Rattle.wc_write.specs.BuiltValues.{item_seen, written_module, IsItemOf, IsModuleOf, IsInitialiser, IsBuilt, IsReadBody, IsReadInit, IsRead}
 use Rattle.wc_write.proofs.BodyTextLemmas.{body_read}
 use Rattle.wc_write.proofs.VectorTextLemmas.{back_shorter}
@@ -130,11 +130,11 @@ memories_are b h = sym (items_same b.memories) ∙ space_is (λ (x : ⊤). x) b.
     ∙ rw (imported_none {D = ⊤} memory_of Table (λ t. refl) b.tables, imported_none {D = ⊤} memory_of Global (λ g. refl) b.globals, imported_none {D = ⊤} memory_of Func (λ n. refl) b.funcs) (append-nil _ ∙ imported_front memory_of Memory (λ m. refl) (λ (x : ⊤). x) b.memories))
     (map_again local_item (λ o. o.ty) (defined b.memories) ∙ defined_back (λ (x : ⊤). x) (λ o. local_item o.ty) (λ t x. refl) b.memories)
 
-globals_are : (b : BuiltValue) → IsBuilt b → map (item_seen init_text) b.globals ≡ imported_items global_of (built_imports b) ++ map defined_global (map made_global (defined b.globals))
-globals_are b h = space_is init_text b.globals _ _ h.globals_ordered
+globals_are : (b : BuiltValue) → IsBuilt b → map (item_seen operators_text) b.globals ≡ imported_items global_of (built_imports b) ++ map defined_global (map made_global (defined b.globals))
+globals_are b h = space_is operators_text b.globals _ _ h.globals_ordered
     (of_groups {D = List ℕ} global_of (imports_of Memory b.memories) (imports_of Table b.tables) (imports_of Global b.globals) (imports_of Func b.funcs)
-    ∙ rw (imported_none {D = List ℕ} global_of Memory (λ m. refl) b.memories, imported_none {D = List ℕ} global_of Table (λ t. refl) b.tables, imported_none {D = List ℕ} global_of Func (λ n. refl) b.funcs) (append-nil _ ∙ imported_front global_of Global (λ g. refl) init_text b.globals))
-    (map_again defined_global made_global (defined b.globals) ∙ defined_back init_text (λ o. defined_global (made_global o)) (λ t x. refl) b.globals)
+    ∙ rw (imported_none {D = List ℕ} global_of Memory (λ m. refl) b.memories, imported_none {D = List ℕ} global_of Table (λ t. refl) b.tables, imported_none {D = List ℕ} global_of Func (λ n. refl) b.funcs) (append-nil _ ∙ imported_front global_of Global (λ g. refl) operators_text b.globals))
+    (map_again defined_global made_global (defined b.globals) ∙ defined_back operators_text (λ o. defined_global (made_global o)) (λ t x. refl) b.globals)
 
 -- the module of the sections
 
@@ -202,13 +202,13 @@ HasShortText g = length (defined_global_text g) < 2 ^ 32
 abbrev IsReadGlobal : DefinedValue GlobalType (List InstrValue) → Type 0
 IsReadGlobal g = IsReadInit g.content
 
-pub init_read : (operators : List InstrValue) → IsInitialiser operators → length (init_text operators) < 2 ^ 32 → IsReadInit operators
+pub init_read : (operators : List InstrValue) → IsInitialiser operators → length (operators_text operators) < 2 ^ 32 → IsReadInit operators
 init_read operators h short =
     let s = init_spelled operators h short in
-    (s, λ v t. one_value SpellsInit init_at init_meets (init_text operators) v operators t s)
+    (s, λ v t. one_value SpellsInit init_at init_meets (operators_text operators) v operators t s)
 
 global_read : (g : DefinedValue GlobalType (List InstrValue)) → IsDefinedGlobal g → HasShortText g → IsReadGlobal g
-global_read g h short = init_read g.content h.1 (back_shorter (global_text g.ty) (init_text g.content) _ short)
+global_read g h short = init_read g.content h.1 (back_shorter (global_text g.ty) (operators_text g.content) _ short)
 
 initialisers_read : (b : BuiltValue) → IsBuilt b → SectionSizes b → All IsReadInit (defined_contents b.globals)
 initialisers_read b h s =
@@ -236,7 +236,7 @@ module_of_built b bodies inits = record {
   funcs = items_of SpellsBody body_text b.funcs (λ k d within. (bodies k d within).0);
   tables = refl;
   memories = refl;
-  globals = items_of SpellsInit init_text b.globals (λ k d within. (inits k d within).0);
+  globals = items_of SpellsInit operators_text b.globals (λ k d within. (inits k d within).0);
   exports = refl;
   start = refl;
   producers = refl;

@@ -29,7 +29,7 @@ use Rattle.wc_write.specs.Text.{number_text, vector_text, name_text, val_type_te
 use Rattle.wc_write.specs.OperatorText.{instr_text}
 use Rattle.wc_write.specs.BodyText.{body_text}
 use Rattle.wc_write.specs.Spaces.{import_by, imports_of, DefinedValue, defined_by, defined, defined_types, defined_contents}
-use Rattle.wc_write.specs.ModuleText.{BuiltValue, built_imports, func_type_text, export_text, init_text, defined_global_text, code_text, items_content, producers_content, optional_sections, optional_section_text, content_text, built_text}
+use Rattle.wc_write.specs.ModuleText.{BuiltValue, built_imports, func_type_text, export_text, operators_text, defined_global_text, code_text, items_content, producers_content, optional_sections, optional_section_text, content_text, built_text}
 use Rattle.wc_write.specs.Values.{AreBytes}
 use Rattle.wc_write.specs.BuiltValues.{IsDefOf, IsItemOf, IsModuleOf}
 use Rattle.wc_write.proofs.ByteLemmas.{front_bytes, back_bytes, tail_bytes}
@@ -45,7 +45,7 @@ use Rattle.wc_write.proofs.SizeLemmas.{number_grows, section_grows, total, flat_
 
 -- initialisers
 
-pub init_shortest : (bytes : List ℕ) (operators : List InstrValue) → AreBytes bytes → SpellsInit bytes operators → length (init_text operators) ≤ length bytes
+pub init_shortest : (bytes : List ℕ) (operators : List InstrValue) → AreBytes bytes → SpellsInit bytes operators → length (operators_text operators) ≤ length bytes
 init_shortest bytes operators all s = items_shortest SpellsInstr instr_text instr_shortest bytes operators s.0 all
 
 -- types and exports
@@ -274,7 +274,7 @@ global_shortest bytes g o s same init all =
     let cut = rw s.cut at all in
     let rest = init_shortest g.init o.content (back_bytes s.type_bytes g.init cut) init in
     let type = global_type_shortest s.type_bytes g.ty s.has_type (front_bytes s.type_bytes g.init cut) in
-    rw s.cut (joined (global_text o.ty) (init_text o.content) s.type_bytes g.init
+    rw s.cut (joined (global_text o.ty) (operators_text o.content) s.type_bytes g.init
     (subst (λ (t : GlobalType). length (global_text t) ≤ length s.type_bytes) same type) rest)
 
 first_same : (g o : GlobalType) (gs os : List GlobalType) → g ∷ gs ≡ o ∷ os → (g ≡ o) × (gs ≡ os)

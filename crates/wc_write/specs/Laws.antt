@@ -10,7 +10,7 @@ use Rattle.wc_read.specs.Inits.{SpellsInit}
 use Rattle.wc_read.specs.Modules.{ModuleValue, SpellsModule}
 use Rattle.wc_write.specs.BodyText.{body_text}
 use Rattle.wc_write.specs.Values.{AreBytes, IsU32, IsImport, IsBody}
-use Rattle.wc_write.specs.ModuleText.{BuiltValue, init_text, built_text, SizesFit}
+use Rattle.wc_write.specs.ModuleText.{BuiltValue, operators_text, built_text, SizesFit}
 use Rattle.wc_write.specs.BuiltValues.{IsInitialiser, IsBuilt, IsReadBody, IsReadInit, IsRead, IsModuleOf, IsWritable}
 
 -- a number of at most 64 bits is spelled by its text
@@ -74,7 +74,7 @@ SpelledAreModules = (bytes : List ℕ) (m : ModuleValue) → AreBytes bytes → 
 -- an initialiser that can be spelled is spelled by its text, where that has a size of 32 bits, and the text spells no
 -- other
 abbrev pub InitTextIsRead : Type 0
-InitTextIsRead = (operators : List InstrValue) → IsInitialiser operators → FitsSize (init_text operators) →
+InitTextIsRead = (operators : List InstrValue) → IsInitialiser operators → FitsSize (operators_text operators) →
     IsReadInit operators
 
 -- an initialiser that some bytes spell is such an initialiser
@@ -85,7 +85,7 @@ SpelledAreInits = (bytes : List ℕ) (operators : List InstrValue) → AreBytes 
 -- no bytes that spell an initialiser are fewer than those of its text
 abbrev pub InitIsShortest : Type 0
 InitIsShortest = (bytes : List ℕ) (operators : List InstrValue) → AreBytes bytes → SpellsInit bytes operators →
-    length (init_text operators) ≤ length bytes
+    length (operators_text operators) ≤ length bytes
 
 -- no bytes that spell a module with these types, index spaces, exports, start function and producers are fewer than
 -- those of the module's text, in whatever order their imports are, and whatever names, segments and other custom

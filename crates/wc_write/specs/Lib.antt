@@ -7,3 +7,4 @@ pub mod Values
 pub mod BuiltValues
 pub mod Laws
 pub mod Sinks
+pub mod Puts

@@ -68,13 +68,13 @@ func_type_text f = func_type_code ∷ (vector_text val_type_text f.params ++ vec
 abbrev pub export_text : ExportValue → List ℕ
 export_text e = name_text e.name ++ (export_kind_code e.kind ∷ number_text e.index)
 
--- an initialiser (5.4.9): its operators, `end` included
-abbrev pub init_text : List InstrValue → List ℕ
-init_text operators = flat_map instr_text operators
+-- operators, one after another: an initialiser (5.4.9) with its `end`, or code of a body
+abbrev pub operators_text : List InstrValue → List ℕ
+operators_text operators = flat_map instr_text operators
 
 -- a defined global (5.5.9): its type, and its initialiser
 abbrev pub defined_global_text : DefinedValue GlobalType (List InstrValue) → List ℕ
-defined_global_text g = global_text g.ty ++ init_text g.content
+defined_global_text g = global_text g.ty ++ operators_text g.content
 
 -- a function's code (5.5.13): its body's size, its body
 abbrev pub code_text : BodyValue → List ℕ

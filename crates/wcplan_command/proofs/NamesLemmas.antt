@@ -4,14 +4,14 @@ use Rattle.std.specs.Prelude.{IfErr, OnOk}
 use Rattle.wc_selection.proofs.FirstLemmas.{Words}
 use Rattle.wc_selection.specs.Keys.{NamedKey, texts_of}
 use Rattle.wc_selection.specs.Requests.{given_keys}
-use Rattle.wc_selection.specs.RequiredExports.{AreKeysThere, IsKeysCause}
+use Rattle.wc_selection.specs.ModuleKeys.{AreKeysThere, IsKeysCause}
 use Rattle.wc_selection.specs.Texts.{AreDistinct, first_parts, text_of}
 use Rattle.wc_selection.specs.declared.fault.RequestFault.{RequestFault}
 use Rattle.wc_selection.specs.declared.fault.RequestFault.TheVariants.{Memory as request_memory}
 use Rattle.wcplan_command.specs.Arguments.{CommandValue}
 use Rattle.wcplan_command.specs.Faults.{of_request}
 use Rattle.wcplan_command.specs.FileNames.{IsFilesCause}
-use Rattle.wcplan_command.specs.RequiredExports.{AreAdaptersThere, AreExportersThere, AreNamesThere, IsGivenCause, IsNamesCause, adapter_names, request_of}
+use Rattle.wcplan_command.specs.ModuleKeys.{AreAdaptersThere, AreExportersThere, AreNamesThere, IsGivenCause, IsNamesCause, adapter_names, request_of}
 use Rattle.wcplan_command.specs.declared.faults.SelectionFault.{SelectionFault}
 use Rattle.wcplan_command.specs.declared.faults.SelectionFault.TheVariants.{Memory, Request, EmptyDirectory, FileName, MainFile}
 

@@ -13,7 +13,7 @@ use Rattle.wc_resolve.specs.WellFormed.{IsWellFormed as IsResolve}
 use Rattle.wc_selection.proofs.ListLemmas.{passed_more}
 use Rattle.wc_selection.specs.KeyNames.{count_unversioned, request_keys}
 use Rattle.wc_selection.specs.Keys.{NamedKey}
-use Rattle.wc_selection.specs.RequiredExports.{required_keys}
+use Rattle.wc_selection.specs.ModuleKeys.{required_keys}
 use Rattle.wc_selection.specs.Texts.{first_parts, second_parts, text_pair}
 use Rattle.wc_selection.specs.Worlds.{IsSelected}
 use Rattle.wcplan_command.specs.declared.faults.SelectionFault.{SelectionFault}
@@ -33,7 +33,7 @@ use Rattle.wc_encoder.proofs.PairLemmas.{pairs_head, pairs_tail}
 use Rattle.wc_resolve.proofs.KeyLemmas.{texts_law}
 use Rattle.wc_resolve.proofs.SearchLemmas.{contains_cons, contains_head, contains_none, contains_tail}
 use Rattle.wcplan_command.specs.Faults.{of_dedupe, of_encoder}
-use Rattle.wcplan_command.specs.RequiredExports.{AreNamesThere, IsNamesCause, request_of}
+use Rattle.wcplan_command.specs.ModuleKeys.{AreNamesThere, IsNamesCause, request_of}
 use Rattle.wc_program.specs.Files.{Held, Holds}
 use Rattle.wcplan_command.specs.Arguments.{CommandValue}
 use Rattle.wcplan_command.specs.Program.{AreWorldsIn, IsAdapterIn, IsAdaptersCause, IsChosen, IsDocumentIn, IsListed, IsListedCause, IsListedSelection, IsMainCause, IsModulesCause, IsPartsOf, IsPartsWith, IsPlanCause, IsReadFault, IsUnknownKey}

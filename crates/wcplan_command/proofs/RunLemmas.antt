@@ -1,5 +1,5 @@
 -- A run of a command: why it could not be run where nothing was printed, and what became of its files where it was.
-use Rattle.std.proofs.Common.{◌≡◌, ◌≢◌, ◌⊎◌, ℕ, List, [], ◌∷◌, Option, Result, Ok, Err, IfErr, OnOk, IfSome, refl, sym, subst, string_bytes, inl, inr, map, String, Global, length, take, drop, get_or, suc, arith, ◌<◌, ◌++◌, ap, ◌∙◌, zero}
+use Rattle.std.proofs.Common.{◌≡◌, ◌⊎◌, ℕ, List, [], ◌∷◌, Option, Result, Ok, Err, IfErr, OnOk, IfSome, refl, sym, subst, string_bytes, inl, inr, map, String, Global, length, take, drop, get_or, suc, arith, ◌<◌, ◌++◌, ap, ◌∙◌, zero}
 use Rattle.std.specs.Borrow.{Bor}
 use Rattle.std.proofs.lemmas.List.{map-append}
 use Rattle.wc_encoder.specs.EncoderParts.{EncoderView}

@@ -1,5 +1,5 @@
 -- Why there are no worlds, or none of the name, in the file of a command.
-use Rattle.std.proofs.Common.{◌≡◌, ◌≢◌, ℕ, List, Option, Some, None, Result, Ok, Err, IfOk, IfErr, sym, ◌∙◌, subst, IfSome, inl}
+use Rattle.std.proofs.Common.{◌≡◌, ℕ, List, Option, Some, None, Result, Ok, Err, IfOk, IfErr, sym, ◌∙◌, subst, IfSome, inl}
 use Rattle.json.specs.Json.{Json, document}
 use Rattle.wc_json.specs.Document.{DocumentView, document_of}
 use Rattle.wc_resolve.specs.Faults.{IsResolveCause}

@@ -8,7 +8,7 @@ pub mod Parts
 pub mod Details
 pub mod FileNames
 pub mod Lines
-pub mod RequiredExports
+pub mod ModuleKeys
 pub mod Listing
 pub mod Program
 pub mod Private

@@ -36,7 +36,7 @@ use Rattle.wc_world.specs.World.{IsWorldOf}
 use Rattle.wc_world.specs.declared.fault.WorldFault.TheVariants.{Memory as world_memory}
 use Rattle.wc_selection.specs.KeyNames.{count_unversioned, request_keys}
 use Rattle.wc_selection.specs.Keys.{NamedKey, texts_of}
-use Rattle.wc_selection.specs.RequiredExports.{required_keys}
+use Rattle.wc_selection.specs.ModuleKeys.{required_keys}
 use Rattle.wc_selection.specs.Texts.{second_parts}
 use Rattle.wc_selection.specs.Worlds.{IsSelected}
 use Rattle.wcplan_command.specs.Arguments.{CommandValue, Reading, Stop, WrongValue, help, version, wrong}
@@ -46,7 +46,7 @@ use Rattle.wcplan_command.specs.Lines.{lines_text}
 use Rattle.wcplan_command.specs.Listing.{listing_text}
 use Rattle.wcplan_command.specs.Parts.{IsAboutPart}
 use Rattle.wcplan_command.specs.Reading.{AsksMemory, read_arguments}
-use Rattle.wcplan_command.specs.RequiredExports.{AreNamesThere, IsNamesCause, IsSelectionCause, request_of}
+use Rattle.wcplan_command.specs.ModuleKeys.{AreNamesThere, IsNamesCause, IsSelectionCause, request_of}
 use Rattle.wc_program.specs.Screen.{Printing, nothing, printed, failed}
 use Rattle.wcplan_command.specs.Usage.{fault_and_usage, fault_line, help_text, no_text, usage_text, version_text, wrong_text}
 use Rattle.wcplan_command.specs.declared.faults.SelectionFault.{SelectionFault}

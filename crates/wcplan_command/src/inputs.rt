@@ -1,29 +1,28 @@
 //! What a command is encoded from: the worlds, the main module and the adapters, from its files.
 
 ghost use Rattle.std.specs.Prelude.{◌≡◌, IfErr, IfOk, OnOk, map};
-ghost use Rattle.std.specs.Cow.{cow_slice_items};
 ghost use Rattle.wc_dedupe.specs.Dedupe.{renames_in};
 ghost use Rattle.wc_encoder.specs.Adapters.{adapter_entry};
 ghost use Rattle.wc_encoder.specs.EncoderParts.{parts_view};
+ghost use Rattle.wc_selection.specs.KeyNames.{request_keys};
 ghost use Rattle.wc_selection.specs.Keys.{AreKeysApart, named_key, texts_of};
 ghost use Rattle.wc_selection.specs.Texts.{AreDistinct};
 ghost use Rattle.wcplan_command.specs.Arguments.{command_value};
-ghost use Rattle.wcplan_command.specs.RequiredExports.{AreNamesThere, adapter_names};
-ghost use Rattle.wcplan_command.specs.Program.{AreAdaptersIn, IsAdaptersCause, IsEncoderOf, IsListed, IsListedCause, IsMainCause, IsMainIn, IsModulesCause, IsNoExport, IsPartsWith, IsPlanCause, IsUnknownKey};
+ghost use Rattle.wcplan_command.specs.ModuleKeys.{AreNamesThere, adapter_names, request_of};
+ghost use Rattle.wcplan_command.specs.Program.{AreAdaptersIn, AreWorldsIn, IsAdaptersCause, IsEncoderOf, IsListed, IsListedCause, IsMainCause, IsMainIn, IsModulesCause, IsNoExport, IsPartsWith, IsPlanCause, IsUnknownKey};
 
 use crate::arguments::Command;
 use crate::documents::{read_file, read_worlds};
 use crate::faults::{ProgramFault, SelectionFault};
 use crate::listing::listing;
-use crate::required_exports::{check_names, command_keys, required_keys};
+use crate::module_keys::{check_names, command_keys, required_keys};
 use std::alloc::{AllocError, Global};
 use std::borrow::CowSlice;
-use wc_dedupe::ModuleImportMap;
 use wc_encoder::{Adapter, ComponentEncoder, EncoderParts, Metadata};
 use wc_maps::{Map, Seed};
 use wc_program::FileStore;
 use wc_resolve::WorldKey;
-use wc_selection::{Exporter, RequestFault, count_unversioned};
+use wc_selection::{Exporter, MainModule, RequestFault, count_unversioned};
 
 /// The encoder of a command, from its files.
 pub(crate) fn read_encoder<'a, F: FileStore>(
@@ -35,11 +34,40 @@ pub(crate) fn read_encoder<'a, F: FileStore>(
     ensures encoder { IfOk result (IsEncoderOf (command_value command.now) (F.held files.now)) }
     ensures fault { IfErr result (IsPlanCause (command_value command.now) (F.held files.now)) }
 {
+    let chosen = chosen_world(alloc, seed, command, files)?;
+    let parts = read_parts(alloc, seed, command, chosen, files)?;
+    Ok(ComponentEncoder::build(alloc, parts)?)
+}
+
+/// The worlds of a command with the one that it names, and the keys of this one's exports.
+#[derive(Drop)]
+struct ChosenWorld {
+    metadata: Metadata,
+    /// Each with the text by which the command gives it (`command_keys`).
+    keys: Vec<(WorldKey, String)>,
+}
+
+/// The worlds of a command, from their file. The names of adapters and the keys that it gives are checked.
+fn chosen_world<'a, F: FileStore>(
+    alloc: Global,
+    seed: Seed,
+    command: &Command<'a>,
+    files: &F,
+) -> Result<ChosenWorld, ProgramFault<'a>>
+    ensures worlds { IfOk result (λ w. AreWorldsIn (command_value command.now) (F.held files.now)
+        w.metadata.resolve w.metadata.world.0) }
+    ensures keys { IfOk result (λ w. map named_key w.keys.items
+        ≡ request_keys (request_of (command_value command.now)) w.metadata.resolve
+        w.metadata.world.0) }
+    ensures differ { IfOk result (λ w. AreKeysApart (map named_key w.keys.items)) }
+    ensures there { IfOk result (λ w. AreNamesThere (command_value command.now)
+        (map named_key w.keys.items)) }
+    ensures fault { IfErr result (IsPlanCause (command_value command.now) (F.held files.now)) }
+{
     let metadata = read_worlds(alloc, seed, command, files)?;
     let keys = command_keys(alloc, command, &metadata.resolve, metadata.world)?;
     check_listed(alloc, seed, command, &keys)?;
-    let parts = read_parts(alloc, seed, command, metadata, &keys, files)?;
-    Ok(ComponentEncoder::build(alloc, parts)?)
+    Ok(ChosenWorld { metadata, keys })
 }
 
 /// Checks the names of adapters and the keys of a command, as `check_names` does, with the fault of `unknown_key` for that
@@ -102,23 +130,23 @@ fn read_parts<'a, F: FileStore>(
     alloc: Global,
     seed: Seed,
     command: &Command<'a>,
-    metadata: Metadata,
-    keys: &[(WorldKey, String)],
+    chosen: ChosenWorld,
     files: &F,
 ) -> Result<EncoderParts, ProgramFault<'a>>
-    requires keys { AreKeysApart (map named_key keys.now) }
+    requires keys { AreKeysApart (map named_key chosen.keys.items) }
     requires names { AreDistinct (adapter_names (command_value command.now)) }
     ensures parts { IfOk result (λ p. IsPartsWith (command_value command.now) (F.held files.now)
-        (map named_key keys.now) (parts_view p)) }
-    ensures metadata { IfOk result (λ p. p.metadata ≡ metadata) }
+        (map named_key chosen.keys.items) (parts_view p)) }
+    ensures metadata { IfOk result (λ p. p.metadata ≡ chosen.metadata) }
     ensures fault { IfErr result (IsModulesCause (command_value command.now) (F.held files.now)) }
 {
-    let (module, module_import_map) = read_main(alloc, command.main, files)?;
-    let adapters = read_adapters(alloc, seed, command, keys, files)?;
-    let main_module_exports = required_keys(alloc, seed, command, Exporter::Main, keys)?;
+    let ChosenWorld { metadata, keys } = chosen;
+    let main = read_main(alloc, command.main, files)?;
+    let adapters = read_adapters(alloc, seed, command, &keys, files)?;
+    let main_module_exports = required_keys(alloc, seed, command, Exporter::Main, &keys)?;
     Ok(EncoderParts {
-        module,
-        module_import_map,
+        module: main.wasm,
+        module_import_map: main.import_map,
         metadata,
         main_module_exports,
         adapters,
@@ -128,29 +156,18 @@ fn read_parts<'a, F: FileStore>(
     })
 }
 
-/// The main module in the file of this path, with its repeated imports renamed, and the original names of these.
+/// The main module in the file of this path, with its repeated imports renamed.
 fn read_main<'a, F: FileStore>(
     alloc: Global,
     path: &'a str,
     files: &F,
-) -> Result<(Vec<u8>, Option<ModuleImportMap>), ProgramFault<'a>>
-    ensures main { IfOk result (λ r. IsMainIn (F.held files.now) path.now r.0.items
-        (renames_in r.1)) }
+) -> Result<MainModule, ProgramFault<'a>>
+    ensures main { IfOk result (λ m. IsMainIn (F.held files.now) path.now m.wasm.items
+        (renames_in m.import_map)) }
     ensures fault { IfErr result (IsMainCause (F.held files.now) path.now) }
 {
     let bytes = read_file(path, files)?;
-    let (module, map) = ModuleImportMap::new(alloc, CowSlice::Owned(bytes))?;
-    Ok((owned(alloc, module)?, map))
-}
-
-/// The bytes, copied where they are borrowed.
-fn owned(alloc: Global, bytes: CowSlice<'_, u8>) -> Result<Vec<u8>, AllocError>
-    ensures { IfOk result (λ v. v.items ≡ cow_slice_items bytes.entry) }
-{
-    match bytes {
-        CowSlice::Owned(bytes) => Ok(bytes),
-        CowSlice::Borrowed(bytes) => Vec::from_slice(alloc, bytes),
-    }
+    Ok(MainModule::new(alloc, CowSlice::Owned(bytes))?)
 }
 
 /// The adapters of a command, from their files. `seed`: the seed of the maps that are made.

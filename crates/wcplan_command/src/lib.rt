@@ -16,10 +16,10 @@ mod inputs;
 mod json_place;
 mod lines;
 mod listing;
+mod module_keys;
 mod nearest;
 mod outputs;
 mod program;
-mod required_exports;
 mod usage;
 
 pub use arguments::{Command, NoCommand, WrongArgument, parse};

@@ -2,7 +2,8 @@
 use Rattle.std.proofs.Common.{◌≡◌, ◌≢◌, ℕ, List, [], ◌∷◌, String, Global, Option, Some, None, refl, subst, rules}
 use Rattle.std.specs.Io.KnownBytes.{Appends}
 use Rattle.wc_dedupe.specs.Renaming.{RenameValue}
-use Rattle.wc_gc.specs.Liveness.{distinct_names, names_of, trim_input_for_names}
+use Rattle.wc_gc.specs.Liveness.{names_of, trim_input_for_names}
+use Rattle.wc_maps.specs.Names.{first_occurrences}
 use Rattle.wc_gc.specs.Parts.{SettingsValue}
 use Rattle.wc_gc.specs.TrimmedText.{IsTrimmed}
 use Rattle.wc_dedupe.specs.Dedupe.{IsDeduped, renames_in}
@@ -16,7 +17,7 @@ appends_nothing None = search rules
 appends_nothing (Some xs) = search rules
 
 -- what was trimmed, with the exports counted once
-pub trim_along : (s : SettingsValue) (input bytes : List ℕ) (names exports : List (List ℕ)) → names ≡ distinct_names exports → IsTrimmed s (record { bytes = input; required = names }) bytes → IsTrimmed s (trim_input_for_names input exports) bytes
+pub trim_along : (s : SettingsValue) (input bytes : List ℕ) (names exports : List (List ℕ)) → names ≡ first_occurrences exports → IsTrimmed s (record { bytes = input; required = names }) bytes → IsTrimmed s (trim_input_for_names input exports) bytes
 trim_along s input bytes names exports same done = subst (λ (ns : List (List ℕ)). IsTrimmed s (record { bytes = input; required = ns }) bytes) same done
 
 -- where there is an export, it has a name

@@ -5,7 +5,8 @@ use Rattle.wc_read.specs.Sections.{IsComponent}
 use Rattle.wc_read.specs.Modules.{ModuleValue, SpellsModule}
 use Rattle.wc_read.specs.declared.fault.ReadFault.{ReadFault}
 use Rattle.wc_read.specs.declared.fault.ReadFault.TheVariants.{Memory as read_memory, Component}
-use Rattle.wc_gc.specs.Liveness.{distinct_names, trim_input_for_names}
+use Rattle.wc_gc.specs.Liveness.{trim_input_for_names}
+use Rattle.wc_maps.specs.Names.{first_occurrences}
 use Rattle.wc_gc.specs.Parts.{SettingsValue}
 use Rattle.wc_gc.specs.Trimming.{IsTrimFault}
 use Rattle.wc_gc.specs.declared.fault.GcFault.{GcFault}
@@ -23,7 +24,7 @@ cause_of_read input f refused component source =
     (λ e. cc, (λ e. component.0 (ap Err e), λ h. let is = component.1 h in cc), refused (λ e. cc))
 
 -- a fault of trimming is the cause of a trim's, whose exports are counted once
-pub cause_of_trim : (s : SettingsValue) (input : List ℕ) (names exports : List (List ℕ)) (f : GcFault) → names ≡ distinct_names exports → IsTrimFault s (record { bytes = input; required = names }) f → IsTrimsCause s (trim_input_for_names input exports) (of_trim f)
+pub cause_of_trim : (s : SettingsValue) (input : List ℕ) (names exports : List (List ℕ)) (f : GcFault) → names ≡ first_occurrences exports → IsTrimFault s (record { bytes = input; required = names }) f → IsTrimsCause s (trim_input_for_names input exports) (of_trim f)
 cause_of_trim s input names exports gc_memory same h = tt
 cause_of_trim s input names exports f same h = (λ e. cc, subst (λ (ns : List (List ℕ)). IsTrimFault s (record { bytes = input; required = ns }) f) same h)
 

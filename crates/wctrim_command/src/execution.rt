@@ -7,7 +7,8 @@ ghost use Rattle.std.specs.Io.KnownBytes.{Appends};
 ghost use Rattle.wc_read.specs.Modules.{ModuleValue, SpellsModule};
 ghost use Rattle.wc_dedupe.specs.Renaming.{RenameValue};
 ghost use Rattle.wc_dedupe.specs.Dedupe.{IsDeduped};
-ghost use Rattle.wc_gc.specs.Liveness.{distinct_names, names_of, trim_input_for_names};
+ghost use Rattle.wc_gc.specs.Liveness.{names_of, trim_input_for_names};
+ghost use Rattle.wc_maps.specs.Names.{first_occurrences};
 ghost use Rattle.wc_gc.specs.declared.fault.GcFault.TheVariants.{Memory as gc_memory};
 ghost use Rattle.wctrim_command.specs.Command.{dedupe, scan, command_value, IsExecutable};
 ghost use Rattle.wc_gc.specs.Parts.{settings};
@@ -161,7 +162,7 @@ fn required_exports(
     exports: &[String],
 ) -> Result<Set<String>, AllocError>
     ensures { IfOk result (λ names. names_of names.keys
-        ≡ distinct_names (names_of exports.now)) }
+        ≡ first_occurrences (names_of exports.now)) }
 {
     let mut names = Set::with_hasher(alloc, seed);
     for export in exports {

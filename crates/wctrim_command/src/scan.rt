@@ -4,8 +4,8 @@ ghost use Rattle.std.specs.Prelude.{◌≡◌, map, flat_map};
 ghost use Rattle.wc_read.specs.Imports.{import_value};
 ghost use Rattle.wc_read.specs.Exports.{export_value};
 ghost use Rattle.wc_read.specs.Modules.{module_value};
-ghost use Rattle.wc_program.specs.Puts.{Puts, PutsAny};
-ghost use Rattle.wctrim_command.specs.Scan.{kind_of, kind_name, import_line, export_line, scan_lines};
+ghost use Rattle.wc_write.specs.Puts.{Puts, PutsAny};
+ghost use Rattle.wctrim_command.specs.Scan.{kind_of, import_line, export_line, scan_lines};
 
 use crate::lines::{LINE_FEED, SPACE};
 use itoa::Buffer;
@@ -53,7 +53,7 @@ fn put_import<S: Sink>(out: &mut S, import: &Import<'_>) -> Result<(), PutFailed
     out.put(SPACE)?;
     out.put(import.name.as_bytes())?;
     out.put(SPACE)?;
-    out.put(kind_name(kind_of(&import.ty)))?;
+    out.put(kind_of(&import.ty).name().as_bytes())?;
     out.put(LINE_FEED)
 }
 
@@ -66,7 +66,7 @@ fn put_export<S: Sink>(out: &mut S, export: &Export<'_>) -> Result<(), PutFailed
     out.put(b"export ")?;
     out.put(export.name.as_bytes())?;
     out.put(SPACE)?;
-    out.put(kind_name(export.kind))?;
+    out.put(export.kind.name().as_bytes())?;
     out.put(SPACE)?;
     out.put(index.format(export.index).as_bytes())?;
     out.put(LINE_FEED)
@@ -81,17 +81,5 @@ fn kind_of(ty: &ImportType) -> ExportKind
         ImportType::Table(_) => ExportKind::Table,
         ImportType::Memory(_) => ExportKind::Memory,
         ImportType::Global(_) => ExportKind::Global,
-    }
-}
-
-/// The name of a kind.
-fn kind_name(kind: ExportKind) -> &'static [u8]
-    ensures { result.now ≡ kind_name kind }
-{
-    match kind {
-        ExportKind::Func => b"func",
-        ExportKind::Table => b"table",
-        ExportKind::Memory => b"memory",
-        ExportKind::Global => b"global",
     }
 }

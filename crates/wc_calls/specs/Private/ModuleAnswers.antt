@@ -1,23 +1,22 @@
 -- Words of contracts of private functions. No contract of a public function cites these, directly or through others.
 -- What is answered for one module of an encoder.
-use Rattle.std.specs.Prelude.{◌≡◌, ℕ, List, [], map, MatchOption, Option, None, Some, String, ⊤, string_bytes}
+use Rattle.std.specs.Prelude.{◌≡◌, ℕ, List, [], map, MatchOption, Option, String, ⊤, string_bytes}
 use Rattle.std.specs.Option.{option_map}
 use Rattle.std.specs.declared.alloc.Global.{Global}
-use Rattle.wc_encoder.specs.Adapters.{adapter_view, library_view}
+use Rattle.wc_encoder.specs.Adapters.{library_view}
 use Rattle.wc_encoder.specs.EncoderParts.{EncoderView}
 use Rattle.wc_resolve.specs.Views.{key_view}
 use Rattle.wc_validate.specs.Imports.Map.{required_entry}
 use Rattle.wc_validate.specs.Places.{IsUnplaced}
 use Rattle.wc_validate.specs.Validated.{IsRecordOf, ModuleRecord, ValidationInput, adapter_input}
 use Rattle.wc_validate.specs.declared.fault.ValidateFault.{ValidateFault}
-use Rattle.wc_world.specs.Adapters.{NamedAdapter}
 use Rattle.wc_world.specs.Causes.{IsRefused}
 use Rattle.wc_world.specs.Places.{IsInAdapter, IsValidationPlace}
 use Rattle.wc_world.specs.declared.fault.WorldFault.TheVariants.{Adapter}
-use Rattle.wc_world.specs.declared.places.ModulePlace.{ModulePlace}
 use Rattle.wc_world.specs.declared.places.WorldPlace.{WorldPlace}
+use Rattle.wc_record.specs.Places.{world_place_json}
 use Rattle.wc_calls.specs.FaultAnswers.{IsFaultAnswered}
-use Rattle.wc_calls.specs.Places.{place_text, world_place_json}
+use Rattle.wc_calls.specs.Places.{place_text}
 use Rattle.wc_calls.specs.Validation.{IsModulePlaceText, IsModuleRefused}
 use Rattle.wc_calls.specs.declared.answers.Answer.{Answer}
 use Rattle.wc_calls.specs.declared.message_fault.MessageFault.{MessageFault}
@@ -35,10 +34,7 @@ abbrev pub IsModulePlaceFor : EncoderView → MessageFault → List ℕ → Type
 IsModulePlaceFor e (World f) text = IsModulePlaceText e f text
 IsModulePlaceFor e f text = text ≡ []
 
--- an adapter or a library under its name, and what it is validated for
-abbrev pub named_adapter : AdapterInput → NamedAdapter
-named_adapter g = (g.name.now, adapter_view g.adapter.now)
-
+-- what an adapter or a library is validated for
 abbrev pub input_of : AdapterInput → ValidationInput
 input_of g =
     adapter_input g.encoder.now (option_map library_view g.adapter.now.library_info) (map key_view g.adapter.now.required_exports.keys)
@@ -47,10 +43,6 @@ input_of g =
 -- it is valid
 abbrev pub IsInputValid : AdapterInput → Type 0
 IsInputValid g = (r : ModuleRecord) × IsRecordOf (input_of g) g.adapter.now.wasm.items r
-
--- a place with the name of its module; nothing, if there is none
-abbrev pub IsIn : List ℕ → Option ModulePlace → Option WorldPlace → Type 0
-IsIn name place answer = MatchOption answer (place ≡ None) (λ (p : WorldPlace). IsInAdapter name p × (place ≡ Some p.place))
 
 -- what a fault of it is about, as a text
 abbrev pub IsInputPlace : AdapterInput → ValidateFault → Option WorldPlace → Type 0

@@ -9,11 +9,11 @@ use Rattle.wc_read.specs.Renumbering.{Renumbering, renumber_func_type}
 use Rattle.wc_read.specs.Types.{FuncTypeValue, func_type_value}
 use Rattle.wc_read.specs.declared.types.FuncType.{FuncType}
 use Rattle.wc_read.specs.declared.items.Item.{Item}
-use Rattle.wc_gc.specs.Decoded.{DecodedModule, FuncCode, ItemIndex, func_code}
+use Rattle.wc_gc.specs.Decoded.{DecodedModule, FuncCode, ItemIndex, func_code, is_code}
 use Rattle.wc_gc.specs.Edited.{EditedModule, added_funcs, added_imports, added_types, edited_by, edited_func, growing_func, lazy_func, start_func}
 use Rattle.wc_gc.specs.Found.{FoundValue, found_value}
 use Rattle.wc_gc.specs.Image.{kept_items, new_func}
-use Rattle.wc_gc.specs.NewBodies.{body_written, is_coded}
+use Rattle.wc_gc.specs.NewBodies.{body_written}
 use Rattle.wc_gc.specs.NewIndices.{new_of}
 use Rattle.wc_gc.specs.Parts.{SettingsValue, settings_value}
 use Rattle.wc_gc.specs.declared.edit.Edit.{Edit}
@@ -93,4 +93,4 @@ image_types e live types =
 -- of functions those in a set are imported, or have code
 abbrev pub AreCoded : (ℕ → Bool) → List (Item ℕ (Bor (List ℕ))) → Type 0
 AreCoded kept funcs =
-    (n : ℕ) (f : Item ℕ (Bor (List ℕ))) → kept n ≡ true → slice_get funcs n ≡ Some f → is_coded (func_code f).def ≡ true
+    (n : ℕ) (f : Item ℕ (Bor (List ℕ))) → kept n ≡ true → slice_get funcs n ≡ Some f → is_code (func_code f).def ≡ true

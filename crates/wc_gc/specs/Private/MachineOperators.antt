@@ -1,6 +1,5 @@
 -- The operators of the small machine, in which the code that trimming adds is written.
 use Rattle.std.specs.Prelude.{ℕ, List}
-use Rattle.std.specs.List.{flat_map}
 use Rattle.wc_read.specs.Operators.{WithBlock, InstrValue}
 use Rattle.wc_read.specs.declared.operators.Space.TheVariants.{Funcs, Memories, Globals}
 use Rattle.wc_read.specs.declared.operators.BlockType.TheVariants.{Empty}
@@ -26,10 +25,6 @@ instr_of I32Ne = plain 0x47
 instr_of I32Add = plain 0x6a
 instr_of I32Shl = plain 0x74
 
--- the text of operators of a body, one after another, and of the machine's operators
-
-abbrev pub code_text : List InstrValue → List ℕ
-code_text is = flat_map instr_text is
-
+-- the text of an operator of the machine
 abbrev pub operator_text : MachineOperator → List ℕ
 operator_text o = instr_text (instr_of o)

@@ -1,5 +1,5 @@
 -- Numbers in an order, and the place of each.
-use Rattle.std.specs.Prelude.{◌≡◌, ℕ, ◌<◌, List, length}
+use Rattle.std.specs.Prelude.{◌≡◌, ℕ, ◌<◌, length}
 use Rattle.std.specs.List.{slice_index}
 use Rattle.wc_gc.specs.declared.places.Places.{Places}
 

@@ -1,52 +1,42 @@
 //! The calls on names.
 
-use crate::names::in_worlds::put_world_line;
-use crate::names::meanings::put_name_line;
+use crate::names::in_worlds::{InWorld, put_world_line};
+use crate::names::meanings::{OnName, put_name_line};
 use crate::names::scheme_texts::put_scheme;
 use crate::names::values::put_copies;
-use std::alloc::{AllocError, Global};
+use std::alloc::Global;
 use wc_fixtures::resolve_calls::{argument_words, resolve_of};
-use wc_fixtures::stop::Stop;
+use wc_fixtures::stop::{Stop, put_answered};
 use wc_fixtures::words::Words;
 use wc_names::{Legacy, NameIndexes, NameMangling, Standard};
 use wc_resolve::Resolve;
 use wc_rows::lines::Lines;
 use wc_rows::rows::Row;
 
-/// The calls on names alone, each of which is a line of input.
-fn is_on_names(call: &str) -> bool {
-    call == "names" || call == "function_names" || call == "env_import"
-}
-
-/// The calls on names in a world, with a script.
-const IN_WORLD: [&str; 7] = [
-    "payload_intrinsic",
-    "payload_lookup",
-    "payload",
-    "module_to_interface",
-    "interface_names",
-    "match_wit_export",
-    "match_wit_resource_dtor",
-];
-
-fn is_in_world(call: &str) -> bool {
-    IN_WORLD.iter().any(|name| *name == call)
-}
-
-fn is_own(call: &str) -> bool {
-    call == "payload_infos" || call == "scheme_texts" || is_on_names(call) || is_in_world(call)
+/// The calls on names.
+#[derive(Clone, Copy)]
+pub enum Call {
+    /// On names alone, each of which is a line of input.
+    OnName(OnName),
+    /// On names in a world, with a script.
+    InWorld(InWorld),
+    /// The texts of a scheme.
+    SchemeTexts,
+    /// Copies of what is recorded of futures and streams.
+    PayloadInfos,
 }
 
 /// The answers of all lines.
 fn put_names<'a, N: NameMangling>(
     alloc: Global,
     scheme: &N,
+    call: OnName,
     row: &'a Row<'a>,
     out: &mut Lines,
 ) -> Result<(), Stop<'a>> {
     for line in &row.input {
         let mut words = Words::of(alloc, line, 0)?;
-        match put_name_line(scheme, row.call, &mut words, out) {
+        match put_name_line(scheme, call, &mut words, out) {
             Ok(()) => {}
             Err(bad) => return Err(Stop::at(bad, line)),
         }
@@ -58,24 +48,37 @@ fn put_names<'a, N: NameMangling>(
 fn put_script<'a, N: NameIndexes>(
     alloc: Global,
     scheme: &N,
+    call: InWorld,
     row: &'a Row<'a>,
     out: &mut Lines,
 ) -> Result<(), Stop<'a>> {
     let resolve = resolve_of(alloc, &row.input)?;
-    put_world_lines(alloc, scheme, row, &resolve, out)
+    let script = Script {
+        alloc,
+        call,
+        resolve: &resolve,
+    };
+    put_world_lines(&script, scheme, &row.input, out)
+}
+
+/// What each line of a script asks, and of what.
+#[derive(Clone, Copy)]
+struct Script<'a> {
+    alloc: Global,
+    call: InWorld,
+    resolve: &'a Resolve,
 }
 
 fn put_world_lines<'a, N: NameIndexes>(
-    alloc: Global,
+    script: &Script<'_>,
     scheme: &N,
-    row: &'a Row<'a>,
-    resolve: &Resolve,
+    input: &[&'a str],
     out: &mut Lines,
 ) -> Result<(), Stop<'a>> {
-    for line in &row.input {
+    for line in input {
         if let Some(line) = line.strip_prefix("do ") {
-            let mut words = Words::of(alloc, line, 0)?;
-            match put_world_line(scheme, row.call, resolve, &mut words, out) {
+            let mut words = Words::of(script.alloc, line, 0)?;
+            match put_world_line(scheme, script.call, script.resolve, &mut words, out) {
                 Ok(()) => {}
                 Err(bad) => return Err(Stop::at(bad, line)),
             }
@@ -88,28 +91,44 @@ fn put_world_lines<'a, N: NameIndexes>(
 fn answer_by<'a, N: NameIndexes>(
     alloc: Global,
     scheme: &N,
+    call: Call,
     row: &'a Row<'a>,
     out: &mut Lines,
 ) -> Result<(), Stop<'a>> {
-    if is_in_world(row.call) {
-        return put_script(alloc, scheme, row, out);
+    match call {
+        Call::InWorld(call) => put_script(alloc, scheme, call, row, out),
+        Call::OnName(call) => put_names(alloc, scheme, call, row, out),
+        _ => {
+            put_scheme(scheme, out);
+            Ok(())
+        }
     }
-    if is_on_names(row.call) {
-        return put_names(alloc, scheme, row, out);
+}
+
+/// The answer of a call; by the scheme that the arguments name, unless it is that for copies.
+fn answered<'a>(
+    alloc: Global,
+    call: Call,
+    row: &'a Row<'a>,
+    out: &mut Lines,
+) -> Result<(), Stop<'a>> {
+    match call {
+        Call::PayloadInfos => put_copies(alloc, &row.input, out),
+        _ => answer_by_named(alloc, call, row, out),
     }
-    put_scheme(scheme, out);
-    Ok(())
 }
 
 /// The answer by the scheme that the arguments name: `standard`, or `legacy HOOK`.
-fn answered<'a>(alloc: Global, row: &'a Row<'a>, out: &mut Lines) -> Result<(), Stop<'a>> {
-    if row.call == "payload_infos" {
-        return put_copies(alloc, &row.input, out);
-    }
+fn answer_by_named<'a>(
+    alloc: Global,
+    call: Call,
+    row: &'a Row<'a>,
+    out: &mut Lines,
+) -> Result<(), Stop<'a>> {
     let mut words = argument_words(alloc, row)?;
     if words.take("standard") {
         words.end()?;
-        return answer_by(alloc, &Standard, row, out);
+        return answer_by(alloc, &Standard, call, row, out);
     }
     words.expect("legacy", "no scheme")?;
     let hook = words.name()?;
@@ -117,18 +136,12 @@ fn answered<'a>(alloc: Global, row: &'a Row<'a>, out: &mut Lines) -> Result<(), 
     let scheme = Legacy {
         task_hook: hook.as_str(),
     };
-    answer_by(alloc, &scheme, row, out)
+    answer_by(alloc, &scheme, call, row, out)
 }
 
-/// The answer of a call on names. False where the call is none.
-pub fn answer(alloc: Global, row: &Row<'_>, out: &mut Lines) -> Result<bool, AllocError> {
-    if !is_own(row.call) {
-        return Ok(false);
-    }
+/// Appends the answer of a call on names.
+pub fn answer(alloc: Global, call: Call, row: &Row<'_>, out: &mut Lines) {
     let mut lines = Lines::new(alloc);
-    match answered(alloc, row, &mut lines) {
-        Ok(()) => out.push_str(lines.text()?),
-        Err(stop) => stop.put(out)?,
-    }
-    Ok(true)
+    let answered = answered(alloc, call, row, &mut lines);
+    put_answered(out, answered, &lines);
 }

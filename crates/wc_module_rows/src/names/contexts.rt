@@ -5,6 +5,7 @@ ghost use Rattle.std.specs.Option.{ForSome, IfSome};
 ghost use Rattle.wc_resolve.specs.Ranges.{IsWorldIn};
 ghost use Rattle.wc_resolve.specs.Views.{world_view};
 
+use crate::names::in_worlds::InWorld;
 use crate::names::shown_imports::put_found_import;
 use std::alloc::{AllocError, Global};
 use wc_fixtures::bad::Bad;
@@ -93,11 +94,10 @@ fn put_lookups(
     Ok(())
 }
 
-/// What a name means in a context.
+/// What a name means in a context, by a scheme.
 fn put_meaning<N: NameMangling>(
     alloc: Global,
     scheme: &N,
-    call: &str,
     context: &PayloadLookupContext<'_>,
     name: &str,
     out: &mut Lines,
@@ -106,9 +106,6 @@ fn put_meaning<N: NameMangling>(
     requires interface { ForSome context.now.id
         (λ id. id.0 < length context.now.resolve.now.interfaces) }
 {
-    if call == "payload_lookup" {
-        return put_lookups(alloc, context, name, out);
-    }
     let found = scheme.payload_intrinsic(alloc, context, name)?;
     put_found_import(alloc, &found, out);
     Ok(())
@@ -117,7 +114,7 @@ fn put_meaning<N: NameMangling>(
 /// `imports NAME` or `exports NAME`, where before the name may be `of INTERFACE` and `under KEY`.
 pub(crate) fn context_line<N: NameMangling>(
     scheme: &N,
-    call: &str,
+    call: InWorld,
     resolve: &Resolve,
     words: &mut Words,
     out: &mut Lines,
@@ -138,7 +135,11 @@ pub(crate) fn context_line<N: NameMangling>(
     };
     put_name(out, &name);
     out.push_str(": ");
-    put_meaning(words.alloc, scheme, call, &context, &name, out)?;
+    if matches!(call, InWorld::PayloadLookup) {
+        put_lookups(words.alloc, &context, &name, out)?;
+    } else {
+        put_meaning(words.alloc, scheme, &context, &name, out)?;
+    }
     out.push('\n');
     Ok(())
 }

@@ -1,5 +1,6 @@
 //! Scripts on the names of exports: the function, or the resource, that an export is for.
 
+use crate::names::in_worlds::InWorld;
 use wc_fixtures::bad::Bad;
 use wc_fixtures::encoder_fixture::put_keys;
 use wc_fixtures::shown_kinds::put_complete_function;
@@ -46,7 +47,7 @@ fn put_destructed(out: &mut Lines, found: Option<TypeId>) {
 /// `NAME KEY..`: the name of an export, and the keys of an export set of the world of index 0.
 pub(crate) fn export_line<N: NameMangling>(
     scheme: &N,
-    call: &str,
+    call: InWorld,
     resolve: &Resolve,
     words: &mut Words,
     out: &mut Lines,
@@ -60,7 +61,7 @@ pub(crate) fn export_line<N: NameMangling>(
     }
     put_name(out, &name);
     out.push_str(": ");
-    if call == "match_wit_export" {
+    if matches!(call, InWorld::MatchWitExport) {
         let found = scheme.match_wit_export(alloc, &name, resolve, WorldId(0), &keys)?;
         put_exported(out, found);
     } else {

@@ -15,7 +15,18 @@ use wc_maps::Map;
 use wc_names::NameIndexes;
 use wc_resolve::{InterfaceId, Resolve, WorldItem, WorldKey};
 use wc_rows::lines::Lines;
-use wc_rows::table::named;
+
+/// The calls on names in a world.
+#[derive(Clone, Copy)]
+pub enum InWorld {
+    PayloadIntrinsic,
+    PayloadLookup,
+    Payload,
+    ModuleToInterface,
+    InterfaceNames,
+    MatchWitExport,
+    MatchWitResourceDtor,
+}
 
 fn put_found(out: &mut Lines, found: &Option<(WorldKey, InterfaceId)>) {
     match found {
@@ -30,29 +41,35 @@ fn put_found(out: &mut Lines, found: &Option<(WorldKey, InterfaceId)>) {
     }
 }
 
+/// A text, and the call that asks which interface it is about.
+#[derive(Clone, Copy)]
+struct Question<'a> {
+    call: InWorld,
+    text: &'a str,
+}
+
 /// The interface that a text is about, by one look-up among items, or by an index of them.
 fn find_interface<N: NameIndexes>(
     alloc: Global,
     scheme: &N,
-    call: &str,
+    question: &Question<'_>,
     resolve: &Resolve,
     items: &Map<WorldKey, WorldItem>,
-    text: &str,
 ) -> Result<Option<(WorldKey, InterfaceId)>, AllocError>
     requires { All (λ x. IsKeyIn resolve.now x.0) (map world_entry items.now.entries) }
 {
-    if call == "module_to_interface" {
-        return scheme.module_to_interface(alloc, text, resolve, items);
+    if matches!(question.call, InWorld::ModuleToInterface) {
+        return scheme.module_to_interface(alloc, question.text, resolve, items);
     }
     scheme
         .interface_names(alloc, resolve, items)?
-        .interface(alloc, text)
+        .interface(alloc, question.text)
 }
 
 /// `imports TEXT` or `exports TEXT`.
 fn interface_line<N: NameIndexes>(
     scheme: &N,
-    call: &str,
+    call: InWorld,
     resolve: &Resolve,
     words: &mut Words,
     out: &mut Lines,
@@ -63,10 +80,11 @@ fn interface_line<N: NameIndexes>(
         return Err(Bad::Line("no world"));
     };
     put_name(out, &text);
+    let question = Question { call, text: &text };
     let found = if imported {
-        find_interface(words.alloc, scheme, call, resolve, &world.imports, &text)?
+        find_interface(words.alloc, scheme, &question, resolve, &world.imports)?
     } else {
-        find_interface(words.alloc, scheme, call, resolve, &world.exports, &text)?
+        find_interface(words.alloc, scheme, &question, resolve, &world.exports)?
     };
     put_found(out, &found);
     Ok(())
@@ -75,7 +93,7 @@ fn interface_line<N: NameIndexes>(
 /// The answer to a line of a script.
 pub(crate) fn put_world_line<N: NameIndexes>(
     scheme: &N,
-    call: &str,
+    call: InWorld,
     resolve: &Resolve,
     words: &mut Words,
     out: &mut Lines,
@@ -84,33 +102,23 @@ pub(crate) fn put_world_line<N: NameIndexes>(
     words.end()
 }
 
-/// What is asked of a name in a world; of all others, what it means in a context.
-#[derive(Clone, Copy)]
-enum Asked {
-    Interface,
-    Payload,
-    Export,
-}
-
-const CALLS: [(&str, Asked); 5] = [
-    ("module_to_interface", Asked::Interface),
-    ("interface_names", Asked::Interface),
-    ("payload", Asked::Payload),
-    ("match_wit_export", Asked::Export),
-    ("match_wit_resource_dtor", Asked::Export),
-];
-
 fn put_answer<N: NameIndexes>(
     scheme: &N,
-    call: &str,
+    call: InWorld,
     resolve: &Resolve,
     words: &mut Words,
     out: &mut Lines,
 ) -> Result<(), Bad> {
-    match named(&CALLS, call) {
-        Some(Asked::Interface) => interface_line(scheme, call, resolve, words, out),
-        Some(Asked::Payload) => payload_line(resolve, words, out),
-        Some(Asked::Export) => export_line(scheme, call, resolve, words, out),
-        None => context_line(scheme, call, resolve, words, out),
+    match call {
+        InWorld::ModuleToInterface | InWorld::InterfaceNames => {
+            interface_line(scheme, call, resolve, words, out)
+        }
+        InWorld::Payload => payload_line(resolve, words, out),
+        InWorld::MatchWitExport | InWorld::MatchWitResourceDtor => {
+            export_line(scheme, call, resolve, words, out)
+        }
+        InWorld::PayloadIntrinsic | InWorld::PayloadLookup => {
+            context_line(scheme, call, resolve, words, out)
+        }
     }
 }

@@ -11,6 +11,17 @@ use wc_names::NameMangling;
 use wc_resolve::AbiVariant;
 use wc_rows::lines::Lines;
 
+/// The calls on names alone.
+#[derive(Clone, Copy)]
+pub enum OnName {
+    /// What each function of a scheme says of a name.
+    Meanings,
+    /// The functions that a name is of.
+    Functions,
+    /// What a name means in the module `env`.
+    Environment,
+}
+
 /// A word, and what was found, if something was.
 fn put_found<T: Debug + Drop>(out: &mut Lines, word: &str, found: Option<T>) {
     match found {
@@ -148,19 +159,17 @@ fn environment<N: NameMangling>(
 /// A name, and what a call says of it: a line.
 pub(crate) fn put_name_line<N: NameMangling>(
     scheme: &N,
-    call: &str,
+    call: OnName,
     words: &mut Words,
     out: &mut Lines,
 ) -> Result<(), Bad> {
     let name = words.name()?;
     put_name(out, &name);
     out.push(':');
-    if call == "function_names" {
-        functions(scheme, &name, out);
-    } else if call == "env_import" {
-        environment(scheme, words, &name, out)?;
-    } else {
-        meanings(words.alloc, scheme, &name, out);
+    match call {
+        OnName::Meanings => meanings(words.alloc, scheme, &name, out),
+        OnName::Functions => functions(scheme, &name, out),
+        OnName::Environment => environment(scheme, words, &name, out)?,
     }
     words.end()?;
     out.push('\n');

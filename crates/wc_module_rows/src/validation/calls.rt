@@ -2,25 +2,33 @@
 
 use crate::names::shown_imports::put_copy;
 use crate::validation::described_modules::{DescribedModule, described_of};
-use crate::validation::explained::{explain_adapter, explain_main};
+use crate::validation::explained::{AdapterModule, MainModule, explain_adapter, explain_main};
 use crate::validation::export_calls::{classify_exports, put_found_reallocs, put_recorded};
 use crate::validation::shown_modules::{put_imports, put_memory, put_modules, put_required};
-use std::alloc::{AllocError, Global};
+use std::alloc::Global;
 use std::borrow::CowSlice;
 use wc_dedupe::ModuleImportMap;
 use wc_encoder::{Adapter, ComponentEncoder};
 use wc_fixtures::bad::Bad;
 use wc_fixtures::encoder_fixture::described_encoder;
 use wc_fixtures::resolve_calls::argument_words;
-use wc_fixtures::stop::Stop;
+use wc_fixtures::stop::{Stop, put_answered};
 use wc_fixtures::words::Words;
-use wc_maps::Map;
-use wc_read::{FuncType, ReadFault};
+use wc_read::ReadFault;
 use wc_rows::lines::Lines;
 use wc_rows::rows::Row;
-use wc_validate::{
-    ImportInstance, ValidateFault, ValidatedModule, validate_adapter_module, validate_module,
-};
+use wc_validate::{ImportInstance, ValidateFault, ValidatedModule, validate_module};
+
+/// The calls on an encoder, and that for the texts of faults.
+#[derive(Clone, Copy)]
+pub enum Call {
+    Classify,
+    ClassifyExport,
+    Exports,
+    Module,
+    AdapterModule,
+    Faults,
+}
 
 /// What the words after a call ask: of the exports `reallocs`; of the imports `imports`, `memory`, `required ADAPTER`,
 /// or all that is recorded.
@@ -71,13 +79,16 @@ fn put_as_main(
     words: &mut Words,
     out: &mut Lines,
 ) -> Result<(), Bad> {
+    let checked = MainModule {
+        encoder,
+        bytes,
+        renames,
+    };
     if words.take("explain") {
-        explain_main(words.alloc, encoder, bytes, renames, out);
+        explain_main(words.alloc, &checked, out);
         return words.end();
     }
-    encoder.well_formedness();
-    let validated = validate_module(words.alloc, encoder, bytes, renames);
-    put_validated(&validated, words, out)
+    put_validated(&checked.validated(words.alloc), words, out)
 }
 
 /// What single imports are, without their names.
@@ -180,32 +191,26 @@ fn put_as_adapter(
 ) -> Result<(), Bad> {
     let required = described.take_required(words.alloc);
     let bytes = described.into_bytes(words.alloc)?;
-    put_required_adapter(encoder, adapter, &bytes, &required, words, out)
+    let checked = AdapterModule {
+        encoder,
+        adapter,
+        bytes: &bytes,
+        required: &required,
+    };
+    put_adapter_module(&checked, words, out)
 }
 
-/// The bytes of a module, as one of the encoder's adapters of which these functions are required.
-fn put_required_adapter(
-    encoder: &ComponentEncoder,
-    adapter: &Adapter,
-    bytes: &[u8],
-    required: &Map<String, FuncType>,
+/// What is asked of a module as an adapter, or why it is refused; after the word `explain` as for a main one.
+fn put_adapter_module(
+    checked: &AdapterModule<'_>,
     words: &mut Words,
     out: &mut Lines,
 ) -> Result<(), Bad> {
     if words.take("explain") {
-        explain_adapter(words.alloc, encoder, adapter, bytes, required, out);
+        explain_adapter(words.alloc, checked, out);
         return words.end();
     }
-    encoder.well_formedness();
-    let validated = validate_adapter_module(
-        words.alloc,
-        encoder,
-        bytes,
-        required,
-        &adapter.required_exports,
-        adapter.library_info.as_ref(),
-    );
-    put_validated(&validated, words, out)
+    put_validated(&checked.validated(words.alloc), words, out)
 }
 
 /// The module that is described, as the adapter of the name that is the first word.
@@ -256,67 +261,56 @@ fn put_faults(out: &mut Lines) {
     }
 }
 
+/// A module, as the main one: that of the encoder after the word `main`, else the one that is described.
+fn put_module<'a>(
+    encoder: &ComponentEncoder,
+    row: &'a Row<'a>,
+    words: &mut Words,
+    out: &mut Lines,
+) -> Result<(), Stop<'a>> {
+    if words.take("main") {
+        put_main(encoder, words, out)?;
+        return Ok(());
+    }
+    put_described(encoder, row, words, out)
+}
+
 /// The calls on an encoder.
 fn on_encoder<'a>(
     alloc: Global,
+    call: Call,
     encoder: &ComponentEncoder,
     row: &'a Row<'a>,
     out: &mut Lines,
 ) -> Result<(), Stop<'a>> {
-    if row.call == "classify" {
-        return classify(alloc, encoder, row, out);
-    }
-    if row.call == "classify_export" {
-        return classify_exports(alloc, encoder, row, out);
-    }
-    if row.call == "validated_exports" {
-        return put_recorded(alloc, encoder, row, out);
-    }
-    let mut words = argument_words(alloc, row)?;
-    if row.call == "validate_adapter_module" {
-        put_adapter(encoder, row, &mut words, out)
-    } else if words.take("main") {
-        put_main(encoder, &mut words, out)?;
-        Ok(())
-    } else {
-        put_described(encoder, row, &mut words, out)
+    match call {
+        Call::Classify => classify(alloc, encoder, row, out),
+        Call::ClassifyExport => classify_exports(alloc, encoder, row, out),
+        Call::Exports => put_recorded(alloc, encoder, row, out),
+        Call::AdapterModule => put_adapter(encoder, row, &mut argument_words(alloc, row)?, out),
+        _ => put_module(encoder, row, &mut argument_words(alloc, row)?, out),
     }
 }
 
-fn answered<'a>(alloc: Global, row: &'a Row<'a>, out: &mut Lines) -> Result<(), Stop<'a>> {
-    if row.call == "validate_faults" {
+fn answered<'a>(
+    alloc: Global,
+    call: Call,
+    row: &'a Row<'a>,
+    out: &mut Lines,
+) -> Result<(), Stop<'a>> {
+    if matches!(call, Call::Faults) {
         put_faults(out);
         return Ok(());
     }
     match described_encoder(alloc, row) {
-        Ok(encoder) => on_encoder(alloc, &encoder, row, out),
+        Ok(encoder) => on_encoder(alloc, call, &encoder, row, out),
         Err(stop) => Err(stop),
     }
 }
 
-/// The calls of `wc_validate`.
-const OWN: [&str; 6] = [
-    "classify",
-    "classify_export",
-    "validated_exports",
-    "validate_module",
-    "validate_adapter_module",
-    "validate_faults",
-];
-
-fn is_own(call: &str) -> bool {
-    OWN.iter().any(|name| *name == call)
-}
-
-/// The answer of a call of `wc_validate`. False where the call is none.
-pub fn answer(alloc: Global, row: &Row<'_>, out: &mut Lines) -> Result<bool, AllocError> {
-    if !is_own(row.call) {
-        return Ok(false);
-    }
+/// Appends the answer of a call of `wc_validate`.
+pub fn answer(alloc: Global, call: Call, row: &Row<'_>, out: &mut Lines) {
     let mut lines = Lines::new(alloc);
-    match answered(alloc, row, &mut lines) {
-        Ok(()) => out.push_str(lines.text()?),
-        Err(stop) => stop.put(out)?,
-    }
-    Ok(true)
+    let answered = answered(alloc, call, row, &mut lines);
+    put_answered(out, answered, &lines);
 }

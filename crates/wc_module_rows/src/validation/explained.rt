@@ -8,69 +8,84 @@ use wc_read::FuncType;
 use wc_rows::lines::Lines;
 use wc_rows::values::put_place;
 use wc_validate::{
-    ValidateFault, explain_adapter_module, explain_module, validate_adapter_module, validate_module,
+    ValidateFault, ValidatedModule, explain_adapter_module, explain_module,
+    validate_adapter_module, validate_module,
 };
 
-/// A fault of a main module, and what it is about.
-fn put_main(
-    alloc: Global,
-    encoder: &ComponentEncoder,
-    bytes: &[u8],
-    renames: Option<&ModuleImportMap>,
-    fault: &ValidateFault,
-    out: &mut Lines,
-) {
-    writeln!(out, "fault {fault}");
-    let place = explain_module(alloc, encoder, bytes, renames, fault);
-    put_place(out, place);
+/// A module, as an encoder's main one, and the names that its imports had.
+#[derive(Clone, Copy)]
+pub(crate) struct MainModule<'a> {
+    pub(crate) encoder: &'a ComponentEncoder,
+    pub(crate) bytes: &'a [u8],
+    pub(crate) renames: Option<&'a ModuleImportMap>,
 }
 
-/// Why a module is refused as the encoder's main one, and what that is about.
-pub(crate) fn explain_main(
-    alloc: Global,
-    encoder: &ComponentEncoder,
-    bytes: &[u8],
-    renames: Option<&ModuleImportMap>,
-    out: &mut Lines,
-) {
-    encoder.well_formedness();
-    match validate_module(alloc, encoder, bytes, renames) {
-        Ok(_) => out.push_str("ok\n"),
-        Err(fault) => put_main(alloc, encoder, bytes, renames, &fault, out),
+impl MainModule<'_> {
+    /// What is recorded of the module, or why it is refused.
+    pub(crate) fn validated(&self, alloc: Global) -> Result<ValidatedModule, ValidateFault> {
+        self.encoder.well_formedness();
+        validate_module(alloc, self.encoder, self.bytes, self.renames)
+    }
+
+    /// A fault of the module, and what it is about.
+    fn put_explained(&self, alloc: Global, fault: &ValidateFault, out: &mut Lines) {
+        writeln!(out, "fault {fault}");
+        let place = explain_module(alloc, self.encoder, self.bytes, self.renames, fault);
+        put_place(out, place);
     }
 }
 
-/// A fault of an adapter, and what it is about.
-fn put_adapter(
-    alloc: Global,
-    encoder: &ComponentEncoder,
-    adapter: &Adapter,
-    bytes: &[u8],
-    required: &Map<String, FuncType>,
-    fault: &ValidateFault,
-    out: &mut Lines,
-) {
-    writeln!(out, "fault {fault}");
-    let keys = &adapter.required_exports;
-    let library = adapter.library_info.as_ref();
-    let place = explain_adapter_module(alloc, encoder, bytes, required, keys, library, fault);
-    put_place(out, place);
+/// Why a module is refused as an encoder's main one, and what that is about.
+pub(crate) fn explain_main(alloc: Global, checked: &MainModule<'_>, out: &mut Lines) {
+    match checked.validated(alloc) {
+        Ok(_) => out.push_str("ok\n"),
+        Err(fault) => checked.put_explained(alloc, &fault, out),
+    }
 }
 
-/// Why a module is refused as one of the encoder's adapters, and what that is about.
-pub(crate) fn explain_adapter(
-    alloc: Global,
-    encoder: &ComponentEncoder,
-    adapter: &Adapter,
-    bytes: &[u8],
-    required: &Map<String, FuncType>,
-    out: &mut Lines,
-) {
-    encoder.well_formedness();
-    let keys = &adapter.required_exports;
-    let library = adapter.library_info.as_ref();
-    match validate_adapter_module(alloc, encoder, bytes, required, keys, library) {
+/// A module, as one of an encoder's adapters, of which these functions are required.
+#[derive(Clone, Copy)]
+pub(crate) struct AdapterModule<'a> {
+    pub(crate) encoder: &'a ComponentEncoder,
+    pub(crate) adapter: &'a Adapter,
+    pub(crate) bytes: &'a [u8],
+    pub(crate) required: &'a Map<String, FuncType>,
+}
+
+impl AdapterModule<'_> {
+    /// What is recorded of the module, or why it is refused.
+    pub(crate) fn validated(&self, alloc: Global) -> Result<ValidatedModule, ValidateFault> {
+        self.encoder.well_formedness();
+        validate_adapter_module(
+            alloc,
+            self.encoder,
+            self.bytes,
+            self.required,
+            &self.adapter.required_exports,
+            self.adapter.library_info.as_ref(),
+        )
+    }
+
+    /// A fault of the module, and what it is about.
+    fn put_explained(&self, alloc: Global, fault: &ValidateFault, out: &mut Lines) {
+        writeln!(out, "fault {fault}");
+        let place = explain_adapter_module(
+            alloc,
+            self.encoder,
+            self.bytes,
+            self.required,
+            &self.adapter.required_exports,
+            self.adapter.library_info.as_ref(),
+            fault,
+        );
+        put_place(out, place);
+    }
+}
+
+/// Why a module is refused as one of an encoder's adapters, and what that is about.
+pub(crate) fn explain_adapter(alloc: Global, checked: &AdapterModule<'_>, out: &mut Lines) {
+    match checked.validated(alloc) {
         Ok(_) => out.push_str("ok\n"),
-        Err(fault) => put_adapter(alloc, encoder, adapter, bytes, required, &fault, out),
+        Err(fault) => checked.put_explained(alloc, &fault, out),
     }
 }

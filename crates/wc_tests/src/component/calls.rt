@@ -9,7 +9,7 @@ use wc_fixtures::fixture::{Fixture, fixture_of};
 use wc_fixtures::functions::complete_function;
 use wc_fixtures::resolve_calls::{argument_words, resolve_of};
 use wc_fixtures::signature_calls::abi_variant;
-use wc_fixtures::stop::Stop;
+use wc_fixtures::stop::{Stop, put_answered};
 use wc_fixtures::words::Words;
 use wc_gc::GcFault;
 use wc_module_rows::validation::described_modules::described_of;
@@ -153,15 +153,7 @@ fn put_faults(alloc: Global, out: &mut Lines) -> Result<(), AllocError> {
     Ok(())
 }
 
-fn answered<'a>(alloc: Global, row: &'a Row<'a>, out: &mut Lines) -> Result<(), Stop<'a>> {
-    if row.call == "world_faults" {
-        put_faults(alloc, out)?;
-        return Ok(());
-    }
-    if row.call == "plain_options" {
-        let resolve = resolve_of(alloc, &row.input)?;
-        return plain_options(&resolve, &mut argument_words(alloc, row)?, out);
-    }
+fn answer_world<'a>(alloc: Global, row: &'a Row<'a>, out: &mut Lines) -> Result<(), Stop<'a>> {
     match described_encoder(alloc, &row.input) {
         Ok(encoder) => {
             component_world(alloc, &encoder, &row.arguments, out);
@@ -171,22 +163,40 @@ fn answered<'a>(alloc: Global, row: &'a Row<'a>, out: &mut Lines) -> Result<(), 
     }
 }
 
-/// The calls of `wc_world`.
-const OWN: [&str; 3] = ["component_world", "plain_options", "world_faults"];
-
-fn is_own(call: &str) -> bool {
-    OWN.iter().any(|name| *name == call)
+fn answer_options<'a>(alloc: Global, row: &'a Row<'a>, out: &mut Lines) -> Result<(), Stop<'a>> {
+    let resolve = resolve_of(alloc, &row.input)?;
+    plain_options(&resolve, &mut argument_words(alloc, row)?, out)
 }
 
-/// The answer of a call of `wc_world`. False where the call is none.
-pub(crate) fn answer(alloc: Global, row: &Row<'_>, out: &mut Lines) -> Result<bool, AllocError> {
-    if !is_own(row.call) {
-        return Ok(false);
+fn answer_faults<'a>(alloc: Global, out: &mut Lines) -> Result<(), Stop<'a>> {
+    put_faults(alloc, out)?;
+    Ok(())
+}
+
+/// The calls of `wc_world`.
+#[derive(Clone, Copy)]
+pub(crate) enum Call {
+    World,
+    PlainOptions,
+    Faults,
+}
+
+fn answered<'a>(
+    alloc: Global,
+    call: Call,
+    row: &'a Row<'a>,
+    out: &mut Lines,
+) -> Result<(), Stop<'a>> {
+    match call {
+        Call::World => answer_world(alloc, row, out),
+        Call::PlainOptions => answer_options(alloc, row, out),
+        Call::Faults => answer_faults(alloc, out),
     }
+}
+
+/// Appends the answer of a call of `wc_world`.
+pub(crate) fn answer(alloc: Global, call: Call, row: &Row<'_>, out: &mut Lines) {
     let mut lines = Lines::new(alloc);
-    match answered(alloc, row, &mut lines) {
-        Ok(()) => out.push_str(lines.text()?),
-        Err(stop) => stop.put(out)?,
-    }
-    Ok(true)
+    let answered = answered(alloc, call, row, &mut lines);
+    put_answered(out, answered, &lines);
 }

@@ -5,7 +5,7 @@ use std::alloc::{AllocError, Global};
 use std::str;
 use wc_encoder::ComponentEncoder;
 use wc_fixtures::resolve_calls::argument_words;
-use wc_fixtures::stop::Stop;
+use wc_fixtures::stop::{Stop, put_answered};
 use wc_maps::Map;
 use wc_plan::laws::worlds_nameable;
 use wc_plan::{Plan, PlanFault, plan, plan_encoder, write_plan};
@@ -139,15 +139,35 @@ fn put_faults(alloc: Global, out: &mut Lines) -> Result<(), AllocError> {
     Ok(())
 }
 
-fn answered<'a>(alloc: Global, row: &'a Row<'a>, out: &mut Lines) -> Result<(), Stop<'a>> {
-    if row.call == "plan_faults" {
-        put_faults(alloc, out)?;
-        return Ok(());
-    }
-    let puts = puts_of(alloc, row)?;
+/// The calls of `wc_plan`.
+#[derive(Clone, Copy)]
+pub(crate) enum Call {
+    Plan,
+    /// The plan as JSON.
+    Json,
+    /// `plan_failing PUTS`: the lines, over a sink that fails after so many puts.
+    Failing,
+    /// The plan of the world, all of whose lowerings are taken away.
+    WithoutLowerings,
+    Faults,
+}
+
+fn answer_faults<'a>(alloc: Global, out: &mut Lines) -> Result<(), Stop<'a>> {
+    put_faults(alloc, out)?;
+    Ok(())
+}
+
+/// The calls on the encoder that the input describes.
+fn answer_planned<'a>(
+    alloc: Global,
+    call: Call,
+    row: &'a Row<'a>,
+    out: &mut Lines,
+) -> Result<(), Stop<'a>> {
+    let puts = puts_of(alloc, call, row)?;
     match described_encoder(alloc, &row.input) {
         Ok(encoder) => {
-            put_planned(alloc, row.call, &encoder, puts, out);
+            put_planned(alloc, call, &encoder, puts, out);
             Ok(())
         }
         Err(stop) => Err(stop),
@@ -155,9 +175,9 @@ fn answered<'a>(alloc: Global, row: &'a Row<'a>, out: &mut Lines) -> Result<(), 
 }
 
 /// After how many puts the sink fails: as the argument of `plan_failing` says.
-fn puts_of<'a>(alloc: Global, row: &'a Row<'a>) -> Result<u32, Stop<'a>> {
+fn puts_of<'a>(alloc: Global, call: Call, row: &'a Row<'a>) -> Result<u32, Stop<'a>> {
     let mut words = argument_words(alloc, row)?;
-    let puts = if row.call == "plan_failing" {
+    let puts = if matches!(call, Call::Failing) {
         words.number()?
     } else {
         u32::MAX
@@ -167,41 +187,34 @@ fn puts_of<'a>(alloc: Global, row: &'a Row<'a>) -> Result<u32, Stop<'a>> {
 }
 
 /// What a call says of the plan of an encoder's world.
-fn put_planned(alloc: Global, call: &str, encoder: &ComponentEncoder, puts: u32, out: &mut Lines) {
-    let plan = if call == "plan_without_lowerings" {
+fn put_planned(alloc: Global, call: Call, encoder: &ComponentEncoder, puts: u32, out: &mut Lines) {
+    let plan = if matches!(call, Call::WithoutLowerings) {
         plan_without_lowerings(alloc, encoder)
     } else {
         plan_encoder(alloc, encoder, &PlainOptions)
     };
-    if call == "plan_json" {
+    if matches!(call, Call::Json) {
         put_record(alloc, &plan, out);
     } else {
         put_plan(alloc, &plan, puts, out);
     }
 }
 
-/// The calls of `wc_plan`.
-const OWN: [&str; 5] = [
-    "plan",
-    "plan_json",
-    "plan_failing",
-    "plan_without_lowerings",
-    "plan_faults",
-];
-
-fn is_own(call: &str) -> bool {
-    OWN.iter().any(|name| *name == call)
+fn answered<'a>(
+    alloc: Global,
+    call: Call,
+    row: &'a Row<'a>,
+    out: &mut Lines,
+) -> Result<(), Stop<'a>> {
+    match call {
+        Call::Faults => answer_faults(alloc, out),
+        _ => answer_planned(alloc, call, row, out),
+    }
 }
 
-/// The answer of a call of `wc_plan`. False where the call is none.
-pub(crate) fn answer(alloc: Global, row: &Row<'_>, out: &mut Lines) -> Result<bool, AllocError> {
-    if !is_own(row.call) {
-        return Ok(false);
-    }
+/// Appends the answer of a call of `wc_plan`.
+pub(crate) fn answer(alloc: Global, call: Call, row: &Row<'_>, out: &mut Lines) {
     let mut lines = Lines::new(alloc);
-    match answered(alloc, row, &mut lines) {
-        Ok(()) => out.push_str(lines.text()?),
-        Err(stop) => stop.put(out)?,
-    }
-    Ok(true)
+    let answered = answered(alloc, call, row, &mut lines);
+    put_answered(out, answered, &lines);
 }

@@ -14,9 +14,5 @@ export_shown x = (x.0.now, export_view x.1.now)
 abbrev pub exports_left : Exports → ExportRecord
 exports_left s = map export_entry s.names
 
--- a realloc's name
-abbrev pub realloc_shown : Bor (List ℕ) → List ℕ
-realloc_shown x = x.now
-
 abbrev pub reallocs_left : Reallocs → List (List ℕ)
 reallocs_left s = realloc_names (map export_entry s.names)

@@ -1,9 +1,10 @@
 -- What the imports of a core module are recorded as: entries, and the same by modules.
-use Rattle.std.specs.Prelude.{◌≡◌, ℕ, List, [], ◌∷◌, map, not, filter, Option, Some, None, if◌then◌else◌}
+use Rattle.std.specs.Prelude.{◌≡◌, ℕ, List, [], ◌∷◌, map, Option, Some, None, if◌then◌else◌}
 use Rattle.std.specs.List.{filter_map}
 use Rattle.std.specs.Map.{lookup}
 use Rattle.std.specs.Option.{option_and_then}
 use Rattle.std.specs.Str.{bytes_eq}
+use Rattle.wc_maps.specs.Names.{first_occurrences}
 use Rattle.wc_read.specs.declared.types.MemoryType.{MemoryType}
 use Rattle.wc_read.specs.Types.{FuncTypeValue}
 use Rattle.wc_encoder.specs.Adapters.{WhichView}
@@ -24,11 +25,6 @@ entry_module (whole m which) = m
 pub data InstanceRecord : Type 0 where
   all_of : WhichView → InstanceRecord
   names_of : List (List ℕ × ImportView) → InstanceRecord
-
--- texts in the order of their first occurrences
-abbrev pub first_occurrences : List (List ℕ) → List (List ℕ)
-first_occurrences [] = []
-first_occurrences (m ∷ ms) = m ∷ filter (λ k. not (bytes_eq m k)) (first_occurrences ms)
 
 abbrev pub single_of : List ℕ → Entry → Option (List ℕ × ImportView)
 single_of m (single k name i) = if bytes_eq m k then Some (name, i) else None

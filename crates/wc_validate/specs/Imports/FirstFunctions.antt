@@ -9,6 +9,7 @@ use Rattle.std.specs.declared.alloc.Global.{Global}
 use Rattle.indexmap.specs.IndexMap.{IndexMap, get_by}
 use Rattle.wc_read.specs.Types.{FuncTypeValue}
 use Rattle.wc_names.specs.Views.{ImportView}
+use Rattle.wc_resolve.specs.Views.{named_view}
 use Rattle.wc_validate.specs.declared.imports.first_functions.FirstFunctions.{FirstFunctions}
 use Rattle.wc_validate.specs.declared.imports.instances.ImportInstance.{ImportInstance}
 use Rattle.wc_validate.specs.Imports.Entries.{InstanceRecord, Records, all_of, names_of}
@@ -36,11 +37,8 @@ first_functions (names_of names) = first_of_names (placed_functions 0 names)
 abbrev pub first_functions_of : ImportInstance → List (List ℕ × ℕ)
 first_functions_of instance = first_functions (instance_view instance)
 
-abbrev pub position_entry : String Global × ℕ → List ℕ × ℕ
-position_entry e = (string_bytes e.0, e.1)
-
 abbrev pub position_entries : {S : Type 0} → IndexMap (String Global) ℕ S → List (List ℕ × ℕ)
-position_entries names = map position_entry names.entries
+position_entries names = map named_view names.entries
 
 -- the positions that are kept of a module, if there are any
 abbrev pub positions_under : FirstFunctions → List ℕ → List (List ℕ × ℕ)

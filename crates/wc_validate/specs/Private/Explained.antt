@@ -25,6 +25,7 @@ use Rattle.wc_names.specs.Imports.{NameScope, func_type}
 use Rattle.wc_names.specs.Views.{adapter_export}
 use Rattle.wc_validate.specs.declared.explain.keys.LackingKey.{LackingKey}
 use Rattle.wc_validate.specs.declared.explain.functions.LackingFunction.{LackingFunction}
+use Rattle.wc_validate.specs.declared.explain.missing.RecordedModule.{RecordedModule}
 use Rattle.wc_validate.specs.declared.explain.refused.Refused.{Refused}
 use Rattle.wc_validate.specs.declared.explain.refused.RefusedExport.{RefusedExport}
 use Rattle.wc_validate.specs.declared.name_fault.NameFault.{NameFault}
@@ -48,7 +49,7 @@ use Rattle.wc_validate.specs.NameScopes.{name_scope_of}
 use Rattle.wc_validate.specs.Places.{AreTypesOfImport, IsTypedAt, difference_view, IsExportPlace, IsFirstFailing, IsFirstLacking, IsFirstMismatched, IsFirstRefused, IsFirstUnexported, IsFunctionLack, IsFunctionPlace, IsImportPlace, IsKeyPlace, IsLack, IsMissingPlace, IsModulePlace, IsNoPlace, IsOtherMismatch, IsOtherRefused, IsSecondMemory, an_export, missing_export, place_view, subject_view}
 use Rattle.wc_validate.specs.Requirements.{AreMet, IsFirstUnmet, IsMet, IsShortfall, Requirement, callback_name, callbacks, exported_type, function_names, functions_of, is_called_back, key_requirement, key_requirements, one_memory, type_requirement}
 use Rattle.wc_validate.specs.Private.ExportedFunctions.{AreNamesOf, HasFunctionsOf, IsExportIndexOf}
-use Rattle.wc_validate.specs.Private.RequiredExports.{required_of}
+use Rattle.wc_validate.specs.Private.Requirements.{required_of}
 use Rattle.wc_validate.specs.Texts.{name_not_exported}
 use Rattle.wc_validate.specs.Private.Imports.Contexts.{HasLibrary, import_scope}
 use Rattle.wc_validate.specs.Validated.{ValidationInput, IsRecordOfImports}
@@ -106,9 +107,9 @@ abbrev pub IsExportStopIn : ExportContext → Module → List ModuleExport → R
 IsExportStopIn c m es x = IsExportStopAt (name_scope_of c.names) c.standard.keys (module_value m) (map export_value es) x.index x.fault
 
 -- the place that is answered is that export; nothing only where the fault is another; by whatever the exports were recorded
-abbrev pub IsMismatchExplained : {F : Type 0} → Module → List ModuleExport → ℕ → NameFault → ValidateFault → Result (Option Place) F → Type 0
-IsMismatchExplained m es index cause f result =
-    (e : NameScope) (keys : List KeyView) → IsExportStopAt e keys (module_value m) (map export_value es) index cause
+abbrev pub IsMismatchExplained : {F : Type 0} → Module → List ModuleExport → RefusedExport → ValidateFault → Result (Option Place) F → Type 0
+IsMismatchExplained m es refused f result =
+    (e : NameScope) (keys : List KeyView) → IsExportStopAt e keys (module_value m) (map export_value es) refused.index refused.fault
     → IfOk result (λ answer. MatchOption answer (IsOtherMismatch e keys (module_value m) (map export_value es) f)
     (λ (p : Place). IsExportPlace e keys (module_value m) (map export_value es) f (place_view p)))
 
@@ -239,9 +240,14 @@ IsMissingExplained n q xs recorded f answer =
     (λ (p : Place). IsMissingPlace n.resolve.now xs (map export_entry recorded) (map world_entry n.world.now.exports.entries)
     (map key_view q.keys.now.keys) (map required_entry q.functions.now.entries) f (place_view p))
 
+-- the same of a module
+abbrev pub IsMissingOf : Names → RequiredExports → RecordedModule → ValidateFault → Option Place → Type 0
+IsMissingOf n q x f answer = IsMissingExplained n q (exports_in x.«module».now x.«module».now.exports.items) x.recorded.now.entries f answer
+
 -- memories and callbacks are as required
-abbrev pub AreAlone : Names → Module → List (String Global × Export) → Type 0
-AreAlone n m recorded = AreMet n.resolve.now (exports_in m m.exports.items) (map export_entry recorded) (one_memory ∷ callbacks ∷ [])
+abbrev pub AreAlone : Names → RecordedModule → Type 0
+AreAlone n x =
+    AreMet n.resolve.now (exports_in x.«module».now x.«module».now.exports.items) (map export_entry x.recorded.now.entries) (one_memory ∷ callbacks ∷ [])
 
 -- what is missing, as the place of a fault, or nothing, where the exports of the module are recorded by a context
 abbrev pub IsMissingFrom : ExportContext → RequiredExports → Module → ValidateFault → Option Place → Type 0

@@ -1,3 +1,4 @@
+pub mod AdapterFunctions
 pub mod Arguments
 pub mod Builtins
 pub mod Contexts
@@ -7,4 +8,3 @@ pub mod Intrinsics
 pub mod Kinds
 pub mod Lookups
 pub mod Recorder
-pub mod Required

@@ -45,20 +45,20 @@ fn is_mismatch(fault: &ValidateFault) -> bool
     matches!(fault, ValidateFault::SignatureMismatch)
 }
 
-/// The export at an index that is refused for this cause, as the place of a fault: if that is this fault.
+/// The export that is refused, as the place of a fault: if it is refused with this fault.
 pub(crate) fn export_place(
     alloc: Global,
     module: &Module<'_>,
     exports: &[wc_read::Export<'_>],
-    index: usize,
-    cause: NameFault,
+    refused: RefusedExport,
     fault: &ValidateFault,
 ) -> Result<Option<Place>, AllocError>
-    requires in_range { index < length exports.now }
+    requires in_range { refused.index < length exports.now }
     requires items { AreExportsIn «module».now exports.now }
     requires typed { HaveTypes (module_value «module».now) }
-    ensures { IsMismatchExplained «module».now exports.now index cause fault.now result }
+    ensures { IsMismatchExplained «module».now exports.now refused fault.now result }
 {
+    let (index, cause) = (refused.index, refused.fault);
     // An export is refused for its type, or an allocation failed.
     let NameFault::SignatureMismatch(wanted) = cause else {
         return Err(AllocError);

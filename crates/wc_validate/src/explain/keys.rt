@@ -5,7 +5,7 @@ ghost use Rattle.wc_resolve.specs.Ranges.{IsItemIn};
 ghost use Rattle.wc_resolve.specs.Views.{key_view, world_entry};
 ghost use Rattle.wc_validate.specs.NameScopes.{name_scope_of};
 ghost use Rattle.wc_validate.specs.Private.Explained.{AreAllNamed, IsKeyExplained, IsLackIn, IsLackNamed, IsLackOf, IsLackingFunction, IsOfKey};
-ghost use Rattle.wc_validate.specs.Private.RequiredExports.{AreKeysNamed, HasItemsInRange, HasKeysNamed, IsKeyNamed, MeetsByNames, requirements_of_keys};
+ghost use Rattle.wc_validate.specs.Private.Requirements.{AreKeysNamed, HasItemsInRange, HasKeysNamed, IsKeyNamed, MeetsByNames, requirements_of_keys};
 ghost use Rattle.wc_validate.specs.Requirements.{interface_functions};
 
 use crate::ValidateFault;

@@ -3,10 +3,10 @@
 ghost use Rattle.std.specs.Prelude.{◌≡◌, ◌↔◌, ◌≤◌, IfOk, IsTrue, MatchOption, map};
 ghost use Rattle.wc_read.specs.Modules.{HaveTypes, module_value};
 ghost use Rattle.wc_validate.specs.Exports.Map.{export_entry};
-ghost use Rattle.wc_validate.specs.Exports.Record.{AreExportsIn, exports_in};
+ghost use Rattle.wc_validate.specs.Exports.Record.{AreExportsIn};
 ghost use Rattle.wc_validate.specs.NameScopes.{name_scope_of};
-ghost use Rattle.wc_validate.specs.Private.Explained.{AreAlone, IsCallbackExplained, IsMemoryExplained, IsMissingExplained, IsSecondNamed, IsUncalled};
-ghost use Rattle.wc_validate.specs.Private.RequiredExports.{AreCalledBack, HasItemsInRange, HasKeysNamed};
+ghost use Rattle.wc_validate.specs.Private.Explained.{AreAlone, IsCallbackExplained, IsMemoryExplained, IsMissingOf, IsSecondNamed, IsUncalled};
+ghost use Rattle.wc_validate.specs.Private.Requirements.{AreCalledBack, HasItemsInRange, HasKeysNamed};
 ghost use Rattle.wc_validate.specs.Requirements.{memory_count};
 
 use crate::ValidateFault;
@@ -20,6 +20,13 @@ use std::alloc::{AllocError, Global};
 use wc_maps::Map;
 use wc_names::Export;
 use wc_read::Module;
+
+/// A module, and what is recorded of its exports.
+#[derive(Clone, Copy)]
+pub(crate) struct RecordedModule<'m> {
+    pub(crate) module: &'m Module<'m>,
+    pub(crate) recorded: &'m Map<String, Export>,
+}
 
 /// The name of the second memory that is recorded, if there are two.
 fn second_memory<'n>(names: &'n Map<String, Export>) -> Option<&'n str>
@@ -106,29 +113,27 @@ fn callback_place(
 }
 
 /// What is missing for a key or of the required functions, where memories and callbacks are as required.
-fn unmet_place<'m>(
+fn unmet_place(
     alloc: Global,
-    recorded: &Map<String, Export>,
+    exports: RecordedModule<'_>,
     names: &Names<'_>,
-    module: &'m Module<'m>,
     required: RequiredExports<'_>,
     fault: &ValidateFault,
 ) -> Result<Option<Place>, AllocError>
-    requires items { AreExportsIn «module».now «module».now.exports.items }
-    requires typed { HaveTypes (module_value «module».now) }
+    requires items { AreExportsIn exports.«module».now exports.«module».now.exports.items }
+    requires typed { HaveTypes (module_value exports.«module».now) }
     requires world { HasItemsInRange (name_scope_of names.now) }
     requires named { HasKeysNamed (name_scope_of names.now) }
-    requires alone { AreAlone names.now «module».now recorded.now.entries }
-    ensures { IfOk result (IsMissingExplained names.now required.entry
-        (exports_in «module».now «module».now.exports.items) recorded.now.entries fault.now) }
+    requires alone { AreAlone names.now exports }
+    ensures { IfOk result (IsMissingOf names.now required.entry exports.entry fault.now) }
 {
-    let functions = names_of_functions(alloc, recorded)?;
-    let exports = &names.world.exports;
-    if let Err(lacking) = first_lacking(alloc, &functions, names.resolve, exports, required.keys) {
+    let functions = names_of_functions(alloc, exports.recorded)?;
+    let items = &names.world.exports;
+    if let Err(lacking) = first_lacking(alloc, &functions, names.resolve, items, required.keys) {
         return key_place(alloc, &functions, names, lacking, fault);
     }
     let seed = *required.functions.hasher();
-    let index = typed_functions(alloc, seed, module, &module.exports)?;
+    let index = typed_functions(alloc, seed, exports.module, &exports.module.exports)?;
     match first_unexported(alloc, &index, required.functions) {
         Ok(()) => Ok(None),
         Err(lacking) => function_place(alloc, &index, lacking, fault),
@@ -136,26 +141,24 @@ fn unmet_place<'m>(
 }
 
 /// What is missing, as the place of a fault: if this fault is the first of what is missing.
-pub(crate) fn missing_place<'m>(
+pub(crate) fn missing_place(
     alloc: Global,
-    recorded: &Map<String, Export>,
+    exports: RecordedModule<'_>,
     names: &Names<'_>,
-    module: &'m Module<'m>,
     required: RequiredExports<'_>,
     fault: &ValidateFault,
 ) -> Result<Option<Place>, AllocError>
-    requires items { AreExportsIn «module».now «module».now.exports.items }
-    requires typed { HaveTypes (module_value «module».now) }
+    requires items { AreExportsIn exports.«module».now exports.«module».now.exports.items }
+    requires typed { HaveTypes (module_value exports.«module».now) }
     requires world { HasItemsInRange (name_scope_of names.now) }
     requires named { HasKeysNamed (name_scope_of names.now) }
-    ensures { IfOk result (IsMissingExplained names.now required.entry
-        (exports_in «module».now «module».now.exports.items) recorded.now.entries fault.now) }
+    ensures { IfOk result (IsMissingOf names.now required.entry exports.entry fault.now) }
 {
-    if let Some(name) = second_memory(recorded) {
+    if let Some(name) = second_memory(exports.recorded) {
         return memory_place(alloc, name, fault);
     }
-    match uncalled(alloc, recorded)? {
+    match uncalled(alloc, exports.recorded)? {
         Some(name) => callback_place(alloc, name, fault),
-        None => unmet_place(alloc, recorded, names, module, required, fault),
+        None => unmet_place(alloc, exports, names, required, fault),
     }
 }

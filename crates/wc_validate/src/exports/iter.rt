@@ -35,9 +35,9 @@ impl<'a> Iterator for Reallocs<'a> {
     type Item = &'a str;
 
     ghost use Rattle.std.specs.Iterator.{YieldsFirstBy, item_count};
-    ghost use Rattle.wc_validate.specs.Exports.Iter.{realloc_shown, reallocs_left};
+    ghost use Rattle.wc_validate.specs.Exports.Iter.{reallocs_left};
 
-    ghost next_gives = { YieldsFirstBy realloc_shown reallocs_left };
+    ghost next_gives = { YieldsFirstBy (λ name. name.now) reallocs_left };
 
     ghost remaining = { item_count reallocs_left };
 

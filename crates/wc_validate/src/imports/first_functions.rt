@@ -1,9 +1,10 @@
 //! Positions of the first imports of functions of adapters, module by module.
 
 ghost use Rattle.std.specs.Prelude.{◌≡◌, [], IfOk, map};
-ghost use Rattle.wc_validate.specs.Imports.FirstFunctions.{HasFirstFunctions, position_entry, IsModuleNoted};
+ghost use Rattle.wc_validate.specs.Imports.FirstFunctions.{HasFirstFunctions, IsModuleNoted};
+ghost use Rattle.wc_resolve.specs.Views.{named_view};
 ghost use Rattle.wc_validate.specs.Imports.Instances.{instance_entry};
-ghost use Rattle.wc_validate.specs.Private.Imports.Required.{position_of, ArePositionsAdded, first_positions};
+ghost use Rattle.wc_validate.specs.Private.Imports.AdapterFunctions.{position_of, ArePositionsAdded, first_positions};
 
 use crate::first_by_key::keep_name;
 use crate::imports::instances::ImportInstance;
@@ -40,7 +41,7 @@ fn functions_among(
     alloc: Global,
     names: &Map<String, Import>,
 ) -> Result<Map<String, usize>, AllocError>
-    ensures { IfOk result (λ p. map position_entry p.entries ≡ first_positions names.now.entries) }
+    ensures { IfOk result (λ p. map named_view p.entries ≡ first_positions names.now.entries) }
 {
     let mut positions = Map::with_hasher(alloc, *names.hasher());
     let mut position: usize = 0;

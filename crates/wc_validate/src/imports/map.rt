@@ -6,7 +6,7 @@ ghost use Rattle.wc_read.specs.Types.{func_type_value};
 ghost use Rattle.wc_names.specs.Views.{import_view};
 ghost use Rattle.wc_validate.specs.Imports.Map.{function_of, imports_in, memory_in, required_entry, required_in};
 ghost use Rattle.wc_validate.specs.Imports.Instances.{instance_entry};
-ghost use Rattle.wc_validate.specs.Private.Imports.Required.{IsFunctionAdded, IsRequiredAdded, required_at};
+ghost use Rattle.wc_validate.specs.Private.Imports.AdapterFunctions.{IsFunctionAdded, IsRequiredAdded, required_at};
 ghost use Rattle.wc_validate.specs.Imports.Iter.{imports_left};
 
 use crate::imports::first_functions::FirstFunctions;

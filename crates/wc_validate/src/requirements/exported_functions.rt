@@ -8,7 +8,7 @@ ghost use Rattle.wc_validate.specs.Exports.Map.{export_entry};
 ghost use Rattle.wc_validate.specs.Private.ExportedFunctions.{AreNamesOf, IsExportIndexOf, function_shown, HasFunction, HasFunctionsOf, IsNameAdded, IsTypedAdded, TellsByNames};
 ghost use Rattle.wc_validate.specs.Requirements.{function_name};
 ghost use Rattle.wc_validate.specs.Exports.Record.{exports_in, AreExportsIn};
-ghost use Rattle.wc_validate.specs.Private.RequiredExports.{requirement_of_function, FailsByIndex, FailsFunctions, MeetsByIndex, MeetsFunctions};
+ghost use Rattle.wc_validate.specs.Private.Requirements.{requirement_of_function, FailsByIndex, FailsFunctions, MeetsByIndex, MeetsFunctions};
 
 use crate::ValidateFault;
 use crate::exports::record::exported_type;

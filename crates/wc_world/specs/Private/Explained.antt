@@ -1,5 +1,5 @@
 -- Faults of a world explained, as the code has it.
-use Rattle.std.specs.Prelude.{◌≡◌, ◌≢◌, ◌⊎◌, ℕ, List, MatchOption, Option, Some, None, true, false}
+use Rattle.std.specs.Prelude.{◌≡◌, ◌≢◌, ◌⊎◌, ℕ, List, MatchOption, Option, None, true, false}
 use Rattle.std.specs.declared.alloc.Global.{Global}
 use Rattle.std.specs.declared.vec.Vec.{Vec}
 use Rattle.wc_encoder.specs.EncoderParts.{EncoderView}
@@ -102,7 +102,3 @@ IsAdapterAnswer f e name answer = MatchOption answer (IsUnplacedUnder f e name) 
 abbrev pub IsNamedAnswer : AdapterFault → EncoderView → List ℕ → Option WorldPlace → Type 0
 IsNamedAnswer f e name answer =
     MatchOption answer (IsUnplacedUnder f e name) (λ (p : WorldPlace). IsInAdapter name p × IsOfAdapter e name (IsPlaceFor f e p.place))
-
--- a place with the name of its module; nothing, if there is none
-abbrev pub IsIn : List ℕ → Option ModulePlace → Option WorldPlace → Type 0
-IsIn name place answer = MatchOption answer (place ≡ None) (λ (p : WorldPlace). IsInAdapter name p × (place ≡ Some p.place))

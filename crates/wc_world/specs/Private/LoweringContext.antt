@@ -7,7 +7,7 @@ use Rattle.wc_resolve.specs.Views.{FunctionView}
 use Rattle.wc_names.specs.Views.{ImportView}
 use Rattle.wc_world.specs.Lowered.{KeyedLowering, Lowerer, lowered_function, lowerer_of, AreEntriesDistinct, ImportEntry}
 use Rattle.wc_world.specs.Options.{OptionsOf}
-use Rattle.wc_world.specs.Private.Required.{ForRequired}
+use Rattle.wc_world.specs.Private.ImportedItems.{ForImported}
 use Rattle.wc_world.specs.Views.{LoweringView}
 use Rattle.wc_world.specs.WorldViews.{lowering_entry, import_map_view}
 use Rattle.wc_world.specs.declared.imported.Lowering.{Lowering}
@@ -20,7 +20,7 @@ lowerer_in options_of c imports = lowerer_of c.resolve.now (options_of c.options
 
 -- a fact about the lowerer of a context, which has the imports that the context requires
 abbrev pub ForLowerer : {O : Type 0} → (O → OptionsOf) → Lowerings O → (Lowerer → Type 0) → Type 0
-ForLowerer options_of c P = ForRequired c.required.now (λ imports. P (lowerer_in options_of c imports))
+ForLowerer options_of c P = ForImported c.imported.now (λ imports. P (lowerer_in options_of c imports))
 
 -- how a function is lowered, whatever core modules import
 abbrev pub lowered_in : {O : Type 0} → (O → OptionsOf) → Lowerings O → FunctionView → AbiVariant → LoweringView

@@ -20,7 +20,7 @@ use Rattle.wcplan_command.specs.Arguments.{CommandValue, help, version, wrong, w
 use Rattle.wcplan_command.specs.Details.{IsAbout}
 use Rattle.wcplan_command.specs.Program.{ArePrintedUnder, EndsWithoutMemory, IsDocumentOf, IsEncoderOf, IsTextCause, IsUnwrittenFile, StopEnds, WritesAll, file_view}
 use Rattle.wcplan_command.specs.Parts.{IsAboutPart, IsPartExplanation}
-use Rattle.wcplan_command.specs.RequiredExports.{IsSelectionCause}
+use Rattle.wcplan_command.specs.ModuleKeys.{IsSelectionCause}
 use Rattle.wc_program.specs.Screen.{Printing, nothing, failed}
 use Rattle.wcplan_command.specs.declared.explained_part.ExplainedPart.{ExplainedPart}
 use Rattle.wcplan_command.specs.declared.arguments.NoCommand.{NoCommand}

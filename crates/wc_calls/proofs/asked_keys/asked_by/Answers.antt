@@ -1,6 +1,7 @@
-use Rattle.std.proofs.Common.{◌∙◌, List, ap, map, subst}
+use Rattle.std.proofs.Common.{◌∙◌, Bool, List, ap, map, subst}
+use Rattle.wc_selection.specs.KeyNames.{request_keys}
 use Rattle.wc_selection.specs.Keys.{AreKeysApart, NamedKey, named_key, texts_of}
-use Rattle.wc_selection.specs.RequiredExports.{AreKeysThere}
+use Rattle.wc_selection.specs.ModuleKeys.{AreKeysThere}
 use Rattle.wc_selection.specs.Requests.{given_keys, request_value}
 use Rattle.wc_calls.specs.AskedKeys.{main_keys}
 use Rattle.wc_calls.proofs.asked_keys.asked_by.Goals as goal
@@ -11,9 +12,10 @@ returns-clause-asked c =
     let listed = c.in_ok-keys.ensures.keys in
     let first = ap (map named_key) c.deref.ensures.value ∙ listed in
     let second = ap (map named_key) c.deref-2.ensures.value ∙ listed in
+    let keys = request_keys q c.args.world.resolve.now c.args.world.world.0 in
     record {
       listed = listed;
       differ = subst AreKeysApart listed c.in_ok-keys.ensures.differ;
       there = subst (λ (ks : List NamedKey). AreKeysThere (given_keys q) (texts_of ks)) first c.in_ok-check_asked.ensures.there;
-      main = c.in_ok-main.ensures ∙ ap (main_keys c.args.gives_none q) second;
+      main = c.in_ok-main.ensures ∙ (ap (main_keys c.gives_none.result q) second ∙ ap (λ (none : Bool). main_keys none q keys) c.gives_none.ensures);
     }

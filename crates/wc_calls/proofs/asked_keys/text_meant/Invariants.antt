@@ -1,7 +1,7 @@
 use Rattle.std.proofs.Common.{◌≡◌, drop, map}
 use Rattle.wc_selection.specs.Keys.{named_key}
+use Rattle.wc_json.specs.Messages.{key_message_view}
 use Rattle.wc_calls.specs.AskedKeys.{text_meant}
-use Rattle.wc_calls.specs.Messages.{key_message_view}
 use Rattle.wc_calls.proofs.asked_keys.text_meant.Given as goal
 
 abbrev pub invariant-loop-one : goal.invariant-loop-one

@@ -2,45 +2,45 @@ use Rattle.std.proofs.Common.{map, subst, sym}
 use Rattle.std.proofs.lemmas.Result.{err_from_is_err_and}
 use Rattle.wc_encoder.specs.Adapters.{adapter_entry}
 use Rattle.wc_resolve.specs.Views.{key_view}
+use Rattle.wc_json.specs.Messages.{message_view}
 use Rattle.wc_calls.specs.Encoders.{IsPartsOf}
-use Rattle.wc_calls.specs.Messages.{message_view}
 use Rattle.wc_calls.proofs.CauseLemmas.{encoder_cause, exporters_cause, main_cause, parts_of, resolve_cause}
 use Rattle.wc_calls.proofs.encoders.encoder_for.Goals as goal
 
 pub returns-in_err-resolve-clause-fault : goal.returns-in_err-resolve-clause-fault
 returns-in_err-resolve-clause-fault c = λ modules chosen.
     let p = err_from_is_err_and c.from_residual.result c.from_residual.ensures.1 in
-    rw (p.1, p.2) (resolve_cause (message_view c.args.message) modules c.args.main.now c.args.others.now c.args.world.0 c.in_err-resolve.field-0.0 chosen
+    rw (p.1, p.2) (resolve_cause (message_view c.args.message) modules c.args.bytes.main.now c.args.bytes.others.now c.args.world.0 c.in_err-resolve.field-0.0 chosen
     c.in_err-resolve.ensures.fault)
 
 pub returns-in_err-exporters-clause-fault : goal.returns-in_err-exporters-clause-fault
 returns-in_err-exporters-clause-fault c = λ modules chosen.
     let p = err_from_is_err_and c.from_residual-in_err-exporters.result c.from_residual-in_err-exporters.ensures.1 in
-    rw (p.1, p.2) (exporters_cause (message_view c.args.message) modules c.args.main.now c.args.others.now c.args.world.0 chosen c.in_ok-resolve.resolve
+    rw (p.1, p.2) (exporters_cause (message_view c.args.message) modules c.args.bytes.main.now c.args.bytes.others.now c.args.world.0 chosen c.in_ok-resolve.resolve
     c.in_ok-resolve.ensures.ok c.in_ok-resolve.ensures.formed c.in_err-exporters.field-0.0 c.in_err-exporters.ensures.fault)
 
-pub returns-in_err-wasm-clause-fault : goal.returns-in_err-wasm-clause-fault
-returns-in_err-wasm-clause-fault c = λ modules chosen.
-    let p = err_from_is_err_and c.from_residual-in_err-wasm.result c.from_residual-in_err-wasm.ensures.1 in
-    rw (p.1, p.2) (main_cause (message_view c.args.message) modules c.args.main.now c.args.others.now c.args.world.0 chosen c.in_ok-resolve.resolve
+pub returns-in_err-main-clause-fault : goal.returns-in_err-main-clause-fault
+returns-in_err-main-clause-fault c = λ modules chosen.
+    let p = err_from_is_err_and c.from_residual-in_err-main.result c.from_residual-in_err-main.ensures.1 in
+    rw (p.1, p.2) (main_cause (message_view c.args.message) modules c.args.bytes.main.now c.args.bytes.others.now c.args.world.0 chosen c.in_ok-resolve.resolve
     c.in_ok-resolve.ensures.ok c.in_ok-resolve.ensures.formed (map key_view c.in_ok-exporters.exporters.main.keys)
-    (map adapter_entry c.in_ok-exporters.exporters.adapters.entries) c.in_err-wasm.field-0.0 c.in_ok-exporters.ensures.exporters c.in_err-wasm.ensures.fault)
+    (map adapter_entry c.in_ok-exporters.exporters.adapters.entries) c.in_err-main.field-0.0 c.in_ok-exporters.ensures.exporters c.in_err-main.ensures.refused)
 
 pub returns-in_err-build-clause-fault : goal.returns-in_err-build-clause-fault
 returns-in_err-build-clause-fault c = λ modules chosen.
     let p = err_from_is_err_and c.from_residual-in_err-build.result c.from_residual-in_err-build.ensures.1 in
-    rw (p.1, p.2) (encoder_cause (message_view c.args.message) modules c.args.main.now c.args.others.now c.args.world.0 chosen c.in_ok-resolve.resolve
+    rw (p.1, p.2) (encoder_cause (message_view c.args.message) modules c.args.bytes.main.now c.args.bytes.others.now c.args.world.0 chosen c.in_ok-resolve.resolve
     c.in_ok-resolve.ensures.ok c.in_ok-resolve.ensures.formed _ c.in_err-build.field-0.0
-    (parts_of (message_view c.args.message) modules c.args.main.now c.args.others.now c.args.world.0 c.in_ok-wasm.wasm.items c.in_ok-wasm.renames
+    (parts_of (message_view c.args.message) modules c.args.bytes.main.now c.args.bytes.others.now c.args.world.0 c.in_ok-main.main.wasm.items c.in_ok-main.main.import_map
     c.in_ok-resolve.resolve (map key_view c.in_ok-exporters.exporters.main.keys) (map adapter_entry c.in_ok-exporters.exporters.adapters.entries)
-    c.unwrap_or-rejects.result c.unwrap_or-grows.result _ chosen c.in_ok-wasm.ensures.renamed c.in_ok-resolve.ensures.ok c.in_ok-exporters.ensures.exporters
+    c.unwrap_or-rejects.result c.unwrap_or-grows.result _ chosen c.in_ok-main.ensures.dedupe c.in_ok-resolve.ensures.ok c.in_ok-exporters.ensures.exporters
     c.unwrap_or-rejects.ensures c.unwrap_or-grows.ensures c.text_or_empty-hook.ensures)
     c.in_err-build.ensures.fault)
 
 pub returns-clause-parts : goal.returns-clause-parts
 returns-clause-parts c = λ modules chosen.
     subst (IsPartsOf (message_view c.args.message) modules) (sym c.in_ok-build.ensures.ok)
-    (parts_of (message_view c.args.message) modules c.args.main.now c.args.others.now c.args.world.0 c.in_ok-wasm.wasm.items c.in_ok-wasm.renames
+    (parts_of (message_view c.args.message) modules c.args.bytes.main.now c.args.bytes.others.now c.args.world.0 c.in_ok-main.main.wasm.items c.in_ok-main.main.import_map
     c.in_ok-resolve.resolve (map key_view c.in_ok-exporters.exporters.main.keys) (map adapter_entry c.in_ok-exporters.exporters.adapters.entries)
-    c.unwrap_or-rejects.result c.unwrap_or-grows.result _ chosen c.in_ok-wasm.ensures.renamed c.in_ok-resolve.ensures.ok c.in_ok-exporters.ensures.exporters
+    c.unwrap_or-rejects.result c.unwrap_or-grows.result _ chosen c.in_ok-main.ensures.dedupe c.in_ok-resolve.ensures.ok c.in_ok-exporters.ensures.exporters
     c.unwrap_or-rejects.ensures c.unwrap_or-grows.ensures c.text_or_empty-hook.ensures)

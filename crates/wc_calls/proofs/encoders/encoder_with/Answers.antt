@@ -1,7 +1,7 @@
 use Rattle.std.proofs.Common.{◌<◌, IfNone, length, subst}
 use Rattle.std.proofs.lemmas.Result.{err_from_is_err_and}
+use Rattle.wc_json.specs.Messages.{message_view}
 use Rattle.wc_calls.specs.Encoders.{AreChosen}
-use Rattle.wc_calls.specs.Messages.{message_view}
 use Rattle.wc_calls.proofs.CauseLemmas.{fewer_bytes, world_cause}
 use Rattle.wc_calls.proofs.encoders.encoder_with.Goals as goal
 

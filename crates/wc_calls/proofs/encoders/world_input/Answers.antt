@@ -1,7 +1,7 @@
 use Rattle.std.proofs.Common.{subst}
 use Rattle.std.proofs.lemmas.Result.{err_from_is_err_and}
+use Rattle.wc_json.specs.Messages.{message_view}
 use Rattle.wc_calls.specs.Encoders.{IsMessage}
-use Rattle.wc_calls.specs.Messages.{message_view}
 use Rattle.wc_calls.proofs.CauseLemmas.{parts_cause}
 use Rattle.wc_calls.proofs.encoders.world_input.Goals as goal
 

@@ -1,6 +1,7 @@
 use Rattle.wc_resolve.specs.Places.{IsExplained}
-use Rattle.wc_calls.specs.Messages.{message_view}
-use Rattle.wc_calls.specs.Places.{part_json, place_text}
+use Rattle.wc_json.specs.Messages.{message_view}
+use Rattle.wc_record.specs.Places.{part_json}
+use Rattle.wc_calls.specs.Places.{place_text}
 use Rattle.wc_calls.proofs.PlaceLemmas.{placed}
 use Rattle.wc_calls.proofs.explained.part_place.Goals as goal
 

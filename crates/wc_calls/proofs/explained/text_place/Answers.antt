@@ -1,5 +1,5 @@
 use Rattle.std.proofs.Common.{rules}
-use Rattle.wc_calls.specs.Messages.{message_view}
+use Rattle.wc_json.specs.Messages.{message_view}
 use Rattle.wc_calls.proofs.PlaceLemmas.{part_placed}
 use Rattle.wc_calls.proofs.explained.text_place.Goals as goal
 

@@ -1,5 +1,6 @@
 use Rattle.wc_world.specs.Places.{IsWorldExplained}
-use Rattle.wc_calls.specs.Places.{place_text, world_place_json}
+use Rattle.wc_record.specs.Places.{world_place_json}
+use Rattle.wc_calls.specs.Places.{place_text}
 use Rattle.wc_calls.proofs.PlaceLemmas.{placed}
 use Rattle.wc_calls.proofs.explained.world_fault_place.Goals as goal
 

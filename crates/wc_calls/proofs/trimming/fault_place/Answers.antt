@@ -1,7 +1,8 @@
 use Rattle.std.proofs.Common.{None}
 use Rattle.wc_gc.specs.Liveness.{trim_input}
 use Rattle.wc_gc.specs.TrimPlaces.{IsExplained}
-use Rattle.wc_calls.specs.Places.{place_text, trim_place_json}
+use Rattle.wc_record.specs.Places.{trim_place_json}
+use Rattle.wc_calls.specs.Places.{place_text}
 use Rattle.wc_calls.proofs.PlaceLemmas.{placed}
 use Rattle.wc_calls.proofs.trimming.fault_place.Goals as goal
 

@@ -1,6 +1,6 @@
 use Rattle.std.proofs.Common.{◌≡◌, ℕ, List, Option, subst}
 use Rattle.wc_calls.specs.Answers.{failed}
-use Rattle.wc_calls.specs.Required.{texts}
+use Rattle.wc_calls.specs.ExportNames.{texts}
 use Rattle.wc_calls.specs.Trimming.{IsTrimmingFault}
 use Rattle.wc_calls.proofs.trimming.trim.Goals as goal
 

@@ -1,5 +1,3 @@
-use Rattle.std.proofs.Common.{subst}
-use Rattle.std.proofs.lemmas.Result.{err_from_is_err_and}
 use Rattle.std.specs.Borrow.{Bor}
 use Rattle.std.specs.Option.{option_map}
 use Rattle.wc_encoder.specs.Adapters.{library_view}

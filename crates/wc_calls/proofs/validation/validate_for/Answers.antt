@@ -1,4 +1,3 @@
-use Rattle.std.proofs.Common.{subst}
 use Rattle.std.specs.Option.{option_copied, option_map}
 use Rattle.wc_calls.proofs.ModuleLemmas.{main_refused}
 use Rattle.wc_calls.proofs.validation.validate_for.Goals as goal

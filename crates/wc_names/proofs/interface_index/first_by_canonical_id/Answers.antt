@@ -6,7 +6,8 @@ use Rattle.wc_resolve.specs.declared.worlds.WorldItem.{WorldItem}
 use Rattle.wc_resolve.specs.Ranges.{IsKeyIn}
 use Rattle.wc_resolve.specs.Views.{KeyView, ItemView, key_view, world_entry}
 use Rattle.wc_resolve.proofs.ViewedLemmas.{all_unviewed}
-use Rattle.wc_names.specs.InterfaceIndex.{is_text, keyed_view}
+use Rattle.wc_names.specs.InterfaceIndex.{is_text}
+use Rattle.wc_names.specs.Views.{keyed_view}
 use Rattle.wc_names.specs.Interfaces.{IsCanonicalEntry}
 use Rattle.wc_names.proofs.InterfaceIndexLemmas.{entry_kept, text_law}
 use Rattle.wc_names.proofs.interface_index.first_by_canonical_id.Goals as goal

@@ -1,4 +1,4 @@
-use Rattle.std.proofs.Common.{map, ap, sym, ◌∙◌, [], ◌∷◌, ◌++◌, ◌≡◌}
+use Rattle.std.proofs.Common.{map, ap, ◌∙◌, []}
 use Rattle.std.specs.List.{cons_option}
 use Rattle.wc_encoder.specs.Distinct.{exported_interfaces, item_interface}
 use Rattle.wc_resolve.specs.Dependencies.{interface_ids}

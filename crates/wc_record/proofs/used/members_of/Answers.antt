@@ -1,4 +1,4 @@
-use Rattle.std.proofs.Common.{List, ℕ, ap, filter, [], ◌∷◌, ◌∙◌, drop, ◌+◌}
+use Rattle.std.proofs.Common.{List, ℕ, ap, filter, ◌∙◌, drop, ◌+◌}
 use Rattle.std.proofs.lemmas.List.{drop_all, drop_more}
 use Rattle.wc_resolve.specs.Dependencies.{interface_ids}
 use Rattle.wc_resolve.specs.declared.ids.InterfaceId.{InterfaceId}

@@ -1,5 +1,5 @@
-use Rattle.std.proofs.Common.{List, ap, map, [], ◌∷◌, ◌∙◌, drop, ◌+◌}
-use Rattle.std.specs.List.{cons_option, filter_map}
+use Rattle.std.proofs.Common.{List, ap, map, ◌∙◌, drop, ◌+◌}
+use Rattle.std.specs.List.{filter_map}
 use Rattle.std.proofs.lemmas.List.{drop_all, drop_more}
 use Rattle.wc_resolve.specs.Dependencies.{interface_ids}
 use Rattle.wc_resolve.specs.declared.ids.InterfaceId.{InterfaceId}

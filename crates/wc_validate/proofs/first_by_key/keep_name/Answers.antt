@@ -1,7 +1,7 @@
 use Rattle.std.proofs.Common.{ℕ, refl, string_bytes, string_eq}
 use Rattle.std.specs.Str.{bytes_eq}
 use Rattle.wc_validate.proofs.FirstByKeyLemmas.{position_added, position_stays, texts_law}
-use Rattle.wc_validate.proofs.RequiredLemmas.{name_added, name_kept}
+use Rattle.wc_validate.proofs.AdapterFunctionLemmas.{name_added, name_kept}
 use Rattle.wc_validate.proofs.first_by_key.keep_name.Goals as goal
 
 pub returns-then-contains_key-clause-kept : goal.returns-then-contains_key-clause-kept

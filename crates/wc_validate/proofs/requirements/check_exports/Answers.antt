@@ -1,7 +1,7 @@
 use Rattle.std.proofs.Common.{[], ◌∷◌, ◌++◌, IfErr, OnOk, map, subst, sym}
 use Rattle.wc_validate.specs.Exports.Map.{export_entry}
 use Rattle.wc_validate.specs.Exports.Record.{AreExportsIn, exports_in}
-use Rattle.wc_validate.specs.Private.RequiredExports.{IsUnmetBy, requirements_of_functions, requirements_of_keys}
+use Rattle.wc_validate.specs.Private.Requirements.{IsUnmetBy, requirements_of_functions, requirements_of_keys}
 use Rattle.wc_validate.specs.Requirements.{AreMet, IsUnmetFault, callbacks, one_memory}
 use Rattle.wc_validate.proofs.RecorderLemmas.{passed}
 use Rattle.wc_validate.proofs.RequirementLemmas.{passed_met, passed_unmet, unmet_left, unmet_right}

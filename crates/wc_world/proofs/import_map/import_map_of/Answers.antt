@@ -35,5 +35,5 @@ returns g c =
     (λ m is. is
     ∙ lowered_is c.args.encoder.now r c.metadata-metadata.result.now.world.0 c.metadata-metadata.ensures.resolve c.metadata-metadata.ensures.world w c.world.ensures (g.O.ImportOptions.options_of c.args.options.now) (module_record c.args.main.now)
     (map adapter_entry c.args.adapters.now.entries) c.is_some.result (c.is_some.ensures ∙ ap is_some c.imported_memory.ensures))
-    (c.import_entries.ensures imports c.in_ok-required.ensures (world_distinct l c.well_formedness-2.ensures c.metadata-metadata.result.now.world.0 w c.world.ensures names)
+    (c.import_entries.ensures imports c.in_ok-imported.ensures (world_distinct l c.well_formedness-2.ensures c.metadata-metadata.result.now.world.0 w c.world.ensures names)
     (entries_distinct l w.imports w.imports (import_keys_have_texts r c.well_formedness-2.ensures c.metadata-metadata.result.now.world.0 w c.world.ensures parts_text) names))

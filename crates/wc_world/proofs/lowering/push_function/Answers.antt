@@ -4,7 +4,7 @@ use Rattle.wc_resolve.specs.Views.{function_view}
 use Rattle.wc_world.specs.Lowered.{Lowerer, called_lowering}
 use Rattle.wc_world.specs.WorldViews.{lowering_entry}
 use Rattle.wc_world.specs.Private.LoweringContext.{lowerer_in}
-use Rattle.wc_world.specs.Private.Required.{interface_index}
+use Rattle.wc_world.specs.Private.ImportedItems.{interface_index}
 use Rattle.wc_world.proofs.UsedLemmas.{on_ok}
 use Rattle.wc_world.proofs.lowering.push_function.Goals as goal
 

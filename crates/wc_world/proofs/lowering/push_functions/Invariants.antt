@@ -4,7 +4,7 @@ use Rattle.wc_resolve.specs.Views.{function_entry, function_view}
 use Rattle.wc_resolve.specs.WellFormed.{IsUsable}
 use Rattle.wc_names.specs.Views.{ImportView}
 use Rattle.wc_world.specs.Lowered.{function_lowerings}
-use Rattle.wc_world.specs.Private.Required.{AreRequired}
+use Rattle.wc_world.specs.Private.ImportedItems.{AreImported}
 use Rattle.wc_world.specs.WorldViews.{lowering_entry}
 use Rattle.wc_world.specs.Private.LoweringContext.{lowerer_in}
 use Rattle.wc_world.proofs.lowering.push_functions.Given as goal
@@ -12,6 +12,6 @@ use Rattle.wc_world.proofs.lowering.push_functions.Given as goal
 abbrev pub invariant-loop-name : goal.invariant-loop-name
 invariant-loop-name g l =
     All (λ e. IsUsable l.context.resolve.now (function_view e.1)) l._name-iterator
-    × ((imports : List ImportView) → AreRequired imports l.context.required.now
+    × ((imports : List ImportView) → AreImported imports l.context.imported.now
     → map lowering_entry l.lowerings.items ++ flat_map (λ e. function_lowerings (lowerer_in g.O.ImportOptions.options_of l.context imports) (Some l.fn.interface.0) e.1) (map function_entry l._name-iterator)
     ≡ map lowering_entry l.fn.lowerings.items ++ flat_map (λ e. function_lowerings (lowerer_in g.O.ImportOptions.options_of l.context imports) (Some l.fn.interface.0) e.1) (map function_entry l.functions.entries))

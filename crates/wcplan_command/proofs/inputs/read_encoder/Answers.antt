@@ -1,50 +1,29 @@
-use Rattle.std.proofs.Common.{◌∙◌, ◌<◌, length, map, ap, sym, subst}
+use Rattle.std.proofs.Common.{ap, sym, subst}
 use Rattle.std.proofs.lemmas.Result.{err_from_is_err_and}
 use Rattle.wc_encoder.specs.EncoderParts.{parts_view}
-use Rattle.wc_selection.proofs.WorldLemmas.{selected_there}
-use Rattle.wc_selection.specs.Keys.{named_key}
 use Rattle.wcplan_command.specs.Arguments.{command_value}
 use Rattle.wcplan_command.specs.Program.{IsPartsOf}
-use Rattle.wcplan_command.proofs.ProgramLemmas.{chosen_worlds, encoder_cause, listed_worlds, modules_cause, parts_with}
+use Rattle.wcplan_command.proofs.ProgramLemmas.{chosen_worlds, encoder_cause, modules_cause, parts_with}
 use Rattle.wcplan_command.proofs.inputs.read_encoder.Goals as goal
-
-pub command_keys-requires : goal.command_keys-requires
-command_keys-requires g c =
-    let there = c.in_ok-metadata.ensures.worlds in
-    subst (λ r. c.in_ok-metadata.metadata.world.0 < length r.worlds) (sym there.4)
-    (selected_there there.0 c.args.command.now.world.now c.in_ok-metadata.metadata.world.0 there.2)
-
-pub returns-in_err-check_listed-clause-fault : goal.returns-in_err-check_listed-clause-fault
-returns-in_err-check_listed-clause-fault g c =
-    let command = command_value c.args.command.now in
-    let before = g.F.FileStore.held c.args.files.now in
-    let metadata = c.in_ok-metadata.metadata in
-    let keyed = ap (map named_key) c.deref.ensures.value ∙ c.in_ok-keys.ensures.keys in
-    let p = err_from_is_err_and c.from_residual-in_err-check_listed.result c.from_residual-in_err-check_listed.ensures.1 in
-    rw (p.1, p.2) (listed_worlds command before metadata.resolve metadata.world.0 c.in_ok-metadata.ensures.worlds
-    _ c.in_err-check_listed.field-0.0 keyed c.in_err-check_listed.ensures.fault)
 
 pub returns-in_err-parts-clause-fault : goal.returns-in_err-parts-clause-fault
 returns-in_err-parts-clause-fault g c =
     let command = command_value c.args.command.now in
     let before = g.F.FileStore.held c.args.files.now in
-    let metadata = c.in_ok-metadata.metadata in
-    let there = c.in_ok-metadata.ensures.worlds in
-    let keyed = ap (map named_key) c.deref.ensures.value ∙ c.in_ok-keys.ensures.keys in
-    let chosen = chosen_worlds command before metadata.resolve metadata.world.0 there _ keyed c.in_ok-check_listed.ensures.there in
+    let metadata = c.in_ok-chosen.chosen.metadata in
+    let is = c.in_ok-chosen.ensures in
+    let chosen = chosen_worlds command before metadata.resolve metadata.world.0 is.worlds _ is.keys is.there in
     let p = err_from_is_err_and c.from_residual-in_err-parts.result c.from_residual-in_err-parts.ensures.1 in
-    rw (p.1, p.2) (modules_cause command before there.0 metadata.world.0 c.in_err-parts.field-0.0 chosen c.in_err-parts.ensures.fault)
+    rw (p.1, p.2) (modules_cause command before is.worlds.0 metadata.world.0 c.in_err-parts.field-0.0 chosen c.in_err-parts.ensures.fault)
 
 pub returns-in_err-build-clause-fault : goal.returns-in_err-build-clause-fault
 returns-in_err-build-clause-fault g c =
     let command = command_value c.args.command.now in
     let before = g.F.FileStore.held c.args.files.now in
-    let metadata = c.in_ok-metadata.metadata in
-    let there = c.in_ok-metadata.ensures.worlds in
-    let keyed = ap (map named_key) c.deref.ensures.value ∙ c.in_ok-keys.ensures.keys in
-    let chosen = chosen_worlds command before metadata.resolve metadata.world.0 there _ keyed c.in_ok-check_listed.ensures.there in
-    let keyed2 = ap (map named_key) c.deref-2.ensures.value ∙ c.in_ok-keys.ensures.keys in
-    let parts = parts_with command before metadata.resolve metadata.world.0 there _ (parts_view c.in_ok-parts.parts) chosen keyed2
+    let metadata = c.in_ok-chosen.chosen.metadata in
+    let is = c.in_ok-chosen.ensures in
+    let chosen = chosen_worlds command before metadata.resolve metadata.world.0 is.worlds _ is.keys is.there in
+    let parts = parts_with command before metadata.resolve metadata.world.0 is.worlds _ (parts_view c.in_ok-parts.parts) chosen is.keys
     (ap (λ m. m.world.0) c.in_ok-parts.ensures.metadata) (ap (λ m. m.resolve) c.in_ok-parts.ensures.metadata) c.in_ok-parts.ensures.parts in
     let p = err_from_is_err_and c.from_residual-in_err-build.result c.from_residual-in_err-build.ensures.1 in
     rw (p.1, p.2) (encoder_cause command before (parts_view c.in_ok-parts.parts) c.in_err-build.field-0.0 parts c.in_err-build.ensures.fault)
@@ -53,11 +32,9 @@ pub returns-clause-encoder : goal.returns-clause-encoder
 returns-clause-encoder g c =
     let command = command_value c.args.command.now in
     let before = g.F.FileStore.held c.args.files.now in
-    let metadata = c.in_ok-metadata.metadata in
-    let there = c.in_ok-metadata.ensures.worlds in
-    let keyed = ap (map named_key) c.deref.ensures.value ∙ c.in_ok-keys.ensures.keys in
-    let chosen = chosen_worlds command before metadata.resolve metadata.world.0 there _ keyed c.in_ok-check_listed.ensures.there in
-    let keyed2 = ap (map named_key) c.deref-2.ensures.value ∙ c.in_ok-keys.ensures.keys in
-    let parts = parts_with command before metadata.resolve metadata.world.0 there _ (parts_view c.in_ok-parts.parts) chosen keyed2
+    let metadata = c.in_ok-chosen.chosen.metadata in
+    let is = c.in_ok-chosen.ensures in
+    let chosen = chosen_worlds command before metadata.resolve metadata.world.0 is.worlds _ is.keys is.there in
+    let parts = parts_with command before metadata.resolve metadata.world.0 is.worlds _ (parts_view c.in_ok-parts.parts) chosen is.keys
     (ap (λ m. m.world.0) c.in_ok-parts.ensures.metadata) (ap (λ m. m.resolve) c.in_ok-parts.ensures.metadata) c.in_ok-parts.ensures.parts in
     record { parts = subst (IsPartsOf command before) (sym c.in_ok-build.ensures.ok) parts; formed = c.in_ok-build.ensures.formed }

@@ -1,6 +1,6 @@
-use Rattle.std.proofs.Common.{◌∙◌, ap, string_bytes, sym}
+use Rattle.std.proofs.Common.{◌∙◌, ap, sym}
 use Rattle.wcplan_command.specs.Nearest.{is_near}
-use Rattle.wcplan_command.proofs.NearestLemmas.{name_found, name_none, name_passed}
+use Rattle.wcplan_command.proofs.NearestLemmas.{name_none, name_passed}
 use Rattle.wcplan_command.proofs.nearest.near_name.Goals as goal
 
 pub loop-function-preserved : goal.loop-function-preserved

@@ -1,5 +1,4 @@
-use Rattle.std.proofs.Common.{◌≡◌, map}
-use Rattle.wc_resolve.specs.Views.{function_entry, interface_view}
+use Rattle.std.proofs.Common.{◌≡◌}
 use Rattle.wcplan_command.proofs.NearestLemmas.{names_of}
 use Rattle.wcplan_command.specs.Nearest.{first_near}
 use Rattle.wcplan_command.proofs.nearest.near_name.Given as goal

@@ -8,7 +8,8 @@ loop-message-preserved c =
       | then-not-contains_key+in_ok-clone+in_ok-insert w ↦
           rw w.by_name-is (passed_new c.loop-message.by_name.entries c.args.messages.now c.loop-message.message-index _ c.message-item.result
           c.as_str.result.now c.contains_key.result c.loop-message-test.true c.message-item.is c.as_str.ensures.value c.contains_key.ensures
-          c.loop-message.invariant w.insert.new.self.entries w.in_ok-clone.field-0 w.if-not-contains_key.true w.in_ok-clone.ensures.cases w.in_ok-insert.ensures.entries)
+          c.loop-message.invariant w.insert.new.self.entries w.in_ok-clone.field-0 w.option_set.result w.if-not-contains_key.true w.in_ok-clone.ensures.cases w.option_set.ensures
+          w.in_ok-insert.ensures.entries)
       | else-not-contains_key w ↦
           rw w.by_name-is (passed_again c.loop-message.by_name.entries c.args.messages.now c.loop-message.message-index _ c.message-item.result
           c.as_str.result.now c.contains_key.result c.loop-message-test.true c.message-item.is c.as_str.ensures.value c.contains_key.ensures

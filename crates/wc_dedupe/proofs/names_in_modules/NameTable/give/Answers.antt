@@ -4,7 +4,8 @@ use Rattle.std.specs.BTreeMap.{get_by_text}
 use Rattle.std.specs.Map.{update}
 use Rattle.std.specs.Str.{bytes_eq}
 use Rattle.std.proofs.lemmas.Map.Text.{btree_map_updates_text}
-use Rattle.wc_dedupe.specs.NamesInModules.{name_record_of, name_records, Gives}
+use Rattle.wc_dedupe.specs.NamesInModules.{name_records, Gives}
+use Rattle.wc_maps.specs.Names.{under_name}
 use Rattle.wc_dedupe.specs.Renaming.{name_with_number}
 use Rattle.wc_dedupe.specs.declared.names_in_modules.NameRecord.{NameRecord}
 use Rattle.wc_dedupe.proofs.ByModuleLemmas.{IsSome-from_copied, Tried, entry_of, update_keeps, name_records_free, name_records_taken, tried_original, gives_original, tried_number, gives_number}
@@ -51,7 +52,7 @@ next_put c q =
     let w : NameRecord = record { next = c.in_ok-number.number + 1; rename = c.unwrap.result.now.rename } in
     btree_map_updates_text c.args.original.now c.add_with_number.new.names (c.get_mut.follows.lender w) _ ((c.get_mut.follows.holds w).3 (ap is_some (there c))) q
 
-least : (c : After-unwrap) → (k : ℕ) → 2 ≤ k → k < c.in_ok-number.number → IsSome (name_record_of (name_records c.self.inside.names.entries) (name_with_number c.args.original.now k))
+least : (c : After-unwrap) → (k : ℕ) → 2 ≤ k → k < c.in_ok-number.number → IsSome (under_name (name_records c.self.inside.names.entries) (name_with_number c.args.original.now k))
 least c k a b = name_records_taken c.self.inside.names.entries (name_with_number c.args.original.now k) (c.in_ok-number.ensures.least k a b)
 
 tried_after : (c : After-unwrap) → Tried (entry_of (c.get_mut.follows.lender (record { next = c.in_ok-number.number + 1; rename = c.unwrap.result.now.rename })).entries)
@@ -61,7 +62,7 @@ tried_after c =
     c.in_ok-number.ensures.added.1 (there c) (next_put c)
 
 gives_after : (c : After-unwrap) → get_by_text c.self.inside.names c.args.original.now ≡ Some c.in-Some.name_record
-    → Gives (name_record_of (name_records c.self.inside.names.entries)) (name_record_of (name_records (c.get_mut.follows.lender (record { next = c.in_ok-number.number + 1; rename = c.unwrap.result.now.rename })).entries))
+    → Gives (under_name (name_records c.self.inside.names.entries)) (under_name (name_records (c.get_mut.follows.lender (record { next = c.in_ok-number.number + 1; rename = c.unwrap.result.now.rename })).entries))
     c.args.original.now c.args.index (Some (string_bytes c.in_ok-number.name))
 gives_after c was =
     gives_number c.self.inside.names.entries c.add_with_number.new.names.entries (c.get_mut.follows.lender (record { next = c.in_ok-number.number + 1; rename = c.unwrap.result.now.rename })).entries

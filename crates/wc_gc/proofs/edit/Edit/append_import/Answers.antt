@@ -1,4 +1,4 @@
-use Rattle.std.proofs.Common.{◌≡◌, ℕ, ◌+◌, ◌∙◌, ap, arith}
+use Rattle.std.proofs.Common.{◌≡◌, ◌+◌, ◌∙◌, ap, arith}
 use Rattle.wc_read.specs.Items.{imported}
 use Rattle.wc_read.specs.declared.operators.Space.TheVariants.{Types}
 use Rattle.wc_gc.specs.Found.{main_module}

@@ -1,4 +1,4 @@
-use Rattle.std.proofs.Common.{◌<◌, length, sym, ◌∙◌, false, rules}
+use Rattle.std.proofs.Common.{◌<◌, length, sym, ◌∙◌, rules}
 use Rattle.wc_gc.specs.Decoded.{decoded_module}
 use Rattle.wc_gc.proofs.ExplainLemmas.{outside_at}
 use Rattle.wc_gc.proofs.trim_place.bodies.first_outside.Goals as goal

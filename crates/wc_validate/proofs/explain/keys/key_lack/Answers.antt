@@ -1,7 +1,7 @@
 use Rattle.std.proofs.Common.{◌∙◌, map, string_bytes}
 use Rattle.std.specs.Option.{option_map}
 use Rattle.wc_resolve.specs.Views.{function_view, key_view, world_entry}
-use Rattle.wc_validate.specs.Private.RequiredExports.{IsKeyNamed}
+use Rattle.wc_validate.specs.Private.Requirements.{IsKeyNamed}
 use Rattle.wc_validate.specs.Requirements.{interface_functions, key_requirement}
 use Rattle.wc_validate.proofs.LawLemmas.{none_some}
 use Rattle.wc_validate.proofs.MissingLemmas.{holds_of_key, named_lack, named_world}

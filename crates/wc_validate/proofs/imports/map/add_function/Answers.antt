@@ -1,5 +1,5 @@
 use Rattle.wc_read.specs.Types.{func_type_value}
-use Rattle.wc_validate.proofs.RequiredLemmas.{name_added, name_kept}
+use Rattle.wc_validate.proofs.AdapterFunctionLemmas.{name_added, name_kept}
 use Rattle.wc_validate.proofs.imports.map.add_function.Goals as goal
 
 pub returns-then-contains_key : goal.returns-then-contains_key

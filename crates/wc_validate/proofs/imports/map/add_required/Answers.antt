@@ -1,7 +1,7 @@
 use Rattle.std.proofs.Common.{map}
 use Rattle.wc_names.specs.Views.{import_view}
 use Rattle.wc_validate.specs.Imports.Map.{required_entry}
-use Rattle.wc_validate.proofs.RequiredLemmas.{required_one, required_passed}
+use Rattle.wc_validate.proofs.AdapterFunctionLemmas.{required_one, required_passed}
 use Rattle.wc_validate.proofs.imports.map.add_required.Goals as goal
 
 pub returns-in-Some : goal.returns-in-Some

@@ -4,9 +4,9 @@ use Rattle.std.specs.declared.alloc.Global.{Global}
 use Rattle.wc_validate.specs.Imports.FirstFunctions.{function_at}
 use Rattle.wc_validate.specs.Imports.Map.{required_entry}
 use Rattle.wc_validate.specs.Imports.Instances.{import_entry}
-use Rattle.wc_validate.specs.Private.Imports.Required.{HasFirsts}
+use Rattle.wc_validate.specs.Private.Imports.AdapterFunctions.{HasFirsts}
 use Rattle.wc_validate.proofs.FirstFunctionLemmas.{function_there, no_function_there}
-use Rattle.wc_validate.proofs.RequiredLemmas.{collected_end, collected_next, collected_start}
+use Rattle.wc_validate.proofs.AdapterFunctionLemmas.{collected_end, collected_next, collected_start}
 use Rattle.wc_validate.proofs.imports.map.required_among.Goals as goal
 
 pub loop-name-init : goal.loop-name-init

@@ -3,7 +3,7 @@ use Rattle.std.specs.declared.alloc.Global.{Global}
 use Rattle.wc_validate.specs.Imports.FirstFunctions.{function_at}
 use Rattle.wc_validate.specs.Imports.Map.{required_entry}
 use Rattle.wc_validate.specs.Imports.Instances.{import_entry}
-use Rattle.wc_validate.proofs.RequiredLemmas.{CollectedFirsts}
+use Rattle.wc_validate.proofs.AdapterFunctionLemmas.{CollectedFirsts}
 use Rattle.wc_validate.proofs.imports.map.required_among.Given as goal
 
 abbrev pub invariant-loop-name : goal.invariant-loop-name

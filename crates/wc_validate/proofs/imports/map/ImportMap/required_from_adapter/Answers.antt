@@ -4,7 +4,7 @@ use Rattle.wc_validate.specs.Imports.FirstFunctions.{position_entries}
 use Rattle.wc_validate.specs.Imports.Map.{first_of_names, functions_in, required_entry}
 use Rattle.wc_validate.specs.Imports.Instances.{import_entry, instance_view}
 use Rattle.wc_validate.proofs.FirstFunctionLemmas.{none_required, required_kept}
-use Rattle.wc_validate.proofs.RequiredLemmas.{required_is, required_none}
+use Rattle.wc_validate.proofs.AdapterFunctionLemmas.{required_is, required_none}
 use Rattle.wc_validate.proofs.imports.map.ImportMap.required_from_adapter.Goals as goal
 
 pub returns-in-Some : goal.returns-in-Some

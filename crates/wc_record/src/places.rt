@@ -1,0 +1,259 @@
+//! What faults are about: places in the modules of a component, and parts of worlds.
+
+ghost use Rattle.std.specs.Prelude.{◌≡◌, IfOk, None, OnOk, string_bytes};
+ghost use Rattle.std.specs.Option.{option_map};
+ghost use Rattle.std.specs.Str.{IsUtf8};
+ghost use Rattle.wc_gc.specs.declared.trim_place.TrimPlace.TheVariants.{Body, Section};
+ghost use Rattle.wc_validate.specs.PlaceViews.{an_import, difference_view, missing_function, subject_view};
+ghost use Rattle.wc_record.specs.Places.{named_json, part_json, trim_place_json, world_place_json};
+ghost use Rattle.wc_record.specs.Private.Contexts.{json_in};
+ghost use Rattle.wc_record.specs.Shapes.{PutsJson};
+ghost use Rattle.wc_record.specs.Texts.{text_of};
+
+use crate::objects::{begin_object, end_object, put_kind, put_kind_with, put_member};
+use crate::to_json::ToJson;
+use json::Writer;
+use std::alloc::{AllocError, Global};
+use wc_gc::TrimPlace;
+use wc_resolve::Part;
+use wc_validate::{Subject, TypeDifference};
+use wc_world::{ModulePlace, WorldPlace};
+
+impl ToJson for TypeDifference {
+    ghost use Rattle.wc_validate.specs.PlaceViews.{DifferenceView, difference_view};
+    ghost use Rattle.wc_record.specs.Places.{difference_json};
+
+    ghost View = { DifferenceView };
+
+    ghost view = { difference_view };
+
+    ghost json = { difference_json };
+
+    fn write(&self, out: &mut Writer) -> Result<(), AllocError> {
+        begin_object(out)?;
+        put_member(out, "wanted", &self.wanted)?;
+        put_member(out, "found", &self.found)?;
+        end_object(out)
+    }
+}
+
+/// What the members say that all subjects of faults of validation have.
+#[derive(Clone, Copy)]
+struct Context<'a> {
+    /// The name of the adapter or the library; `None` for the main module.
+    adapter: &'a Option<String>,
+    /// The types that differ.
+    types: &'a Option<TypeDifference>,
+}
+
+/// Writes an import.
+fn put_import(
+    out: &mut Writer,
+    about: Context<'_>,
+    module_name: &str,
+    name: &str,
+    index: usize,
+) -> Result<(), AllocError>
+    ensures { OnOk result (PutsJson out.old out.new
+        (json_in about.entry (an_import module_name.now name.now index))) }
+{
+    begin_object(out)?;
+    put_kind(out, "import")?;
+    put_member(out, "adapter", about.adapter)?;
+    put_member(out, "module", &module_name)?;
+    put_member(out, "name", &name)?;
+    put_member(out, "index", &index)?;
+    put_member(out, "types", about.types)?;
+    end_object(out)
+}
+
+/// Writes an export, or one that is not there.
+fn put_named(out: &mut Writer, about: Context<'_>, kind: &str, name: &str) -> Result<(), AllocError>
+    ensures { OnOk result (PutsJson out.old out.new
+        (named_json kind.now (option_map string_bytes about.entry.adapter.now) name.now
+        (option_map difference_view about.entry.types.now))) }
+{
+    begin_object(out)?;
+    put_kind(out, kind)?;
+    put_member(out, "adapter", about.adapter)?;
+    put_member(out, "name", &name)?;
+    put_member(out, "types", about.types)?;
+    end_object(out)
+}
+
+/// Writes a function of an interface that is not exported.
+fn put_missing_function(
+    out: &mut Writer,
+    about: Context<'_>,
+    module_name: &str,
+    name: &str,
+) -> Result<(), AllocError>
+    ensures { OnOk result (PutsJson out.old out.new
+        (json_in about.entry (missing_function module_name.now name.now))) }
+{
+    begin_object(out)?;
+    put_kind(out, "missing-function")?;
+    put_member(out, "adapter", about.adapter)?;
+    put_member(out, "module", &module_name)?;
+    put_member(out, "name", &name)?;
+    put_member(out, "types", about.types)?;
+    end_object(out)
+}
+
+/// Writes what a fault of validation is about.
+fn put_subject(out: &mut Writer, about: Context<'_>, subject: &Subject) -> Result<(), AllocError>
+    ensures { OnOk result (PutsJson out.old out.new
+        (json_in about.entry (subject_view subject.now))) }
+{
+    match subject {
+        Subject::Import {
+            module_name,
+            name,
+            index,
+        } => put_import(out, about, module_name, name, *index),
+        Subject::Export(name) => put_named(out, about, "export", name),
+        Subject::MissingFunction { module_name, name } => {
+            put_missing_function(out, about, module_name, name)
+        }
+        Subject::MissingExport(name) => put_named(out, about, "missing-export", name),
+    }
+}
+
+/// Writes a section.
+fn put_section(out: &mut Writer, adapter: &Option<String>, id: u8) -> Result<(), AllocError>
+    ensures { OnOk result (PutsJson out.old out.new
+        (trim_place_json (option_map string_bytes adapter.now) (Section id))) }
+{
+    begin_object(out)?;
+    put_kind(out, "section")?;
+    put_member(out, "adapter", adapter)?;
+    put_member(out, "id", &(id as u64))?;
+    end_object(out)
+}
+
+/// Writes the body of a function.
+fn put_body(
+    out: &mut Writer,
+    adapter: &Option<String>,
+    function: u32,
+    operator: Option<usize>,
+) -> Result<(), AllocError>
+    ensures { OnOk result (PutsJson out.old out.new
+        (trim_place_json (option_map string_bytes adapter.now) (Body function operator))) }
+{
+    begin_object(out)?;
+    put_kind(out, "body")?;
+    put_member(out, "adapter", adapter)?;
+    put_member(out, "function", &function)?;
+    put_member(out, "operator", &operator)?;
+    end_object(out)
+}
+
+/// Writes what a fault of trimming is about.
+fn put_trim_place(
+    out: &mut Writer,
+    adapter: &Option<String>,
+    place: TrimPlace,
+) -> Result<(), AllocError>
+    ensures { OnOk result (PutsJson out.old out.new
+        (trim_place_json (option_map string_bytes adapter.now) place)) }
+{
+    match place {
+        TrimPlace::Section { id } => put_section(out, adapter, id),
+        TrimPlace::Body { function, operator } => put_body(out, adapter, function, operator),
+    }
+}
+
+impl ToJson for WorldPlace {
+    ghost use Rattle.wc_world.specs.declared.places.WorldPlace.{WorldPlace as world_place};
+    ghost use Rattle.wc_record.specs.Places.{world_place_json};
+
+    ghost View = { world_place };
+
+    ghost view = { λ p. p };
+
+    ghost json = { world_place_json };
+
+    fn write(&self, out: &mut Writer) -> Result<(), AllocError> {
+        let adapter = &self.adapter;
+        match &self.place {
+            ModulePlace::Validation(place) => {
+                let types = &place.types;
+                put_subject(out, Context { adapter, types }, &place.subject)
+            }
+            ModulePlace::Trim(place) => put_trim_place(out, adapter, *place),
+        }
+    }
+}
+
+impl ToJson for Part {
+    ghost use Rattle.wc_resolve.specs.declared.explain.Part.{Part as part};
+    ghost use Rattle.wc_record.specs.Places.{part_json};
+
+    ghost View = { part };
+
+    ghost view = { λ p. p };
+
+    ghost json = { part_json };
+
+    fn write(&self, out: &mut Writer) -> Result<(), AllocError> {
+        match self {
+            Part::World(index) => put_kind_with(out, "world", "index", index),
+            Part::Interface(index) => put_kind_with(out, "interface", "index", index),
+            Part::TypeDef(index) => put_kind_with(out, "type", "index", index),
+            Part::Package(index) => put_kind_with(out, "package", "index", index),
+        }
+    }
+}
+
+/// What a fault of a component's world is about, as JSON: an object whose first member, `kind`, says what it is.
+///
+/// - `import`: with `adapter`, `module`, `name`, `index` among all imports, and `types`;
+/// - `export`, `missing-export`: with `adapter`, `name` and `types`;
+/// - `missing-function`: with `adapter`, `module` (the text of the interface's key), `name` and `types`;
+/// - `section`: with `adapter` and `id`;
+/// - `body`: with `adapter`, `function` (its index) and `operator` (its number in the body, or null).
+///
+/// `adapter` is the name of the adapter or the library that it is in, or null for the main module; `types` is null, or an
+/// object with the function types `wanted` and `found`, each with `params` and `results`.
+///
+/// # Errors
+///
+/// `AllocError`: an allocation failed.
+pub fn world_place_to_json(alloc: Global, place: &WorldPlace) -> Result<Vec<u8>, AllocError>
+    ensures text { IfOk result (λ bytes. bytes.items ≡ text_of (world_place_json place.now)) }
+    ensures utf8 { IfOk result (λ bytes. IsUtf8 bytes.items) }
+{
+    let mut out = Writer::new(Vec::new(alloc));
+    place.write(&mut out)?;
+    Ok(out.into_inner())
+}
+
+/// What a fault of trimming is about, as JSON: as of `world_place_to_json`, and `adapter` is null.
+///
+/// # Errors
+///
+/// `AllocError`: an allocation failed.
+pub fn trim_place_to_json(alloc: Global, place: TrimPlace) -> Result<Vec<u8>, AllocError>
+    ensures text { IfOk result (λ bytes. bytes.items ≡ text_of (trim_place_json None place)) }
+    ensures utf8 { IfOk result (λ bytes. IsUtf8 bytes.items) }
+{
+    let mut out = Writer::new(Vec::new(alloc));
+    put_trim_place(&mut out, &None, place)?;
+    Ok(out.into_inner())
+}
+
+/// What a fault of worlds, interfaces, types and packages is about, as JSON: an object with `kind`, which is `world`,
+/// `interface`, `type` or `package`, and with `index`, the index in its list.
+///
+/// # Errors
+///
+/// `AllocError`: an allocation failed.
+pub fn part_to_json(alloc: Global, part: Part) -> Result<Vec<u8>, AllocError>
+    ensures text { IfOk result (λ bytes. bytes.items ≡ text_of (part_json part)) }
+    ensures utf8 { IfOk result (λ bytes. IsUtf8 bytes.items) }
+{
+    let mut out = Writer::new(Vec::new(alloc));
+    part.write(&mut out)?;
+    Ok(out.into_inner())
+}

@@ -1,0 +1,19 @@
+//! The functions of the laws of JSON, and the row `laws`, which calls all laws.
+
+use std::alloc::Global;
+use wc_rows::law_calls;
+use wc_rows::lines::Lines;
+use wc_rows::rows::Row;
+
+/// Calls these laws and those of `wc_rows`, and then answers a row of `laws`.
+pub(crate) fn answer(alloc: Global, row: &Row<'_>, out: &mut Lines) {
+    json_laws();
+    law_calls::answer(alloc, row, out);
+}
+
+fn json_laws() {
+    wc_json::laws::documents_read_back();
+    wc_json::laws::texts_read_back();
+    wc_record::laws::libraries_read_back();
+    wc_record::laws::library_texts_read_back();
+}

@@ -1,0 +1,243 @@
+-- Sets of functions and drops that are imported.
+use Rattle.std.proofs.Common.{◌≡◌, ℕ, List, [], ◌∷◌, ◌++◌, Bool, true, false, cond, ◌&&◌, ◌||◌, Option, Some, None, string_bytes, nat_eq, refl, sym, ap, ◌∙◌}
+use Rattle.std.proofs.Common.{subst, append-nil, append_assoc}
+use Rattle.std.specs.Prelude.{◌==◌}
+use Rattle.std.specs.List.{flat_map, list_any}
+use Rattle.std.proofs.lemmas.Grind.{flat_map-append}
+use Rattle.std.proofs.lemmas.List.{map-append}
+use Rattle.std.specs.Option.{option_eq, option_map}
+use Rattle.std.specs.Str.{bytes_eq}
+use Rattle.std.specs.String.{string_eq}
+use Rattle.std.proofs.lemmas.List.Folds.{list_any-append}
+use Rattle.std.proofs.lemmas.Slice.Eq.{bytes_eq-Decides}
+use Rattle.std.proofs.Math.Bool.{or-false, or-true}
+use Rattle.wc_resolve.specs.declared.ids.InterfaceId.{InterfaceId}
+use Rattle.wc_resolve.specs.Dependencies.{id_of_interface}
+use Rattle.wc_resolve.specs.declared.functions.AbiVariant.{AbiVariant}
+use Rattle.wc_resolve.specs.declared.functions.AbiVariant.TheVariants.{GuestImport, GuestImportAsync}
+use Rattle.wc_resolve.specs.declared.ids.TypeId.{TypeId}
+use Rattle.wc_resolve.specs.Live.{with_live}
+use Rattle.wc_resolve.specs.Roots.{indices}
+use Rattle.wc_resolve.proofs.KeyLemmas.{nat_from}
+use Rattle.wc_names.specs.Views.{FunctionImportView, ImportView, function_import, imported_resource_drop, interface_func, world_func}
+use Rattle.wc_validate.specs.Private.ExportedFunctions.{function_key}
+use Rattle.wc_validate.specs.Imports.Map.{imports_in}
+use Rattle.wc_validate.specs.Validated.{ModuleRecord}
+use Rattle.wc_world.specs.Slots.{all_imports, imports_of}
+use Rattle.wc_world.specs.Views.{NamedWorldAdapter}
+use Rattle.wc_world.specs.declared.imported_items.ImportedItems.{ImportedItems}
+use Rattle.wc_world.specs.Lowered.{is_drop_of, is_import_of, same_call}
+use Rattle.wc_world.specs.Private.ImportedItems.{AreCalled, AreImported, FunctionKey, IsCall, dropped_resource, interface_of, is_in, same_function}
+use Rattle.wc_world.proofs.UsedLemmas.{turned}
+
+-- the set of ids, by their indices
+pub ids_in : (keys : List TypeId) (id : TypeId) → list_any (λ (k : TypeId). id.0 == k.0) keys ≡ is_in (indices keys) id.0
+ids_in [] id = refl
+ids_in (k ∷ keys) id = ap (λ b. (id.0 == k.0) || b) (ids_in keys id)
+
+pub bytes_turned : (a b : List ℕ) → bytes_eq a b ≡ bytes_eq b a
+bytes_turned a b = two (bytes_eq a b) (bytes_eq b a) refl refl where
+  two : (x y : Bool) → bytes_eq a b ≡ x → bytes_eq b a ≡ y → bytes_eq a b ≡ bytes_eq b a
+  two true y is at = is ∙ sym ((bytes_eq-Decides b a).1 (sym ((bytes_eq-Decides a b).0 is)))
+  two false true is at = (bytes_eq-Decides a b).1 (sym ((bytes_eq-Decides b a).0 at)) ∙ sym at
+  two false false is at = is ∙ sym at
+
+interfaces_turned : (a b : Option InterfaceId) → option_eq (λ (i j : InterfaceId). i.0 == j.0) a b ≡ option_eq nat_eq (option_map id_of_interface b)
+    (option_map id_of_interface a)
+interfaces_turned None None = refl
+interfaces_turned None (Some b) = refl
+interfaces_turned (Some a) None = refl
+interfaces_turned (Some a) (Some b) = turned a.0 b.0
+
+-- a key is compared with another one as that with it
+pub keys_turned : (k f : FunctionKey) → same_function k f ≡ (option_eq nat_eq (function_key f).0 (function_key k).0 && bytes_eq (function_key f).1
+    (function_key k).1)
+keys_turned k f = ap (λ b. b && string_eq k.1 f.1) (interfaces_turned k.0 f.0) ∙ ap (λ b. option_eq nat_eq (function_key f).0 (function_key k).0 && b)
+    (bytes_turned (string_bytes k.1) (string_bytes f.1))
+
+or_last : (e a p : Bool) → e ≡ p → cond e true a ≡ (a || (p || false))
+or_last true true true h = refl
+or_last true false true h = refl
+or_last false true false h = refl
+or_last false false false h = refl
+or_last true a false h = absurd (let bad : ⊥ = cc h in bad)
+or_last false a true h = absurd (let bad : ⊥ = cc h in bad)
+
+-- one more is added to a set, and to a list
+pub added_last : {X : Type 0} (test : X → Bool) (xs : List X) (x : X) (new old e : Bool) → new ≡ cond e true old → old ≡ list_any test xs → e ≡ test x
+    → new ≡ list_any test (xs ++ x ∷ [])
+added_last test xs x new old e put same is =
+    put ∙ (or_last e old (test x) is ∙ (ap (λ b. b || (test x || false)) same ∙ sym (list_any-append test xs (x ∷ []))))
+
+-- one that passes no test
+pub passed_last : {X : Type 0} (test : X → Bool) (xs : List X) (x : X) (b : Bool) → b ≡ list_any test xs → test x ≡ false → b ≡ list_any test (xs ++ x ∷ [])
+passed_last test xs x b same none =
+    same ∙ (sym (or-false (list_any test xs)) ∙ (ap (λ c. list_any test xs || (c || false)) (sym none) ∙ sym (list_any-append test xs (x ∷ []))))
+
+-- a test of functions by what an import is
+abbrev pub is_called : Option ℕ → List ℕ → AbiVariant → Option FunctionImportView → Bool
+is_called interface name abi None = false
+is_called interface name abi (Some f) = option_eq nat_eq interface (interface_of f) && (bytes_eq name f.name && same_call abi f.abi)
+
+pub import_called : (interface : Option ℕ) (name : List ℕ) (abi : AbiVariant) (i : ImportView)
+    → is_import_of interface name abi i ≡ is_called interface name abi (function_import i)
+import_called None name abi (world_func key f a) = refl
+import_called (Some i) name abi (world_func key f a) = refl
+import_called None name abi (interface_func key j f a) = refl
+import_called (Some i) name abi (interface_func key j f a) = refl
+import_called None name abi i = refl
+import_called (Some j) name abi i = refl
+
+abbrev pub is_dropped : ℕ → Option ℕ → Bool
+is_dropped t None = false
+is_dropped t (Some u) = t == u
+
+pub import_dropped : (t : ℕ) (i : ImportView) → is_drop_of t i ≡ is_dropped t (dropped_resource i)
+import_dropped t (imported_resource_drop key interface u) = refl
+import_dropped t i = refl
+
+-- a function is no drop
+call_no_drop : (i : ImportView) (c : FunctionImportView) → function_import i ≡ Some c → dropped_resource i ≡ None
+call_no_drop (world_func key f a) c is = refl
+call_no_drop (interface_func key j f a) c is = refl
+call_no_drop i c is = absurd (let bad : ⊥ = cc is in bad)
+
+pub drop_no_call : (i : ImportView) (t : ℕ) → dropped_resource i ≡ Some t → function_import i ≡ None
+drop_no_call (imported_resource_drop key interface u) t is = refl
+drop_no_call i t is = absurd (let bad : ⊥ = cc is in bad)
+
+both_false : (a b : Bool) → (a && (b && false)) ≡ false
+both_false true true = refl
+both_false true false = refl
+both_false false b = refl
+
+both_kept : (a b : Bool) → (a && (b && true)) ≡ (a && b)
+both_kept true true = refl
+both_kept true false = refl
+both_kept false b = refl
+
+module _ (imports : List ImportView) (i : ImportView) (f : FunctionImportView) (is : function_import i ≡ Some f) where
+  -- a function called in another way is none of these
+  pub call_other : (other : AbiVariant) (keys : List FunctionKey) → same_call other f.abi ≡ false → AreCalled other imports keys
+      → AreCalled other (imports ++ i ∷ []) keys
+  call_other other keys differ same k =
+      passed_last (is_import_of (function_key k).0 (function_key k).1 other) imports i (list_any (same_function k) keys) (same k)
+      (import_called (function_key k).0 (function_key k).1 other i ∙ (ap (is_called (function_key k).0 (function_key k).1 other) is
+      ∙ (ap (λ b. option_eq nat_eq (function_key k).0 (interface_of f) && (bytes_eq (function_key k).1 f.name && b)) differ
+      ∙ both_false (option_eq nat_eq (function_key k).0 (interface_of f)) (bytes_eq (function_key k).1 f.name))))
+
+  pub call_own : (abi : AbiVariant) → same_call abi f.abi ≡ true → IsCall abi (interface_of f, f.name) i
+  call_own abi own interface name =
+      import_called interface name abi i
+      ∙ (ap (is_called interface name abi) is ∙ (ap (λ b. option_eq nat_eq interface (interface_of f) && (bytes_eq name f.name && b)) own
+      ∙ both_kept (option_eq nat_eq interface (interface_of f)) (bytes_eq name f.name)))
+
+  pub call_drops : (drops : List TypeId) → ((t : ℕ) → is_in (indices drops) t ≡ list_any (is_drop_of t) imports) → (t : ℕ)
+      → is_in (indices drops) t ≡ list_any (is_drop_of t) (imports ++ i ∷ [])
+  call_drops drops same t = passed_last (is_drop_of t) imports i (is_in (indices drops) t) (same t)
+      (import_dropped t i ∙ ap (is_dropped t) (call_no_drop i f is))
+
+-- an import that is no function is none of these
+pub no_call : (imports : List ImportView) (i : ImportView) (abi : AbiVariant) (keys : List FunctionKey) → function_import i ≡ None
+    → AreCalled abi imports keys → AreCalled abi (imports ++ i ∷ []) keys
+no_call imports i abi keys none same k =
+    passed_last (is_import_of (function_key k).0 (function_key k).1 abi) imports i (list_any (same_function k) keys) (same k)
+    (import_called (function_key k).0 (function_key k).1 abi i ∙ ap (is_called (function_key k).0 (function_key k).1 abi) none)
+
+-- an import that is neither a function nor a drop
+pub nothing_imported : (imports : List ImportView) (i : ImportView) (s : ImportedItems) → function_import i ≡ None → dropped_resource i ≡ None
+    → AreImported imports s → AreImported (imports ++ i ∷ []) s
+nothing_imported imports i s none other a = record {
+  functions = no_call imports i GuestImport s.functions.keys none a.functions;
+  async_functions = no_call imports i GuestImportAsync s.async_functions.keys none a.async_functions;
+  drops = λ t. passed_last (is_drop_of t) imports i (is_in (indices s.drops.keys) t) (a.drops t) (import_dropped t i ∙ ap (is_dropped t) other);
+}
+
+-- a drop is added
+pub drop_imported : (imports : List ImportView) (i : ImportView) (t : ℕ) (old new : List TypeId) → dropped_resource i ≡ Some t
+    → indices new ≡ with_live (indices old) t → ((u : ℕ) → is_in (indices old) u ≡ list_any (is_drop_of u) imports)
+    → (u : ℕ) → is_in (indices new) u ≡ list_any (is_drop_of u) (imports ++ i ∷ [])
+drop_imported imports i t old new is put same u = ap (λ z. is_in z u) put ∙ added (list_any (λ y. t == y) (indices old)) refl where
+  own : is_drop_of u i ≡ (u == t)
+  own = import_dropped u i ∙ ap (is_dropped u) is
+
+  last : is_in (indices old ++ t ∷ []) u ≡ list_any (is_drop_of u) (imports ++ i ∷ [])
+  last =
+      list_any-append (λ y. u == y) (indices old) (t ∷ [])
+      ∙ (ap (λ b. b || ((u == t) || false)) (same u) ∙ (ap (λ b. list_any (is_drop_of u) imports || (b || false)) (sym own)
+      ∙ sym (list_any-append (is_drop_of u) imports (i ∷ []))))
+
+  there : is_in (indices old) t ≡ true → (b : Bool) → (u == t) ≡ b → is_in (indices old) u ≡ list_any (is_drop_of u) (imports ++ i ∷ [])
+  there known true at = ap (is_in (indices old)) (nat_from u t at)
+      ∙ (known ∙ sym (list_any-append (is_drop_of u) imports (i ∷ []) ∙ (ap (λ b. list_any (is_drop_of u) imports || (b || false)) (own ∙ at)
+      ∙ or-true (list_any (is_drop_of u) imports))))
+  there known false at = passed_last (is_drop_of u) imports i (is_in (indices old) u) (same u) (own ∙ at)
+
+  added : (b : Bool) → list_any (λ y. t == y) (indices old) ≡ b → is_in (cond b (indices old) (indices old ++ t ∷ [])) u ≡ list_any (is_drop_of u)
+      (imports ++ i ∷ [])
+  added true known = there known (u == t) refl
+  added false none = last
+
+-- imports of a module that are gone through, and those that are left
+pub record ImportWalk (all left : List (List ℕ × (List ℕ × ImportView))) (passed : List ImportView) (s : ImportedItems) : Type 0 where
+  pub front : List (List ℕ × (List ℕ × ImportView))
+  pub split : front ++ left ≡ all
+  pub imported : AreImported (passed ++ imports_of front) s
+
+pub imports_start : (all left : List (List ℕ × (List ℕ × ImportView))) (passed : List ImportView) (s : ImportedItems) → left ≡ all → AreImported passed s
+    → ImportWalk all left passed s
+imports_start all left passed s is a = record { front = []; split = is; imported = subst (λ z. AreImported z s) (sym (append-nil passed)) a }
+
+pub imports_next : (all left rest : List (List ℕ × (List ℕ × ImportView))) (x : List ℕ × (List ℕ × ImportView)) (passed : List ImportView)
+    (old new : ImportedItems) → left ≡ x ∷ rest
+    → ((imports : List ImportView) → AreImported imports old → AreImported (imports ++ x.1.1 ∷ []) new) → ImportWalk all left passed old
+    → ImportWalk all rest passed new
+imports_next all left rest x passed old new is put w = record {
+  front = w.front ++ x ∷ [];
+  split = append_assoc w.front (x ∷ []) rest ∙ (ap (λ z. w.front ++ z) (sym is) ∙ w.split);
+  imported = subst (λ z. AreImported z new) (append_assoc passed (imports_of w.front) (x.1.1 ∷ [])
+      ∙ ap (λ z. passed ++ z) (sym (map-append (λ (y : List ℕ × (List ℕ × ImportView)). y.1.1) w.front (x ∷ []))))
+      (put (passed ++ imports_of w.front) w.imported);
+}
+
+pub imports_end : (all left : List (List ℕ × (List ℕ × ImportView))) (passed : List ImportView) (s : ImportedItems) → left ≡ []
+    → ImportWalk all left passed s → AreImported (passed ++ imports_of all) s
+imports_end all left passed s none w = subst (λ z. AreImported (passed ++ imports_of z) s) (sym (append-nil w.front)
+    ∙ (ap (λ z. w.front ++ z) (sym none) ∙ w.split)) w.imported
+
+-- the same of adapters
+pub record AdapterWalk (main : ModuleRecord) (all left : List NamedWorldAdapter) (s : ImportedItems) : Type 0 where
+  pub front : List NamedWorldAdapter
+  pub split : front ++ left ≡ all
+  pub imported : AreImported (imports_of (all_imports main front)) s
+
+pub adapters_start : (main : ModuleRecord) (all left : List NamedWorldAdapter) (s : ImportedItems) → left ≡ all
+    → AreImported (imports_of (imports_in main.imports)) s → AdapterWalk main all left s
+adapters_start main all left s is a = record {
+  front = [];
+  split = is;
+  imported = subst (λ z. AreImported (imports_of z) s)
+      (sym (append-nil (imports_in main.imports))) a;
+}
+
+pub adapters_next : (main : ModuleRecord) (all left rest : List NamedWorldAdapter) (x : NamedWorldAdapter) (old new : ImportedItems) → left ≡ x ∷ rest
+    → ((imports : List ImportView) → AreImported imports old → AreImported (imports ++ imports_of (imports_in x.1.info.imports)) new)
+    → AdapterWalk main all left old → AdapterWalk main all rest new
+adapters_next main all left rest x old new is put w =
+    let own : List NamedWorldAdapter → List (List ℕ × (List ℕ × ImportView)) = flat_map (λ (a : NamedWorldAdapter). imports_in a.1.info.imports) in
+    let more : all_imports main (w.front ++ x ∷ []) ≡ all_imports main w.front ++ imports_in x.1.info.imports =
+    ap (λ z. imports_in main.imports ++ z) (flat_map-append (λ (a : NamedWorldAdapter). imports_in a.1.info.imports) w.front (x ∷ [])
+    ∙ ap (λ z. own w.front ++ z) (append-nil (imports_in x.1.info.imports)))
+    ∙ sym (append_assoc (imports_in main.imports) (own w.front) (imports_in x.1.info.imports)) in
+    record {
+      front = w.front ++ x ∷ [];
+      split = append_assoc w.front (x ∷ []) rest ∙ (ap (λ z. w.front ++ z) (sym is) ∙ w.split);
+      imported = subst (λ z. AreImported z new)
+          (sym (map-append (λ (y : List ℕ × (List ℕ × ImportView)). y.1.1) (all_imports main w.front) (imports_in x.1.info.imports)) ∙ ap imports_of (sym more))
+          (put (imports_of (all_imports main w.front)) w.imported);
+    }
+
+pub adapters_end : (main : ModuleRecord) (all left : List NamedWorldAdapter) (s : ImportedItems) → left ≡ [] → AdapterWalk main all left s
+    → AreImported (imports_of (all_imports main all)) s
+adapters_end main all left s none w = subst (λ z. AreImported (imports_of (all_imports main z)) s) (sym (append-nil w.front)
+    ∙ (ap (λ z. w.front ++ z) (sym none) ∙ w.split)) w.imported

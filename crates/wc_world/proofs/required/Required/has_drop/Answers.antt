@@ -1,6 +1,0 @@
-use Rattle.std.proofs.Common.{◌∙◌}
-use Rattle.wc_world.proofs.RequiredLemmas.{ids_in}
-use Rattle.wc_world.proofs.required.Required.has_drop.Goals as goal
-
-pub returns : goal.returns
-returns c = λ imports a. c.contains.ensures ∙ (ids_in c.args.self.now.drops.keys c.args.id ∙ a.drops c.args.id.0)

@@ -1,0 +1,55 @@
+-- What a command asks of adapters and of exports.
+use Rattle.std.specs.Prelude.{ℕ, List, All, Contains}
+use Rattle.wc_json.specs.Document.{DocumentView}
+use Rattle.wc_selection.specs.Keys.{NamedKey, texts_of}
+use Rattle.wc_selection.specs.Requests.{RequestValue, given_keys}
+use Rattle.wc_selection.specs.ModuleKeys.{AreKeysThere, IsKeysCause}
+use Rattle.wc_selection.specs.Texts.{AreDistinct, IsFirstMissing, IsFirstRepeated, first_parts}
+use Rattle.wc_selection.specs.Worlds.{IsWorldCause}
+use Rattle.wcplan_command.specs.Arguments.{CommandValue}
+use Rattle.wcplan_command.specs.FileNames.{AreFilesNamed, IsFilesCause}
+use Rattle.wcplan_command.specs.declared.faults.SelectionFault.{SelectionFault}
+use Rattle.wcplan_command.specs.declared.faults.SelectionFault.TheVariants.{Memory, Request, RepeatedAdapter, UnknownAdapter, EmptyDirectory, FileName, MainFile}
+
+-- the keys that a command gives
+abbrev pub request_of : CommandValue → RequestValue
+request_of c = record { exports = c.exports; adapter_exports = c.adapter_exports }
+
+-- why no world is selected
+abbrev pub IsSelectionCause : DocumentView → List ℕ → SelectionFault → Type 0
+IsSelectionCause d text Memory = Unit {0}
+IsSelectionCause d text (Request f) = IsWorldCause d text f
+IsSelectionCause d text f = ⊥
+
+-- adapters have names of their own, and those that have to export something are there
+abbrev pub adapter_names : CommandValue → List (List ℕ)
+adapter_names c = first_parts c.adapters
+
+abbrev pub AreExportersThere : CommandValue → Type 0
+AreExportersThere c = All (Contains (adapter_names c)) (first_parts c.adapter_exports)
+
+-- why keys are not there, or are given twice
+abbrev pub IsGivenCause : List (List ℕ) → List (List ℕ) → SelectionFault → Type 0
+IsGivenCause given texts Memory = Unit {0}
+IsGivenCause given texts (Request f) = IsKeysCause given texts f
+IsGivenCause given texts f = ⊥
+
+-- the names of adapters and the keys of a command are there, and none is given twice
+pub record AreNamesThere (c : CommandValue) (keys : List NamedKey) : Type 0 where
+  pub adapters : AreDistinct (adapter_names c)
+  pub exporters : AreExportersThere c
+  pub files : AreFilesNamed c.out (adapter_names c)
+  pub keys_there : AreKeysThere (given_keys (request_of c)) (texts_of keys)
+
+-- why the names of adapters and the keys of a command are not there, or are given twice: adapters are before keys
+abbrev pub AreAdaptersThere : CommandValue → Type 0
+AreAdaptersThere c = AreDistinct (adapter_names c) × AreExportersThere c × AreFilesNamed c.out (adapter_names c)
+
+abbrev pub IsNamesCause : CommandValue → List NamedKey → SelectionFault → Type 0
+IsNamesCause c keys Memory = Unit {0}
+IsNamesCause c keys (RepeatedAdapter name) = IsFirstRepeated (adapter_names c) name.now
+IsNamesCause c keys (UnknownAdapter name) = AreDistinct (adapter_names c) × IsFirstMissing (first_parts c.adapter_exports) (adapter_names c) name.now
+IsNamesCause c keys EmptyDirectory = AreDistinct (adapter_names c) × AreExportersThere c × IsFilesCause c.out (adapter_names c) EmptyDirectory
+IsNamesCause c keys (FileName name) = AreDistinct (adapter_names c) × AreExportersThere c × IsFilesCause c.out (adapter_names c) (FileName name)
+IsNamesCause c keys (MainFile name) = AreDistinct (adapter_names c) × AreExportersThere c × IsFilesCause c.out (adapter_names c) (MainFile name)
+IsNamesCause c keys (Request f) = AreAdaptersThere c × IsKeysCause (given_keys (request_of c)) (texts_of keys) f

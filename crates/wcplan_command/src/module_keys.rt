@@ -1,0 +1,142 @@
+//! What a command asks of adapters and of exports.
+
+ghost use Rattle.std.specs.Prelude.{◌≡◌, ◌<◌, IfErr, IfOk, OnOk, length, map};
+ghost use Rattle.wc_resolve.specs.Views.{key_view};
+ghost use Rattle.wc_selection.specs.KeyNames.{request_keys};
+ghost use Rattle.wc_selection.specs.Keys.{AreKeysApart, named_key, texts_of};
+ghost use Rattle.wc_selection.specs.Requests.{exporter_name, given_keys, request_value};
+ghost use Rattle.wc_selection.specs.ModuleKeys.{AreKeysThere, required_keys};
+ghost use Rattle.wc_selection.specs.Texts.{first_parts, text_of, text_pair};
+ghost use Rattle.wcplan_command.specs.Arguments.{command_value};
+ghost use Rattle.wcplan_command.specs.ModuleKeys.{AreNamesThere, IsGivenCause, IsNamesCause, request_of};
+
+use crate::arguments::Command;
+use crate::faults::SelectionFault;
+use crate::file_names::file_fault;
+use std::alloc::{AllocError, Global};
+use wc_maps::{Seed, Set};
+use wc_resolve::{Resolve, WorldId, WorldKey};
+use wc_selection::{Exporter, KeyRequest, first_missing, first_repeated, request_keys};
+
+/// The keys that a command gives.
+fn key_request<'r, 'a>(command: &'r Command<'a>) -> KeyRequest<'r, 'a>
+    ensures { request_value result ≡ request_of (command_value command.now) }
+{
+    KeyRequest {
+        exports: &command.exports,
+        adapter_exports: &command.adapter_exports,
+    }
+}
+
+/// The keys of a world's exports, in order, each with the text by which the command gives it (`request_keys`).
+///
+/// The world must be in range (`Resolve::has_world`).
+///
+/// # Errors
+///
+/// `AllocError`: an allocation failed.
+pub(crate) fn command_keys(
+    alloc: Global,
+    command: &Command<'_>,
+    resolve: &Resolve,
+    world: WorldId,
+) -> Result<Vec<(WorldKey, String)>, AllocError>
+    requires { world.0 < length resolve.now.worlds }
+    ensures keys { IfOk result (λ v. map named_key v.items
+        ≡ request_keys (request_of (command_value command.now)) resolve.now world.0) }
+    ensures differ { IfOk result (λ v. AreKeysApart (map named_key v.items)) }
+{
+    let request = key_request(command);
+    request_keys(alloc, &request, resolve, world)
+}
+
+/// Checks the names of adapters and the keys of a command against a world's exports. `seed`: the seed of the sets that are
+/// made.
+///
+/// # Errors
+///
+/// Of several causes, the first in this order is named, and of one in the order of the arguments; `Memory` may come in
+/// place of any. Keys of the main module are before those of adapters.
+///
+/// - `RepeatedAdapter`: two adapters have one name.
+/// - `UnknownAdapter`: no adapter has the name of one that has to export a key.
+/// - `EmptyDirectory`, `FileName`, `MainFile`: files are to be written, and can't be named (`file_fault`).
+/// - `UnknownKey`: the world doesn't export the key.
+/// - `RepeatedKey`: a key is given twice, for one module or for two.
+/// - `Memory`: an allocation failed.
+pub(crate) fn check_names<'a>(
+    alloc: Global,
+    seed: Seed,
+    command: &Command<'a>,
+    keys: &[(WorldKey, String)],
+) -> Result<(), SelectionFault<'a>>
+    ensures there { OnOk result (AreNamesThere (command_value command.now)
+        (map named_key keys.now)) }
+    ensures fault { IfErr result (IsNamesCause (command_value command.now)
+        (map named_key keys.now)) }
+{
+    let adapters = first_parts(alloc, &command.adapters)?;
+    if let Some(name) = first_repeated(alloc, seed, &adapters)? {
+        return Err(SelectionFault::RepeatedAdapter(name));
+    }
+    let exporters = first_parts(alloc, &command.adapter_exports)?;
+    if let Some(name) = first_missing(&exporters, &adapters) {
+        return Err(SelectionFault::UnknownAdapter(name));
+    }
+    if let Some(fault) = file_fault(command.out, &adapters) {
+        return Err(fault);
+    }
+    check_keys(alloc, seed, command, keys)
+}
+
+/// Checks the keys of a command against a world's exports.
+fn check_keys<'a>(
+    alloc: Global,
+    seed: Seed,
+    command: &Command<'a>,
+    keys: &[(WorldKey, String)],
+) -> Result<(), SelectionFault<'a>>
+    ensures there { OnOk result (AreKeysThere (given_keys (request_of (command_value command.now)))
+        (texts_of (map named_key keys.now))) }
+    ensures fault { IfErr result (IsGivenCause (given_keys (request_of (command_value command.now)))
+        (texts_of (map named_key keys.now))) }
+{
+    let request = key_request(command);
+    match wc_selection::check_keys(alloc, seed, &request, keys) {
+        Ok(()) => Ok(()),
+        Err(fault) => Err(SelectionFault::from(fault)),
+    }
+}
+
+/// The first of each pair.
+fn first_parts<'a>(alloc: Global, pairs: &[(&'a str, &'a str)]) -> Result<Vec<&'a str>, AllocError>
+    ensures { IfOk result (λ v. map text_of v.items ≡ first_parts (map text_pair pairs.now)) }
+{
+    let mut names = Vec::new(alloc);
+    for (name, _value) in pairs {
+        names.push(*name)?;
+    }
+    Ok(names)
+}
+
+/// The keys that a module of a command has to export, in the order of the world's exports (`wc_selection::required_keys`).
+/// `seed`: the seed of the set.
+///
+/// # Errors
+///
+/// `AllocError`: an allocation failed.
+pub(crate) fn required_keys(
+    alloc: Global,
+    seed: Seed,
+    command: &Command<'_>,
+    exporter: Exporter<'_>,
+    keys: &[(WorldKey, String)],
+) -> Result<Set<WorldKey>, AllocError>
+    requires { AreKeysApart (map named_key keys.now) }
+    ensures { IfOk result (λ set. map key_view set.keys
+        ≡ required_keys (request_of (command_value command.now)) (exporter_name exporter.entry)
+        (map named_key keys.now)) }
+{
+    let request = key_request(command);
+    wc_selection::required_keys(alloc, seed, &request, exporter, keys)
+}
