@@ -28,9 +28,9 @@ def files_of(crate, *parts):
 
 
 def is_fresh(crate):
-    """Whether the crate is proved, and no source is newer than the oldest file of what was proved."""
-    made = min((os.stat(path).st_mtime for path in files_of(crate, os.path.join("out", "rlib", crate + ".rlib"))),
-               default=0)
+    """Whether the crate is proved, and no source is newer than the folder of what was proved. Its files may be older: `rt ci`
+    takes them from another checkout where it proved the same sources there."""
+    made = os.stat(rlib(crate)).st_mtime if os.path.isdir(rlib(crate)) else 0
     return all(os.stat(path).st_mtime <= made for path in files_of(crate, "src", "specs", "proofs"))
 
 

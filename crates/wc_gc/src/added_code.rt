@@ -227,7 +227,8 @@ fn append_growth(out: &mut Vec<u8>, pages: u32) -> Result<(), AllocError>
 
 /// Appends the call of a realloc for a stack, and sets the stack pointer to the end of the block.
 fn append_allocation(out: &mut Vec<u8>, realloc: u32, sp: u32) -> Result<(), AllocError>
-    ensures { OnOk result (out.new.items ≡ out.old.items ++ operators_text (allocation realloc sp)) }
+    ensures { OnOk result (out.new.items
+        ≡ out.old.items ++ operators_text (allocation realloc sp)) }
 {
     append_code(
         out,
