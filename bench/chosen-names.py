@@ -288,7 +288,7 @@ def compare(asked, title):
 
 
 def main():
-    parser = argparse.ArgumentParser()
+    parser = argparse.ArgumentParser(description=__doc__, formatter_class=argparse.RawDescriptionHelpFormatter)
     for program in PROGRAMS:
         path = TOP / "crates" / program / "out" / program
         parser.add_argument("--" + program.replace("_", "-"), type=os.path.abspath, default=str(path))

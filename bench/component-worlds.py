@@ -154,7 +154,7 @@ def trimmed(asked, case):
 
 
 def main():
-    asked = argparse.ArgumentParser()
+    asked = argparse.ArgumentParser(description=__doc__, formatter_class=argparse.RawDescriptionHelpFormatter)
     asked.add_argument("--program", type=os.path.abspath, default=str(PROGRAM))
     asked.add_argument("--rounds", type=int, default=5)
     asked.add_argument("cases", nargs="*")

@@ -24,51 +24,12 @@ import sys
 import tempfile
 import time
 
-TOP = os.path.dirname(os.path.dirname(os.path.abspath(__file__)))
-KIT = "/opt/rattle"
+sys.path.append(os.path.join(os.path.dirname(os.path.dirname(os.path.abspath(__file__))), "tools"))
+from repository import TOP, kit_command, rlib_of
+
 TICK = os.sysconf("SC_CLK_TCK")
 # what comes after a type's name in the path of a derived function
 DERIVED = re.compile(r"(Clone|Debug|Hash|PartialEq|Eq|Ord|PartialOrd|Default|Display|Error)\.\w+$")
-
-
-def crates(top):
-    """The libraries that each crate uses, and the crates that are static libraries."""
-    uses, static = {}, set()
-    with open(f"{top}/crates.txt", encoding="utf-8") as file:
-        for line in file:
-            head, colon, tail = line.partition("#")[0].partition(":")
-            if colon:
-                name, *kinds = head.split()
-                uses[name] = tail.split()
-                static |= {name} if "staticlib" in kinds else set()
-    return uses, static
-
-
-def command(crate, built, flags):
-    """The check of a crate over the statements in `built`."""
-    uses, static = crates(TOP)
-    if crate not in uses:
-        sys.exit(f"crate-costs.py: crates.txt lists no crate {crate}")
-    rlib = lambda name: f"{built}/crates/{name}/out/rlib"
-    below, todo = [], [it for it in uses[crate] if it in uses]
-    while todo:
-        name = todo.pop()
-        if name not in below:
-            below.append(name)
-            todo += [it for it in uses[name] if it in uses]
-    for name in below:
-        if not os.path.isdir(f"{rlib(name)}/{name}.rlib"):
-            sys.exit(f"crate-costs.py: no statements of {name} in {rlib(name)}: run `rt ci` in {built} first")
-    root = next(it for it in ("src/main.rt", "src/lib.rt") if os.path.exists(f"{TOP}/crates/{crate}/{it}"))
-    words = [f"{KIT}/bin/rattle", "check", "--crate-name", crate, root, "--extern", f"std={KIT}/rlibs/std.rlib"]
-    for name in uses[crate]:
-        words += ["--extern", f"{name}={rlib(name)}/{name}.rlib" if name in uses else f"{name}={KIT}/rlibs/{name}.rlib"]
-    words += ["-L", f"dependency={KIT}/rlibs"]
-    for name in below:
-        words += ["-L", f"dependency={rlib(name)}"]
-    words += ["--crate-type", "staticlib"] if crate in static else []
-    words += ["--antt-project", f"{KIT}/rattle/logic/antt-project.json", "--logic-built", f"{KIT}/logic_built"]
-    return [*words, "--links", f"{crate}=", *flags]
 
 
 def kind(name):
@@ -128,13 +89,15 @@ def part(name, crate):
 
 
 def main():
-    parser = argparse.ArgumentParser(usage=__doc__.split("\n\n")[1].strip())
+    parser = argparse.ArgumentParser(usage=__doc__.split("\n\n")[1].strip(), description=__doc__,
+                                     formatter_class=argparse.RawDescriptionHelpFormatter)
     parser.add_argument("--from", dest="built", default=TOP)
     parser.add_argument("--lines", type=int, default=40)
     parser.add_argument("crate")
     given, flags = parser.parse_known_args()
     with tempfile.TemporaryDirectory() as kept:
-        words = command(given.crate, os.path.abspath(given.built), [*flags, "--incremental", kept])
+        built = os.path.abspath(given.built)
+        words = kit_command("check", given.crate, [*flags, "--incremental", kept], folder_of=lambda it: rlib_of(it, built))
         end, moments = run(words, f"{TOP}/crates/{given.crate}")
         each, first = modules(kept, moments)
     print(f"{given.crate}: {end}")

@@ -5,6 +5,7 @@
 # where nothing was renamed.
 set -e
 top=$(CDPATH='' cd -P -- "$(dirname -- "$0")/.." && pwd -P)
+. "$top/checks/need.sh"
 "$top/wctrim" --build
 [ -e "$top/bench/data/repeats-100000.wasm" ] || python3 "$top/bench/generate.py" "$top/bench/data"
 exec python3 - "$top/crates/wctrim/out/wctrim" "$top/bench/data" <<'END'

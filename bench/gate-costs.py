@@ -23,7 +23,9 @@ import sys
 import tempfile
 import time
 
-TOP = os.path.dirname(os.path.dirname(os.path.abspath(__file__)))
+sys.path.append(os.path.join(os.path.dirname(os.path.dirname(os.path.abspath(__file__))), "tools"))
+from repository import TOP, crates_below, used_by_crates
+
 DATA = f"{TOP}/bench/data"
 TICK = os.sysconf("SC_CLK_TCK")
 BEGIN, END = "<!-- costs: bench/gate-costs.py -->", "<!-- end of costs -->"
@@ -107,14 +109,10 @@ def record(words, cores):
 
 
 def uses():
-    """The crates that each crate waits for, in the order of crates.txt."""
-    found = {}
-    with open(f"{TOP}/crates.txt", encoding="utf-8") as file:
-        for line in file:
-            head, colon, tail = line.partition("#")[0].partition(":")
-            if colon:
-                found[head.split()[0]] = tail.split()
-    return {name: [it for it in of if it in found] for name, of in found.items()}
+    """The crates that each crate waits for; a crate comes after these, else in the order of crates.txt."""
+    found = used_by_crates()
+    order = dict.fromkeys(it for name in found for it in crates_below(name, found))
+    return {name: [it for it in found[name] if it in found] for name in order}
 
 
 def by_the_clock(crates, processors):
@@ -143,6 +141,15 @@ def by_the_clock(crates, processors):
     return now
 
 
+def longest_chain(crates):
+    """The crates of the longest chain of proofs that wait for each other, and its minutes."""
+    chains = {}
+    for name, waits in uses().items():
+        minutes, chain = max((chains[it] for it in waits), default=(0.0, []))
+        chains[name] = minutes + crates.get(name, {}).get("proof", 0.0) / 60, [*chain, name]
+    return max(chains.values())
+
+
 def table(runs):
     crates = {}
     for run in runs:
@@ -160,6 +167,8 @@ def table(runs):
     lines.append(f"With {other:.1f} minutes for linking, running and the rest that is {proofs + edits + other:.0f} processor minutes.")
     two, four = by_the_clock(crates, 2), by_the_clock(crates, 4)
     lines.append(f"With one processor for each proof that takes {two:.0f} minutes on two processors, and {four:.0f} on four.")
+    minutes, chain = longest_chain(crates)
+    lines.append(f"The longest chain has {minutes:.0f} minutes: {', '.join(f'`{it}`' for it in chain)}.")
     for run in (it for it in runs if it["clock"]):
         whole = f"`{run['commit']}`: {run['clock'] / 60:.0f} minutes by the clock on {len(run['cores'])} processors"
         lines.append(f"Run {whole}, with a load of {run['load']:.1f} before it; {run['answer']}.")
@@ -167,7 +176,8 @@ def table(runs):
 
 
 def main():
-    parser = argparse.ArgumentParser(usage=__doc__.split("\n\n")[1].strip())
+    parser = argparse.ArgumentParser(usage=__doc__.split("\n\n")[1].strip(), description=__doc__,
+                                     formatter_class=argparse.RawDescriptionHelpFormatter)
     parser.add_argument("--write", action="store_true")
     parser.add_argument("--cores", default="")
     parser.add_argument("--join", nargs="+")

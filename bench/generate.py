@@ -1,5 +1,5 @@
 #!/usr/bin/env python3
-"""Writes the modules that bench/dedupe.sh runs on into a folder (bench/data, if none is given).
+"""Writes the modules that bench/dedupe.sh runs on into a folder.
 
     no-repeats.wasm       a valid module of 50 MB: 5,000 imports of distinct names, 40,000 functions, a data section of 18 MB,
                           200 custom sections of 14 MB in all
@@ -8,6 +8,7 @@
     repeats-10000.wasm, repeats-100000.wasm      so many function imports of one name, and nothing else
 """
 
+import argparse
 import os
 import pathlib
 import random
@@ -54,7 +55,9 @@ def repeated(count):
 
 
 def main():
-    folder = sys.argv[1] if len(sys.argv) > 1 else str(TOP / "bench" / "data")
+    parser = argparse.ArgumentParser(description=__doc__, formatter_class=argparse.RawDescriptionHelpFormatter)
+    parser.add_argument("folder", nargs="?", default=str(TOP / "bench" / "data"), help="bench/data, if none is given")
+    folder = parser.parse_args().folder
     os.makedirs(folder, exist_ok=True)
     for file, make, count in (
         ("no-repeats.wasm", large, 0),

@@ -1,16 +1,16 @@
 #!/usr/bin/env python3
 """Writes a row that validates a module of many exports over a world of many interfaces, to standard output.
 
-    many-exports.py [EXPORTS] [INTERFACES] [asked] | crates/wc_tests/out/wc_tests - > answers
+    bench/many-exports.py [EXPORTS] [INTERFACES] [asked] | ./wctests - > answers
 
-50,000 exports and 2,000 interfaces, unless other numbers are given. Each interface is in a package of its own, has ten
+Each interface is in a package of its own, has ten
 functions, and has to be exported: so the first exports are its functions, and the others mean nothing. The row answers
 each export that is recorded. Beside it is a row of the same fixture with one export, which is refused.
 
 With `asked` the interfaces have as many functions as there are exports, so that each export is one of them, and each of
 them is asked for: how it is lifted, what runs after it, and its callback.
 """
-import sys
+import argparse
 
 from many_interfaces import FUNCTIONS, fixture
 
@@ -37,10 +37,12 @@ def row(exports, interfaces, functions, asked):
 
 
 def main():
-    asked = sys.argv[-1] == "asked"
-    numbers = [int(word) for word in sys.argv[1:] if word != "asked"]
-    exports = numbers[0] if numbers else 50000
-    interfaces = numbers[1] if len(numbers) > 1 else 2000
+    parser = argparse.ArgumentParser(description=__doc__, formatter_class=argparse.RawDescriptionHelpFormatter)
+    parser.add_argument("exports", nargs="?", type=int, default=50_000, help="50,000, if no number is given")
+    parser.add_argument("interfaces", nargs="?", type=int, default=2_000, help="2,000, if no number is given")
+    parser.add_argument("asked", nargs="?", choices=["asked"], help="each export is one of the interfaces, and asked for")
+    arguments = parser.parse_args()
+    exports, interfaces, asked = arguments.exports, arguments.interfaces, arguments.asked is not None
     functions = exports // interfaces if asked else FUNCTIONS
     fixture(interfaces, "export", functions)
     print("in module-exports " + " ".join("i%d" % number for number in range(interfaces)))

@@ -1,14 +1,14 @@
 #!/usr/bin/env python3
 """Writes a row that validates a module of many imports over a world of many interfaces, to standard output.
 
-    many-imports.py [IMPORTS] [INTERFACES] | crates/wc_tests/out/wc_tests - > answers
+    bench/many-imports.py [IMPORTS] [INTERFACES] | ./wctests - > answers
 
-20,000 imports and 2,000 interfaces, unless other numbers are given. Each interface is in a package of its own, and has
+Each interface is in a package of its own, and has
 ten functions; imports name the functions of one interface after the other, half of them by another version of the same
 track. Beside it is a row of the same fixture with
 no import. What the first takes longer than the second is the reading of its lines and the validation.
 """
-import sys
+import argparse
 
 from many_interfaces import FUNCTIONS, fixture
 
@@ -26,8 +26,11 @@ def row(imports, interfaces):
 
 
 def main():
-    imports = int(sys.argv[1]) if len(sys.argv) > 1 else 20000
-    interfaces = int(sys.argv[2]) if len(sys.argv) > 2 else 2000
+    parser = argparse.ArgumentParser(description=__doc__, formatter_class=argparse.RawDescriptionHelpFormatter)
+    parser.add_argument("imports", nargs="?", type=int, default=20_000, help="20,000, if no number is given")
+    parser.add_argument("interfaces", nargs="?", type=int, default=2_000, help="2,000, if no number is given")
+    arguments = parser.parse_args()
+    imports, interfaces = arguments.imports, arguments.interfaces
     fixture(interfaces, "import")
     print()
     row(0, interfaces)

@@ -160,7 +160,7 @@ def adapters_of(words):
 
 
 def main():
-    parser = argparse.ArgumentParser()
+    parser = argparse.ArgumentParser(description=__doc__, formatter_class=argparse.RawDescriptionHelpFormatter)
     parser.add_argument("--program", default=str(PROGRAM))
     parser.add_argument("--beside")
     parser.add_argument("--instructions", action="store_true")

@@ -16,6 +16,7 @@ wasi-libc and libclang-rt-dev-wasm32.
 With --cut it writes the first adapter with this export, of the toolchain of the rustc on PATH or of another, to a file, and
 needs no other tool.
 """
+import argparse
 import glob
 import os
 import shutil
@@ -161,9 +162,13 @@ def cut(export, target):
 
 
 def main():
-    if sys.argv[1:2] == ["--cut"]:
-        return cut(*sys.argv[2:])
-    program = sys.argv[1] if len(sys.argv) > 1 else os.path.join(TOP, "crates", "wctrim", "out", "wctrim")
+    parser = argparse.ArgumentParser(description=__doc__, formatter_class=argparse.RawDescriptionHelpFormatter)
+    parser.add_argument("program", nargs="?", default=os.path.join(TOP, "crates", "wctrim", "out", "wctrim"))
+    parser.add_argument("--cut", nargs=2, metavar=("EXPORT", "FILE"), help="write an adapter to a file, and compare none")
+    arguments = parser.parse_args()
+    if arguments.cut:
+        return cut(*arguments.cut)
+    program = arguments.program
     shutil.rmtree(MADE, ignore_errors=True)
     os.makedirs(MADE)
     objects = []

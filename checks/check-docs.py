@@ -11,23 +11,24 @@ It prints a line for each thing that is wrong, and ends with status 1 where ther
 - names in backquotes: paths of files are there. The words of a name, of a path of names (`a::b`) and of a call
   (`a.b(c)`) occur in the sources, comments aside; so do names of two words and more with hyphens, as those of edits;
 - README.md: its lines have at most 120 columns, and KIT is one line;
-- a crate's README: under "Copying it" its line of crates.txt; under "Clauses" each function is one of the crate, and has
-  the clauses of its rows, and each public function of a library has a row; under "What functions require" is each
-  function with a `requires`, and no other; under "Files" each file that a row names is there, and each file of src/ has
-  a row.
+- docs/MAP.md and docs/LIBRARIES.md: each has a row for each crate, but that LIBRARIES has none for programs and tests;
+- a crate's README: under "Clauses" each function is one of the crate, and has the clauses of its rows, and each public
+  function of a library has a row; under "What functions require" is each function with a `requires`, and no other; under
+  "Files" each file that a row names is there, and each file of src/ has a row.
 """
 
+import argparse
 import functools
 import glob
 import os
 import re
 import sys
 
-TOP = os.path.dirname(os.path.dirname(os.path.abspath(__file__)))
+sys.path.append(os.path.join(os.path.dirname(os.path.dirname(os.path.abspath(__file__))), "tools"))
+from repository import TESTS, TOP, libraries, used_by_crates
+
+TOP = str(TOP)
 MOST_WORDS = 40
-# crates of the tests, and the program: their functions promise nothing to others
-TESTS = {"wc_rows", "wc_fixtures", "wc_module_rows", "wc_tests"}
-NO_LIBRARIES = TESTS | {"wctrim", "wcplan", "nuigatre"}
 # parts of paths of files that are made, and may be missing
 MADE = ("out/", "bench/data", "checks/data", "lang/antt/", "target/", "rust/unproved")
 # files that programs and scripts write
@@ -35,7 +36,7 @@ WRITTEN = {"out.wasm", "main.wasm", "adapter.wasm", "no-repeats.wasm", "one-repe
            "repeats-100000.wasm"}
 # names of other crates, of the kit and of other tools, which no source of the repository has
 FOREIGN = {"TypeRef", "Default", "Dec", "ValidatedAdapter", "wasm-component-ld", "wasm-encoder", "wasmparser", "wit-parser",
-           "anyhow", "BUILD", "bazel", "serde", "serde_json", "escape_debug", "deps", "Cargo", "toml", "_start", "unfold", "nice"}
+           "anyhow", "BUILD", "bazel", "serde", "serde_json", "escape_debug", "deps", "Cargo", "toml", "_start", "fd_close", "unfold", "nice"}
 
 faults = []
 
@@ -168,7 +169,7 @@ def words_of_sources():
     others = [path for part in ("edits", "examples", "checks", "bench") for path in files(part, "**", "*")]
     others += files("rust", "*") + [path for part in ("src", "tests", "examples")
                                     for path in files("rust", "nuigatre", part, "**", "*.rs")]
-    for path in [*sources, *others, *files("crates.txt"), *files("HANDLES"), *files("wctrim")]:
+    for path in [*sources, *others, *files("tools", "*"), *files("crates.txt"), *files("HANDLES"), *files("wctrim")]:
         is_text = not path.endswith((".wasm", ".md", "check-docs.py")) and "/data/" not in path.replace("/wc_tests/data/", "/")
         if os.path.isfile(path) and is_text:
             for text in (code_of(path), os.path.relpath(path, TOP)):
@@ -344,11 +345,6 @@ def paths_in(cell):
     return paths
 
 
-def check_copying(document, crate, line):
-    if f"`{line}`" not in read(document):
-        fault(document, 1, f"no line of crates.txt: {line}")
-
-
 def check_clauses(document, crate):
     listed, paths = set(), []
     for number, cells in section_rows(document, "Clauses"):
@@ -397,20 +393,28 @@ def check_files(document, crate):
                 fault(document, number, f"no {folder}/{name}")
     for path in map(crate.path_of, crate.files):
         # of a crate of the tests a row of a folder is enough
-        if path not in named and not (crate.name in TESTS and path.split("/")[0] in named):
+        if path not in named and not (TESTS.match(crate.name) and path.split("/")[0] in named):
             fault(document, 1, f"no row for src/{path}")
 
 
-def check_crate(crate, line):
+def check_crate(crate, is_library):
     document = os.path.join(TOP, "crates", crate.name, "README.md")
     if not os.path.exists(document):
         fault(document, 1, "no page")
         return
-    if crate.name != "wc_tests":
-        check_copying(document, crate, line)
-    if crate.name not in NO_LIBRARIES:
+    if is_library:
         check_clauses(document, crate)
     check_files(document, crate)
+
+
+def check_lists():
+    """The lists of crates: each crate has a row in MAP, and each library and static library one in LIBRARIES."""
+    for page, crates in ("MAP.md", used_by_crates()), ("LIBRARIES.md", libraries()):
+        document = os.path.join(TOP, "docs", page)
+        rows = [cells[0] for _, cells in rows_of(document)]
+        for crate in crates:
+            if not any(f"[{crate}](" in cell for cell in rows):
+                fault(document, 1, f"no row for {crate}")
 
 
 def check_top():
@@ -423,17 +427,17 @@ def check_top():
 
 
 def main():
-    crates = [Crate(folder) for folder in files("crates", "*") if os.path.isdir(folder)]
-    lines = {re.split(r"[: ]", line)[0]: line for line in read(os.path.join(TOP, "crates.txt")).split("\n")
-             if line and not line.startswith("#")}
+    argparse.ArgumentParser(description=__doc__, formatter_class=argparse.RawDescriptionHelpFormatter).parse_args()
+    crates, public = [Crate(folder) for folder in files("crates", "*") if os.path.isdir(folder)], libraries()
     words = words_of_sources()
     for document in documents():
         check_links(document)
         check_sentences(document)
         check_names(document, words)
     check_top()
+    check_lists()
     for crate in crates:
-        check_crate(crate, lines.get(crate.name, ""))
+        check_crate(crate, crate.name in public)
     for line in faults:
         print(line)
     print("all as wanted" if not faults else f"{len(faults)} not as wanted")

@@ -20,8 +20,9 @@ import pathlib
 import re
 import sys
 
-TOP = pathlib.Path(__file__).resolve().parent.parent
-TESTS = {"wc_rows", "wc_fixtures", "wc_module_rows", "wc_tests"}
+sys.path.append(str(pathlib.Path(__file__).resolve().parent.parent / "tools"))
+from repository import TOP, files_of, product_crates
+
 LEAST_LINES, LEAST_DIFFERENT = 10, 5
 # the words of a body that has the types of another one in another crate, and of one that has not
 LEAST_WORDS, LEAST_ALIKE = 6, 10
@@ -36,31 +37,35 @@ BOILERPLATE = [
      "heads that a trait fixes: in each scheme the two look-ups of one name make its index, and ask it"),
     (r"wc_validate/src/explain/missing\.rt:\S+ \(unmet_place\), wc_validate/src/explain/missing\.rt:\S+ \(missing_place\)$",
      "a head: the function that looks for memories and callbacks first has that of the one that it calls"),
+    (r"wcplan_command/src/nearest\.rt:\S+ \(interface_for\), wcplan_command/src/nearest\.rt:\S+ \(interface_named\), "
+     r"wcplan_command/src/nearest\.rt:\S+ \(interface_alike\)$",
+     "heads: the function that looks for one text and then for one alike has those of the two that it calls"),
+    (r"wcwhy_command/src/graph\.rt:\S+ \((\w+)\), wcwhy_command/src/lines\.rt:\S+ \(\w+\)$",
+     "heads: the graph and the lines are put of the same chains"),
+    (r"wcwhy_command/(src|specs)/(arguments|Arguments|usage)\.\w+:.*, wcplan_command/(src|specs)/(arguments|Arguments|usage)\.\w+:",
+     "two programs that read arguments in one form, which no crate has for both"),
+    (r"wcwhy_command/src/faults\.rt:\S+ \(gc_text\), wcplan_command/src/fault_texts\.rt:\S+ \(to_text\)$",
+     "the texts of faults of trimming: of a fault by itself, and of one that another carries"),
 ]
 # Definitions that may be alike: their names, with the crates, and why.
 ALIKE = [
-    ("wc_encoder::argument_view wc_validate::instance_entry",
+    ("wc_adapters::argument_view wc_validate::instance_entry",
      "a name and a view: the views are different definitions of different types"),
     ("wc_read::func_value wc_read::global_value", "one for each kind of item, at its types"),
     ("wc_read::table_value wc_read::memory_value", "one for each kind of item, at its types"),
     ("wc_resolve::type_entry wc_resolve::interface_entry", "one for each kind of id"),
     ("wc_validate::AreSameTypesButIndices wc_gc::AreSameTypesButIndices", "types of imports in the one, of items in the other"),
     ("wc_read::GlobalNameValue wc_record::UsedInterface", "an index and a name: of a global, of an interface"),
+    ("wc_calls::dedupe_is_memory wc_calls::gc_is_memory wc_calls::validate_is_memory", "one for each kind of faults"),
+    ("wc_validate::first_some wcplan_command::first_interface", "the first that is there: of types in the one, of interfaces in the other"),
+    ("wc_record::space_text wcwhy_command::space_name", "the names of spaces: in JSON in the one, in lines in the other"),
+    ("wc_selection::has_any wcwhy_command::are_asked", "whether any of a list has something: of keys in the one, of imports in the other"),
+    ("wc_selection::text_of wcwhy_command::text_of", "the bytes of a text, in crates that don't cite each other"),
     ("wc_validate::core_import wc_validate::imported_function", "records of two types: of any import, of a function's"),
 ]
 
-
-def crates():
-    """The crates of crates.txt, but those of tests."""
-    for line in (TOP / "crates.txt").read_text(encoding="utf-8").splitlines():
-        head, colon, _ = line.partition("#")[0].partition(":")
-        if colon and head.split()[0] not in TESTS:
-            yield head.split()[0]
-
-
-def files(crate, part, ending):
-    return sorted((TOP / "crates" / crate / part).rglob("*" + ending))
-
+# Two programs that read arguments in one form, which no crate has for both: their definitions of it may be alike.
+READERS = {"wcwhy_command", "wcplan_command"}
 
 # Lines
 
@@ -174,7 +179,7 @@ class Definition:
 
 
 def definitions(crate):
-    for path in files(crate, "specs", ".antt"):
+    for path in files_of(crate, "specs", ".antt"):
         text = path.read_text(encoding="utf-8")
         names, parts = imported(text), list(parts_of(text))
         known = {HEAD.match(part[0])[2] for part in parts if not part[0].startswith(("use ", "mod ", "pub mod "))}
@@ -217,13 +222,13 @@ def alike(found):
 
 
 def main():
-    parser = argparse.ArgumentParser()
+    parser = argparse.ArgumentParser(description=__doc__, formatter_class=argparse.RawDescriptionHelpFormatter)
     parser.add_argument("--all", action="store_true")
     parser.add_argument("crates", nargs="*", metavar="CRATE")
     given = parser.parse_args()
-    chosen = given.crates or list(crates())
+    chosen = given.crates or product_crates()
     found, used = 0, set()
-    paths = [path for crate in chosen for path in files(crate, "src", ".rt") + files(crate, "specs", ".antt")]
+    paths = [path for crate in chosen for path in files_of(crate, "src", ".rt") + files_of(crate, "specs", ".antt")]
     show = lambda path: path.relative_to(TOP / "crates")
     for text, places in matches({path: counted(path) for path in paths}):
         where = ", ".join("%s:%d-%d (%s)" % (show(path), first, last, owner(path, first)) for path, first, last in places)
@@ -236,6 +241,8 @@ def main():
         names = {"%s::%s" % (it.crate, it.name) for it in its}
         reasons = [n for n, (of, _) in enumerate(ALIKE) if names <= set(of.split())]
         used |= {("alike", n) for n in reasons}
+        if {it.crate for it in its} == READERS and not given.all:
+            continue
         found += not reasons
         if given.all or not reasons:
             same = "" if len({it.type for it in its}) == 1 else " (other types)"

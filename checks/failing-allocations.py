@@ -53,9 +53,10 @@ WHOLE = {
     "validate_adapter_module", "resolve_build", "encoder_build", "live_types", "document", "wcplan", "wcplan_mute",
 }
 
-# Calls that run wcplan. Where memory runs out for what a fault is about, the fault's line is alone; where it runs out in
-# the store of files, which is the row's, a directory can't be made, or a file can't be written.
+# Calls that run wcplan. Where memory runs out for what a fault is about, that is the line under the fault's; where it runs
+# out in the store of files, which is the row's, a directory can't be made, or a file can't be written.
 PROGRAMS = {"wcplan", "wcplan_failing", "wcplan_mute"}
+NO_PLACE = "error   out of memory for what it is about"
 STORE = ("error wcplan: cannot make directory ", "error wcplan: cannot write ")
 
 # What else calls answer where memory ran out: one of many runs of samples does not agree, and a body that could not be
@@ -66,8 +67,6 @@ UNCOUNTED = [
     ("machine", ['bad row: no code ""']),
 ]
 
-# Calls of wc_calls on messages: their fault is World, and it carries Main, Adapter, Trim or Minimized, which carry Memory.
-CARRIED = re.compile(r"status 1 fault (265|521|777|1033) ")
 
 # Runs the program over and over, in processes of its own, with the first, second, .. allocation failing, and writes into
 # REPORT_FILE a record for each: `run NUMBER STATUS ALLOCATIONS LENGTH BASE ADDRESS..`, and so many bytes that it printed.
@@ -282,10 +281,10 @@ def is_memory(row, lines):
         return False
     if len(expected) + len(actual) != len(lines) - 2 or not actual:
         return False
-    if (row.call, actual) in UNCOUNTED or (row.call.endswith("_into") and CARRIED.match(actual[0])):
+    if (row.call, actual) in UNCOUNTED:
         return True
-    if row.call in PROGRAMS and (actual == [line for line in expected if not line.startswith("error   ")]
-                                 or actual[0].startswith(STORE)):
+    if row.call in PROGRAMS and (actual[0].startswith(STORE) or NO_PLACE in actual and [line for line in actual if line != NO_PLACE]
+                                 == [line for line in expected if not line.startswith("error   ")]):
         return True
     for place, line in enumerate(actual):
         if line.endswith("out of memory"):
@@ -352,7 +351,7 @@ class Symbols:
         outermost; or that there is none."""
         names = [self.name(address) for address in callers]
         inside = [place for place, name in enumerate(names)
-                  if re.match(r"_*(wc_(?!tests|rows|fixtures|module_rows)|wctrim_command|wcplan_command)\w*", name.lstrip("<&"))]
+                  if re.match(r"_*(wc_(?!lines|tests|fixtures|\w*rows)|wctrim_command|wcplan_command|wcwhy_command)\w*", name.lstrip("<&"))]
         if not inside:
             return "outside of the libraries"
         place = inside[0] if is_innermost else inside[-1]
@@ -385,7 +384,7 @@ def chosen(words):
 
 
 def main():
-    asked = argparse.ArgumentParser()
+    asked = argparse.ArgumentParser(description=__doc__, formatter_class=argparse.RawDescriptionHelpFormatter)
     asked.add_argument("--program", type=os.path.abspath, default=str(CRATE / "out" / "wc_tests"))
     asked.add_argument("--most", type=int, default=30000)
     asked.add_argument("--jobs", type=int, default=1)

@@ -11,11 +11,14 @@ a call that answers faults of this enum (CALLS), or that of another fault which 
 and Memory is reached where an allocation fails (failing-allocations.py). The faults of the enums of PLACED have places, but
 for those of UNPLACED; a row shows one where it wants it after the fault. The status is 1 where any other fault has no row.
 """
+import argparse
 import pathlib
 import re
 import sys
 
-TOP = pathlib.Path(__file__).resolve().parent.parent
+sys.path.append(str(pathlib.Path(__file__).resolve().parent.parent / "tools"))
+from repository import TOP, code_of, files_of, libraries, put_between, row_files
+
 PAGE = TOP / "docs" / "ROWS.md"
 MARKS = {name: ("<!-- fault-rows.py: %s begin -->\n" % name, "<!-- fault-rows.py: %s end -->\n" % name)
          for name in ("faults", "places")}
@@ -30,12 +33,13 @@ CALLS = {
     "validate_adapter_module": "ValidateFault", "validated_exports": "ValidateFault",
     "example imported_memory": "ValidateFault",
     "explain_trim": "GcFault", "liveness_counted": "GcFault", "trim": "GcFault", "trim_for": "GcFault", "unfolding_trimmed": "GcFault",
-    "call_chain": "GcFault", "example reaches_memory": "GcFault", "example trim_both": "GcFault",
+    "why": "GcFault", "why_imports": "GcFault", "function_names_of": "ReadFault", "call_chain": "GcFault", "example reaches_memory": "GcFault", "example trim_both": "GcFault",
     "component_world": "WorldFault", "example can_use_slot_1": "WorldFault", "example summary": "WorldFault",
     "plan": "PlanFault", "plan_failing": "PlanFault", "plan_without_lowerings": "PlanFault",
     "example printed_plan": "PlanFault",
     "execute": "ToolFault", "execute_failing": "ToolFault", "each_put_failing": "ToolFault",
     "writer_sink": "PutFailed", "run_program": "RunFault", "parse": "Usage",
+    "wcwhy": "WhyFault", "wcwhy_failing": "WhyFault",
     "wcplan": "ProgramFault", "wcplan_failing": "ProgramFault", "parse_wcplan": "NoCommand", "plan_into": "MessageFault",
     "world_into": "MessageFault", "validate_into": "MessageFault",
 }
@@ -79,11 +83,9 @@ UNPLACED = {
 
 def sources():
     """The sources of the libraries, crate by crate, in the order of crates.txt."""
-    for line in (TOP / "crates.txt").read_text().splitlines():
-        name = re.match(r"((?:wc|wctrim|wcplan)_\w+)", line)
-        if name and not name.group(1).endswith(("rows", "fixtures", "bench")):
-            for path in sorted((TOP / "crates" / name.group(1) / "src").rglob("*.rt")):
-                yield name.group(1), re.sub(r"^\s*//.*\n", "", path.read_text(), flags=re.M)
+    for crate in libraries():
+        for path in files_of(crate, "src", ".rt"):
+            yield crate, code_of(path)
 
 
 def variants_of(body):
@@ -124,14 +126,25 @@ def program_fault(text):
     fields = {name: [field] for name, field in re.findall(r"^ +(\w+)\((?:&'a )?(\w+)", body, re.M)}
     shown = re.findall(r'ProgramFault::(\w+)(?:\(\w+\))? => (?:String::from_str|format!)\((?:in )?alloc[;,] "(.*?)"\)', text)
     carried = re.findall(r'ProgramFault::(\w+)\(fault(?:, _)?\) => carried_text\(alloc, "(\w+)", fault\)', text)
+    constants = re.findall(r'ProgramFault::(\w+) => String::from_str\(alloc, ([A-Z]+)\)', text)
+    shown += [(name, re.search(r'const %s: &str = "(.*?)"' % words, text).group(1)) for name, words in constants]
     texts = {name: re.sub(r"\{\w+\}", "{0}", words) for name, words in shown}
     texts.update({name: words + ": {0}" for name, words in carried})
     texts.update({name: words + "{0}" for name, words in re.findall(r'ProgramFault::(\w+)\(path\) => path_text\(alloc, "(.*?)", path\)', text)})
     texts.update({name: "{0}" for name in re.findall(r"ProgramFault::(\w+)\(fault\) => selection_text\(alloc, fault\)", text)})
+    texts.update({name: "cannot read {0}" for name in re.findall(r"ProgramFault::(\w+)\(path, problem\) => unread_text\(", text)})
     texts.update({"RepeatedMember": "Json: {0}: repeated member", "World": "World: {0}"})
     texts["NoExport"] = "no export `{0}`; exports:{1}"
     fields["NoExport"] = ["str", "String"]
     return [(name, texts[name], fields.get(name, [])) for name in re.findall(r"^    (\w+)[(,]", body, re.M)]
+
+
+def why_fault(text):
+    """The variants of `WhyFault`, which has no `Display`: the texts that its function `text` makes."""
+    shown = dict(re.findall(r'WhyFault::(\w+) => String::from_str\(alloc, "(.*?)"\)', text))
+    path, named = (re.search(r'"(%s )\{' % words, text).group(1) for words in ("cannot read", "no import"))
+    shown.update({"CannotRead": path + "{0}", "Adapter": "{0}", "NoImport": named + "{0}"})
+    return [(name, words, {"Adapter": ["GcFault"]}.get(name, ["String"] * words.count("{"))) for name, words in shown.items()]
 
 
 def faults():
@@ -143,14 +156,16 @@ def faults():
                 found[name] = (crate, variants_of(body))
             elif name == "ProgramFault":
                 found[name] = (crate, program_fault(text))
+            elif name == "WhyFault":
+                found[name] = (crate, why_fault(text))
             else:
                 found[name] = (crate, run_fault(text) if name == "RunFault" else written(name, text))
-        if "pub enum NoCommand<" in text:
+        if "pub enum NoCommand<" in text and crate != "wcwhy_command":
             shown = {"Memory": "out of memory", "Help": "help", "Version": "version"}
             found["NoCommand"] = (crate, [(own, words, []) for own, words in shown.items()] + [("Wrong", "{0}", ["WrongArgument"])])
         wrong = re.findall(r'WrongArgument::(\w+)(?:\(\w+\)| \{[^}]*\}) => (?:\{\s*)?format!\(in alloc; "(.*?)"\)', text)
         if wrong:
-            found["WrongArgument"] = (crate, [(own, numbered(words), ["String"] * words.count("{")) for own, words in wrong])
+            found["WhyWrongArgument" if crate == "wcwhy_command" else "WrongArgument"] = (crate, [(own, numbered(words), ["String"] * words.count("{")) for own, words in wrong])
         if "pub enum Problem {" in text:
             found["Problem"] = (crate, written("Problem", text))
         for shown, name in re.findall(r'#\[error\("(.*?)"\)\]\s*pub struct (\w+);', text):
@@ -185,7 +200,7 @@ def readings(known, enum, text):
 
 def rows():
     """Each row: its file, its name, its call and its lines of answer."""
-    for path in sorted((TOP / "crates" / "wc_tests" / "data").glob("*.rows")):
+    for path in row_files():
         row = None
         for line in path.read_text().splitlines():
             word, _, rest = line.partition(" ")
@@ -217,6 +232,8 @@ def texts(call, lines):
     for line in lines:
         if call == "run_program" and line.startswith("printed wctrim: "):
             yield line[len("printed wctrim: "):]
+        elif call in ("wcwhy", "wcwhy_failing") and line.startswith("error wcwhy: "):
+            yield line[len("error wcwhy: "):]
         elif call in ("wcplan", "wcplan_failing") and line.startswith("error wcplan: ") and "status 2" not in lines:
             yield re.sub(r"(PageSize) `.*`: page size \d+, main module's \d+$", r"\1", line[len("error wcplan: "):])
         elif call == "parse_wcplan" and line in ("help", "version"):
@@ -227,7 +244,7 @@ def texts(call, lines):
             yield line[len("fault "):].split(",")[0]
         else:
             match = re.match(r"(?:.*[:,] )?fault (.*)", line)
-            if match and call not in ("run_program", "parse", "writer_sink", "wcplan", "wcplan_failing"):
+            if match and call not in ("run_program", "parse", "writer_sink", "wcplan", "wcplan_failing", "wcwhy", "wcwhy_failing"):
                 yield match.group(1)
 
 
@@ -248,8 +265,10 @@ def reached(known):
         call = " ".join(words[:2]) if words[0] == "example" else words[0]
         if call not in CALLS:
             continue
+        # with status 2 `wcwhy` says which argument is wrong
+        enum = "WhyWrongArgument" if call.startswith("wcwhy") and "status 2" in lines else CALLS[call]
         for text in texts(call, lines):
-            faults_shown = readings(known, CALLS[call], text)
+            faults_shown = readings(known, enum, text)
             if not faults_shown:
                 unread.append("%s: %s: no fault of `%s`: %s" % (file, name, call, text))
             for depth, fault in enumerate(faults_shown or []):
@@ -261,6 +280,7 @@ def reached(known):
 
 def shown(enum, crate, variants, name):
     """How a fault is named."""
+    enum = enum.removeprefix("Why") if enum == "WhyWrongArgument" else enum
     return "%s of `%s`" % ("`%s`" % enum if len(variants) == 1 and name == enum else "`%s::%s`" % (enum, name), crate)
 
 
@@ -311,22 +331,20 @@ def tables():
 
 
 def main():
+    parser = argparse.ArgumentParser(description=__doc__, formatter_class=argparse.RawDescriptionHelpFormatter)
+    how = parser.add_mutually_exclusive_group()
+    how.add_argument("--write", action="store_true")
+    how.add_argument("--check", action="store_true")
+    given = parser.parse_args()
     made, wrong = tables()
     page = PAGE.read_text()
     for name, text in made.items():
-        begin, end = MARKS[name]
-        front, found, rest = page.partition(begin)
-        old, ended, back = rest.partition(end)
-        if ("--write" in sys.argv or "--check" in sys.argv) and not (found and ended):
-            sys.exit("docs/ROWS.md has no place for the table: the lines\n" + begin + end)
-        if "--write" in sys.argv:
-            page = front + begin + text + end + back
-        elif "--check" in sys.argv:
-            if old != text:
-                wrong.append("docs/ROWS.md has another table: checks/fault-rows.py --write")
-        else:
-            print(text, end="\n")
-    if "--write" in sys.argv:
+        page, old = put_between(page, *MARKS[name], text)
+        if given.check and old != text:
+            wrong.append("docs/ROWS.md has another table: checks/fault-rows.py --write")
+        elif not given.write and not given.check:
+            print(text)
+    if given.write:
         PAGE.write_text(page)
     for line in wrong:
         print(line)

@@ -9,22 +9,26 @@ breakpoints in a build of the program of rows without its proof. Here it is comp
 function is named, nothing else is, and each call has a row whose answer begins with no fault. Prints the table of functions
 and calls, and what is missing; the status is 1 where something is.
 """
+import argparse
 import pathlib
 import re
 import sys
 
-TOP = pathlib.Path(__file__).resolve().parent.parent
+sys.path.append(str(pathlib.Path(__file__).resolve().parent.parent / "tools"))
+from repository import TOP, code_of, files_of, libraries, row_files
 
 REACHED = {
     "wc_calls::dedupe": "dedupe_into",
     "wc_calls::plan": "plan_into",
     "wc_calls::trim": "trim_into",
     "wc_calls::validate": "validate_into",
+    "wc_calls::why": "why_into",
     "wc_calls::world": "world_into",
     "wc_dedupe::ModuleImportMap::new": "dedupe",
     "wc_encoder::ComponentEncoder::build": "encoder_build",
-    "wc_encoder::Item::clone": "item_clone",
-    "wc_encoder::MainOrAdapter::clone": "which_clone",
+    "wc_adapters::Item::clone": "item_clone",
+    "wc_adapters::MainOrAdapter::clone": "which_clone",
+    "wc_gc::ImportChains::chain": "why_imports",
     "wc_gc::LiveSet::insert": "bit_vec",
     "wc_gc::LiveSet::ranks": "trim",
     "wc_gc::LiveSets::insert": "liveness_counted",
@@ -33,6 +37,8 @@ REACHED = {
     "wc_gc::liveness_counted": "liveness_counted",
     "wc_gc::realloc_via_memory_grow": "realloc_via_memory_grow",
     "wc_gc::run": "trim",
+    "wc_gc::why": "why",
+    "wc_gc::why_imports": "why_imports",
     "wc_json::FromJson::from_json": "document",
     "wc_json::at_member": "document",
     "wc_json::document_from_json": "document",
@@ -40,6 +46,7 @@ REACHED = {
     "wc_json::fault_here": "document",
     "wc_json::message_from_json": "world_into",
     "wc_json::optional_member": "document",
+    "wc_json::quoted": "document",
     "wc_json::required_member": "document",
     "wc_json::value_from_json": "document",
     "wc_maps::OrderedMap::insert": "read_module",
@@ -64,6 +71,7 @@ REACHED = {
     "wcplan_command::ProgramFault::text": "wcplan",
     "wcplan_command::WrongArgument::text": "parse_wcplan",
     "wcplan_command::run_command": "wcplan",
+    "wc_read::function_names": "function_names_of",
     "wc_read::FuncType::clone": "func_type",
     "wc_read::Operators::locals": "trim",
     "wc_read::Operators::new": "liveness_counted",
@@ -73,6 +81,8 @@ REACHED = {
     "wc_read::read_imports": "read_imports",
     "wc_read::read_init": "read_init",
     "wc_read::read_module": "read_module",
+    "wc_record::import_chains_to_json": "why_into",
+    "wc_record::planned_world_to_json": "wcplan",
     "wc_record::part_to_json": "world_into",
     "wc_record::plan_to_json": "plan_json",
     "wc_record::trim_place_to_json": "trim_into",
@@ -99,10 +109,16 @@ REACHED = {
     "wc_selection::MainModule::new": "wcplan",
     "wc_selection::check_keys": "wcplan",
     "wc_selection::export_keys": "wcplan",
+    "wc_selection::first_missing": "wcplan",
     "wc_selection::first_repeated": "wcplan",
+    "wc_selection::indexed_keys": "world_into",
+    "wc_selection::no_task_hook": "wcplan",
     "wc_selection::request_keys": "wcplan",
     "wc_selection::required_keys": "wcplan",
     "wc_selection::select_world": "wcplan",
+    "wcwhy_command::WhyFault::text": "wcwhy",
+    "wcwhy_command::WrongArgument::text": "wcwhy",
+    "wcwhy_command::run_command": "wcwhy",
     "wctrim_command::execute": "execute",
     "wctrim_command::run": "run_program",
     "wctrim_command::run_command": "run_program",
@@ -115,6 +131,7 @@ REACHED = {
     "wc_world::ComponentWorld::new": "component_world",
     "wc_world::ImportOptions::for_import": "plain_options",
     "wc_world::explain": "wcplan",
+    "wc_world::required_exports": "component_world",
     "wc_write::BodyText::put": "write_module",
     "wc_write::append_import_section": "append_import_section",
     "wc_write::append_locals": "allocate_stack_via_realloc",
@@ -130,21 +147,17 @@ REACHED = {
 
 # Functions whose status says that memory ran out.
 OTHERS = {("wctrim_command", "run"), ("wc_calls", "dedupe"), ("wc_calls", "plan"), ("wc_calls", "trim"), ("wc_calls", "validate"),
-          ("wc_calls", "world")}
+          ("wc_calls", "why"), ("wc_calls", "world")}
 
 
 def functions():
     """The public functions that answer AllocError or a fault, with their crates and types, and those of OTHERS."""
-    for line in (TOP / "crates.txt").read_text().splitlines():
-        crate = re.match(r"(?:wc|wctrim|wcplan)_\w+", line)
-        if not crate or crate.group().endswith(("rows", "fixtures", "tests")):
-            continue
-        folder = TOP / "crates" / crate.group() / "src"
-        library = re.sub(r"^\s*//.*$", "", (folder / "lib.rt").read_text(), flags=re.M)
+    for crate in libraries():
+        library = code_of(TOP / "crates" / crate / "src" / "lib.rt")
         exported = {name.strip() for names in re.findall(r"pub use [\w:]+::\{?([^};]*)\}?;", library)
                     for name in names.split(",")}
-        for path in sorted(folder.rglob("*.rt")):
-            yield from functions_of(crate.group(), re.sub(r"^\s*//.*$", "", path.read_text(), flags=re.M), exported)
+        for path in files_of(crate, "src", ".rt"):
+            yield from functions_of(crate, code_of(path), exported)
 
 
 def functions_of(crate, text, exported):
@@ -165,7 +178,7 @@ def functions_of(crate, text, exported):
 
 def answered_calls():
     """The calls of rows whose answer begins with no fault."""
-    for path in (TOP / "crates" / "wc_tests" / "data").glob("*.rows"):
+    for path in row_files():
         for row in re.findall(r"^call (\S+)[^\n]*\n((?:(?!row |fixture |call ).*\n)*)", path.read_text(), re.M):
             answer = re.search(r"^out (.*)", row[1], re.M)
             if answer and not answer.group(1).startswith(("fault", "bad row")):
@@ -173,6 +186,7 @@ def answered_calls():
 
 
 def main():
+    argparse.ArgumentParser(description=__doc__, formatter_class=argparse.RawDescriptionHelpFormatter).parse_args()
     known, calls, wrong = set(functions()), set(answered_calls()), []
     for name in sorted(known):
         print("%s: %s" % (name, REACHED.get(name, "none")))

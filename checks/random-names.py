@@ -1,11 +1,12 @@
 #!/usr/bin/env python3
 """Writes rows with random names, made of the naming schemes' own pieces, to standard output.
 
-    random-names.py [COUNT] [SEED] | crates/wc_tests/out/wc_tests -
+    checks/random-names.py [COUNT] [SEED] | ./wctests -
 
 Each name is asked of both schemes: on its own, in a world and in an interface, and as the name of a module; and it is
 classified as an import, by name and by module. The same count and seed make the same rows. Nothing is expected of the answers but that each call returns.
 """
+import argparse
 import random
 import sys
 
@@ -92,8 +93,11 @@ def row(number, call, scheme, lines, fixture=False):
 
 
 def main():
-    count = int(sys.argv[1]) if len(sys.argv) > 1 else 100000
-    source = random.Random(int(sys.argv[2]) if len(sys.argv) > 2 else 1)
+    parser = argparse.ArgumentParser(description=__doc__, formatter_class=argparse.RawDescriptionHelpFormatter)
+    parser.add_argument("count", nargs="?", type=int, default=100_000, help="how many names: 100,000, if none is given")
+    parser.add_argument("seed", nargs="?", type=int, default=1)
+    arguments = parser.parse_args()
+    count, source = arguments.count, random.Random(arguments.seed)
     sys.stdout.reconfigure(encoding="utf-8", newline="\n")
     print(WORLD)
     for number in range(0, count, NAMES_IN_A_ROW):

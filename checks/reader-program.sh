@@ -1,17 +1,31 @@
 #!/bin/sh
 # Builds, where it is not there or older than the crates, the program that reads modules for the other scripts and
 # writes them again, and prints its path. Its source is here and not in crates/, where the merge gate would prove
-# it, in a repository of its own in checks/data/reader, with copies of the crates that it uses.
+# it, in a repository of its own in checks/data/reader, with copies of the crates that it uses, by crates.txt.
+#
+#     checks/reader-program.sh [--unproved]
+#
+# What is proved of the crates here is taken along. With --unproved, or where READER is `unproved`, the program is
+# compiled without any proof, in a minute.
 set -e
 top=$(CDPATH='' cd -P -- "$(dirname -- "$0")/.." && pwd -P)
+. "$top/checks/need.sh"
+# shellcheck source=tools/crates.sh
+. "$top/tools/crates.sh"
 home=$top/checks/data/reader
 program=$home/crates/reader/out/reader
+case ${1-}:${READER-} in
+    --unproved: | *:unproved) program=$program.optimised ;;
+    :) ;;
+    *)
+        echo "usage: $0 [--unproved]" >&2
+        exit 2
+        ;;
+esac
+crates=$(crates_of wc_write)
 
-is_fresh() {
-    [ -x "$program" ] && [ -z "$(find "$top"/crates/wc_read/src "$top"/crates/wc_read/specs \
-        "$top"/crates/wc_write/src "$top"/crates/wc_write/specs "$0" -newer "$program" -print)" ]
-}
-if is_fresh; then
+# shellcheck disable=SC2086
+if [ -f "$program" ] && [ -z "$(find "$0" -newer "$program")" ] && is_fresh "$program" 'src specs proofs' $crates; then
     echo "$program"
     exit 0
 fi
@@ -19,23 +33,20 @@ command -v rt >/dev/null || {
     echo "$0: no rt on PATH: it builds the program (README.md says where it comes from)" >&2
     exit 1
 }
-echo "$0: building the proved program (some minutes)" >&2
-mkdir -p "$home/crates/reader/src" "$home/crates/wc_read" "$home/crates/wc_write"
+mkdir -p "$home/crates/reader/src"
 [ -d "$home/.git" ] || git init -q "$home"
 cp "$top/HANDLES" "$home/HANDLES"
-{
-    grep '^wc_read' "$top/crates.txt"
-    grep '^wc_write' "$top/crates.txt"
-    echo 'reader: wc_read wc_write'
-} >"$home/crates.txt"
-for crate in wc_read wc_write; do
+: >"$home/crates.txt"
+for crate in $crates; do
+    grep "^$crate:" "$top/crates.txt" >>"$home/crates.txt"
+    mkdir -p "$home/crates/$crate"
     for part in src specs proofs out; do
-        [ ! -d "$top/crates/$crate/$part" ] || {
-            rm -rf "$home/crates/$crate/$part"
-            cp -a "$top/crates/$crate/$part" "$home/crates/$crate/$part"
-        }
+        rm -rf "$home/crates/$crate/$part"
+        [ ! -d "$top/crates/$crate/$part" ] || cp -a "$top/crates/$crate/$part" "$home/crates/$crate/$part"
     done
 done
+# shellcheck disable=SC2086
+echo "reader:" $crates >>"$home/crates.txt"
 cat >"$home/crates/reader/src/main.rt" <<'RATTLE'
 //! Reads modules: prints which of them are refused and which of their bodies, or reads one many times, or writes one
 //! again.
@@ -305,6 +316,12 @@ pub(crate) fn write_again<R: Files + Print + AllocGlobal>(
     }
 }
 RATTLE
+if [ "$program" != "${program%.optimised}" ]; then
+    "$top/tools/unproved.py" --optimise --top "$home" --head "$0: compiling the program without its proof" reader "$program" >&2
+    echo "$program"
+    exit 0
+fi
+echo "$0: building the proved program: minutes where the crates here are proved, else an hour" >&2
 log=$home/build.log
 if ! (cd "$home/crates/reader" && rt run </dev/null >"$log" 2>&1) || [ ! -x "$program" ]; then
     grep -v ': proved$' "$log" | tail -20 >&2

@@ -11,6 +11,7 @@ is crates/wctrim/out/wctrim unless another is given: both have to write the same
 line is printed for each that differs, and at last how many agreed. The status is 1 where one differs, or there is
 none to compare. With --find it only says by its status whether there are adapters. It needs cargo; rust/check runs it.
 """
+import argparse
 import os
 import random
 import subprocess
@@ -40,11 +41,13 @@ def trimmed(command, source, target, options):
 
 
 def main():
-    if sys.argv[1:] == ["--find"]:
+    parser = argparse.ArgumentParser(description=__doc__, formatter_class=argparse.RawDescriptionHelpFormatter)
+    parser.add_argument("program", nargs="?", default=os.path.join(TOP, "crates", "wctrim", "out", "wctrim"))
+    parser.add_argument("--find", action="store_true", help="say by the status whether there are adapters")
+    arguments = parser.parse_args()
+    if arguments.find:
         return 0 if adapters.linkers() else 1
-    built = os.path.join(TOP, "crates", "wctrim", "out", "wctrim")
-    program = sys.argv[1] if len(sys.argv) > 1 else built
-    example = built_example("trim")
+    program, example = arguments.program, built_example("trim")
     agreed = different = count = 0
     with tempfile.TemporaryDirectory() as folder:
         source, target = os.path.join(folder, "in.wasm"), os.path.join(folder, "out.wasm")

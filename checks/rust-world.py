@@ -8,6 +8,7 @@ FOLDER has a world as JSON (wasi-command.json), a main module (wasi-hello.wasm),
 cargo builds unless EXAMPLE names it, has to print these lines, but for those that begin with `#`, and for the length of
 the adapter. Lines that differ are printed. The status is 1 where one differs.
 """
+import argparse
 import difflib
 import json
 import os
@@ -28,8 +29,11 @@ def exported_key(worlds):
 
 
 def main():
-    folder = sys.argv[1]
-    example = sys.argv[2] if len(sys.argv) > 2 else built_example("world")
+    parser = argparse.ArgumentParser(description=__doc__, formatter_class=argparse.RawDescriptionHelpFormatter)
+    parser.add_argument("folder")
+    parser.add_argument("example", nargs="?")
+    arguments = parser.parse_args()
+    folder, example = arguments.folder, arguments.example or built_example("world")
     worlds = os.path.join(folder, "wasi-command.json")
     adapter = os.path.join(folder, "wasi-command-adapter.wasm")
     command = [example, worlds, "command", os.path.join(folder, "wasi-hello.wasm")]

@@ -240,12 +240,62 @@ def check_plan(folder):
     os.remove(os.path.join(folder, "made", "old-notes.wasm"))
     os.mkdir(os.path.join(folder, "made", "old-notes.wasm"))
     check_streams(folder, [*words, "--out", "made"], 1, "", "wcplan: cannot write made/old-notes.wasm\n")
-    for each in (words, [*words, "--json"], []):
+    for each in (words, [*words, "--json"], [], ["--help"], ["-h"], ["--version"]):
         with open("/dev/full", "wb") as full:
             status, _, said = run_plan(folder, each, stdout=full)
-        if status != 1 or said not in ("wcplan: cannot print\n", ""):
-            differs(each, f"into a full device: {status}, {said}", 1)
+        if (status, said) != (1, "wcplan: cannot print\n"):
+            differs(each, f"into a full device: {status}, {said}", (1, "wcplan: cannot print\n"))
+    check_replaced(folder, words)
     return words
+
+
+def check_replaced(folder, words):
+    """Files of --out are replaced as a whole: a link is not followed, and what can't be written stays as it was."""
+    linked = os.path.join(folder, "linked")
+    os.mkdir(linked)
+    with open(os.path.join(folder, "aside"), "wb") as file:
+        file.write(b"aside")
+    os.symlink(os.path.join(folder, "aside"), os.path.join(linked, "main.wasm"))
+    check_written(folder, "linked", words)
+    with open(os.path.join(folder, "aside"), "rb") as file:
+        found = file.read()
+    if found != b"aside" or os.path.islink(os.path.join(linked, "main.wasm")):
+        differs([*words, "--out", "linked"], "a link was followed", "a file in its place")
+    os.remove(os.path.join(folder, "aside"))
+    # a file that a stopped call left is in no later one's way, and a directory in which nothing can be made
+    with open(os.path.join(linked, ".new-0"), "wb") as file:
+        file.write(b"left")
+    check_streams(folder, [*words, "--out", "linked"], 0, PLAN, "")
+    if held(linked).get(".new-0") != b"left" or len(held(linked)) != 3:
+        differs([*words, "--out", "linked"], sorted(held(linked)), "the file that was left, and the two of the plan")
+    os.remove(os.path.join(linked, ".new-0"))
+    with open(os.path.join(linked, "main.wasm"), "wb") as file:
+        file.write(b"as it was")
+    os.mkdir(os.path.join(linked, "read-only"))
+    closed = os.path.join(linked, "read-only")
+    with open(os.path.join(closed, "main.wasm"), "wb") as file:
+        file.write(b"as it was")
+    os.chmod(folder, 0o755)
+    os.chmod(closed, 0o555)
+    user = {"user": NOBODY} if os.getuid() == 0 else {}
+    path = os.path.relpath(closed, folder)
+    done = subprocess.run([program, *words, "--out", path], cwd=folder, stdin=subprocess.DEVNULL, stdout=subprocess.PIPE,
+                          stderr=subprocess.PIPE, **user)
+    said = "".join(it for it in done.stderr.decode().splitlines(True) if not it.startswith("wcplan: not proved: "))
+    wanted = (1, f"wcplan: cannot write {path}/main.wasm\n", {"main.wasm": b"as it was"})
+    if (done.returncode, said, held(closed)) != wanted:
+        differs([*words, "--out", path], (done.returncode, said, held(closed)), wanted)
+    # another user can't read a file that is locked
+    with open(os.path.join(folder, "locked.json"), "wb") as file:
+        file.write(b"{}")
+    os.chmod(os.path.join(folder, "locked.json"), 0)
+    done = subprocess.run([program, "locked.json", *words[1:]], cwd=folder, stdin=subprocess.DEVNULL, stdout=subprocess.PIPE,
+                          stderr=subprocess.PIPE, **user)
+    said = "".join(it for it in done.stderr.decode().splitlines(True) if not it.startswith("wcplan: not proved: "))
+    if (done.returncode, said) != (1, "wcplan: cannot read locked.json: permission denied\n"):
+        differs(["locked.json", *words[1:]], (done.returncode, said), "cannot read locked.json: permission denied")
+    os.remove(os.path.join(folder, "locked.json"))
+    os.chmod(closed, 0o755)
 
 
 def check_faults_of_plans(folder, words):
@@ -254,12 +304,17 @@ def check_faults_of_plans(folder, words):
     adapter = ["--adapt", "old-notes=adapter.wasm"]
     exported = ["--adapter-export", "old-notes=is-ready"]
     for given, fault in {
-        ("none", *words[1:]): "cannot read none",
-        ("no\x1bne", *words[1:]): "cannot read no\\u{1b}ne",
-        ("notes.json", "app", "none"): "cannot read none",
-        (*plain, "--adapt", "old-notes=none"): "cannot read none",
-        (*plain, "--adapt", "old-notes=made"): "cannot read made",
+        ("none", *words[1:]): "cannot read none: not found",
+        ("no\x1bne", *words[1:]): "cannot read no\\u{1b}ne: not found",
+        ("notes.json", "app", "none"): "cannot read none: not found",
+        ("notes.json/none", *words[1:]): "cannot read notes.json/none: not a directory",
+        (*plain, "--adapt", "old-notes=none"): "cannot read none: not found",
+        (*plain, "--adapt", "old-notes=made"): "cannot read made: is a directory",
         ("text", *words[1:]): "Json: not JSON at byte 0",
+        ("comma", *words[1:]): "Json: not JSON at byte 2",
+        ("values", *words[1:]): "Json: not JSON at byte 1",
+        ("lists", *words[1:]): "Json: not JSON at byte 3",
+        ("blank", *words[1:]): "Json: not JSON at byte 3",
         ("latin", *words[1:]): "Json: not UTF-8",
         ("twice", *words[1:]): "Json: worlds: repeated member",
         ("notes.json", "nothing", *words[2:]): "no world `nothing`",
@@ -283,7 +338,8 @@ def check_faults_of_plans(folder, words):
 def check_wcplan(folder):
     """What docs/WCPLAN.md says of it."""
     usage = usage_of("WCPLAN.md")
-    for name, content in {"text": b"(module)", "latin": b"{}\xff", "twice": b'{"worlds":[],"worlds":[]}'}.items():
+    for name, content in {"text": b"(module)", "latin": b"{}\xff", "twice": b'{"worlds":[],"worlds":[]}', "comma": b"{},",
+                          "values": b"1,2", "lists": b"[1],[2]", "blank": b"{} ,"}.items():
         with open(os.path.join(folder, name), "wb") as file:
             file.write(content)
     words = check_plan(folder)

@@ -12,11 +12,14 @@ those that its file takes from another one by `use`. Definitions of the kit are 
 lines of the definitions that are reached, and of the comments before them; not with its other lines. Files stand after
 those that they cite. What is cited of the types of the sources is listed by its source files.
 """
+import argparse
 import pathlib
 import re
 import sys
 
-TOP = pathlib.Path(__file__).resolve().parent.parent
+sys.path.append(str(pathlib.Path(__file__).resolve().parent.parent / "tools"))
+from repository import TOP, put_between, used_by_crates
+
 CRATES = TOP / "crates"
 PAGE = TOP / "docs" / "TRUST.md"
 BEGIN, END = "<!-- trust.py: begin -->\n", "<!-- trust.py: end -->\n"
@@ -188,7 +191,6 @@ def in_order(walk):
 
 
 def tables(walk):
-    crates = [line.split(":")[0] for line in (TOP / "crates.txt").read_text().splitlines() if ":" in line]
     counts = {}
     for crate, file, name in walk.order:
         counts[crate, file] = counts.get((crate, file), 0) + len(walk.specs[crate, file].lines[name])
@@ -196,7 +198,7 @@ def tables(walk):
     *firsts, last = [f"{words} ({lines})" for words, lines in cuts.items()]
     parts = [f"{sum(counts.values()):,} lines in {len(counts)} files. A first reading has {left:,}, without "
              f"{', '.join(firsts)} and {last}.\n"]
-    for crate in crates:
+    for crate in used_by_crates():
         own = {file: counts[crate, file] for at, file in in_order(walk) if at == crate}
         if not own:
             continue
@@ -210,26 +212,31 @@ def tables(walk):
 
 
 def main():
+    parser = argparse.ArgumentParser(description=__doc__, formatter_class=argparse.RawDescriptionHelpFormatter)
+    how = parser.add_mutually_exclusive_group()
+    for name in "write", "check", "names", "first":
+        how.add_argument("--" + name, action="store_true")
+    given = parser.parse_args()
     walk = walked()
-    if sys.argv[1:] == ["--names"]:
+    if given.names:
         for crate, file, name in walk.order:
             print(f"{crate} {file} {name} {len(walk.specs[crate, file].lines[name])}")
         return 0
-    if sys.argv[1:] == ["--first"]:
+    if given.first:
         cuts, left, whole = first_reading()
         print("\n".join(f"{words}: {lines} lines" for words, lines in cuts.items()))
         print(f"left: {left:,} of {whole:,} lines")
         return 0
     text = tables(walk)
-    if not sys.argv[1:]:
+    page, old = put_between(PAGE.read_text(), BEGIN, END, text)
+    if given.write:
+        PAGE.write_text(page)
+    elif given.check and old != text:
+        print("docs/TRUST.md has other tables: checks/trust.py --write")
+        return 1
+    elif not given.check:
         print(text, end="")
-        return 0
-    page = PAGE.read_text()
-    begin, end = page.index(BEGIN) + len(BEGIN), page.index(END)
-    if sys.argv[1:] == ["--write"]:
-        PAGE.write_text(page[:begin] + text + page[end:])
-        return 0
-    return 0 if page[begin:end] == text else 1
+    return 0
 
 
 if __name__ == "__main__":

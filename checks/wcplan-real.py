@@ -82,7 +82,7 @@ def fastest(words, rounds):
 
 
 def main():
-    parser = argparse.ArgumentParser()
+    parser = argparse.ArgumentParser(description=__doc__, formatter_class=argparse.RawDescriptionHelpFormatter)
     parser.add_argument("--program", type=pathlib.Path, default=PROGRAM)
     parser.add_argument("--rounds", type=int, default=20)
     parser.add_argument("folder", type=pathlib.Path)

@@ -3,6 +3,7 @@
 
     edits/batches.py [--sources DIR] [--over DIR] [--work DIR] [--edit NAME].. [--most N] [--jobs N] [--again] [--plan]
                      [--unchanged] [--table FILE] CRATE..
+    edits/batches.py --gate [--since COMMIT] [--table FILE] [CRATE..]
 
 An edit changes the body of one function, and a caller sees only that function's contract. So edits of different functions
 don't hide one another, and are tried together, in a copy of the crate. In the copy every function that none of them
@@ -29,6 +30,11 @@ found (without it /tmp/edits-in-batches): what was found over the same sources i
 Printed is a line for each edit, with the first message, and the processor seconds; --table writes a table of all that
 is known of the crates. The status is 0 where each edit is refused for more than a name. --plan prints the batches alone.
 --unchanged applies no edit: then each function has to come out as `none`, which shows that the stubs change no proof.
+
+With --gate each edit is tried by itself, over the whole crate, by `rt ci CRATE` on a copy in which they are in must-fail/:
+those of all crates, of the crates that are named, or by --since of those that differ from a commit's, with those in
+must-fail/ too. That decides, and takes ten times as long. It may be stopped at any time: what was tried over the same
+files on this machine isn't tried again. A line is printed for each edit; --table writes what refused each.
 """
 
 import argparse
@@ -36,13 +42,17 @@ import functools
 import hashlib
 import json
 import os
+import pathlib
 import re
 import resource
+import shutil
 import subprocess
 import sys
+import tempfile
 
-TOP = os.path.dirname(os.path.dirname(os.path.abspath(__file__)))
-KIT = "/opt/rattle"
+sys.path.append(os.path.join(os.path.dirname(os.path.dirname(os.path.abspath(__file__))), "tools"))
+from repository import TOP, applied, changes_of, edits_of, kit_command, rlib_of, texts_of, used_by_crates
+
 HEAD = re.compile(r'^( *)(?:pub(?:\([^)]*\))? )?((?:const |unsafe |extern "C" )*)fn (\w+)')
 IMPL = re.compile(r"^ *(?:unsafe )?impl\b")
 KINDS = ("clause", "loop", "lemma", "step", "name", "none", "unread", "untried")
@@ -131,26 +141,14 @@ def functions_of(file, text):
     return found
 
 
-def pairs_of(text):
-    """The pairs of an edit, each with its file."""
-    file, old = "", ""
-    for line in text.split("\n"):
-        if line.startswith("file: "):
-            file = line[len("file: ") :].strip()
-        elif line.startswith("old: "):
-            old = line[len("old: ") :]
-        elif line.startswith("new:"):
-            yield file, old, line[len("new:") :].removeprefix(" ")
-
-
 class Edit:
     """An edit, and what it turns: bodies of functions, heads of functions, or items that are no function."""
 
     def __init__(self, name, text, sources):
         self.name, self.text, self.fault = name, text, ""
         self.functions, self.heads, self.items = [], [], []
-        self.fault = applied(self, sources)[1]
-        for file, old, new in [] if self.fault else pairs_of(text):
+        self.fault = applied(text, sources)[1]
+        for file, old, new in [] if self.fault else changes_of(text):
             place = sources[file].find(old)
             if not file.startswith("src/") or place < 0:
                 self.items.append((file, place))
@@ -165,40 +163,11 @@ class Edit:
                 self.items.append((file, place))
 
 
-def applied(edit, texts):
-    """The texts that an edit changes, as it makes them of these; or why it cannot be applied."""
-    made = {}
-    for file, old, new in pairs_of(edit.text):
-        text = made.get(file, texts.get(file))
-        if text is None:
-            return {}, f"there is no file {file}"
-        if text.count(old) != 1:
-            return {}, f"an 'old:' text is in {file} {text.count(old)} times"
-        made[file] = text.replace(old, new)
-    return made, ""
-
-
 class Crate:
     def __init__(self, sources, over, name):
         self.top, self.over, self.name = sources, over, name
         self.folder = f"{sources}/crates/{name}"
-        self.uses, self.static = {}, set()
-        with open(f"{sources}/crates.txt", encoding="utf-8") as file:
-            for line in file:
-                head, colon, tail = line.partition("#")[0].partition(":")
-                if colon:
-                    it, *kinds = head.split()
-                    self.uses[it] = tail.split()
-                    self.static |= {it} if "staticlib" in kinds else set()
-        if name not in self.uses:
-            sys.exit(f"batches.py: crates.txt lists no crate {name}")
-        self.texts = {}
-        for part in ("src", "specs", "proofs"):
-            for at, _, names in os.walk(f"{self.folder}/{part}"):
-                for it in names:
-                    path = os.path.relpath(f"{at}/{it}", self.folder)
-                    with open(f"{at}/{it}", encoding="utf-8") as file:
-                        self.texts[path] = file.read()
+        self.texts = texts_of(name, sources)
         self.src = {path: it for path, it in self.texts.items() if path.startswith("src/")}
         self.functions = [it for path in sorted(self.src) for it in functions_of(path, self.src[path])]
         every = sorted((path, hashlib.sha256(it.encode()).hexdigest()) for path, it in self.texts.items())
@@ -212,26 +181,8 @@ class Crate:
         return [(DEFINED.match(part)[1], words_of(part)) for part in parts]
 
     def command(self, flags):
-        below, todo = [], [it for it in self.uses[self.name] if it in self.uses]
-        while todo:
-            it = todo.pop()
-            if it not in below:
-                below.append(it)
-                todo += [x for x in self.uses[it] if x in self.uses]
-        rlib = lambda it: self.over or f"{self.top}/crates/{it}/out/rlib"
-        for it in below:
-            if not os.path.isdir(f"{rlib(it)}/{it}.rlib"):
-                sys.exit(f"batches.py: no statements of {it} in {rlib(it)}")
-        root = next(it for it in ("src/main.rt", "src/lib.rt") if it in self.src)
-        words = [f"{KIT}/bin/rattle", "check", "--crate-name", self.name, root, "--extern", f"std={KIT}/rlibs/std.rlib"]
-        for it in self.uses[self.name]:
-            words += ["--extern", f"{it}={rlib(it)}/{it}.rlib" if it in self.uses else f"{it}={KIT}/rlibs/{it}.rlib"]
-        words += ["-L", f"dependency={KIT}/rlibs"]
-        for folder in sorted({rlib(it) for it in below}):
-            words += ["-L", f"dependency={folder}"]
-        words += ["--crate-type", "staticlib"] if self.name in self.static else []
-        words += ["--antt-project", f"{KIT}/rattle/logic/antt-project.json", "--logic-built", f"{KIT}/logic_built"]
-        return [*words, "--links", f"{self.name}=", *flags]
+        folder_of = lambda it: self.over or rlib_of(it, self.top)
+        return kit_command("check", self.name, flags, self.top, folder_of)
 
     def only(self, function, tries):
         """What `--only` finds a function by: the end of its name where that is the only one, then longer names."""
@@ -275,7 +226,7 @@ def copied(crate, edits, keep, room):
                 for path in [it for it in texts if it.startswith("proofs/") and mine.fullmatch(it)]:
                     del texts[path]
     for edit in edits:
-        made, fault = applied(edit, texts)
+        made, fault = applied(edit.text, texts)
         if not fault:
             texts.update(made)
             used.append(edit)
@@ -515,13 +466,13 @@ def batches(edits, most, texts):
     for edit in edits:
         keys = {it.key for it in edit.asked}
         for group in made:
-            now, fault = applied(edit, group["texts"])
+            now, fault = applied(edit.text, group["texts"])
             if len(group["edits"]) < most and not keys & group["keys"] and not fault:
                 break
         else:
             group = {"edits": [], "keys": set(), "texts": dict(texts)}
             made.append(group)
-            now, fault = applied(edit, texts)
+            now, fault = applied(edit.text, texts)
         group["edits"].append(edit)
         group["keys"] |= keys
         group["texts"].update(now)
@@ -543,22 +494,59 @@ def named(found, crate, names):
     return lines
 
 
-def texts_of_edits(crate):
-    """The names and the texts of a crate's edits, those of folders in its folder among them."""
-    paths = {}
-    for top in (f"{TOP}/edits/{crate}", f"{TOP}/crates/{crate}/must-fail"):
-        for folder, _, files in sorted(os.walk(top)):
-            for file in sorted(it for it in files if it.endswith(".edit")):
-                path = paths.setdefault(file, f"{folder}/{file}")
-                if path != f"{folder}/{file}":
-                    sys.exit(f"batches.py: two edits of {crate} are named {file}: {path} and {folder}/{file}")
-    for file, path in paths.items():
-        with open(path, encoding="utf-8") as text:
-            yield file.removesuffix(".edit"), text.read()
+def gate_line(line):
+    """A line of the table for what `rt ci` says of an edit: the crate, the edit, and what refused it or why nothing did."""
+    said = re.match(r"rt: must-fail (\w+)/(\S+)\.edit: (?:refused, as it must be(?:: )?(.*)|(NOT .*|BAD .*))$", line)
+    if not said:
+        return None
+    return f"| `{said[1]}` | `{said[2]}` | {f'**{said[4]}**' if said[4] else said[3] or 'refused'} |".replace("\\|", "|")
+
+
+def by_gate(given, chosen):
+    """Tries the edits as the gate tries those of must-fail, one crate after another; whether each was refused."""
+    lines, is_well = ["| Crate | Edit | Refused at |", "|---|---|---|"], True
+    with tempfile.TemporaryDirectory(prefix="edits.") as copy:
+        os.makedirs(f"{copy}/.git")
+        for name in ("crates.txt", "HANDLES"):
+            shutil.copy(TOP / name, copy)
+        left = shutil.ignore_patterns("out", "must-fail")
+        for crate in used_by_crates():
+            shutil.copytree(TOP / "crates" / crate, f"{copy}/crates/{crate}", ignore=left)
+        for crate in chosen:
+            folder = f"{copy}/crates/{crate}/must-fail"
+            os.mkdir(folder)
+            for _, path in edits_of(crate):
+                if given.since or "must-fail" not in path.parts:
+                    shutil.copy(path, folder)
+            # over the statements of the crates below, which are proved first where no earlier run did
+            how = {"stdin": subprocess.DEVNULL, "stdout": subprocess.PIPE, "stderr": subprocess.STDOUT}
+            ran = subprocess.run(["rt", "ci", crate], cwd=copy, text=True, errors="replace", check=False, **how)
+            tried = [line for line in ran.stdout.splitlines() if line.startswith("rt: must-fail ")]
+            print("\n".join(tried) or f"{ran.stdout}\nno edit of {crate} was tried", flush=True)
+            is_well &= ran.returncode == 0 and bool(tried) and not any(re.search(": (NOT|BAD) ", line) for line in tried)
+            lines += [line for line in map(gate_line, tried) if line]
+            shutil.rmtree(folder)
+            if given.table:
+                pathlib.Path(given.table).write_text("\n".join(lines) + "\n", encoding="utf-8")
+    return is_well
+
+
+def chosen_crates(given):
+    """The crates whose edits are tried by the gate: those that are named, or all, or those that changed since a commit."""
+    having = [crate for crate in used_by_crates() if any(True for _ in edits_of(crate))]
+    if given.since:
+        command = ["git", "-C", TOP, "diff", "--name-only", given.since, "--", "crates"]
+        changed = subprocess.run(command, stdout=subprocess.PIPE, text=True, check=True).stdout.splitlines()
+        return [crate for crate in having if any(path.startswith(f"crates/{crate}/") for path in changed)]
+    unknown = [crate for crate in given.crates if crate not in having]
+    if unknown:
+        sys.exit(f"batches.py: no edits of a crate {unknown[0]}")
+    return given.crates or having
 
 
 def main():
-    parser = argparse.ArgumentParser(usage=__doc__.split("\n\n")[1].strip())
+    parser = argparse.ArgumentParser(usage=__doc__.split("\n\n")[1].strip(), description=__doc__,
+                                     formatter_class=argparse.RawDescriptionHelpFormatter)
     parser.add_argument("--sources", default=TOP)
     parser.add_argument("--over")
     parser.add_argument("--work", default="/tmp/edits-in-batches")
@@ -569,12 +557,18 @@ def main():
     parser.add_argument("--plan", action="store_true")
     parser.add_argument("--unchanged", action="store_true")
     parser.add_argument("--table")
-    parser.add_argument("crates", nargs="+")
+    parser.add_argument("--gate", action="store_true")
+    parser.add_argument("--since", metavar="COMMIT")
+    parser.add_argument("crates", nargs="*")
     given = parser.parse_args()
+    if given.gate or given.since:
+        sys.exit(0 if by_gate(given, chosen_crates(given)) else 1)
+    if not given.crates:
+        parser.error("no crate is named")
     rows, lists, is_well = [], [], True
     for name in given.crates:
         crate = Crate(os.path.abspath(given.sources), given.over and os.path.abspath(given.over), name)
-        edits = [Edit(it, text, crate.texts) for it, text in texts_of_edits(name)]
+        edits = [Edit(it, path.read_text(encoding="utf-8"), crate.texts) for it, path in edits_of(name)]
         names, start = [it.name for it in edits], spent()
         tries = Tries(crate, given)
         tries.run([it for it in edits if not given.edit or it.name in given.edit])

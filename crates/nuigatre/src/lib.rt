@@ -13,7 +13,9 @@
 #![tactic(auto)]
 
 ghost use Rattle.std.specs.Prelude.{◌≡◌, ◌≢◌, ◌≤◌, []};
+ghost use Rattle.std.specs.List.{All};
 ghost use Rattle.std.specs.Option.{option_map};
+ghost use Rattle.std.specs.Str.{IsUtf8};
 ghost use Rattle.wc_read.specs.Sections.{IsComponent};
 ghost use Rattle.wc_dedupe.specs.Dedupe.{IsDeduped};
 ghost use Rattle.wc_gc.specs.Liveness.{trim_input_for_names};
@@ -23,12 +25,13 @@ ghost use Rattle.wc_calls.specs.ComponentPlans.{IsPlanAnswer};
 ghost use Rattle.wc_calls.specs.ComponentWorlds.{IsFaultOf, IsWorldAnswer};
 ghost use Rattle.wc_calls.specs.Renaming.{IsRenamed, IsRenamingFault};
 ghost use Rattle.wc_calls.specs.ExportNames.{texts};
+ghost use Rattle.wc_calls.specs.ImportChains.{IsWhyFault, IsWhyText};
 ghost use Rattle.wc_calls.specs.Trimming.{AreArguments, IsTrimmingFault};
 ghost use Rattle.wc_calls.specs.Validation.{IsNoModuleOf, IsValidOf, IsValidationFaultOf};
 ghost use Rattle.nuigatre.specs.Arguments.{optional_name, settings_of};
 
 use std::alloc::Global;
-use wc_calls::{Answer, dedupe, plan, trim, validate, world};
+use wc_calls::{Answer, dedupe, plan, trim, validate, why, world};
 use wc_maps::Seed;
 
 /// Renames the imports of a module so that no two share a module and a name: `wc_calls::dedupe`.
@@ -86,6 +89,35 @@ pub extern "C" fn nuigatre_trim(
     let seed = Seed::new(seed0, seed1);
     let realloc = optional_name(has_realloc, realloc);
     trim(alloc, seed, wasm, required, realloc, page_size_log2, out)
+}
+
+/// Says why an adapter imports what it does, where its exports of these names are required: `wc_calls::why`.
+#[unsafe(no_mangle)]
+pub extern "C" fn nuigatre_why(
+    alloc: Global,
+    seed0: u64,
+    seed1: u64,
+    wasm: &[u8],
+    required: &[&[u8]],
+    out: &mut [u8],
+) -> Answer
+    ensures done { result.status ≡ done
+        → IsPut (IsWhyText (trim_input_for_names wasm.now (texts required.now)))
+        result.length out.old out.new }
+    ensures too_small { result.status ≡ too_small
+        → IsTooLong (IsWhyText (trim_input_for_names wasm.now (texts required.now)))
+        result.length out.old }
+    ensures fault { result.status ≡ failed
+        → IsWhyFault wasm.now (texts required.now) result out.old out.new }
+    ensures module_length { result.module_length ≡ 0 }
+    ensures bad_argument { result.status ≡ bad_argument → ¬ (All IsUtf8 (texts required.now)) }
+    ensures arguments { result.status ≢ bad_argument → All IsUtf8 (texts required.now) }
+    ensures unchanged { result.status ≢ done → result.status ≢ failed → out.new ≡ out.old }
+    ensures statuses { (result.status ≤ 5) × (result.status ≢ same) }
+    ensures others { AreOthersOfTextZero result }
+{
+    let seed = Seed::new(seed0, seed1);
+    why(alloc, seed, wasm, required, out)
 }
 
 /// Makes the world of a component, which the message describes in JSON: `wc_calls::world`.
@@ -169,12 +201,12 @@ pub extern "C" fn nuigatre_validate(
 }
 
 /// The form of the calls, messages and answers.
-const ABI: u32 = 3;
+const ABI: u32 = 4;
 
 /// The number of the form of these calls, their messages and answers. It goes up with each change that a caller can see.
 #[unsafe(no_mangle)]
 pub extern "C" fn nuigatre_abi() -> u32
-    ensures { result ≡ 3 }
+    ensures { result ≡ 4 }
 {
     ABI
 }

@@ -1,11 +1,11 @@
 -- Causes of faults, step by step.
-use Rattle.std.proofs.Common.{◌≡◌, ℕ, ◌<◌, Bool, false, List, [], length, Option, unwrap_or, Result, Ok, Err, IfErr, inl, inr, refl, subst, sym}
+use Rattle.std.proofs.Common.{◌≡◌, ℕ, ◌<◌, Bool, false, List, length, Option, unwrap_or, Result, Ok, Err, IfErr, inl, inr, refl, subst, sym}
 use Rattle.json.specs.Json.{document}
 use Rattle.wc_dedupe.specs.Dedupe.{IsDedupeCause, IsDeduped, renames_in}
 use Rattle.wc_dedupe.specs.Renaming.{RenameValue}
 use Rattle.wc_dedupe.specs.declared.fault.DedupeFault.{DedupeFault}
 use Rattle.wc_dedupe.specs.declared.fault.DedupeFault.TheVariants.{Memory as dedupe_memory}
-use Rattle.wc_encoder.specs.Adapters.{AdapterView}
+use Rattle.wc_adapters.specs.Adapters.{AdapterView}
 use Rattle.wc_encoder.specs.EncoderParts.{EncoderView}
 use Rattle.wc_encoder.specs.Fault.{IsEncoderCause}
 use Rattle.wc_encoder.specs.declared.fault.EncoderFault.{EncoderFault}
@@ -21,13 +21,14 @@ use Rattle.wc_resolve.specs.declared.fault.ResolveFault.{ResolveFault}
 use Rattle.wc_resolve.specs.declared.fault.ResolveFault.TheVariants.{Memory as resolve_memory}
 use Rattle.wc_json.specs.Document.{DocumentView}
 use Rattle.wc_json.specs.Messages.{MessageView, WorldNameView, at_index, message, of_name}
-use Rattle.wc_selection.specs.Keys.{texts_of}
+use Rattle.wc_selection.specs.Keys.{export_keys, texts_of}
 use Rattle.wc_selection.specs.ModuleKeys.{AreKeysThere}
 use Rattle.wc_selection.specs.Requests.{given_keys}
+use Rattle.wc_selection.specs.TaskHook.{no_task_hook}
 use Rattle.wc_selection.specs.Worlds.{IsWorldCause}
 use Rattle.wc_selection.specs.declared.fault.RequestFault.{RequestFault}
 use Rattle.wc_selection.specs.declared.fault.RequestFault.TheVariants.{Memory as request_memory, PackageRange, UnknownWorld, SeveralWorlds}
-use Rattle.wc_calls.specs.AskedKeys.{keys_in, request_in}
+use Rattle.wc_calls.specs.AskedKeys.{keys_in, request_of}
 use Rattle.wc_calls.specs.Encoders.{AreChosen, AreExporters, IsMessage, IsPartsOf, IsWorldNamed}
 use Rattle.wc_calls.specs.MessageFaults.{AreKeysKnown, IsAskedCause, IsKeyCause, IsNameCause, IsNoEncoderCause, IsOfChosen, IsPartsCause, IsWorldNameCause, of_dedupe, of_encoder, of_json, of_request, of_resolve}
 use Rattle.wc_calls.specs.Private.AskedKeys.{IsExportersCause}
@@ -63,7 +64,7 @@ fewer_bytes m modules world named fewer = inl (world, named, fewer)
 pub resolve_cause : (m : MessageView) (modules main others : List ℕ) (world : ℕ) (f : ResolveFault) → AreChosen m modules world main others
     → IsResolveCause m.document.parts f → IsPartsCause m modules (of_resolve f)
 resolve_cause m modules main others world resolve_memory chosen h = tt
-resolve_cause m modules main others world f chosen h = (world, main, others, chosen, h)
+resolve_cause m modules main others world f chosen h = ((λ same. cc), (world, main, others, chosen, h))
 
 -- in parts that are well-formed
 module _ (m : MessageView) (modules main others : List ℕ) (world : ℕ) (chosen : AreChosen m modules world main others) (r : ResolveView) (is : r ≡ m.document.parts)
@@ -71,7 +72,7 @@ module _ (m : MessageView) (modules main others : List ℕ) (world : ℕ) (chose
   parts_formed : IsWellFormed m.document.parts
   parts_formed = subst IsWellFormed is formed
 
-  key_cause : (f : MessageFault) → IsAskedCause (request_in r world m.exports m.adapters) (keys_in r world m.exports m.adapters) f
+  key_cause : (f : MessageFault) → IsAskedCause (request_of m.exports m.adapters) (export_keys r world) (keys_in r world m.exports m.adapters) f
       → IsOfChosen m modules (IsKeyCause m f)
   key_cause f h = (
     world,
@@ -80,12 +81,12 @@ module _ (m : MessageView) (modules main others : List ℕ) (world : ℕ) (chose
     chosen,
     (
       parts_formed,
-      subst (λ (p : ResolveView). IsAskedCause (request_in p world m.exports m.adapters) (keys_in p world m.exports m.adapters) f) is h,
+      subst (λ (p : ResolveView). IsAskedCause (request_of m.exports m.adapters) (export_keys p world) (keys_in p world m.exports m.adapters) f) is h,
     ),
   )
 
-  known : AreKeysThere (given_keys (request_in r world m.exports m.adapters)) (texts_of (keys_in r world m.exports m.adapters)) → AreKeysKnown m world
-  known h = subst (λ (p : ResolveView). AreKeysThere (given_keys (request_in p world m.exports m.adapters)) (texts_of (keys_in p world m.exports m.adapters))) is h
+  known : AreKeysThere (given_keys (request_of m.exports m.adapters)) (texts_of (keys_in r world m.exports m.adapters)) → AreKeysKnown m world
+  known h = subst (λ (p : ResolveView). AreKeysThere (given_keys (request_of m.exports m.adapters)) (texts_of (keys_in p world m.exports m.adapters))) is h
 
   pub exporters_cause : (f : MessageFault) → IsExportersCause r world m.exports m.adapters others f → IsPartsCause m modules f
   exporters_cause Memory h = tt
@@ -100,28 +101,31 @@ module _ (m : MessageView) (modules main others : List ℕ) (world : ℕ) (chose
       → AreExporters r world m.exports m.adapters others required adapters → IsDedupeCause main f → IsPartsCause m modules (of_dedupe f)
   main_cause required adapters dedupe_memory made h = tt
   main_cause required adapters f made h = (
-    world,
-    main,
-    others,
-    chosen,
+    (λ same. cc),
     (
-      parts_formed,
-      required,
-      adapters,
-      subst (λ (p : ResolveView). AreExporters p world m.exports m.adapters others required adapters) is made,
-      h,
+      world,
+      main,
+      others,
+      chosen,
+      (
+        parts_formed,
+        required,
+        adapters,
+        subst (λ (p : ResolveView). AreExporters p world m.exports m.adapters others required adapters) is made,
+        h,
+      ),
     ),
   )
 
   pub encoder_cause : (e : EncoderView) (f : EncoderFault) → IsPartsOf m modules e → IsEncoderCause e f → IsPartsCause m modules (of_encoder f)
   encoder_cause e encoder_memory made h = tt
-  encoder_cause e f made h = (e, made, parts_formed, h)
+  encoder_cause e f made h = ((λ same. cc), e, made, parts_formed, h)
 
 -- the parts of an encoder
 pub parts_of : (m : MessageView) (modules main others : List ℕ) (world : ℕ) (wasm : List ℕ) (renames : Option (List RenameValue)) (resolve : ResolveView)
     (keys : List KeyView) (adapters : List (List ℕ × AdapterView)) (rejects grows : Bool) (hook : List ℕ) → AreChosen m modules world main others
     → IsDeduped main wasm (renames_in renames) → resolve ≡ m.document.parts → AreExporters resolve world m.exports m.adapters others keys adapters
-    → rejects ≡ unwrap_or m.reject_legacy_names false → grows ≡ unwrap_or m.realloc_via_memory_grow false → hook ≡ unwrap_or m.task_hook []
+    → rejects ≡ unwrap_or m.reject_legacy_names false → grows ≡ unwrap_or m.realloc_via_memory_grow false → hook ≡ unwrap_or m.task_hook no_task_hook
     → IsPartsOf m modules (record {
       module_bytes = wasm;
       module_import_map = renames;
@@ -151,7 +155,7 @@ parts_of m modules main others world wasm renames resolve keys adapters rejects 
 
 pub json_cause : (text modules : List ℕ) (f : JsonFault) → IsCauseOf message (document text) f → IsNoEncoderCause text modules (of_json f)
 json_cause text modules json_memory h = tt
-json_cause text modules f h = h
+json_cause text modules f h = ((λ same. cc), h)
 
 pub parts_cause : (text modules : List ℕ) (m : MessageView) (f : MessageFault) → IsMessage text m → IsPartsCause m modules f → IsNoEncoderCause text modules f
 parts_cause text modules m Memory is h = tt

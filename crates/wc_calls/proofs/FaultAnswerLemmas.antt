@@ -1,10 +1,18 @@
 -- Faults that are answered, by their causes and what they are about.
-use Rattle.std.proofs.Common.{◌≡◌, ◌≢◌, ℕ, List, sym, subst}
+use Rattle.std.proofs.Common.{◌≡◌, ℕ, List, false, true, ap, inl, inr, refl, sym, subst, ◌∙◌}
+use Rattle.std.proofs.lemmas.Bool.{false≢true}
 use Rattle.wc_encoder.specs.EncoderParts.{EncoderView}
+use Rattle.wc_plan.specs.EncoderFaults.{IsWorldCause}
+use Rattle.wc_validate.specs.Validated.{ModuleRecord}
+use Rattle.wc_world.specs.Adapters.{NamedAdapter}
+use Rattle.wc_world.specs.Causes.{IsComponentWorldCause, IsMemory, IsMemoryOf}
 use Rattle.wc_world.specs.Options.{OptionsOf}
+use Rattle.wc_world.specs.declared.fault.WorldFault.{WorldFault}
+use Rattle.wc_world.specs.declared.fault.WorldFault.TheVariants.{Memory as world_memory, Main, Adapter, Trim, Minimized, PageSize}
 use Rattle.wc_calls.specs.Answers.{IsPut, IsTooLong}
 use Rattle.wc_calls.specs.Encoders.{AreOptionsOf, IsEncoderOf}
 use Rattle.wc_calls.specs.FaultAnswers.{IsFaultAnswered}
+use Rattle.wc_calls.specs.MemoryFaults.{gc_is_memory, is_memory, validate_is_memory, world_is_memory}
 use Rattle.wc_calls.specs.MessageFaults.{IsMessageCause, IsNoEncoderCause}
 use Rattle.wc_calls.specs.Places.{IsPlaceOf}
 use Rattle.wc_calls.specs.Private.EncoderAnswers.{IsFaultFor, IsPartPlaceFor, IsPlaceFor, IsPlanFaultFor}
@@ -22,7 +30,7 @@ too_long_by P Q n old f (text, is, size, less) = (text, f text is, size, less)
 
 -- a fault that is answered, by more that is known of it
 pub answered_by : (P Q : MessageFault → Type 0) (R S : MessageFault → List ℕ → Type 0) (a : Answer) (old new : List ℕ)
-    → ((f : MessageFault) → f ≢ Memory → P f → Q f) → ((f : MessageFault) (place : List ℕ) → P f → R f place → S f place)
+    → ((f : MessageFault) → is_memory f ≡ false → P f → Q f) → ((f : MessageFault) (place : List ℕ) → P f → R f place → S f place)
     → IsFaultAnswered P R a old new → IsFaultAnswered Q S a old new
 answered_by P Q R S a old new causes places (f, cause, other, place, at, answered) = (f, causes f other cause, other, place, places f place cause at, answered)
 
@@ -52,12 +60,35 @@ message_refused message modules f a old new h answered =
     answered_as f (IsMessageCause message modules) (IsPartPlaceFor message) (IsPlaceOf message modules) a old new (message_cause message modules f h)
     (λ place at. part_place message modules f place h at) answered
 
+-- a fault of a component's world that carries no Memory has its own cause
+
+adapters_memory : (e : EncoderView) (main : ModuleRecord) (x : NamedAdapter) (f : WorldFault) → IsMemoryOf e main x f → world_is_memory f ≡ true
+adapters_memory e main x world_memory h = absurd h
+adapters_memory e main x (Main f) h = absurd h
+adapters_memory e main x (Adapter name f) h = ap validate_is_memory h.1
+adapters_memory e main x (Trim name f) h = ap gc_is_memory h.1
+adapters_memory e main x (Minimized name f) h = ap validate_is_memory h.1
+adapters_memory e main x (PageSize name own mains) h = absurd h
+
+carried_memory : (e : EncoderView) (f : WorldFault) → IsMemory e f → world_is_memory f ≡ true
+carried_memory e world_memory h = refl
+carried_memory e (Main f) h = ap validate_is_memory h
+carried_memory e (Adapter name f) h = adapters_memory e h.main h.first.adapter (Adapter name f) h.first.here
+carried_memory e (Trim name f) h = adapters_memory e h.main h.first.adapter (Trim name f) h.first.here
+carried_memory e (Minimized name f) h = adapters_memory e h.main h.first.adapter (Minimized name f) h.first.here
+carried_memory e (PageSize name own mains) h = adapters_memory e h.main h.first.adapter (PageSize name own mains) h.first.here
+
+component_cause : (e : EncoderView) (f : WorldFault) → world_is_memory f ≡ false → IsWorldCause e f → IsComponentWorldCause e f
+component_cause e f other (known, inl memory) = absurd (false≢true (sym other ∙ carried_memory e f memory))
+component_cause e f other (known, inr cause) = cause
+
 -- the fault for an encoder that a message is, and what it is about
 
-world_cause : (message modules : List ℕ) (e : EncoderView) (f : MessageFault) → IsEncoderOf message modules e → IsFaultFor e f → IsMessageCause message modules f
-world_cause message modules e Memory encodes is = tt
-world_cause message modules e (World f) encodes is = (e, encodes, is)
-world_cause message modules e f encodes is = absurd is
+world_cause : (message modules : List ℕ) (e : EncoderView) (f : MessageFault) → IsEncoderOf message modules e → is_memory f ≡ false → IsFaultFor e f
+    → IsMessageCause message modules f
+world_cause message modules e Memory encodes other is = tt
+world_cause message modules e (World f) encodes other is = (e, encodes, component_cause e f other is)
+world_cause message modules e f encodes other is = absurd is
 
 world_place : (message modules : List ℕ) (e : EncoderView) (f : MessageFault) (place : List ℕ) → IsEncoderOf message modules e → IsFaultFor e f
     → IsPlaceFor e f place → IsPlaceOf message modules f place
@@ -70,14 +101,14 @@ pub world_refused : (message modules : List ℕ) (e : EncoderView) (a : Answer) 
     → IsFaultAnswered (IsMessageCause message modules) (IsPlaceOf message modules) a old new
 world_refused message modules e a old new encodes answered =
     answered_by (IsFaultFor e) (IsMessageCause message modules) (IsPlaceFor e) (IsPlaceOf message modules) a old new
-    (λ f other is. world_cause message modules e f encodes is) (λ f place is at. world_place message modules e f place encodes is at) answered
+    (λ f other is. world_cause message modules e f encodes other is) (λ f place is at. world_place message modules e f place encodes is at) answered
 
 plan_cause : (message modules : List ℕ) (options : OptionsOf) (e : EncoderView) (f : MessageFault) → IsEncoderOf message modules e
-    → AreOptionsOf message options → IsPlanFaultFor options e f → IsMessageCause message modules f
-plan_cause message modules options e Memory encodes given is = tt
-plan_cause message modules options e (World f) encodes given is = (e, encodes, is)
-plan_cause message modules options e (Plan f) encodes given is = (e, encodes, options, given, is.0, is.1, is.2)
-plan_cause message modules options e f encodes given is = absurd is
+    → AreOptionsOf message options → is_memory f ≡ false → IsPlanFaultFor options e f → IsMessageCause message modules f
+plan_cause message modules options e Memory encodes given other is = tt
+plan_cause message modules options e (World f) encodes given other is = (e, encodes, component_cause e f other is)
+plan_cause message modules options e (Plan f) encodes given other is = (e, encodes, options, given, is.0, is.1, is.2)
+plan_cause message modules options e f encodes given other is = absurd is
 
 plan_place : (message modules : List ℕ) (options : OptionsOf) (e : EncoderView) (f : MessageFault) (place : List ℕ) → IsEncoderOf message modules e
     → IsPlanFaultFor options e f → IsPlaceFor e f place → IsPlaceOf message modules f place
@@ -91,5 +122,5 @@ pub plan_refused : (message modules : List ℕ) (options : OptionsOf) (e : Encod
     → IsFaultAnswered (IsMessageCause message modules) (IsPlaceOf message modules) a old new
 plan_refused message modules options e a old new encodes given answered =
     answered_by (IsPlanFaultFor options e) (IsMessageCause message modules) (IsPlaceFor e) (IsPlaceOf message modules) a old new
-    (λ f other is. plan_cause message modules options e f encodes given is)
+    (λ f other is. plan_cause message modules options e f encodes given other is)
     (λ f place is at. plan_place message modules options e f place encodes is at) answered

@@ -6,7 +6,7 @@ use Rattle.std.proofs.lemmas.Slice.Eq.{bytes_eq-Decides}
 use Rattle.std.specs.Prelude.{string_bytes}
 use Rattle.std.specs.List.{find, list_any, slice_get}
 use Rattle.std.specs.Str.{bytes_eq}
-use Rattle.wc_gc.specs.Liveness.{trim_input_for_names}
+use Rattle.wc_gc.specs.Liveness.{IsFault, trim_input_for_names}
 use Rattle.wc_maps.specs.Names.{first_occurrences}
 use Rattle.wc_gc.specs.Parts.{SettingsValue}
 use Rattle.wc_gc.specs.Trimming.{IsTrimFault}
@@ -61,3 +61,12 @@ named_position s wasm names (MissingExport name) other fault =
           ]
     ]
 named_position s wasm names f other fault = refl
+
+-- the same of a fault that there are no chains
+pub live_position : (wasm : List ℕ) (names : List (List ℕ)) (f : GcFault) → f ≢ Memory → IsFault (trim_input_for_names wasm names) f → IsPosition names f (position_in names f)
+live_position wasm names (MissingExport name) other fault =
+    elim fault [
+      | inl memory ↦ absurd (other memory)
+      | inr cause ↦ (let is = cause.0 in (refl, missing_there names _ (string_bytes name) is.2))
+    ]
+live_position wasm names f other fault = refl

@@ -7,7 +7,7 @@ use Rattle.std.specs.declared.alloc.AllocError.{AllocError}
 use Rattle.std.specs.declared.alloc.Global.{Global}
 use Rattle.std.specs.declared.vec.Vec.{Vec}
 use Rattle.wc_dedupe.specs.Renaming.{RenameValue}
-use Rattle.wc_encoder.specs.Adapters.{LibraryView, adapter_view, library_view}
+use Rattle.wc_adapters.specs.Adapters.{LibraryView, adapter_view, library_view}
 use Rattle.wc_encoder.specs.EncoderParts.{EncoderView}
 use Rattle.wc_resolve.specs.Views.{key_view}
 use Rattle.wc_validate.specs.Imports.Map.{required_entry, required_in}

@@ -1,15 +1,14 @@
 -- What trimming answers, as the answer of a call.
-use Rattle.std.proofs.Common.{◌≡◌, ◌≢◌, ◌≤◌, ◌⊎◌, ◌<◌, arith, ℕ, List, length, Result, Ok, Err, IfOk, IfErr, sym, subst, inl, inr}
+use Rattle.std.proofs.Common.{◌≡◌, ◌≢◌, ◌≤◌, ◌⊎◌, ◌<◌, arith, ℕ, List, length, false, Result, Ok, Err, IfOk, IfErr, ap, sym, subst, inl, inr, ◌∙◌}
+use Rattle.std.proofs.lemmas.Bool.{false≢true}
 use Rattle.wc_gc.specs.Liveness.{TrimInput, trim_input_for_names}
 use Rattle.wc_maps.specs.Names.{first_occurrences}
-use Rattle.wc_gc.specs.Parts.{SettingsValue}
-use Rattle.wc_gc.specs.Trimming.{IsTrimFault}
 use Rattle.wc_gc.specs.declared.fault.GcFault.{GcFault}
 use Rattle.wc_gc.specs.declared.fault.GcFault.TheVariants.{Memory}
 use Rattle.wc_calls.specs.Answers.{IsBytesStatus, IsFront, IsPut, IsTooLong, bad_argument, done, failed, same as same_status, too_small, out_of_memory}
-use Rattle.wc_calls.specs.Trimming.{IsTrimRefused, IsTrimmingFault, IsPosition}
+use Rattle.wc_calls.specs.MemoryFaults.{gc_is_memory}
+use Rattle.wc_calls.specs.Trimming.{IsFaultFor, IsPosition, IsTrimRefused, position_in}
 use Rattle.wc_calls.specs.declared.answers.Answer.{Answer}
-use Rattle.wc_calls.proofs.MissingLemmas.{named_position}
 
 -- a status that is one of the calls, but for two
 one_of : (status n : ℕ) → status ≡ n → n ≤ 5 → n ≢ 3 → n ≢ 4 → (status ≤ 5) × (status ≢ same_status) × (status ≢ bad_argument)
@@ -29,12 +28,13 @@ pub too_long_of : {V : Type 0} (items : V → List ℕ) (P : List ℕ → Type 0
 too_long_of items P (Ok v) status n old is long small refused e = (items v, is, long, small e)
 too_long_of items P (Err f) status n old is long small refused e = absurd (refused.1 e)
 
-pub fault_of : {V : Type 0} (s : SettingsValue) (wasm : List ℕ) (keys names : List (List ℕ)) (r : Result V GcFault) (a : Answer) (old new : List ℕ)
-    → keys ≡ first_occurrences names → IfErr r (IsTrimFault s (record { bytes = wasm; required = keys })) → IfOk r (λ v. IsBytesStatus a.status)
-    → IfErr r (λ f. f ≡ Memory → a.status ≡ out_of_memory)
-    → IfErr r (λ f. f ≢ Memory → a.status ≡ failed → IsTrimRefused (record { bytes = wasm; required = keys }) names f a old new)
-    → a.status ≡ failed → IsTrimmingFault s wasm names a old new
-fault_of s wasm keys names (Ok v) a old new same cause ok memory fault e =
+pub fault_of : {V : Type 0} (C : TrimInput → GcFault → Type 0) (wasm : List ℕ) (keys names : List (List ℕ)) (r : Result V GcFault) (a : Answer)
+    (old new : List ℕ) → ((f : GcFault) → f ≢ Memory → C (trim_input_for_names wasm names) f → IsPosition names f (position_in names f))
+    → keys ≡ first_occurrences names → IfErr r (C (record { bytes = wasm; required = keys })) → IfOk r (λ v. IsBytesStatus a.status)
+    → IfErr r (λ f. a.status ≡ failed → gc_is_memory f ≡ false)
+    → IfErr r (λ f. a.status ≡ failed → IsTrimRefused (record { bytes = wasm; required = keys }) names f a old new)
+    → a.status ≡ failed → IsFaultFor (C (trim_input_for_names wasm names)) wasm names a old new
+fault_of C wasm keys names (Ok v) a old new at same cause ok memory fault e =
     elim ok [
       | inl is ↦ absurd cc
       | inr others ↦ elim others [
@@ -42,11 +42,12 @@ fault_of s wasm keys names (Ok v) a old new same cause ok memory fault e =
         | inr is ↦ absurd cc
       ]
     ]
-fault_of s wasm keys names (Err f) a old new same cause ok memory fault e =
-    let other : f ≢ Memory = λ m. let is = memory m in cc in
-    let refused = subst (λ (ns : List (List ℕ)). IsTrimRefused (record { bytes = wasm; required = ns }) names f a old new) same (fault other e) in
-    let once = subst (λ (ns : List (List ℕ)). IsTrimFault s (record { bytes = wasm; required = ns }) f) same cause in
-    (f, once, other, subst (IsPosition names f) (sym refused.2.position) (named_position s wasm names f other once), refused)
+fault_of C wasm keys names (Err f) a old new at same cause ok memory fault e =
+    let none = memory e in
+    let other : f ≢ Memory = λ m. false≢true (sym none ∙ ap gc_is_memory m) in
+    let refused = subst (λ (ns : List (List ℕ)). IsTrimRefused (record { bytes = wasm; required = ns }) names f a old new) same (fault e) in
+    let once = subst (λ (ns : List (List ℕ)). C (record { bytes = wasm; required = ns }) f) same cause in
+    (f, once, none, subst (IsPosition names f) (sym refused.2.position) (at f other once), refused)
 
 -- the statuses of a trim
 pub statuses_of : {V : Type 0} (r : Result V GcFault) (status : ℕ) → IfOk r (λ v. IsBytesStatus status)

@@ -1,22 +1,23 @@
 -- Which encoder a message is, with the bytes of its modules.
-use Rattle.std.specs.Prelude.{◌≡◌, ◌++◌, ℕ, List, [], length, false, Option, unwrap_or, IsSomeAnd, Ok, flat_map}
+use Rattle.std.specs.Prelude.{◌≡◌, ◌++◌, ℕ, List, length, false, Option, unwrap_or, IsSomeAnd, Ok, flat_map}
 use Rattle.std.specs.List.{AllZip}
 use Rattle.json.specs.Json.{document}
 use Rattle.json.specs.Strict.{HasUniqueKeys}
 use Rattle.wc_dedupe.specs.Dedupe.{IsDeduped, renames_in}
-use Rattle.wc_encoder.specs.Adapters.{AdapterView}
+use Rattle.wc_adapters.specs.Adapters.{AdapterView}
 use Rattle.wc_encoder.specs.EncoderParts.{EncoderView}
 use Rattle.wc_encoder.specs.WellFormed.{IsWellFormed}
 use Rattle.wc_json.specs.Document.{DocumentView}
 use Rattle.wc_json.specs.Messages.{AdapterMessageView, KeyMessageView, MessageView, WorldNameView, at_index, message, of_name}
 use Rattle.wc_resolve.specs.Views.{KeyView}
 use Rattle.wc_resolve.specs.World.{ResolveView}
-use Rattle.wc_selection.specs.Keys.{NamedKey, export_keys, texts_of}
+use Rattle.wc_selection.specs.Keys.{NamedKey, texts_of}
 use Rattle.wc_selection.specs.ModuleKeys.{AreKeysThere}
 use Rattle.wc_selection.specs.Requests.{given_keys}
+use Rattle.wc_selection.specs.TaskHook.{no_task_hook}
 use Rattle.wc_selection.specs.Worlds.{IsSelected}
 use Rattle.wc_world.specs.Options.{OptionsOf}
-use Rattle.wc_calls.specs.AskedKeys.{adapter_keys, gives_none, keys_in, main_keys, request_in}
+use Rattle.wc_calls.specs.AskedKeys.{adapter_keys, gives_none, keys_in, main_keys, request_of}
 use Rattle.wc_calls.specs.ImportOptions.{listed_options}
 
 -- the text is JSON, no object in it repeats a member, and its value is read as the message
@@ -32,26 +33,26 @@ abbrev pub IsWorldNamed : DocumentView → WorldNameView → ℕ → Type 0
 IsWorldNamed d (at_index n) index = index ≡ n
 IsWorldNamed d (of_name name) index = IsSelected d name index
 
--- an adapter of a message, with its bytes, and with the keys of exports that it has to export: these are those of exports by
--- their own texts, and by those that the message gives
-pub record IsAdapterOf (named keys : List NamedKey) (m : AdapterMessageView) (a : List ℕ × AdapterView) : Type 0 where
+-- an adapter of a message, with its bytes, and with those of the exports, under the texts by which the message gives them, that it
+-- has to export
+pub record IsAdapterOf (keys : List NamedKey) (m : AdapterMessageView) (a : List ℕ × AdapterView) : Type 0 where
   pub name : a.0 ≡ m.name
   pub size : length a.1.wasm ≡ m.size
-  pub required : a.1.required_exports ≡ adapter_keys named keys m
+  pub required : a.1.required_exports ≡ adapter_keys keys m
   pub library : a.1.library_info ≡ m.library_info
 
 -- the adapters of a message in order, with these bytes one after another
-pub record AreAdaptersOf (named keys : List NamedKey) (ms : List AdapterMessageView) (bytes : List ℕ) (adapters : List (List ℕ × AdapterView)) : Type 0 where
-  pub each : AllZip (IsAdapterOf named keys) ms adapters
+pub record AreAdaptersOf (keys : List NamedKey) (ms : List AdapterMessageView) (bytes : List ℕ) (adapters : List (List ℕ × AdapterView)) : Type 0 where
+  pub each : AllZip (IsAdapterOf keys) ms adapters
   pub cut : bytes ≡ flat_map (λ (a : List ℕ × AdapterView). a.1.wasm) adapters
 
 -- the keys that modules have to export: all that are given are those of the world's exports, and none is given twice; the main
 -- module's; and the adapters with theirs
 pub record AreExporters (r : ResolveView) (world : ℕ) (exports : Option (List KeyMessageView)) (ms : List AdapterMessageView) (bytes : List ℕ)
     (required : List KeyView) (adapters : List (List ℕ × AdapterView)) : Type 0 where
-  pub there : AreKeysThere (given_keys (request_in r world exports ms)) (texts_of (keys_in r world exports ms))
-  pub main : required ≡ main_keys (gives_none exports) (request_in r world exports ms) (keys_in r world exports ms)
-  pub others : AreAdaptersOf (export_keys r world) (keys_in r world exports ms) ms bytes adapters
+  pub there : AreKeysThere (given_keys (request_of exports ms)) (texts_of (keys_in r world exports ms))
+  pub main : required ≡ main_keys (gives_none exports) (request_of exports ms) (keys_in r world exports ms)
+  pub others : AreAdaptersOf (keys_in r world exports ms) ms bytes adapters
 
 -- the world's index, and how the bytes are cut: those of the main module before the others
 pub record AreChosen (m : MessageView) (modules : List ℕ) (world : ℕ) (main others : List ℕ) : Type 0 where
@@ -59,7 +60,8 @@ pub record AreChosen (m : MessageView) (modules : List ℕ) (world : ℕ) (main 
   pub size : length main ≡ m.size
   pub named : IsWorldNamed m.document m.world world
 
--- the parts of an encoder: the main module's bytes are before those of the adapters, and its repeated imports are renamed
+-- the parts of an encoder: the main module's bytes are before those of the adapters, and its repeated imports are renamed. Where
+-- the message has no task hook, no export is taken for it
 pub record IsPartsOf (m : MessageView) (modules : List ℕ) (e : EncoderView) : Type 0 where
   pub main : List ℕ
   pub others : List ℕ
@@ -71,7 +73,7 @@ pub record IsPartsOf (m : MessageView) (modules : List ℕ) (e : EncoderView) : 
   pub exporters : AreExporters m.document.parts e.world m.exports m.adapters others e.main_module_exports e.adapters
   pub rejects : e.reject_legacy_names ≡ unwrap_or m.reject_legacy_names false
   pub grows : e.realloc_via_memory_grow ≡ unwrap_or m.realloc_via_memory_grow false
-  pub hook : e.task_hook ≡ unwrap_or m.task_hook []
+  pub hook : e.task_hook ≡ unwrap_or m.task_hook no_task_hook
 
 -- the encoder that the bytes of a message and of modules are
 pub record IsEncoderOf (text modules : List ℕ) (e : EncoderView) : Type 0 where

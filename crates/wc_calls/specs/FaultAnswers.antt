@@ -1,11 +1,11 @@
 -- How a fault of a message is answered: its number, its text, and after that what it is about.
-use Rattle.std.specs.Prelude.{◌≡◌, ◌≢◌, ◌++◌, ◌<◌, ◌≤◌, ℕ, List, length}
+use Rattle.std.specs.Prelude.{◌≡◌, ◌++◌, ◌<◌, ◌≤◌, ℕ, List, length, false}
 use Rattle.wc_calls.specs.Answers.{IsFront, failed}
 use Rattle.wc_calls.specs.FaultNumbers.{message_fault_number}
 use Rattle.wc_calls.specs.FaultTexts.{IsTextOf}
+use Rattle.wc_calls.specs.MemoryFaults.{is_memory}
 use Rattle.wc_calls.specs.declared.answers.Answer.{Answer}
 use Rattle.wc_calls.specs.declared.message_fault.MessageFault.{MessageFault}
-use Rattle.wc_calls.specs.declared.message_fault.MessageFault.TheVariants.{Memory}
 
 -- a fault by its number; its text and its place are in the front of the buffer, or longer than it; the place begins where
 -- the text ends
@@ -20,7 +20,7 @@ pub record IsFaultAnswer (f : MessageFault) (place : List ℕ) (answer : Answer)
   pub put : length (text ++ place) ≤ length old → IsFront (text ++ place) old new
   pub longer : length old < length (text ++ place) → new ≡ old
 
--- the answer is a fault with this cause, which is not Memory, and with this place
+-- the answer is a fault with this cause, which neither is nor carries a Memory, and with this place
 abbrev pub IsFaultAnswered : (MessageFault → Type 0) → (MessageFault → List ℕ → Type 0) → Answer → List ℕ → List ℕ → Type 0
 IsFaultAnswered IsCause IsPlace answer old new =
-    (f : MessageFault) × IsCause f × (f ≢ Memory) × (place : List ℕ) × IsPlace f place × IsFaultAnswer f place answer old new
+    (f : MessageFault) × IsCause f × (is_memory f ≡ false) × (place : List ℕ) × IsPlace f place × IsFaultAnswer f place answer old new

@@ -7,7 +7,9 @@ pub mod ExportNames
 pub mod FaultAnswers
 pub mod FaultNumbers
 pub mod FaultTexts
+pub mod ImportChains
 pub mod ImportOptions
+pub mod MemoryFaults
 pub mod MessageFaults
 pub mod Places
 pub mod Private

@@ -1,14 +1,15 @@
 -- What the call that trims an adapter answers.
-use Rattle.std.specs.Prelude.{◌≡◌, ◌≢◌, ◌≤◌, ◌<◌, length, ℕ, List, [], IfSome, Some, string_bytes}
+use Rattle.std.specs.Prelude.{◌≡◌, ◌≢◌, ◌≤◌, ◌<◌, false, length, ℕ, List, [], IfSome, Some, string_bytes}
 use Rattle.std.specs.List.{All, slice_get}
 use Rattle.std.specs.Str.{IsUtf8}
 use Rattle.wc_gc.specs.Liveness.{TrimInput, trim_input_for_names}
 use Rattle.wc_gc.specs.Parts.{SettingsValue}
 use Rattle.wc_gc.specs.Trimming.{IsTrimFault}
 use Rattle.wc_gc.specs.declared.fault.GcFault.{GcFault}
-use Rattle.wc_gc.specs.declared.fault.GcFault.TheVariants.{Memory, MissingExport}
+use Rattle.wc_gc.specs.declared.fault.GcFault.TheVariants.{MissingExport}
 use Rattle.wc_calls.specs.Answers.{IsFront, failed}
 use Rattle.wc_calls.specs.FaultNumbers.{gc_fault_number}
+use Rattle.wc_calls.specs.MemoryFaults.{gc_is_memory}
 use Rattle.wc_calls.specs.Places.{IsTrimPlaceText}
 use Rattle.wc_calls.specs.ExportNames.{position_of}
 use Rattle.wc_calls.specs.declared.answers.Answer.{Answer}
@@ -50,8 +51,12 @@ pub record IsTrimFaultAnswer (names : List (List ℕ)) (f : GcFault) (place : Li
 abbrev pub IsTrimRefused : TrimInput → List (List ℕ) → GcFault → Answer → List ℕ → List ℕ → Type 0
 IsTrimRefused w names f answer old new = (place : List ℕ) × IsTrimPlaceText w f place × IsTrimFaultAnswer names f place answer old new
 
--- the answer is a fault that has its cause, and is not Memory; the position is that of its name
-abbrev pub IsTrimmingFault : SettingsValue → List ℕ → List (List ℕ) → Answer → List ℕ → List ℕ → Type 0
-IsTrimmingFault s wasm names answer old new =
-    (f : GcFault) × IsTrimFault s (trim_input_for_names wasm names) f × (f ≢ Memory) × IsPosition names f answer.position
+-- the answer is a fault that has this cause, and neither is nor carries a Memory; the position is that of its name
+abbrev pub IsFaultFor : (GcFault → Type 0) → List ℕ → List (List ℕ) → Answer → List ℕ → List ℕ → Type 0
+IsFaultFor IsCause wasm names answer old new =
+    (f : GcFault) × IsCause f × (gc_is_memory f ≡ false) × IsPosition names f answer.position
     × IsTrimRefused (trim_input_for_names wasm names) names f answer old new
+
+-- the answer is a fault of trimming
+abbrev pub IsTrimmingFault : SettingsValue → List ℕ → List (List ℕ) → Answer → List ℕ → List ℕ → Type 0
+IsTrimmingFault s wasm names = IsFaultFor (IsTrimFault s (trim_input_for_names wasm names)) wasm names

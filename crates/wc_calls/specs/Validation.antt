@@ -3,7 +3,7 @@
 use Rattle.std.specs.Prelude.{◌≡◌, ◌⊎◌, ℕ, List, [], MatchOption, Option, Some, None, string_bytes}
 use Rattle.std.specs.Map.{lookup}
 use Rattle.std.specs.Str.{IsUtf8, bytes_eq}
-use Rattle.wc_encoder.specs.Adapters.{AdapterView}
+use Rattle.wc_adapters.specs.Adapters.{AdapterView}
 use Rattle.wc_encoder.specs.EncoderParts.{EncoderView}
 use Rattle.wc_validate.specs.Places.{IsUnplaced}
 use Rattle.wc_validate.specs.Validated.{IsRecordOf, ModuleRecord, main_input}

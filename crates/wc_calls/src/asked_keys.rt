@@ -3,14 +3,14 @@
 ghost use Rattle.std.specs.Prelude.{◌≡◌, IfErr, IfOk, OnOk, flat_map, map};
 ghost use Rattle.wc_json.specs.Messages.{adapter_message_view, exports_view, key_message_view};
 ghost use Rattle.wc_resolve.specs.Views.{key_view};
-ghost use Rattle.wc_selection.specs.KeyNames.{request_keys};
+ghost use Rattle.wc_selection.specs.KeyNames.{indexed_keys};
 ghost use Rattle.wc_selection.specs.Keys.{AreKeysApart, export_keys, named_key, texts_of};
 ghost use Rattle.wc_selection.specs.ModuleKeys.{AreKeysThere};
 ghost use Rattle.wc_selection.specs.Requests.{given_keys, request_value};
 ghost use Rattle.wc_selection.specs.Texts.{text_of, text_pair};
-ghost use Rattle.wc_calls.specs.AskedKeys.{adapter_keys, adapter_texts, gives_none, main_keys, main_texts, text_meant, texts_meant};
+ghost use Rattle.wc_calls.specs.AskedKeys.{adapter_keys, adapter_texts, gives_none, key_texts, main_keys, main_texts};
 ghost use Rattle.wc_calls.specs.MessageFaults.{IsAskedCause};
-ghost use Rattle.wc_calls.specs.Private.AskedKeys.{IsAsked, IsAskedCauseFor, IsAskedFor, IsKeyFault, IsRepeatedKey, IsUnknownKey};
+ghost use Rattle.wc_calls.specs.Private.AskedKeys.{IsAsked, IsAskedCauseFor, IsAskedCauseIn, IsAskedFor, IsKeyFault, IsRepeatedKey, IsUnknownKey};
 
 use crate::message_fault::MessageFault;
 use std::alloc::{AllocError, Global};
@@ -18,8 +18,8 @@ use wc_json::{AdapterMessage, KeyMessage};
 use wc_maps::{Seed, Set};
 use wc_resolve::{Resolve, WorldId, WorldKey};
 use wc_selection::{
-    Exporter, KeyRequest, RequestFault, check_keys, count_unversioned, export_keys, request_keys,
-    required_keys,
+    Exporter, KeyRequest, RequestFault, check_keys, count_unversioned, export_keys, indexed_keys,
+    is_export, required_keys,
 };
 
 /// A world, and the keys of its exports that a message gives for the main module.
@@ -40,7 +40,7 @@ pub(crate) struct AskedKeys {
 }
 
 /// The keys of a world's exports with their texts; none where there is no such world.
-pub(crate) fn named_exports(
+fn named_exports(
     alloc: Global,
     resolve: &Resolve,
     world: WorldId,
@@ -54,79 +54,52 @@ pub(crate) fn named_exports(
     }
 }
 
-/// The text by which exports have a message's key: that of the interface whose own id it is, if it is exported under
-/// this; else the text as it is.
-fn text_meant<'k>(named: &'k [(WorldKey, String)], key: &'k KeyMessage) -> &'k str
-    ensures { result.now ≡ text_meant (map named_key named.now) (key_message_view key.now) }
-{
-    for one in named {
-        if one.0 == key.key {
-            return one.1.as_str();
-        }
-    }
-    key.text.as_str()
-}
-
-/// The texts by which exports have some keys.
-fn texts_meant<'k>(
-    alloc: Global,
-    named: &'k [(WorldKey, String)],
-    keys: &'k [KeyMessage],
-) -> Result<Vec<&'k str>, AllocError>
-    ensures { IfOk result (λ v. map text_of v.items
-        ≡ texts_meant (map named_key named.now) (map key_message_view keys.now)) }
-{
-    let mut texts = Vec::with_capacity(alloc, keys.len())?;
-    for key in keys {
-        texts.push(text_meant(named, key))?;
-    }
-    Ok(texts)
-}
-
 /// The texts of the main module's keys; none, if they are missing.
-fn main_texts<'k>(
-    alloc: Global,
-    named: &'k [(WorldKey, String)],
-    exports: &'k Option<Vec<KeyMessage>>,
-) -> Result<Vec<&'k str>, AllocError>
-    ensures { IfOk result (λ v. map text_of v.items ≡ main_texts (map named_key named.now)
-        (exports_view exports.now)) }
+fn main_texts(alloc: Global, exports: &Option<Vec<KeyMessage>>) -> Result<Vec<&str>, AllocError>
+    ensures { IfOk result (λ v. map text_of v.items ≡ main_texts (exports_view exports.now)) }
 {
     match exports {
-        Some(keys) => texts_meant(alloc, named, keys),
+        Some(keys) => key_texts(alloc, keys),
         None => Ok(Vec::new(alloc)),
     }
 }
 
+/// The texts of keys.
+fn key_texts(alloc: Global, keys: &[KeyMessage]) -> Result<Vec<&str>, AllocError>
+    ensures { IfOk result (λ v. map text_of v.items
+        ≡ key_texts (map key_message_view keys.now)) }
+{
+    let mut texts = Vec::with_capacity(alloc, keys.len())?;
+    for key in keys {
+        texts.push(key.text.as_str())?;
+    }
+    Ok(texts)
+}
+
 /// The texts of an adapter's keys, each after its name.
-fn adapter_texts<'k>(
-    alloc: Global,
-    named: &'k [(WorldKey, String)],
-    adapter: &'k AdapterMessage,
-) -> Result<Vec<(&'k str, &'k str)>, AllocError>
+fn adapter_texts(alloc: Global, adapter: &AdapterMessage) -> Result<Vec<(&str, &str)>, AllocError>
     ensures { IfOk result (λ v. map text_pair v.items
-        ≡ adapter_texts (map named_key named.now) (adapter_message_view adapter.now)) }
+        ≡ adapter_texts (adapter_message_view adapter.now)) }
 {
     let name = adapter.name.as_str();
     let mut texts = Vec::with_capacity(alloc, adapter.exports.len())?;
     for key in &adapter.exports {
-        texts.push((name, text_meant(named, key)))?;
+        texts.push((name, key.text.as_str()))?;
     }
     Ok(texts)
 }
 
 /// The texts of the keys of adapters, each after the name of its adapter.
-fn texts_of_adapters<'k>(
+fn texts_of_adapters(
     alloc: Global,
-    named: &'k [(WorldKey, String)],
-    adapters: &'k [AdapterMessage],
-) -> Result<Vec<(&'k str, &'k str)>, AllocError>
-    ensures { IfOk result (λ v. map text_pair v.items ≡ flat_map
-        (adapter_texts (map named_key named.now)) (map adapter_message_view adapters.now)) }
+    adapters: &[AdapterMessage],
+) -> Result<Vec<(&str, &str)>, AllocError>
+    ensures { IfOk result (λ v. map text_pair v.items
+        ≡ flat_map adapter_texts (map adapter_message_view adapters.now)) }
 {
     let mut texts = Vec::new(alloc);
     for adapter in adapters {
-        let more = adapter_texts(alloc, named, adapter)?;
+        let more = adapter_texts(alloc, adapter)?;
         texts.extend_from_slice(&more)?;
     }
     Ok(texts)
@@ -142,37 +115,52 @@ fn gives_none(exports: &Option<Vec<KeyMessage>>) -> bool
     }
 }
 
-/// The keys of a world's exports, in order, each with the text by which the request gives it; none where there is no
-/// such world.
+/// The keys of a world's exports, in order, each with the text by which the request gives it, that of an interface's
+/// index among them; none where there is no such world.
 fn keys_in(
     alloc: Global,
+    seed: Seed,
     request: &KeyRequest<'_, '_>,
     resolve: &Resolve,
     world: WorldId,
 ) -> Result<Vec<(WorldKey, String)>, AllocError>
     ensures keys { IfOk result (λ v. map named_key v.items
-        ≡ request_keys (request_value request.now) resolve.now world.0) }
+        ≡ indexed_keys (request_value request.now) resolve.now world.0) }
     ensures differ { IfOk result (λ v. AreKeysApart (map named_key v.items)) }
 {
     if resolve.has_world(world) {
-        request_keys(alloc, request, resolve, world)
+        indexed_keys(alloc, seed, request, resolve, world)
     } else {
         Ok(Vec::new(alloc))
     }
 }
 
-/// The fault of a key that no export has: that of several which have it without their versions, or of one that is given
-/// with it too; or else there is none.
-fn unknown_key(alloc: Global, key: &str, keys: &[(WorldKey, String)]) -> MessageFault
-    ensures { IsUnknownKey (map named_key keys.now) key.now result }
+/// The fault of a key that no export is given by. `named`: the exports' keys with their own texts. It is that of a key
+/// which is given again, where it is the text of an export, which is then given by its index, or that of one export
+/// without its version; or that of several which have it without their versions; or else that there is none.
+fn unknown_key(alloc: Global, key: &str, named: &[(WorldKey, String)]) -> MessageFault
+    ensures { IsUnknownKey (map named_key named.now) key.now result }
 {
     let Ok(text) = String::from_str(alloc, key) else {
         return MessageFault::Memory;
     };
-    match count_unversioned(keys, key) {
+    if is_export(named, key) {
+        return MessageFault::RepeatedKey(text);
+    }
+    match count_unversioned(named, key) {
         0 => MessageFault::UnknownKey(text),
         1 => MessageFault::RepeatedKey(text),
         _ => MessageFault::SeveralKeys(text),
+    }
+}
+
+/// The same for the exports of a world.
+fn unknown_in(alloc: Global, key: &str, world: AskedWorld<'_>) -> MessageFault
+    ensures { IsUnknownKey (export_keys world.entry.resolve.now world.entry.world.0) key.now result }
+{
+    match named_exports(alloc, world.resolve, world.world) {
+        Ok(named) => unknown_key(alloc, key, &named),
+        Err(_) => MessageFault::Memory,
     }
 }
 
@@ -187,11 +175,12 @@ fn repeated_key(alloc: Global, key: &str) -> MessageFault
 }
 
 /// The fault of a message for one of its keys as a request.
-fn key_fault(alloc: Global, fault: RequestFault<'_>, keys: &[(WorldKey, String)]) -> MessageFault
-    ensures { IsKeyFault (map named_key keys.now) fault.entry result }
+fn key_fault(alloc: Global, fault: RequestFault<'_>, world: AskedWorld<'_>) -> MessageFault
+    ensures { IsKeyFault (export_keys world.entry.resolve.now world.entry.world.0)
+        fault.entry result }
 {
     match fault {
-        RequestFault::UnknownKey(key) => unknown_key(alloc, key, keys),
+        RequestFault::UnknownKey(key) => unknown_in(alloc, key, world),
         RequestFault::RepeatedKey(key) => repeated_key(alloc, key),
         _ => MessageFault::Memory,
     }
@@ -202,16 +191,17 @@ fn check_asked(
     alloc: Global,
     seed: Seed,
     request: &KeyRequest<'_, '_>,
+    world: AskedWorld<'_>,
     keys: &[(WorldKey, String)],
 ) -> Result<(), MessageFault>
     ensures there { OnOk result (AreKeysThere (given_keys (request_value request.now))
         (texts_of (map named_key keys.now))) }
     ensures fault { IfErr result (IsAskedCause (request_value request.now)
-        (map named_key keys.now)) }
+        (export_keys world.entry.resolve.now world.entry.world.0) (map named_key keys.now)) }
 {
     match check_keys(alloc, seed, request, keys) {
         Ok(()) => Ok(()),
-        Err(fault) => Err(key_fault(alloc, fault, keys)),
+        Err(fault) => Err(key_fault(alloc, fault, world)),
     }
 }
 
@@ -233,20 +223,18 @@ fn main_keys(
     required_keys(alloc, seed, request, Exporter::Main, keys)
 }
 
-/// The keys that an adapter has to export, of those of exports by their own texts and by those that are given.
-pub(crate) fn adapter_keys<'k>(
+/// The keys of exports, with the texts by which they are given, that an adapter has to export.
+pub(crate) fn adapter_keys(
     alloc: Global,
     seed: Seed,
-    named: &'k [(WorldKey, String)],
     keys: &[(WorldKey, String)],
-    adapter: &'k AdapterMessage,
+    adapter: &AdapterMessage,
 ) -> Result<Set<WorldKey>, AllocError>
     requires { AreKeysApart (map named_key keys.now) }
     ensures { IfOk result (λ set. map key_view set.keys
-        ≡ adapter_keys (map named_key named.now) (map named_key keys.now)
-        (adapter_message_view adapter.now)) }
+        ≡ adapter_keys (map named_key keys.now) (adapter_message_view adapter.now)) }
 {
-    let texts = adapter_texts(alloc, named, adapter)?;
+    let texts = adapter_texts(alloc, adapter)?;
     let request = KeyRequest {
         exports: &[],
         adapter_exports: &texts,
@@ -263,34 +251,31 @@ fn asked_by(
     world: AskedWorld<'_>,
 ) -> Result<AskedKeys, MessageFault>
     ensures asked { IfOk result (IsAsked (request_value request.now)
-        (gives_none (exports_view world.entry.exports.now)) (request_keys
+        (gives_none (exports_view world.entry.exports.now)) (indexed_keys
         (request_value request.now) world.entry.resolve.now world.entry.world.0)) }
-    ensures fault { IfErr result (IsAskedCause (request_value request.now) (request_keys
-        (request_value request.now) world.entry.resolve.now world.entry.world.0)) }
+    ensures fault { IfErr result (IsAskedCauseIn (request_value request.now)
+        world.entry.resolve.now world.entry.world.0) }
 {
-    let keys = keys_in(alloc, request, world.resolve, world.world)?;
-    check_asked(alloc, seed, request, &keys)?;
+    let keys = keys_in(alloc, seed, request, world.resolve, world.world)?;
+    check_asked(alloc, seed, request, world, &keys)?;
     let main = main_keys(alloc, seed, request, gives_none(world.exports), &keys)?;
     Ok(AskedKeys { keys, main })
 }
 
 /// What the keys of a message ask of a world's exports.
-pub(crate) fn asked_of<'k>(
+pub(crate) fn asked_of(
     alloc: Global,
     seed: Seed,
-    named: &'k [(WorldKey, String)],
-    world: AskedWorld<'k>,
-    adapters: &'k [AdapterMessage],
+    world: AskedWorld<'_>,
+    adapters: &[AdapterMessage],
 ) -> Result<AskedKeys, MessageFault>
-    ensures asked { IfOk result (IsAskedFor (map named_key named.now)
-        (exports_view world.entry.exports.now) (map adapter_message_view adapters.now)
-        world.entry.resolve.now world.entry.world.0) }
-    ensures fault { IfErr result (IsAskedCauseFor (map named_key named.now)
-        (exports_view world.entry.exports.now) (map adapter_message_view adapters.now)
-        world.entry.resolve.now world.entry.world.0) }
+    ensures asked { IfOk result (IsAskedFor (exports_view world.entry.exports.now)
+        (map adapter_message_view adapters.now) world.entry.resolve.now world.entry.world.0) }
+    ensures fault { IfErr result (IsAskedCauseFor (exports_view world.entry.exports.now)
+        (map adapter_message_view adapters.now) world.entry.resolve.now world.entry.world.0) }
 {
-    let texts = main_texts(alloc, named, world.exports)?;
-    let adapter_texts = texts_of_adapters(alloc, named, adapters)?;
+    let texts = main_texts(alloc, world.exports)?;
+    let adapter_texts = texts_of_adapters(alloc, adapters)?;
     let request = KeyRequest {
         exports: &texts,
         adapter_exports: &adapter_texts,

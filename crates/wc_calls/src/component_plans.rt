@@ -58,8 +58,8 @@ fn plan_for(alloc: Global, input: &WorldInput, out: &mut [u8]) -> Answer
 /// - `DONE`: the front of `out` has the plan as JSON, as `wc_record::plan_to_json` writes it; `length` is how many bytes
 ///   that has.
 /// - `TOO_SMALL`: the same would have `length` bytes, and `out` has fewer.
-/// - `FAULT`: why there is no plan, by its number (`message_fault_number`), never `Memory`; and its text,
-///   and what it is about, as of `world`. A fault of the plan itself has no place.
+/// - `FAULT`: why there is no plan, by its number (`message_fault_number`), and its text, and what it is about, as of
+///   `world`. It neither is nor carries a `Memory`. A fault of the plan itself has no place.
 /// - `MEMORY`: an allocation failed.
 ///
 /// It is never `SAME` or `BAD_ARGUMENT`. `out` is as it was but for what is said here, and then after the first `length`

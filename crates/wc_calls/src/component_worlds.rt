@@ -85,11 +85,13 @@ fn world_for(alloc: Global, input: &WorldInput, out: &mut [u8]) -> Answer
 /// - `resolve`: worlds, interfaces, types and packages, as `wc_json` reads them;
 /// - `world`: the index of a world, or a name as `select_world` of `wc_selection` takes it;
 /// - `reject_legacy_names` and `realloc_via_memory_grow`, true or false, and `task_hook`, the name of the task hook; each
-///   of them may be missing, which is false and the empty name;
+///   of them may be missing, which is false, and a name by which no export is taken for the hook
+///   (`no_task_hook` of `wc_selection`);
 /// - `length`: how many bytes the main module has;
 /// - `exports`: the keys of the world's exports that it has to export, a list of texts. Each is `interface-3`, as it is in
-///   `resolve`, or the text of an export, of an interface also without its version where one alone has it so
-///   (`request_keys` of `wc_selection`). It may be missing, which is all keys that no adapter has to export;
+///   `resolve`, and then that of the interface 3 alone, where it is exported under its own id; or the text of exports, of
+///   an interface also without its version where one alone has it so (`indexed_keys` of `wc_selection`). It may be
+///   missing, which is all keys that no adapter has to export;
 /// - `adapters`: a list of objects with `name`, `length` and `exports`, and `library_info`, missing or null for one that is
 ///   no library, else as `wc_record` writes it;
 /// - `options`: which canonical options lowered functions have, a list of objects with `name`, the name of functions in
@@ -107,13 +109,13 @@ fn world_for(alloc: Global, input: &WorldInput, out: &mut [u8]) -> Answer
 ///   imports, and the adapters and libraries of the component's world in their order. After them it has that world as
 ///   JSON, as `wc_record::world_to_json` writes it, with the length of each adapter. `length` is how many bytes both have.
 /// - `TOO_SMALL`: the same would have `length` bytes, and `out` has fewer.
-/// - `FAULT`: why there is no component's world, by its number (`message_fault_number`), never `Memory`. Its text, as it
-///   is printed, has `position` bytes. Of a message that is not what it has to be, it has the path to what is wrong, as
+/// - `FAULT`: why there is no component's world, by its number (`message_fault_number`). It neither is nor carries a
+///   `Memory`. Its text, as it is printed, has `position` bytes. Of a message that is not what it has to be, it has the path to what is wrong, as
 ///   `Json: adapters[0].length: not an index`. After the text is a JSON object that says what the fault is about, if it is
 ///   one of an import, an export, a section or a body (`wc_world::explain`), or of a world, an interface, a type or a
 ///   package (`wc_resolve::explain_parts`); else nothing. Both have `length` bytes, and are in the front of `out`, if
 ///   `out` has so many. `wc_record::world_place_to_json` and `part_to_json` list the members of these objects.
-/// - `MEMORY`: an allocation failed.
+/// - `MEMORY`: an allocation failed, at whichever step.
 ///
 /// It is never `SAME` or `BAD_ARGUMENT`. `out` is as it was but for what is said here, and then after the first `length`
 /// bytes. Numbers of the answer that nothing is said of are 0.

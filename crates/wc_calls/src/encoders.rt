@@ -1,20 +1,21 @@
 //! Encoders out of messages and the bytes of their modules, and the options of lowered functions.
 
-ghost use Rattle.std.specs.Prelude.{◌≡◌, ◌++◌, ◌<◌, [], IfErr, IfNone, IfOk, IfSome, List, length, map, string_bytes, unwrap_or, ℕ};
+ghost use Rattle.std.specs.Prelude.{◌≡◌, ◌++◌, ◌<◌, IfErr, IfNone, IfOk, IfSome, List, length, map, string_bytes, unwrap_or, ℕ};
 ghost use Rattle.std.specs.Option.{option_map};
-ghost use Rattle.wc_encoder.specs.Adapters.{adapter_entry, adapter_view, library_view};
+ghost use Rattle.wc_adapters.specs.Adapters.{adapter_entry, adapter_view, library_view};
 ghost use Rattle.wc_encoder.specs.WellFormed.{IsWellFormed};
 ghost use Rattle.wc_json.specs.Document.{document_view};
 ghost use Rattle.wc_json.specs.Messages.{adapter_message_view, exports_view, message_view, world_name_view};
 ghost use Rattle.wc_resolve.specs.Views.{key_view};
 ghost use Rattle.wc_selection.specs.Keys.{AreKeysApart, named_key};
+ghost use Rattle.wc_selection.specs.TaskHook.{no_task_hook};
 ghost use Rattle.wc_selection.specs.Worlds.{IsSelected};
 ghost use Rattle.wc_calls.specs.Encoders.{AreAdaptersOf, AreChosen, AreExporters, AreOptionsOf, IsEncoderOf, IsPartsOf, IsWorldNamed};
 ghost use Rattle.wc_calls.specs.MessageFaults.{IsAdaptersCause, IsNameCause, IsNoEncoderCause, IsPartsCause, IsWorldNameCause, of_request};
 ghost use Rattle.wc_calls.specs.Private.AskedKeys.{IsExportersCause};
 ghost use Rattle.wc_calls.specs.Private.OptionTables.{table_options};
 
-use crate::asked_keys::{AskedWorld, adapter_keys, asked_of, named_exports};
+use crate::asked_keys::{AskedWorld, adapter_keys, asked_of};
 use crate::import_options::OptionTable;
 use crate::message_fault::MessageFault;
 use std::alloc::{AllocError, Global};
@@ -24,7 +25,7 @@ use wc_encoder::{Adapter, ComponentEncoder, EncoderParts, LibraryInfo, Metadata}
 use wc_json::{AdapterMessage, Document, Message, WorldName, message_from_json};
 use wc_maps::{Map, Seed, Set};
 use wc_resolve::{Resolve, WorldId, WorldKey};
-use wc_selection::{MainModule, RequestFault, select_world};
+use wc_selection::{MainModule, RequestFault, no_task_hook, select_world};
 
 /// The fault of a message whose world is not selected.
 fn world_fault(fault: RequestFault<'_>) -> MessageFault
@@ -96,26 +97,18 @@ fn adapter_with(
     })
 }
 
-/// The keys of a world's exports: with their own texts, and with those by which a message gives them.
-#[derive(Clone, Copy)]
-struct ExportKeys<'a> {
-    named: &'a [(WorldKey, String)],
-    given: &'a [(WorldKey, String)],
-}
-
-/// The adapters of messages, with these bytes one after another, and with those of the keys of exports that they have to
-/// export. `seed`: the seed of the maps that are made.
+/// The adapters of messages, with these bytes one after another, and with those of the keys of exports, under the texts
+/// by which the messages give them, that they have to export. `seed`: the seed of the maps that are made.
 fn adapters_of(
     alloc: Global,
     seed: Seed,
-    keys: ExportKeys<'_>,
+    keys: &[(WorldKey, String)],
     messages: Vec<AdapterMessage>,
     bytes: &[u8],
 ) -> Result<Map<String, Adapter>, MessageFault>
-    requires { AreKeysApart (map named_key keys.given.now) }
-    ensures adapters { IfOk result (λ m. AreAdaptersOf (map named_key keys.entry.named.now)
-        (map named_key keys.entry.given.now) (map adapter_message_view messages.items) bytes.now
-        (map adapter_entry m.entries)) }
+    requires { AreKeysApart (map named_key keys.now) }
+    ensures adapters { IfOk result (λ m. AreAdaptersOf (map named_key keys.now)
+        (map adapter_message_view messages.items) bytes.now (map adapter_entry m.entries)) }
     ensures fault { IfErr result (IsAdaptersCause
         (map adapter_message_view messages.items) bytes.now) }
 {
@@ -129,7 +122,7 @@ fn adapters_of(
         if adapters.contains_key(message.name.as_str()) {
             return Err(MessageFault::AdapterTwice(message.name));
         }
-        let required = adapter_keys(alloc, seed, keys.named, keys.given, &message)?;
+        let required = adapter_keys(alloc, seed, keys, &message)?;
         let adapter = adapter_with(alloc, wasm, required, message.library_info)?;
         adapters.insert(message.name, adapter)?;
     }
@@ -163,26 +156,22 @@ fn exporters_of(
         (exports_view world.entry.exports.now) (map adapter_message_view adapters.items)
         bytes.now) }
 {
-    let named = named_exports(alloc, world.resolve, world.world)?;
-    let asked = asked_of(alloc, seed, &named, world, &adapters)?;
-    let keys = ExportKeys {
-        named: &named,
-        given: &asked.keys,
-    };
-    let adapters = adapters_of(alloc, seed, keys, adapters, bytes)?;
+    let asked = asked_of(alloc, seed, world, &adapters)?;
+    let adapters = adapters_of(alloc, seed, &asked.keys, adapters, bytes)?;
     Ok(Exporters {
         main: asked.main,
         adapters,
     })
 }
 
-/// The text, or the empty one.
-fn text_or_empty(alloc: Global, text: Option<String>) -> String
-    ensures { string_bytes result ≡ unwrap_or (option_map string_bytes text) [] }
+/// The name of the task hook; where there is none, a name by which no export is taken for it (`no_task_hook`).
+fn hook_name(alloc: Global, hook: Option<String>) -> Result<String, AllocError>
+    ensures { IfOk result (λ name. string_bytes name
+        ≡ unwrap_or (option_map string_bytes hook) no_task_hook) }
 {
-    match text {
-        Some(text) => text,
-        None => String::new(alloc),
+    match hook {
+        Some(name) => Ok(name),
+        None => no_task_hook(alloc),
     }
 }
 
@@ -230,7 +219,7 @@ fn encoder_for(
     let main = MainModule::new(alloc, CowSlice::Borrowed(bytes.main))?;
     let rejects = reject_legacy_names.unwrap_or(false);
     let grows = realloc_via_memory_grow.unwrap_or(false);
-    let hook = text_or_empty(alloc, task_hook);
+    let hook = hook_name(alloc, task_hook)?;
     let parts = EncoderParts {
         module: main.wasm,
         module_import_map: main.import_map,

@@ -1,12 +1,14 @@
 //! Faults of messages as answers: their numbers, their texts, and after these what they are about.
 
-ghost use Rattle.std.specs.Prelude.{◌≡◌, ◌≢◌, ◌⊎◌, IfOk, string_bytes};
+ghost use Rattle.std.specs.Prelude.{◌≡◌, ◌≢◌, ◌⊎◌, IfOk, false, string_bytes};
 ghost use Rattle.wc_calls.specs.Answers.{AreOthersOfTextZero, failed, out_of_memory};
 ghost use Rattle.wc_calls.specs.FaultAnswers.{IsFaultAnswer};
 ghost use Rattle.wc_calls.specs.FaultTexts.{IsCarried, IsTextOf, quoted};
+ghost use Rattle.wc_calls.specs.MemoryFaults.{is_memory};
 
 use crate::answers::{Answer, FAULT, MEMORY, answer_without_bytes, put};
 use crate::fault_numbers::message_fault_number;
+use crate::memory_faults::is_memory;
 use crate::message_fault::MessageFault;
 use std::alloc::{AllocError, Global};
 use std::fmt;
@@ -65,7 +67,7 @@ fn put_fault(fault: &MessageFault, text: &str, place: &[u8], out: &mut [u8]) -> 
     }
 }
 
-/// Answers a fault with what it is about (`place`).
+/// Answers a fault with what it is about (`place`); one that is or carries a `Memory` as that an allocation failed.
 pub(crate) fn answer_fault(
     alloc: Global,
     fault: &MessageFault,
@@ -74,12 +76,12 @@ pub(crate) fn answer_fault(
 ) -> Answer
     ensures fault { result.status ≡ failed
         → IsFaultAnswer fault.now place.now result out.old out.new }
-    ensures memory { fault.now ≡ MessageFault.Memory → result.status ≢ failed }
+    ensures memory { result.status ≡ failed → is_memory fault.now ≡ false }
     ensures unchanged { result.status ≢ failed → out.new ≡ out.old }
     ensures statuses { (result.status ≡ failed) ⊎ (result.status ≡ out_of_memory) }
     ensures others { AreOthersOfTextZero result }
 {
-    if let MessageFault::Memory = fault {
+    if is_memory(fault) {
         return answer_without_bytes(MEMORY);
     }
     match fault_text(alloc, fault) {

@@ -1,8 +1,9 @@
 //! The calls on modules as calls on slices, for a caller that shares no other types: `dedupe` renames the repeated
-//! imports of a module, `trim` cuts an adapter to what its exports reach, and `world` makes the world of a component, which
-//! is described in JSON; `plan` makes its plan, and `validate` validates one of its modules. Each writes its answer to the
-//! front of a buffer of the caller's, and returns an `Answer`, which is numbers alone. No call requires anything of its
-//! arguments. The maps of all but `dedupe` hash under a seed that is passed: whoever chooses names shouldn't know it.
+//! imports of a module, `trim` cuts an adapter to what its exports reach, `why` says why it imports what it does, and `world`
+//! makes the world of a component, which is described in JSON; `plan` makes its plan, and `validate` validates one of its
+//! modules. Each writes its answer to the front of a buffer of the caller's, and returns an `Answer`, which is numbers alone.
+//! No call requires anything of its arguments. The maps of all but `dedupe` hash under a seed that is passed: whoever
+//! chooses names shouldn't know it.
 //!
 //! ```rust
 //! use std::alloc::Global;
@@ -21,7 +22,7 @@
 //! }
 //! ```
 //!
-//! This function is proved in `wc_tests`, as `examples::calls::trim_to_write`.
+//! This function is proved in `wc_tests`, as `call_example::trim_to_write`.
 #![tactic(auto)]
 
 mod answers;
@@ -33,7 +34,9 @@ mod explained;
 mod export_names;
 mod fault_answers;
 mod fault_numbers;
+mod import_chains;
 mod import_options;
+mod memory_faults;
 mod message_fault;
 mod places;
 mod renames;
@@ -49,6 +52,7 @@ pub use fault_numbers::{
     message_fault_number, plan_fault_number, problem_number, read_fault_number,
     resolve_fault_number, validate_fault_number, world_fault_number,
 };
+pub use import_chains::why;
 pub use message_fault::MessageFault;
 pub use renaming::dedupe;
 pub use trimming::trim;

@@ -16,7 +16,8 @@ use wc_world::WorldFault;
 /// those of `UnknownWorld`, `SeveralWorlds` and `PackageRange` at the place of the first, and those of keys after
 /// `Resolve`; `Lengths` of adapters is at the place of `AdapterTwice`, and `Memory` may come in place of any. Of keys
 /// those of the main module are before those of adapters, and one that no export has is before one that is given twice.
-/// None carries a `Memory` of its own but by the step that it is of.
+/// A `World` may carry a `Memory`, that of the step at which an allocation failed; no other does, and no answer of a call:
+/// that is `MEMORY`.
 #[derive(Debug, Drop, Error)]
 pub enum MessageFault {
     /// An allocation failed.
@@ -64,7 +65,8 @@ pub enum MessageFault {
     /// Several exports of the world have this key, but for their versions.
     #[error("SeveralKeys `{0}`")]
     SeveralKeys(String),
-    /// This key of an export is given twice, for one module or for two.
+    /// This key of an export is given twice, for one module or for two: as the same text, or as two texts of one export,
+    /// with its version and without, or as its index.
     #[error("RepeatedKey `{0}`")]
     RepeatedKey(String),
 }

@@ -1,15 +1,18 @@
 //! The call that renames repeated imports.
 
-ghost use Rattle.std.specs.Prelude.{◌≡◌, ◌≢◌, ◌≤◌, ◌⊎◌, ◌<◌, ◌++◌, [], length};
+ghost use Rattle.std.specs.Prelude.{◌≡◌, ◌≢◌, ◌≤◌, ◌⊎◌, ◌<◌, ◌++◌, [], false, length};
 ghost use Rattle.wc_read.specs.Sections.{IsComponent};
 ghost use Rattle.wc_dedupe.specs.Dedupe.{IsDeduped};
 ghost use Rattle.wc_dedupe.specs.Renames.{rename_values};
 ghost use Rattle.wc_calls.specs.Renames.{renames_text};
-ghost use Rattle.wc_calls.specs.Answers.{AreOthersZero, HasNoBytes, HasNoFault, IsFront, IsBytesStatus, IsPut, IsTooLong, done, failed, too_small, same, bad_argument};
+ghost use Rattle.wc_calls.specs.Answers.{AreOthersZero, HasNoBytes, HasNoFault, IsFront, IsBytesStatus, IsPut, IsTooLong, done, failed, too_small, same, bad_argument, out_of_memory};
+ghost use Rattle.wc_calls.specs.FaultNumbers.{dedupe_fault_number};
+ghost use Rattle.wc_calls.specs.MemoryFaults.{dedupe_is_memory};
 ghost use Rattle.wc_calls.specs.Renaming.{IsRenamed, IsRenamingFault};
 
 use crate::answers::{Answer, MEMORY, SAME, answer_without_bytes, fault_answer, put};
 use crate::fault_numbers::dedupe_fault_number;
+use crate::memory_faults::dedupe_is_memory;
 use crate::renames::renames_text;
 use std::alloc::Global;
 use std::borrow::CowSlice;
@@ -24,7 +27,8 @@ use wc_dedupe::{DedupeFault, ModuleImportMap, Rename};
 ///   and its bytes (5.2.4).
 /// - `TOO_SMALL`: the same would have `length` bytes, and `out` has fewer.
 /// - `SAME`: no import repeats, or the bytes are a component's. So it is for every component.
-/// - `FAULT`: the fault of `ModuleImportMap::new`, by its number (`dedupe_fault_number`), never `Memory`.
+/// - `FAULT`: the fault of `ModuleImportMap::new`, by its number (`dedupe_fault_number`). It neither is nor
+///   carries a `Memory`.
 /// - `MEMORY`: an allocation failed.
 ///
 /// It is never `BAD_ARGUMENT`. `out` is as it was but for `DONE`, and then after the first `length` bytes. Numbers of the
@@ -47,11 +51,23 @@ pub fn dedupe(alloc: Global, wasm: &[u8], out: &mut [u8]) -> Answer
             Some(map) => put_renamed(alloc, module.as_slice(), map.renames(), out),
             None => answer_without_bytes(SAME),
         },
-        Err(fault) => match fault {
-            DedupeFault::Memory => answer_without_bytes(MEMORY),
-            _ => fault_answer(dedupe_fault_number(fault), 0),
-        },
+        Err(fault) => answer_dedupe_fault(fault),
     }
+}
+
+/// Answers a fault of renaming; one that is or carries a `Memory` as that an allocation failed.
+fn answer_dedupe_fault(fault: DedupeFault) -> Answer
+    ensures memory { result.status ≡ failed → dedupe_is_memory fault ≡ false }
+    ensures number { result.status ≡ failed → result.fault ≡ dedupe_fault_number fault }
+    ensures statuses { (result.status ≡ failed) ⊎ (result.status ≡ out_of_memory) }
+    ensures position { result.position ≡ 0 }
+    ensures no_fault { result.status ≢ failed → HasNoFault result }
+    ensures no_bytes { HasNoBytes result }
+{
+    if dedupe_is_memory(fault) {
+        return answer_without_bytes(MEMORY);
+    }
+    fault_answer(dedupe_fault_number(fault), 0)
 }
 
 /// Writes a renamed module, and then its renames.

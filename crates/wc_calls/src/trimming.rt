@@ -1,6 +1,6 @@
 //! The call that trims an adapter.
 
-ghost use Rattle.std.specs.Prelude.{◌≡◌, ◌≢◌, ◌<◌, ◌≤◌, ◌⊎◌, [], length, IfOk, IfErr};
+ghost use Rattle.std.specs.Prelude.{◌≡◌, ◌≢◌, ◌<◌, ◌≤◌, ◌⊎◌, [], false, length, IfOk, IfErr};
 ghost use Rattle.std.specs.List.{All};
 ghost use Rattle.std.specs.Str.{IsUtf8};
 ghost use Rattle.wc_gc.specs.Liveness.{trim_input, trim_input_for_names};
@@ -8,6 +8,7 @@ ghost use Rattle.wc_gc.specs.Parts.{settings};
 ghost use Rattle.wc_gc.specs.TrimmedText.{IsTrimmed};
 ghost use Rattle.wc_calls.specs.Answers.{AreOthersOfTextZero, IsBytesStatus, IsFront, IsPut, IsTooLong, done, failed, too_small, same, bad_argument, out_of_memory};
 ghost use Rattle.wc_calls.specs.ExportNames.{texts};
+ghost use Rattle.wc_calls.specs.MemoryFaults.{gc_is_memory};
 ghost use Rattle.wc_calls.specs.Places.{IsTrimPlaceText};
 ghost use Rattle.wc_calls.specs.Private.TrimArguments.{IsRefusedFor, passed_input};
 ghost use Rattle.wc_calls.specs.Trimming.{AreArguments, IsTrimFaultAnswer, IsTrimmingFault, position_in};
@@ -15,6 +16,7 @@ ghost use Rattle.wc_calls.specs.Trimming.{AreArguments, IsTrimFaultAnswer, IsTri
 use crate::answers::{Answer, BAD_ARGUMENT, FAULT, MEMORY, answer_without_bytes, put};
 use crate::export_names::{are_texts, name_set, optional_text, position_of};
 use crate::fault_numbers::gc_fault_number;
+use crate::memory_faults::gc_is_memory;
 use crate::places::trim_place_text;
 use std::alloc::{AllocError, Global};
 use wc_gc::{GcFault, explain, run};
@@ -30,10 +32,10 @@ const MAX_PAGE_SIZE_LOG2: u32 = 16;
 /// - `DONE`: the front of `out` has the bytes of the trimmed adapter, `length` of them, which are all a module.
 /// - `TOO_SMALL`: the trimmed adapter has `length` bytes, and `out` has fewer.
 /// - `BAD_ARGUMENT`: exactly where `required` is empty, a name is no text (UTF-8), or `page_size_log2` is more than 16.
-/// - `FAULT`: the fault of `run`, by its number (`gc_fault_number`), never `Memory`. Of a missing export `position` is
-///   where its name is first in `required`. `length` is how many bytes the JSON object has that says what the fault is
-///   about (`wc_gc::explain`), as that of `world` without an adapter; it is in the front of `out`, if `out` has so many.
-///   It is 0 where there is none.
+/// - `FAULT`: the fault of `run`, by its number (`gc_fault_number`). It neither is nor carries a `Memory`. Of a missing
+///   export `position` is where its name is first in `required`. `length` is how many bytes the JSON object has that says
+///   what the fault is about (`wc_gc::explain`), as that of `world` without an adapter; it is in the front of `out`, if
+///   `out` has so many. It is 0 where there is none.
 /// - `MEMORY`: an allocation failed.
 ///
 /// It is never `SAME`. `out` is as it was but for `DONE` and `FAULT`, and then after the first `length` bytes.
@@ -83,11 +85,11 @@ pub fn trim(
 
 /// What an adapter is trimmed by.
 #[derive(Clone, Copy)]
-struct Arguments<'a> {
-    wasm: &'a [u8],
-    required: &'a [&'a [u8]],
-    realloc: Option<&'a str>,
-    page_size_log2: u32,
+pub(crate) struct Arguments<'a> {
+    pub wasm: &'a [u8],
+    pub required: &'a [&'a [u8]],
+    pub realloc: Option<&'a str>,
+    pub page_size_log2: u32,
 }
 
 /// The same for arguments that `run` takes.
@@ -156,33 +158,35 @@ fn put_trimmed(
         × (result.status ≢ too_small)) }
     ensures fault_or_memory { IfErr trimmed.now (λ _. (result.status ≡ failed)
         ⊎ (result.status ≡ out_of_memory)) }
-    ensures memory { IfErr trimmed.now (λ f. f ≡ GcFault.Memory
-        → result.status ≡ out_of_memory) }
-    ensures fault { IfErr trimmed.now (λ f. f ≢ GcFault.Memory
-        → IsRefusedFor passed.entry names.now.keys f result out.old out.new) }
+    ensures memory { IfErr trimmed.now (λ f. result.status ≡ failed → gc_is_memory f ≡ false) }
+    ensures fault { IfErr trimmed.now (λ f. IsRefusedFor passed.entry names.now.keys f
+        result out.old out.new) }
     ensures unchanged { result.status ≢ done → result.status ≢ failed → out.new ≡ out.old }
     ensures others { AreOthersOfTextZero result }
 {
     match trimmed {
         Ok(bytes) => put(bytes.as_slice(), &[], out),
-        Err(GcFault::Memory) => answer_without_bytes(MEMORY),
         Err(fault) => answer_trim_fault(alloc, passed, names, fault, out),
     }
 }
 
-/// Answers a fault of trimming with what it is about.
-fn answer_trim_fault(
+/// Answers a fault of trimming with what it is about; one that is or carries a `Memory` as that an allocation failed.
+pub(crate) fn answer_trim_fault(
     alloc: Global,
     passed: Arguments<'_>,
     names: &Set<String>,
     fault: &GcFault,
     out: &mut [u8],
 ) -> Answer
+    ensures memory { result.status ≡ failed → gc_is_memory fault.now ≡ false }
     ensures fault { IsRefusedFor passed.entry names.now.keys fault.now result out.old out.new }
     ensures unchanged { result.status ≢ failed → out.new ≡ out.old }
     ensures statuses { (result.status ≡ failed) ⊎ (result.status ≡ out_of_memory) }
     ensures others { AreOthersOfTextZero result }
 {
+    if gc_is_memory(fault) {
+        return answer_without_bytes(MEMORY);
+    }
     match fault_place(alloc, passed.wasm, names, fault) {
         Ok(place) => put_trim_fault(fault, &place, passed.required, out),
         Err(_) => answer_without_bytes(MEMORY),

@@ -1,10 +1,10 @@
-//! The call that validates one module of a main.
+//! The call that validates one module of a component.
 
 ghost use Rattle.std.specs.Prelude.{◌≡◌, ◌≢◌, ◌≤◌, ◌⊎◌, IfErr, IfOk, OnOk, Some, map, string_bytes};
 ghost use Rattle.std.specs.Map.{lookup};
 ghost use Rattle.std.specs.Option.{option_map};
 ghost use Rattle.std.specs.Str.{bytes_eq};
-ghost use Rattle.wc_encoder.specs.Adapters.{adapter_view};
+ghost use Rattle.wc_adapters.specs.Adapters.{adapter_view};
 ghost use Rattle.wc_validate.specs.Imports.Map.{required_entry, required_in};
 ghost use Rattle.wc_validate.specs.Validated.{IsValidateCause, module_record};
 ghost use Rattle.wc_world.specs.Places.{IsIn};
@@ -44,7 +44,7 @@ struct AdapterInput<'a> {
 #[derive(Clone, Copy)]
 struct ValidMain<'a> {
     encoder: &'a ComponentEncoder,
-    record: &'a ValidatedModule,
+    validated: &'a ValidatedModule,
 }
 
 /// A place in the adapter or the library of a name.
@@ -200,7 +200,7 @@ fn validate_adapter(
     adapter: &Adapter,
     out: &mut [u8],
 ) -> Answer
-    requires main { IsMainRecord main.encoder.now (module_record main.record.now) }
+    requires main { IsMainRecord main.encoder.now (module_record main.validated.now) }
     requires there { lookup (bytes_eq name.now) main.encoder.now.adapters
         ≡ Some (adapter_view adapter.now) }
     ensures done { result.status ≡ done
@@ -212,7 +212,7 @@ fn validate_adapter(
     ensures statuses { IsCheckStatus result.status }
     ensures others { AreOthersOfFaultZero result }
 {
-    match main.record.imports.required_from_adapter(alloc, name) {
+    match main.validated.imports.required_from_adapter(alloc, name) {
         Ok(required) => {
             let input = AdapterInput {
                 encoder: main.encoder,
@@ -220,7 +220,7 @@ fn validate_adapter(
                 name,
                 adapter,
             };
-            validate_with(alloc, main.record, input, out)
+            validate_with(alloc, main.validated, input, out)
         }
         Err(_) => answer_without_bytes(MEMORY),
     }
@@ -228,7 +228,7 @@ fn validate_adapter(
 
 /// Answers whether the adapter or the library of a name is valid, if there is one.
 fn validate_under(alloc: Global, main: ValidMain<'_>, name: &str, out: &mut [u8]) -> Answer
-    requires { IsMainRecord main.encoder.now (module_record main.record.now) }
+    requires { IsMainRecord main.encoder.now (module_record main.validated.now) }
     ensures done { result.status ≡ done
         → IsModuleValid main.entry.encoder.now (Some name.now) }
     ensures bad_argument { result.status ≡ bad_argument
@@ -248,7 +248,7 @@ fn validate_under(alloc: Global, main: ValidMain<'_>, name: &str, out: &mut [u8]
 
 /// The same for a name that may be no text.
 fn validate_named(alloc: Global, main: ValidMain<'_>, name: &[u8], out: &mut [u8]) -> Answer
-    requires { IsMainRecord main.encoder.now (module_record main.record.now) }
+    requires { IsMainRecord main.encoder.now (module_record main.validated.now) }
     ensures done { result.status ≡ done
         → IsModuleValid main.entry.encoder.now (Some name.now) }
     ensures bad_argument { result.status ≡ bad_argument
@@ -293,7 +293,7 @@ fn answer_main_fault(
 
 /// Answers whether the module that is asked for is valid, where the main module is.
 fn validate_other(alloc: Global, main: ValidMain<'_>, name: Option<&[u8]>, out: &mut [u8]) -> Answer
-    requires { IsMainRecord main.encoder.now (module_record main.record.now) }
+    requires { IsMainRecord main.encoder.now (module_record main.validated.now) }
     ensures done { result.status ≡ done
         → IsModuleValid main.entry.encoder.now (option_map (λ n. n.now) name.entry) }
     ensures bad_argument { result.status ≡ bad_argument
@@ -333,9 +333,9 @@ fn validate_for(
     let bytes = encoder.module();
     let import_map = encoder.module_import_map();
     match validate_module(alloc, encoder, bytes, import_map) {
-        Ok(record) => {
-            let record = &record;
-            validate_other(alloc, ValidMain { encoder, record }, adapter, out)
+        Ok(module) => {
+            let validated = &module;
+            validate_other(alloc, ValidMain { encoder, validated }, adapter, out)
         }
         Err(fault) => answer_main_fault(alloc, encoder, fault, out),
     }
@@ -350,8 +350,8 @@ fn validate_for(
 /// - `DONE`: the module is valid; if it is an adapter or a library, so is the main module.
 /// - `BAD_ARGUMENT`: the main module is valid; and `adapter` is no text (UTF-8), or the name of none of the message.
 /// - `FAULT`: the module is refused, or the main module is, or the message and the modules are no encoder. The fault is by
-///   its number (`message_fault_number`), never `Memory`, and with its text and what it is about, as of `world`: `World`
-///   with `Main`, or with `Adapter` and the name; or one of the others, but for `Plan`. None carries a `Memory`.
+///   its number (`message_fault_number`), and with its text and what it is about, as of `world`: `World` with `Main`, or
+///   with `Adapter` and the name; or one of the others, but for `Plan`. It neither is nor carries a `Memory`.
 /// - `MEMORY`: an allocation failed.
 ///
 /// It is never `SAME` or `TOO_SMALL`. `out` is as it was but for `FAULT`, and then after the first `length` bytes. Numbers of

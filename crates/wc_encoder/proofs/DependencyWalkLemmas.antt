@@ -6,8 +6,8 @@ use Rattle.wc_resolve.specs.declared.worlds.WorldItem.{WorldItem}
 use Rattle.wc_resolve.specs.Views.{KeyView, ItemView, item_view, world_entry}
 use Rattle.wc_resolve.specs.World.{ResolveView}
 use Rattle.wc_encoder.specs.Dependencies.{AreDependenciesBefore, DependsOn, IsIndependent}
-use Rattle.wc_encoder.specs.Entries.{Entries}
-use Rattle.wc_encoder.proofs.PairLemmas.{pairs_head, pairs_none, pairs_step}
+use Rattle.wc_adapters.specs.Entries.{Entries}
+use Rattle.wc_adapters.proofs.PairLemmas.{pairs_head, pairs_none, pairs_step}
 
 -- the exports that are left come after so many others, and dependencies come before in all where they do in these
 pub record IsDependencyWalk (r : ResolveView) (all_items left : List (WorldKey × WorldItem)) (index : ℕ) : Type 0 where

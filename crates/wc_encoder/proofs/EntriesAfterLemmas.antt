@@ -14,7 +14,7 @@ use Rattle.wc_resolve.specs.Views.{KeyView, plain_key, interface_key, ItemView, 
 use Rattle.wc_resolve.specs.World.{ResolveView}
 use Rattle.wc_resolve.proofs.SearchLemmas.{contains_cons, contains_head, contains_none, contains_tail}
 use Rattle.wc_encoder.specs.Dependencies.{DependsOn}
-use Rattle.wc_encoder.specs.Entries.{Entries, entry_keys}
+use Rattle.wc_adapters.specs.Entries.{Entries, entry_keys}
 use Rattle.wc_encoder.specs.Exported.{IsExported}
 
 -- what a list has at an index past the first n, the rest after n has

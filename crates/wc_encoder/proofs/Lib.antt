@@ -1,6 +1,5 @@
 pub mod DependencyWalkLemmas
 pub mod EntriesAfterLemmas
 pub mod LookupLemmas
-pub mod PairLemmas
 pub mod SeenLemmas
 pub mod WorldLemmas

@@ -7,7 +7,7 @@ use Rattle.std.proofs.lemmas.List.{map-append}
 use Rattle.std.proofs.lemmas.List.Elements.{All-contains, Contains-append_right, Contains-get_or}
 use Rattle.std.proofs.lemmas.List.Quantifiers.{all_pairs_push}
 use Rattle.std.proofs.lemmas.Bool.{or_cases, or_left, or_right, not-true, not-false}
-use Rattle.wc_encoder.proofs.PairLemmas.{pairs_head, pairs_tail}
+use Rattle.wc_adapters.proofs.PairLemmas.{pairs_head, pairs_tail}
 use Rattle.wc_resolve.proofs.SearchLemmas.{contains_cons, contains_head, contains_none, contains_tail}
 
 -- a name, as the text that it is

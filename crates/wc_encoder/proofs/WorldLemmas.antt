@@ -4,7 +4,7 @@ use Rattle.std.specs.Option.{option_map_or}
 use Rattle.std.proofs.lemmas.Option.{slice_get_within}
 use Rattle.wc_resolve.specs.Views.{WorldView}
 use Rattle.wc_encoder.specs.EncoderParts.{EncoderView, HasWorld, IsWorldOf, world_exports, world_imports}
-use Rattle.wc_encoder.specs.Entries.{Entries}
+use Rattle.wc_adapters.specs.Entries.{Entries}
 
 module _ (e : EncoderView) (w : WorldView) (there : IsWorldOf e w) where
   pub exports_are : world_exports e ≡ w.exports

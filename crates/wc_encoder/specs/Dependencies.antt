@@ -4,7 +4,7 @@ use Rattle.wc_resolve.specs.Dependencies.{direct_dependencies}
 use Rattle.wc_resolve.specs.Ranges.{IsItemIn}
 use Rattle.wc_resolve.specs.Views.{KeyView, interface_key, ItemView, interface_item}
 use Rattle.wc_resolve.specs.World.{ResolveView}
-use Rattle.wc_encoder.specs.Entries.{Entries}
+use Rattle.wc_adapters.specs.Entries.{Entries}
 use Rattle.wc_encoder.specs.Exported.{IsExported}
 
 -- the item is an interface that depends directly on the one whose id the key is

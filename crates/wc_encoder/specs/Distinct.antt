@@ -7,7 +7,7 @@ use Rattle.wc_resolve.specs.Queries.{key_text}
 use Rattle.wc_resolve.specs.Ranges.{IsKeyIn}
 use Rattle.wc_resolve.specs.Views.{KeyView, ItemView, interface_item, function_item, type_item}
 use Rattle.wc_resolve.specs.World.{ResolveView}
-use Rattle.wc_encoder.specs.Entries.{Entries}
+use Rattle.wc_adapters.specs.Entries.{Entries}
 
 -- the interface that an item is
 abbrev pub item_interface : ItemView → Option ℕ

@@ -5,8 +5,8 @@ use Rattle.wc_dedupe.specs.Renaming.{RenameValue}
 use Rattle.wc_resolve.specs.Views.{KeyView, key_view, WorldView}
 use Rattle.wc_resolve.specs.World.{ResolveView}
 use Rattle.wc_encoder.specs.declared.encoder_parts.EncoderParts.{EncoderParts}
-use Rattle.wc_encoder.specs.Adapters.{AdapterView, adapter_entry}
-use Rattle.wc_encoder.specs.Entries.{Entries}
+use Rattle.wc_adapters.specs.Adapters.{AdapterView, adapter_entry}
+use Rattle.wc_adapters.specs.Entries.{Entries}
 
 -- the main module's bytes, and the original names of its renamed imports; a `Resolve`, and the index of a world in it; the
 -- keys of the main module's exports; adapters by their names; two flags; and the name of the task hook

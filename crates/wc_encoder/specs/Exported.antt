@@ -1,9 +1,9 @@
 -- What a world has to export: the keys that modules export, and no types.
 use Rattle.std.specs.Prelude.{List, ℕ, All, Contains}
 use Rattle.wc_resolve.specs.Views.{KeyView, ItemView, interface_item, function_item, type_item}
-use Rattle.wc_encoder.specs.Adapters.{AdapterView}
+use Rattle.wc_adapters.specs.Adapters.{AdapterView}
 use Rattle.wc_encoder.specs.EncoderParts.{EncoderView}
-use Rattle.wc_encoder.specs.Entries.{Entries, entry_keys}
+use Rattle.wc_adapters.specs.Entries.{Entries, entry_keys}
 
 -- the key is one of these exports
 unfoldable pub IsExported : Entries → KeyView → Type 0

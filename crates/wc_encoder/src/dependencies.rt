@@ -4,7 +4,7 @@ ghost use Rattle.std.specs.Prelude.{◌↔◌, ◌<◌, IfOk, IsTrue, length};
 ghost use Rattle.wc_resolve.specs.Ranges.{IsItemIn};
 ghost use Rattle.wc_resolve.specs.Views.{interface_key, item_view};
 ghost use Rattle.wc_encoder.specs.Dependencies.{AreDependenciesBefore, AreItemsIn, AreNotExported, IsIndependent};
-ghost use Rattle.wc_encoder.specs.Entries.{entries_after, entries_of};
+ghost use Rattle.wc_adapters.specs.Entries.{entries_after, entries_of};
 ghost use Rattle.wc_encoder.specs.Exported.{IsExported};
 
 use std::alloc::{AllocError, Global};

@@ -2,7 +2,7 @@
 
 ghost use Rattle.std.specs.Prelude.{◌↔◌, IfOk, IsTrue};
 ghost use Rattle.wc_encoder.specs.Distinct.{AreInterfacesOnce, AreKeysIn, AreNamesDistinct, HaveNames};
-ghost use Rattle.wc_encoder.specs.Entries.{entries_of};
+ghost use Rattle.wc_adapters.specs.Entries.{entries_of};
 
 use std::alloc::{AllocError, Global};
 use wc_maps::{Map, Set};

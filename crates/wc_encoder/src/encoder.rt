@@ -2,17 +2,17 @@
 
 ghost use Rattle.std.specs.Prelude.{◌≡◌, IfErr, IfOk, map, option_copied};
 ghost use Rattle.wc_resolve.specs.Views.{key_view};
-ghost use Rattle.wc_encoder.specs.Adapters.{adapter_entry};
+ghost use Rattle.wc_adapters.specs.Adapters.{adapter_entry};
 ghost use Rattle.wc_encoder.specs.EncoderParts.{parts_view};
 ghost use Rattle.wc_encoder.specs.Fault.{IsEncoderCause};
 ghost use Rattle.wc_encoder.specs.WellFormed.{IsWellFormed};
 
-use crate::adapters::Adapter;
 use crate::encoder_parts::{EncoderParts, Metadata};
 use crate::fault::EncoderFault;
 use crate::well_formed::check;
 use std::alloc::Global;
 use std::marker::Model;
+use wc_adapters::Adapter;
 use wc_dedupe::ModuleImportMap;
 use wc_maps::{Map, Set};
 use wc_resolve::WorldKey;

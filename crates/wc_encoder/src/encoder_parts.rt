@@ -1,6 +1,6 @@
 //! What an encoder is made of.
 
-use crate::adapters::Adapter;
+use wc_adapters::Adapter;
 use wc_dedupe::ModuleImportMap;
 use wc_maps::{Map, Set};
 use wc_resolve::{Resolve, WorldId, WorldKey};

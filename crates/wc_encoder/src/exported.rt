@@ -2,13 +2,13 @@
 
 ghost use Rattle.std.specs.Prelude.{◌↔◌, All, IsTrue, map};
 ghost use Rattle.wc_resolve.specs.Views.{item_view, key_view};
-ghost use Rattle.wc_encoder.specs.Adapters.{adapter_entry, adapter_view};
+ghost use Rattle.wc_adapters.specs.Adapters.{adapter_entry, adapter_view};
 ghost use Rattle.wc_encoder.specs.EncoderParts.{parts_view};
-ghost use Rattle.wc_encoder.specs.Entries.{entries_of};
+ghost use Rattle.wc_adapters.specs.Entries.{entries_of};
 ghost use Rattle.wc_encoder.specs.Exported.{AreAllRequiredExported, AreKeysExported, AreNoTypes, AreRequiredExported, IsExported, IsNoType};
 
-use crate::adapters::Adapter;
 use crate::encoder_parts::EncoderParts;
+use wc_adapters::Adapter;
 use wc_maps::{Map, Set};
 use wc_resolve::{WorldItem, WorldKey};
 

@@ -37,21 +37,18 @@
 //! }
 //! ```
 //!
-//! This function is proved in `wc_tests`, as `examples::encoder::encoder_for`.
+//! This function is proved in `wc_example_rows`, as `examples::encoder::encoder_for`.
 #![tactic(auto)]
 
-mod adapters;
 mod dependencies;
 mod distinct;
 mod encoder;
 mod encoder_parts;
-mod encoding;
 mod exported;
 mod fault;
 mod well_formed;
 
-pub use adapters::{Adapter, Instance, Item, LibraryInfo, MainOrAdapter};
 pub use encoder::ComponentEncoder;
 pub use encoder_parts::{EncoderParts, Metadata};
-pub use encoding::StringEncoding;
 pub use fault::EncoderFault;
+pub use wc_adapters::{Adapter, Instance, Item, LibraryInfo, MainOrAdapter, StringEncoding};

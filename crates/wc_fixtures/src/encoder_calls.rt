@@ -8,8 +8,8 @@ use crate::stop::{Stop, put_answered};
 use crate::words::Words;
 use std::alloc::Global;
 use wc_encoder::{ComponentEncoder, EncoderFault};
-use wc_rows::lines::Lines;
-use wc_rows::rows::Row;
+use wc_lines::lines::Lines;
+use wc_lines::rows::Row;
 
 /// The calls on the encoder that the input describes, and from `Faults` on those that need none.
 #[derive(Clone, Copy)]

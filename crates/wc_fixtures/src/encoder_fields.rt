@@ -3,10 +3,10 @@
 use crate::shown_names::{put_id, put_key, put_name};
 use wc_dedupe::ModuleImportMap;
 use wc_encoder::{Adapter, ComponentEncoder, Instance, Item, LibraryInfo, MainOrAdapter};
+use wc_lines::lines::Lines;
 use wc_maps::Set;
 use wc_read::ExportKind;
 use wc_resolve::WorldKey;
-use wc_rows::lines::Lines;
 
 /// Bytes in hex, none as `-`.
 fn put_bytes(out: &mut Lines, bytes: &[u8]) {

@@ -13,11 +13,11 @@ use wc_dedupe::ModuleImportMap;
 use wc_encoder::{
     Adapter, ComponentEncoder, EncoderParts, Instance, Item, LibraryInfo, MainOrAdapter, Metadata,
 };
+use wc_lines::rows::Row;
+use wc_lines::seeds::row_seed;
 use wc_maps::{Map, Set};
 use wc_read::ExportKind;
 use wc_resolve::{Resolve, WorldId, WorldKey};
-use wc_rows::rows::Row;
-use wc_rows::seeds::row_seed;
 
 /// The parts of an encoder but for its worlds.
 #[derive(Drop)]

@@ -10,9 +10,9 @@ use crate::stop::Stop;
 use crate::types::type_id;
 use crate::words::Words;
 use std::alloc::Global;
+use wc_lines::seeds::row_seed;
 use wc_maps::Map;
 use wc_resolve::{Interface, Package, PackageId, Parts, TypeDef, TypeOwner, World, WorldId};
-use wc_rows::seeds::row_seed;
 
 /// What the lines that begin with a space belong to.
 #[derive(Clone, Copy)]

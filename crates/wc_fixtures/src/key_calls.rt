@@ -9,10 +9,10 @@ use crate::stop::{Stop, put_answered};
 use crate::words::Words;
 use std::alloc::Global;
 use std::hash::{DefaultHasher, Hash, Hasher};
+use wc_lines::lines::Lines;
+use wc_lines::rows::Row;
 use wc_resolve::laws::keys_hash_alike;
 use wc_resolve::{Function, PackageName, ResolveFault, WorldKey};
-use wc_rows::lines::Lines;
-use wc_rows::rows::Row;
 
 /// These calls, and that for the texts of faults.
 #[derive(Clone, Copy)]

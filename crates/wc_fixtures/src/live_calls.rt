@@ -8,8 +8,8 @@ use crate::stop::Stop;
 use crate::types::{type_id, wit_type};
 use crate::words::Words;
 use std::alloc::{AllocError, Global};
+use wc_lines::lines::Lines;
 use wc_resolve::{LiveTypes, Resolve, ResolveFault, TypeId, WitType, WorldItem};
-use wc_rows::lines::Lines;
 
 fn add_type_id<'a>(
     alloc: Global,

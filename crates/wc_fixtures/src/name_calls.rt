@@ -7,8 +7,8 @@ use crate::shown_names::{put_id, put_name, put_optional_name, put_package_name};
 use crate::stop::Stop;
 use crate::words::Words;
 use std::alloc::{AllocError, Global};
+use wc_lines::lines::Lines;
 use wc_resolve::{Function, InterfaceId, Resolve, TypeId, WorldItem, WorldKey};
-use wc_rows::lines::Lines;
 
 /// These calls.
 #[derive(Clone, Copy)]

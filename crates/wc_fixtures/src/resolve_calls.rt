@@ -12,9 +12,9 @@ use crate::stop::{Stop, put_answered};
 use crate::types::type_id;
 use crate::words::Words;
 use std::alloc::Global;
+use wc_lines::lines::Lines;
+use wc_lines::rows::Row;
 use wc_resolve::{InterfaceId, PackageId, Resolve, WorldId};
-use wc_rows::lines::Lines;
-use wc_rows::rows::Row;
 
 /// The calls on the `Resolve` that the input describes.
 #[derive(Clone, Copy)]

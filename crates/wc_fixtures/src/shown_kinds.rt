@@ -1,8 +1,8 @@
 //! Functions and what types are, as fixtures write them.
 
 use crate::shown_names::{put_id, put_name, put_payload, put_type};
+use wc_lines::lines::Lines;
 use wc_resolve::{Function, FunctionKind, Handle, TypeDefKind, TypeId, WitType};
-use wc_rows::lines::Lines;
 
 fn put_names(out: &mut Lines, names: &[String]) {
     for name in names {

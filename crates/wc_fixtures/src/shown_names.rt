@@ -1,7 +1,7 @@
 //! Names, types and keys, as fixtures write them.
 
+use wc_lines::lines::Lines;
 use wc_resolve::{PackageName, TypeOwner, WitType, WorldKey};
-use wc_rows::lines::Lines;
 
 fn is_plain_character(c: char) -> bool {
     c.is_ascii_alphanumeric()

@@ -2,12 +2,12 @@
 
 use crate::shown_kinds::{put_function, put_kind};
 use crate::shown_names::{put_id, put_key, put_name, put_owner, put_package_name};
+use wc_lines::lines::Lines;
 use wc_maps::Map;
 use wc_resolve::{
     Function, Interface, InterfaceId, Package, PackageId, TypeDef, TypeId, World, WorldItem,
     WorldKey,
 };
-use wc_rows::lines::Lines;
 
 pub fn put_type_def(out: &mut Lines, index: u32, def: &TypeDef) {
     out.push_str("type ");

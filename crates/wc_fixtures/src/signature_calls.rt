@@ -4,8 +4,8 @@ use crate::bad::Bad;
 use crate::functions::complete_function;
 use crate::stop::Stop;
 use crate::words::Words;
+use wc_lines::lines::Lines;
 use wc_resolve::{AbiVariant, Resolve, WasmSignature, WasmType};
-use wc_rows::lines::Lines;
 
 /// The words of the variants.
 const VARIANTS: [(&str, AbiVariant); 5] = [

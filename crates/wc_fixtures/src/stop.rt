@@ -2,9 +2,10 @@
 
 use crate::bad::Bad;
 use std::alloc::{AllocError, AllocFailed};
+use std::fmt::{self, Display, Formatter};
 use wc_encoder::EncoderFault;
+use wc_lines::lines::Lines;
 use wc_resolve::ResolveFault;
-use wc_rows::lines::Lines;
 use wc_write::WriteFault;
 
 /// Why a call has no other answer: memory ran out, a line can't be read, what is asked for is not there, or the
@@ -30,11 +31,24 @@ impl<'a> Stop<'a> {
     fn put(self, out: &mut Lines) {
         match self {
             Stop::Memory => out.lack_memory(),
-            Stop::Line(why, line) => writeln!(out, "bad row: {why}: {line}"),
-            Stop::Missing(why) => writeln!(out, "bad row: {why}"),
+            Stop::Line(why, line) => out.bad_row(BadLine { why, line }),
+            Stop::Missing(why) => out.bad_row(why),
             Stop::Resolve(fault) => writeln!(out, "fault {fault}"),
             Stop::Encoder(fault) => writeln!(out, "fault {fault}"),
         }
+    }
+}
+
+/// What is wrong with a line of a row, and the line.
+#[derive(Clone, Copy)]
+struct BadLine<'a> {
+    why: &'static str,
+    line: &'a str,
+}
+
+impl Display for BadLine<'_> {
+    fn fmt<W: fmt::Write>(&self, f: &mut Formatter<W>) -> fmt::Result {
+        write!(f, "{}: {}", self.why, self.line)
     }
 }
 

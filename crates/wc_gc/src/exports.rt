@@ -104,7 +104,7 @@ fn check_required(
 }
 
 /// Exports by their names. `seed`: the seed of the map.
-fn exports_by_name<'a>(
+pub fn exports_by_name<'a>(
     alloc: Global,
     seed: Seed,
     exports: &[Export<'a>],
@@ -134,7 +134,7 @@ fn missing_name<'a>(exports: &Map<&str, Export<'_>>, required: &'a Set<String>) 
 }
 
 /// Says which of the names is not exported, the first of them.
-fn check_named(
+pub fn check_named(
     alloc: Global,
     exports: &Map<&str, Export<'_>>,
     required: &Set<String>,

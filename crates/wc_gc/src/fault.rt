@@ -24,7 +24,7 @@ pub enum GcFault {
     /// The adapter has a start function, or a section of elements, data or a data count.
     #[error("UnsupportedSection")]
     UnsupportedSection,
-    /// A body that is reached is no code, or names an index that is out of range.
+    /// A body that is reached is no code, or names a segment or an index that is out of range.
     #[error("LiveBody")]
     LiveBody,
     /// Two live globals are named as the stack pointer, or two as the state of its allocation.

@@ -8,6 +8,7 @@ ghost use Rattle.wc_gc.specs.Edited.{EditedModule};
 ghost use Rattle.wc_gc.specs.Unfolding.{ImageUnfolds, RenumberedUnfolds, TrimmedIsClosed, TrimmedUnfolds};
 ghost use Rattle.wc_gc.specs.RankLaws.{RanksDiffer, RanksKeepOrder};
 
+pub use crate::live_chains::{chains_unique, kept_is_live};
 pub use crate::machine_laws::{
     added_bodies_are_spellable, growing_body_grows, stack_body_allocates,
 };

@@ -136,7 +136,7 @@ fn supported_exports<'a>(
 }
 
 /// Whether a module has a start function, or a section of elements, data or a data count.
-fn has_unsupported(adapter: &Module<'_>) -> bool
+pub fn has_unsupported(adapter: &Module<'_>) -> bool
     ensures { IsTrue result ↔ HasUnsupported (module_value adapter.now) }
 {
     adapter.start.is_some() || !adapter.ids.is_empty()

@@ -72,7 +72,7 @@ impl fmt::Display for TrimPlace {
 /// - `UnsupportedSection` is about the first section, in the order of the bytes, that is of the start function (its id
 ///   is 8), of elements (9), of a data count (12) or of data (11);
 /// - `LiveBody` is about the body of a function that the required exports reach, and that is no code or names a segment
-///   or an index that is out of range: of several such functions the first that is taken up.
+///   or an index that is out of range: of several such functions one.
 ///
 /// `None` where the adapter is not refused with this fault, and for the other faults: `Memory`, `Read` and `TooLarge`
 /// are about the adapter as a whole; `MissingExport` has its name; `SeveralNamed`, `LiveTable`, `SeveralMemories`,

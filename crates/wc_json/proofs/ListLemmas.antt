@@ -1,14 +1,15 @@
 -- Lists that are read item by item.
-use Rattle.std.proofs.Common.{◌≡◌, ℕ, ◌+◌, ◌<◌, List, [], ◌∷◌, ◌++◌, map, length, get_or, drop, Ok, Err, Vec, refl, sym, ap, subst, ◌∙◌, append_assoc, drop-cons, add-one}
+use Rattle.std.proofs.Common.{◌≡◌, ℕ, ◌+◌, ◌<◌, ◌≤◌, zero, suc, arith, append-nil, Result, IfErr, List, [], ◌∷◌, ◌++◌, map, length, get_or, drop, Ok, Err, Vec, refl, sym, ap, subst, ◌∙◌, append_assoc, drop-cons, add-one}
 use Rattle.std.proofs.lemmas.List.{map-append}
-use Rattle.json.specs.Json.{Json}
+use Rattle.json.specs.Json.{Json, array}
 use Rattle.json.specs.Value.{value_view, items_view}
 use Rattle.json.proofs.Trees.{view-Array}
 use Rattle.json.specs.declared.value.Value.{Value, Array}
 use Rattle.wc_json.specs.Faults.{IsFaultOf, Reading, ◌>>=◌}
-use Rattle.wc_json.specs.FromJson.{items_from, list}
+use Rattle.wc_json.specs.FromJson.{HasItems, items_from, list}
 use Rattle.wc_json.specs.Paths.{at_step, index_step}
 use Rattle.wc_json.specs.declared.fault.JsonFault.{JsonFault}
+use Rattle.wc_json.specs.declared.fault.JsonFault.TheVariants.{Memory}
 use Rattle.wc_json.proofs.FaultLemmas.{IsFaultOf_bind}
 
 -- what is read, after the items before it
@@ -30,6 +31,31 @@ pub list-value_view : {A X : Type 0} (read : Json → Reading A) (value : Value 
     → vs ≡ v.items → list read (value_view value) ≡ items_from read 0 (items_view vs)
 list-value_view read value v vs e is =
     ap (λ w. list read (value_view w)) e ∙ ap (list read) (view-Array v) ∙ ap (λ xs. items_from read 0 (items_view xs)) (sym is)
+
+-- a list that is not empty has items
+pub items_there : {X : Type 0} (value : Value X) (v : Vec (Value X) X) → value ≡ Array v → (length v.items ≡ 0 → ⊥) → HasItems (value_view value)
+items_there {X} value v is some = subst HasItems (sym (ap value_view is ∙ view-Array v)) (filled v.items some)
+  where
+    filled : (xs : List (Value X)) → (length xs ≡ 0 → ⊥) → HasItems (array (items_view xs))
+    filled [] some = some refl
+    filled (x ∷ xs) some = tt
+
+-- memory may run out where a list has items
+pub memory_for_items : {T : Type 0} (r : Result T JsonFault) (j : Json) → HasItems j → IfErr r (λ f. f ≡ Memory → HasItems j)
+memory_for_items (Ok x) j some = tt
+memory_for_items (Err f) j some = λ _. some
+
+-- all items are read
+drop_past : {Y : Type 0} (xs : List Y) (n : ℕ) → length xs ≤ n → drop n xs ≡ []
+drop_past [] zero h = refl
+drop_past [] (suc n) h = refl
+drop_past (x ∷ xs) zero h = absurd (omega (arith, h))
+drop_past (x ∷ xs) (suc n) h = drop_past xs n (omega (arith, h))
+
+pub after-all : {A X : Type 0} (read : Json → Reading A) (vs : List (Value X)) (n : ℕ) (before : List A) → length vs ≤ n
+    → after before (items_from read n (items_view (drop n vs))) ≡ Ok before
+after-all read vs n before past =
+    ap (λ l. after before (items_from read n (items_view l))) (drop_past vs n past) ∙ ap Ok (append-nil before)
 
 -- one item v at the index n, of which k is the number in the code
 module _ {A X : Type 0} (read : Json → Reading A) (vs : List (Value X)) (n k : ℕ) (v : Value X) (within : n < length vs) (e : v ≡ get_or vs n v)

@@ -40,9 +40,10 @@ abbrev pub IsText : Json → Type 0
 IsText (string s) = ⊤
 IsText j = ⊥
 
-abbrev pub IsList : Json → Type 0
-IsList (array js) = ⊤
-IsList j = ⊥
+-- a list with an item at least
+abbrev pub HasItems : Json → Type 0
+HasItems (array (item j js)) = ⊤
+HasItems j = ⊥
 
 abbrev pub IsObject : Json → Type 0
 IsObject (object ms) = ⊤

@@ -2,7 +2,7 @@
 use Rattle.std.specs.Prelude.{ℕ, List, Ok, cond, codes}
 use Rattle.std.specs.Str.{bytes_eq}
 use Rattle.json.specs.Json.{Json}
-use Rattle.wc_encoder.specs.Adapters.{WhichView, main_module, adapter_of, LibraryItemView, InstanceView, module_instance, item_instance, LibraryView}
+use Rattle.wc_adapters.specs.Adapters.{WhichView, main_module, adapter_of, LibraryItemView, InstanceView, module_instance, item_instance, LibraryView}
 use Rattle.wc_read.specs.declared.exports.ExportKind.{ExportKind}
 use Rattle.wc_read.specs.declared.exports.ExportKind.TheVariants.{Func, Table, Memory, Global}
 use Rattle.wc_json.specs.Faults.{Reading, refusal, ◌>>=◌}

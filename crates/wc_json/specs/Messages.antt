@@ -1,9 +1,9 @@
 -- Messages, and how they are read.
-use Rattle.std.specs.Prelude.{ℕ, Bool, false, List, Vec, map, Option, unwrap_or, Ok, codes, string_bytes}
+use Rattle.std.specs.Prelude.{ℕ, Bool, false, List, Vec, map, Option, Some, None, Ok, codes, string_bytes}
 use Rattle.std.specs.Option.{option_map}
 use Rattle.std.specs.declared.alloc.Global.{Global}
-use Rattle.json.specs.Json.{Json, string}
-use Rattle.wc_encoder.specs.Adapters.{LibraryView, library_view}
+use Rattle.json.specs.Json.{Json, null, string}
+use Rattle.wc_adapters.specs.Adapters.{LibraryView, library_view}
 use Rattle.wc_resolve.specs.Views.{KeyView, key_view}
 use Rattle.wc_json.specs.Document.{DocumentView, document_of, document_view}
 use Rattle.wc_json.specs.Faults.{Reading, ◌>>=◌}
@@ -11,7 +11,8 @@ use Rattle.wc_json.specs.FromJson.{list, text, truth}
 use Rattle.wc_json.specs.Ids.{index}
 use Rattle.wc_json.specs.Keys.{key}
 use Rattle.wc_json.specs.Libraries.{library}
-use Rattle.wc_json.specs.Members.{optional_member, required_member}
+use Rattle.wc_json.specs.Members.{find_member, optional_member, required_member}
+use Rattle.wc_json.specs.Paths.{at_step}
 use Rattle.wc_json.specs.declared.messages.AdapterMessage.{AdapterMessage}
 use Rattle.wc_json.specs.declared.messages.KeyMessage.{KeyMessage}
 use Rattle.wc_json.specs.declared.messages.Message.{Message}
@@ -97,9 +98,18 @@ options_message_view o = record {
 abbrev pub options_view : Option (Vec OptionsMessage Global) → Option (List OptionsMessageView)
 options_view options = option_map (λ (os : Vec OptionsMessage Global). map options_message_view os.items) options
 
+-- true or false, and false for null
+abbrev pub flag_value : Json → Reading Bool
+flag_value null = Ok false
+flag_value j = truth j
+
+abbrev pub flag_or_false : List ℕ → Option Json → Reading Bool
+flag_or_false name None = Ok false
+flag_or_false name (Some j) = at_step name (flag_value j)
+
 -- a member that is true or false, and false where it is missing or null
 abbrev pub flag : List ℕ → Json → Reading Bool
-flag name j = optional_member name truth j >>= (λ given. Ok (unwrap_or given false))
+flag name j = find_member name j >>= flag_or_false name
 
 abbrev pub options_message : Json → Reading OptionsMessageView
 options_message j = do

@@ -2,7 +2,7 @@
 use Rattle.std.specs.Prelude.{◌≡◌, ℕ, Bool, not, ◌&&◌, ◌||◌, List, [], ◌∷◌, ◌++◌, ◌==◌, length, cond, if◌then◌else◌, decimal, ⊤, Result, Ok, Err, string_bytes}
 use Rattle.std.specs.Char.{is_ascii_alphanumeric}
 use Rattle.std.specs.List.{list_all}
-use Rattle.wc_json.specs.Escape.{escaped}
+use Rattle.wc_json.specs.Escape.{quoted}
 use Rattle.wc_json.specs.Faults.{Fault, Reading}
 use Rattle.wc_json.specs.declared.fault.JsonFault.{JsonFault}
 use Rattle.wc_json.specs.declared.fault.JsonFault.TheVariants.{Memory, Wrong}
@@ -16,9 +16,9 @@ join step (c ∷ path) = cond (c == 91) (step ++ (c ∷ path)) (step ++ (46 ∷ 
 abbrev pub index_step : ℕ → List ℕ
 index_step index = 91 ∷ (decimal index ++ (93 ∷ []))
 
--- `["key"]`, with the key escaped
+-- `["key"]`, with the key escaped, its quotes too
 abbrev pub key_step : List ℕ → List ℕ
-key_step key = 91 ∷ (34 ∷ (escaped key ++ (34 ∷ (93 ∷ []))))
+key_step key = 91 ∷ (quoted key ++ (93 ∷ []))
 
 -- a letter, digit, `-` or `_` of ASCII
 abbrev pub is_word_char : ℕ → Bool

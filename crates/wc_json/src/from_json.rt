@@ -5,7 +5,7 @@ ghost use Rattle.std.specs.Prelude.{◌≡◌, IfErr, IfOk, None, Ok};
 ghost use Rattle.json.specs.Json.{Json, document, null};
 ghost use Rattle.json.specs.Value.{value_view};
 ghost use Rattle.wc_json.specs.Faults.{NeedsNoMemory, Reading, Reads};
-ghost use Rattle.wc_json.specs.FromJson.{IsCauseOf, IsList, IsReadFrom, IsText, list, nullable, text, truth};
+ghost use Rattle.wc_json.specs.FromJson.{HasItems, IsCauseOf, IsReadFrom, IsText, list, nullable, text, truth};
 ghost use Rattle.wc_json.specs.declared.fault.JsonFault.TheVariants.{Memory};
 
 use crate::paths::{at_index, fault_here};
@@ -114,7 +114,7 @@ impl<T: FromJson> FromJson for Vec<T> {
     fn from_json(alloc: Global, seed: Seed, value: &Value<'_>) -> Result<Vec<T>, JsonFault>
         ensures reads { Reads (λ v. map T.view v.items) result
             (list T.reading (value_view value.now)) }
-        ensures memory { IfErr result (λ f. f ≡ Memory → IsList (value_view value.now)) }
+        ensures memory { IfErr result (λ f. f ≡ Memory → HasItems (value_view value.now)) }
     {
         let Value::Array(items) = value else {
             return Err(fault_here(alloc, Problem::NotAList));

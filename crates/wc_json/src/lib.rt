@@ -43,7 +43,7 @@ mod wit_types;
 mod worlds;
 
 pub use document::{Document, document_from_json};
-pub use escape::escaped;
+pub use escape::{escaped, quoted};
 pub use fault::{JsonFault, Problem};
 pub use from_json::{FromJson, value_from_json};
 pub use members::{optional_member, required_member};

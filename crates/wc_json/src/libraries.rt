@@ -1,10 +1,11 @@
 //! Library information: how a library is instantiated, and with which arguments.
 
-ghost use Rattle.std.specs.Prelude.{◌≡◌};
+ghost use Rattle.std.specs.Prelude.{◌≡◌, ◌≢◌, IfErr, codes};
 ghost use Rattle.json.specs.Value.{value_view};
-ghost use Rattle.wc_encoder.specs.Adapters.{instance_view, which_view};
+ghost use Rattle.wc_adapters.specs.Adapters.{instance_view, which_view};
 ghost use Rattle.wc_json.specs.Faults.{NeedsNoMemory, Reads};
 ghost use Rattle.wc_json.specs.Libraries.{export_kind, export_kind_of, instance_of_kind, which_of_kind};
+ghost use Rattle.wc_json.specs.declared.fault.JsonFault.TheVariants.{Memory};
 
 use crate::from_json::FromJson;
 use crate::members::required_member;
@@ -59,7 +60,8 @@ fn which_of_kind(
     kind: &str,
     value: &Value<'_>,
 ) -> Result<MainOrAdapter, JsonFault>
-    ensures { Reads which_view result (which_of_kind kind.now (value_view value.now)) }
+    ensures reads { Reads which_view result (which_of_kind kind.now (value_view value.now)) }
+    ensures memory { IfErr result (λ f. f ≡ Memory → kind.now ≢ codes "main") }
 {
     match kind {
         "main" => Ok(MainOrAdapter::Main),
@@ -69,7 +71,7 @@ fn which_of_kind(
 }
 
 impl FromJson for MainOrAdapter {
-    ghost use Rattle.wc_encoder.specs.Adapters.{WhichView, which_view};
+    ghost use Rattle.wc_adapters.specs.Adapters.{WhichView, which_view};
     ghost use Rattle.wc_json.specs.Libraries.{which};
 
     ghost View = { WhichView };
@@ -86,7 +88,7 @@ impl FromJson for MainOrAdapter {
 
 /// An item that a library imports.
 impl FromJson for Item {
-    ghost use Rattle.wc_encoder.specs.Adapters.{LibraryItemView, library_item_view};
+    ghost use Rattle.wc_adapters.specs.Adapters.{LibraryItemView, library_item_view};
     ghost use Rattle.wc_json.specs.Libraries.{library_item};
 
     ghost View = { LibraryItemView };
@@ -127,7 +129,7 @@ fn instance_of_kind(
 
 /// What a library gets under the name of a module.
 impl FromJson for Instance {
-    ghost use Rattle.wc_encoder.specs.Adapters.{InstanceView, instance_view};
+    ghost use Rattle.wc_adapters.specs.Adapters.{InstanceView, instance_view};
     ghost use Rattle.wc_json.specs.Libraries.{instance};
 
     ghost View = { InstanceView };
@@ -146,7 +148,7 @@ impl FromJson for Instance {
 /// name.
 impl FromJson for (String, Instance) {
     ghost use Rattle.std.specs.Prelude.{List, ℕ};
-    ghost use Rattle.wc_encoder.specs.Adapters.{InstanceView, argument_view};
+    ghost use Rattle.wc_adapters.specs.Adapters.{InstanceView, argument_view};
     ghost use Rattle.wc_json.specs.Libraries.{argument};
 
     ghost View = { List ℕ × InstanceView };
@@ -167,7 +169,7 @@ impl FromJson for (String, Instance) {
 }
 
 impl FromJson for LibraryInfo {
-    ghost use Rattle.wc_encoder.specs.Adapters.{LibraryView, library_view};
+    ghost use Rattle.wc_adapters.specs.Adapters.{LibraryView, library_view};
     ghost use Rattle.wc_json.specs.Libraries.{library};
 
     ghost View = { LibraryView };

@@ -19,7 +19,7 @@ use std::alloc::Global;
 use wc_maps::Seed;
 
 /// The member of this name of an object, if it has one.
-fn find_member<'v, 'a>(
+pub(crate) fn find_member<'v, 'a>(
     alloc: Global,
     object: &'v Value<'a>,
     name: &str,

@@ -1,14 +1,16 @@
 //! Messages: what a component is encoded from, but for the bytes of its modules.
 
-ghost use Rattle.std.specs.Prelude.{◌≡◌, IfErr, IfOk};
+ghost use Rattle.std.specs.Prelude.{◌≡◌, IfErr, IfOk, IsErr};
 ghost use Rattle.json.specs.Json.{document};
 ghost use Rattle.json.specs.Value.{value_view};
-ghost use Rattle.wc_json.specs.Faults.{Reads};
-ghost use Rattle.wc_json.specs.FromJson.{IsCauseOf, IsReadFrom};
-ghost use Rattle.wc_json.specs.Messages.{flag, message, message_view};
+ghost use Rattle.wc_json.specs.Faults.{NeedsNoMemory, Reads};
+ghost use Rattle.wc_json.specs.FromJson.{IsCauseOf, IsReadFrom, IsText};
+ghost use Rattle.wc_json.specs.Messages.{flag, flag_value, message, message_view, world_name, world_name_view};
+ghost use Rattle.wc_json.specs.declared.fault.JsonFault.TheVariants.{Memory};
 
 use crate::from_json::{FromJson, value_from_json};
-use crate::members::{optional_member, required_member};
+use crate::members::{find_member, optional_member, required_member};
+use crate::paths::at_member;
 use crate::{Document, JsonFault};
 use json::Value;
 use std::alloc::Global;
@@ -34,7 +36,10 @@ impl FromJson for WorldName {
 
     ghost reading = { world_name };
 
-    fn from_json(alloc: Global, seed: Seed, value: &Value<'_>) -> Result<WorldName, JsonFault> {
+    fn from_json(alloc: Global, seed: Seed, value: &Value<'_>) -> Result<WorldName, JsonFault>
+        ensures reads { Reads world_name_view result (world_name (value_view value.now)) }
+        ensures memory { IfErr result (λ f. f ≡ Memory → IsText (value_view value.now)) }
+    {
         match value.as_str() {
             Some(name) => Ok(WorldName::Name(String::from_str(alloc, name)?)),
             None => Ok(WorldName::Index(WorldId::from_json(alloc, seed, value)?)),
@@ -123,12 +128,27 @@ pub struct OptionsMessage {
     pub is_async: bool,
 }
 
+/// True or false; false for null.
+fn flag_value(alloc: Global, seed: Seed, value: &Value<'_>) -> Result<bool, JsonFault>
+    ensures reads { Reads (λ b. b) result (flag_value (value_view value.now)) }
+    ensures no_memory { NeedsNoMemory result }
+{
+    if value.is_null() {
+        return Ok(false);
+    }
+    bool::from_json(alloc, seed, value)
+}
+
 /// The member of this name, which is true or false; false where it is missing or null.
 fn flag(alloc: Global, seed: Seed, object: &Value<'_>, name: &str) -> Result<bool, JsonFault>
-    ensures { Reads (λ b. b) result (flag name.now (value_view object.now)) }
+    ensures reads { Reads (λ b. b) result (flag name.now (value_view object.now)) }
+    ensures memory { IfErr result (λ f. f ≡ Memory
+        → IsErr (flag name.now (value_view object.now))) }
 {
-    let given: Option<bool> = optional_member(alloc, seed, object, name)?;
-    Ok(given.unwrap_or(false))
+    match find_member(alloc, object, name)? {
+        Some(value) => at_member(alloc, name, flag_value(alloc, seed, value)),
+        None => Ok(false),
+    }
 }
 
 impl FromJson for OptionsMessage {

@@ -7,7 +7,7 @@ ghost use Rattle.wc_json.specs.Faults.{IsFault, fault_here};
 ghost use Rattle.wc_json.specs.declared.fault.JsonFault.TheVariants.{Memory};
 ghost use Rattle.wc_json.specs.Paths.{IsFaultAt, IsReadAt, index_step, is_word, is_word_char, join, key_step, variant_step};
 
-use crate::escape::escaped;
+use crate::escape::quoted;
 use crate::{JsonFault, Problem};
 use std::alloc::{AllocError, Global};
 
@@ -65,12 +65,12 @@ fn fault_at_index(alloc: Global, index: usize, fault: JsonFault) -> JsonFault
     }
 }
 
-/// `["KEY"]`, with the key escaped.
+/// `["KEY"]`, with the key escaped, its quotes too.
 fn key_step(alloc: Global, key: &str) -> Result<String, AllocError>
     ensures { IfOk result (λ s. string_bytes s ≡ key_step key.now) }
 {
-    let key = escaped(alloc, key)?;
-    format!(in alloc; "[\"{key}\"]")
+    let key = quoted(alloc, key)?;
+    format!(in alloc; "[{key}]")
 }
 
 /// A fault of the entry under this key.

@@ -1,5 +1,8 @@
 //! The seed of a hash.
 
+ghost use Rattle.std.specs.Prelude.{◌≡◌};
+ghost use Rattle.wc_maps.specs.Seeds.{seeded};
+
 use std::fmt::{self, Debug, Formatter};
 use std::hash::{BuildHasher, DefaultHasher, Hasher};
 use std::io;
@@ -14,7 +17,10 @@ pub struct Seed {
 
 impl Seed {
     /// The seed of two numbers. Equal numbers give equal seeds.
-    pub fn new(first: u64, second: u64) -> Seed {
+    pub fn new(first: u64, second: u64) -> Seed
+        // Hashes begin with both numbers.
+        ensures { result.start ≡ seeded first second }
+    {
         let mut start = DefaultHasher::new();
         start.write_u64(first);
         start.write_u64(second);

@@ -1,5 +1,4 @@
-//! Rows on core modules: the names of their imports and exports, and modules that are validated.
+//! For rows of tests: the calls of `wc_validate` on modules that lines describe.
 #![tactic(auto)]
 
-pub mod names;
 pub mod validation;

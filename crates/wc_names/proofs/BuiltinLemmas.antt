@@ -4,8 +4,8 @@ use Rattle.std.specs.Prelude.{slice_get, slice_index}
 use Rattle.std.proofs.lemmas.List.{append_cancel_left, append_cancel_right}
 use Rattle.wc_read.specs.declared.types.ValType.{ValType}
 use Rattle.wc_read.specs.declared.types.ValType.TheVariants.{I32, I64, F32, F64, V128, FuncRef, ExternRef, FuncRefNonNull, ExternRefNonNull, TypeRef}
-use Rattle.wc_encoder.specs.declared.encoding.StringEncoding.{StringEncoding}
-use Rattle.wc_encoder.specs.declared.encoding.StringEncoding.TheVariants.{UTF8, UTF16, CompactUTF16}
+use Rattle.wc_adapters.specs.declared.encoding.StringEncoding.{StringEncoding}
+use Rattle.wc_adapters.specs.declared.encoding.StringEncoding.TheVariants.{UTF8, UTF16, CompactUTF16}
 use Rattle.wc_names.specs.Builtins.{NamesBuiltin, encoding_text, legacy_row, pointer_suffixes, slot_prefixes}
 use Rattle.wc_names.specs.Schemes.{Scheme, standard, legacy}
 use Rattle.wc_names.specs.Texts.{IsChoice, IsOneOf, IsSlot, Spells, SpellsNumber}

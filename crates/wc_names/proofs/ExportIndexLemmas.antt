@@ -13,7 +13,7 @@ use Rattle.indexmap.specs.IndexMap.{insert_entry}
 use Rattle.wc_resolve.specs.Views.{KeyView, key_view, FunctionView, InterfaceView, ItemView, function_item, interface_item, interface_key, plain_key, type_item}
 use Rattle.wc_names.specs.declared.export_index.ExportedInterface.{ExportedInterface}
 use Rattle.wc_resolve.specs.World.{ResolveView}
-use Rattle.wc_encoder.specs.Entries.{Entries}
+use Rattle.wc_adapters.specs.Entries.{Entries}
 use Rattle.wc_names.specs.declared.export_names.ExportSyntax.{ExportSyntax}
 use Rattle.wc_names.specs.declared.export_names.ExportSyntax.TheVariants.{Standard, Legacy}
 use Rattle.wc_names.specs.ExportIndex.{IsExportIndex, exported_interface_view, interfaces_view, listed}

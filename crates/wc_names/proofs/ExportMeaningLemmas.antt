@@ -8,7 +8,7 @@ use Rattle.wc_read.specs.declared.types.MemoryType.{MemoryType}
 use Rattle.wc_resolve.specs.declared.functions.AbiVariant.{AbiVariant}
 use Rattle.wc_resolve.specs.Views.{FunctionView, KeyView, plain_key}
 use Rattle.wc_resolve.specs.World.{ResolveView}
-use Rattle.wc_encoder.specs.Entries.{Entries}
+use Rattle.wc_adapters.specs.Entries.{Entries}
 use Rattle.wc_names.specs.declared.export_names.ExportSyntax.{ExportSyntax}
 use Rattle.wc_names.specs.ExportNames.{ExportTarget, HasFunction, HasResource, IsExportedFunction, NamesDestructor, NamesFunctionExport, destructor_member, export_syntax, interface_function, interface_resource, searched_interfaces, target}
 use Rattle.wc_names.specs.ExportViews.{exported_memory, resource_dtor}

@@ -10,7 +10,7 @@ use Rattle.wc_resolve.specs.Views.{FunctionView, InterfaceView, KeyView, WorldVi
 use Rattle.wc_resolve.specs.WellFormed.{HasMatchingNames, IsWellFormed}
 use Rattle.wc_resolve.specs.World.{ResolveView, kind_at}
 use Rattle.wc_resolve.proofs.WellFormedLemmas.{all_get}
-use Rattle.wc_encoder.specs.Entries.{Entries}
+use Rattle.wc_adapters.specs.Entries.{Entries}
 use Rattle.wc_names.specs.declared.export_names.ExportSyntax.{ExportSyntax}
 use Rattle.wc_names.specs.declared.export_names.ExportSyntax.TheVariants.{Standard, Legacy}
 use Rattle.wc_names.specs.ExportNames.{ExportTarget, HasFunction, HasResource, IsExportedFunction, NamesDestructor, NamesFunctionExport, export_syntax, exported_interface, if_text, interface_function, interface_text, interface_with_text, interfaces_of_text, searched_interfaces, target}

@@ -23,7 +23,7 @@ use Rattle.wc_resolve.specs.Queries.{VersionView, qualified_name}
 use Rattle.wc_resolve.specs.Views.{ItemView, KeyView, PackageNameView, interface_key, item_view, key_view, plain_key, world_entry}
 use Rattle.wc_resolve.specs.World.{ResolveView}
 use Rattle.wc_resolve.proofs.KeyLemmas.{nat_from, nat_to}
-use Rattle.wc_encoder.specs.Entries.{Entries}
+use Rattle.wc_adapters.specs.Entries.{Entries}
 use Rattle.wc_names.specs.declared.interface_index.TrackName.{TrackName}
 use Rattle.wc_names.specs.Interfaces.{FoundInterface, HaveSameTrack, IsAbout, IsCanonicalEntry, IsEntryOf, IsOnTrack, NamesInterface, found_interface, interface_texts, under_own_key}
 use Rattle.wc_names.specs.Schemes.{Scheme}

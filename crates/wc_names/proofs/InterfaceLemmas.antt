@@ -21,7 +21,7 @@ use Rattle.wc_names.specs.Finds.{Finds}
 use Rattle.wc_names.specs.First.{FirstOf}
 use Rattle.wc_names.specs.Keys.{as_interface, item_under, key_eq}
 use Rattle.wc_maps.specs.Names.{under_name}
-use Rattle.wc_encoder.specs.Entries.{Entries}
+use Rattle.wc_adapters.specs.Entries.{Entries}
 use Rattle.wc_names.proofs.SearchLemmas.{first_kind}
 use Rattle.wc_names.proofs.KeyLemmas.{package_unique, lookup_passes}
 use Rattle.std.specs.declared.alloc.AllocError.{AllocError}

@@ -9,7 +9,7 @@ use Rattle.wc_resolve.specs.Futures.{function_futures}
 use Rattle.wc_resolve.specs.Views.{FunctionView, ItemView, KeyView, PackageNameView, WorldView, function_item, interface_item, interface_key, plain_key, type_item}
 use Rattle.wc_resolve.specs.WellFormed.{HaveDistinctNames}
 use Rattle.wc_resolve.specs.World.{ResolveView}
-use Rattle.wc_encoder.specs.Entries.{Entries}
+use Rattle.wc_adapters.specs.Entries.{Entries}
 use Rattle.wc_names.specs.declared.async_values.AsyncValue.{AsyncValue}
 use Rattle.wc_names.specs.declared.async_values.Operation.{Operation}
 use Rattle.wc_names.specs.AsyncValues.{IsAsyncValueName, IsListedType, IsPayloadType, NamesAsyncValue, async_value_name, operation_row, unit_text}

@@ -14,7 +14,7 @@ use Rattle.wc_resolve.specs.Views.{FunctionView, InterfaceView, ItemView, KeyVie
 use Rattle.wc_resolve.specs.WellFormed.{IsUsable, IsWellFormed}
 use Rattle.wc_resolve.specs.World.{ResolveView, kind_at}
 use Rattle.wc_resolve.proofs.WellFormedLemmas.{IsUsableItem, export_functions_usable, import_functions_usable, interface_functions_usable, package_interfaces_in, all_get}
-use Rattle.wc_encoder.specs.Entries.{Entries}
+use Rattle.wc_adapters.specs.Entries.{Entries}
 use Rattle.wc_names.specs.First.{FirstOf}
 use Rattle.wc_names.specs.Interfaces.{FoundInterface, IsCanonicalEntry, IsEntryOf, IsIdMatch, IsMemberOf, NamesInterface, id_matches}
 use Rattle.wc_names.specs.Keys.{as_function, as_interface, function_at, if_resource, item_under, key_eq, resource_at, world_entries}

@@ -10,7 +10,7 @@ use Rattle.wc_resolve.specs.Names.{track}
 use Rattle.wc_resolve.specs.Queries.{core_name, key_text}
 use Rattle.wc_resolve.specs.Views.{KeyView, plain_key, FunctionView, InterfaceView, WorldView}
 use Rattle.wc_resolve.specs.World.{ResolveView}
-use Rattle.wc_encoder.specs.Entries.{Entries}
+use Rattle.wc_adapters.specs.Entries.{Entries}
 use Rattle.wc_names.specs.declared.export_names.ExportSyntax.{ExportSyntax}
 use Rattle.wc_names.specs.declared.export_names.ExportSyntax.TheVariants.{Standard, Legacy}
 use Rattle.wc_names.specs.First.{FirstOf}

@@ -11,7 +11,7 @@ use Rattle.wc_resolve.specs.Names.{track}
 use Rattle.wc_resolve.specs.Queries.{VersionView, qualified_name}
 use Rattle.wc_resolve.specs.Views.{ItemView, KeyView, PackageNameView}
 use Rattle.wc_resolve.specs.World.{ResolveView}
-use Rattle.wc_encoder.specs.Entries.{Entries}
+use Rattle.wc_adapters.specs.Entries.{Entries}
 use Rattle.wc_names.specs.declared.interface_index.TrackName.{TrackName}
 use Rattle.wc_names.specs.declared.interface_index.IdIndex.{IdIndex}
 use Rattle.wc_names.specs.declared.interface_index.InterfaceIndex.{InterfaceIndex}

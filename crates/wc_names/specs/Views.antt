@@ -11,8 +11,8 @@ use Rattle.wc_resolve.specs.declared.ids.InterfaceId.{InterfaceId}
 use Rattle.wc_resolve.specs.declared.worlds.WorldKey.{WorldKey}
 use Rattle.wc_resolve.specs.Dependencies.{id_of_interface}
 use Rattle.wc_resolve.specs.Views.{KeyView, key_view, FunctionView, function_view}
-use Rattle.wc_encoder.specs.declared.encoding.StringEncoding.{StringEncoding}
-use Rattle.wc_encoder.specs.Adapters.{LibraryItemView, library_item_view}
+use Rattle.wc_adapters.specs.declared.encoding.StringEncoding.{StringEncoding}
+use Rattle.wc_adapters.specs.Adapters.{LibraryItemView, library_item_view}
 use Rattle.wc_names.specs.declared.imports.PayloadType.{PayloadType}
 use Rattle.wc_names.specs.declared.imports.PayloadType.TheVariants.{Typed, UnitFuture, UnitStream}
 use Rattle.wc_names.specs.declared.imports.PayloadInfo.{PayloadInfo}

@@ -4,7 +4,7 @@ ghost use Rattle.std.specs.Prelude.{◌≡◌, IfOk};
 ghost use Rattle.wc_names.specs.Payloads.{HasPayload, IsPayload};
 
 use std::alloc::{AllocError, Global};
-use wc_encoder::{Item, StringEncoding};
+use wc_adapters::{Item, StringEncoding};
 use wc_read::{ExportKind, FuncType, MemoryType, ValType};
 use wc_resolve::{
     AbiVariant, Function, InterfaceId, Resolve, TypeDefKind, TypeId, WitType, WorldKey,

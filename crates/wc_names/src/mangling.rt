@@ -4,7 +4,7 @@ ghost use Rattle.std.specs.Prelude.{◌≡◌, ◌↔◌, ℕ, Bool, List, All, 
 ghost use Rattle.std.specs.Option.{ForSome, option_map};
 ghost use Rattle.wc_read.specs.declared.types.ValType.{ValType};
 ghost use Rattle.wc_read.specs.Types.{func_type_value};
-ghost use Rattle.wc_encoder.specs.declared.encoding.StringEncoding.{StringEncoding};
+ghost use Rattle.wc_adapters.specs.declared.encoding.StringEncoding.{StringEncoding};
 ghost use Rattle.wc_resolve.specs.Ranges.{IsKeyIn, IsWorldIn};
 ghost use Rattle.wc_resolve.specs.Roots.{id_index};
 ghost use Rattle.wc_resolve.specs.Views.{key_view, world_entry, world_view};
@@ -23,7 +23,7 @@ ghost use Rattle.wc_names.specs.Views.{Builtin, import_view, backpressure_dec, b
 
 use crate::{ExportNames, Import, InterfaceNames, PayloadLookupContext};
 use std::alloc::{AllocError, Global};
-use wc_encoder::StringEncoding;
+use wc_adapters::StringEncoding;
 use wc_maps::{Map, Set};
 use wc_read::{FuncType, ValType};
 use wc_resolve::{

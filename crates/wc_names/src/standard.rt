@@ -7,7 +7,7 @@ use crate::{
     NameMangling, PayloadLookupContext,
 };
 use std::alloc::{AllocError, Global};
-use wc_encoder::StringEncoding;
+use wc_adapters::StringEncoding;
 use wc_maps::{Map, Set};
 use wc_read::{FuncType, ValType};
 use wc_resolve::{

@@ -17,7 +17,7 @@ use Rattle.wc_plan.specs.Faults.{AreNameable, IsFaultNamed, IsFirstFault, UseFau
 use Rattle.wc_plan.specs.EncoderFaults.{IsLowered}
 use Rattle.wc_plan.specs.Plans.{has_memory, import_realloc, lowering_of, needs}
 use Rattle.wc_plan.specs.Progress.{IsPlanFault}
-use Rattle.wc_plan.specs.Views.{CallView, OwnerView, adapter_owner, main_owner}
+use Rattle.wc_uses.specs.Views.{CallView, OwnerView, adapter_owner, main_owner}
 use Rattle.wc_plan.specs.declared.fault.PlanFault.{PlanFault}
 use Rattle.wc_plan.specs.declared.fault.PlanFault.TheVariants.{NoLowering}
 use Rattle.wc_plan.proofs.ModuleLemmas.{Single, of_adapters, of_main}

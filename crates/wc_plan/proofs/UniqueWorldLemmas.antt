@@ -5,9 +5,9 @@ use Rattle.std.specs.List.{AllZip}
 use Rattle.wc_read.specs.Laws.{HasOneValue}
 use Rattle.wc_read.specs.Modules.{SpellsModule}
 use Rattle.wc_resolve.specs.World.{ResolveView}
-use Rattle.wc_encoder.specs.Adapters.{LibraryView}
+use Rattle.wc_adapters.specs.Adapters.{LibraryView}
 use Rattle.wc_encoder.specs.EncoderParts.{EncoderView, world_exports, world_imports}
-use Rattle.wc_encoder.specs.Entries.{Entries}
+use Rattle.wc_adapters.specs.Entries.{Entries}
 use Rattle.wc_names.specs.Views.{ImportView}
 use Rattle.wc_validate.specs.Imports.Map.{imports_in, memory_in}
 use Rattle.wc_validate.specs.Laws.{RecordsUnique}

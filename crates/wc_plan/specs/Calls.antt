@@ -13,7 +13,7 @@ use Rattle.wc_validate.specs.Imports.Map.{imports_in}
 use Rattle.wc_validate.specs.Validated.{ModuleRecord}
 use Rattle.wc_world.specs.FunctionsLowered.{abi_eq}
 use Rattle.wc_world.specs.Views.{ComponentWorldView, NamedWorldAdapter}
-use Rattle.wc_plan.specs.Views.{CallView, OwnerView, adapter_owner, main_owner}
+use Rattle.wc_uses.specs.Views.{CallView, OwnerView, adapter_owner, main_owner}
 
 -- the function that an import of a module is, if it is one
 abbrev pub call_of : ResolveView → OwnerView → ImportView → Option CallView

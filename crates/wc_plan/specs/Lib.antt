@@ -4,6 +4,4 @@ pub mod Faults
 pub mod Laws
 pub mod Lines
 pub mod Plans
-pub mod PlanViews
 pub mod Progress
-pub mod Views

@@ -15,8 +15,8 @@ use Rattle.wc_world.specs.WorldViews.{world_view}
 use Rattle.wc_plan.specs.Calls.{IsNameable, Wanted, call_eq, call_of, firsts, wanted, wanted_by}
 use Rattle.wc_plan.specs.Faults.{IsFaultNamed, IsFirstFault, IsServable, UseFault, fault_of}
 use Rattle.wc_plan.specs.Plans.{has_memory, uses_from}
-use Rattle.wc_plan.specs.PlanViews.{call_view, use_view}
-use Rattle.wc_plan.specs.Views.{CallView, OwnerView, UseView, adapter_owner, main_owner}
+use Rattle.wc_uses.specs.PlanViews.{call_view, use_view}
+use Rattle.wc_uses.specs.Views.{CallView, OwnerView, UseView, adapter_owner, main_owner}
 use Rattle.wc_plan.specs.declared.fault.PlanFault.{PlanFault}
 use Rattle.wc_plan.specs.declared.fault.PlanFault.TheVariants.{Memory}
 use Rattle.wc_plan.specs.declared.planner.Context.{Context}

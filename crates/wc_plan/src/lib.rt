@@ -10,10 +10,9 @@ pub mod laws;
 mod lines;
 mod lowerings;
 mod planner;
-mod uses;
 
 pub use encoder::plan_encoder;
 pub use fault::PlanFault;
 pub use lines::write_plan;
 pub use planner::plan;
-pub use uses::{Owner, Plan, Use};
+pub use wc_uses::{Owner, Plan, Use};

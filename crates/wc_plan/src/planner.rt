@@ -9,18 +9,18 @@ ghost use Rattle.wc_world.specs.Options.{realloc_flag};
 ghost use Rattle.wc_world.specs.WorldViews.{lowering_view, world_view};
 ghost use Rattle.wc_plan.specs.Calls.{IsNameable, all_wanted, wanted_by};
 ghost use Rattle.wc_plan.specs.Plans.{has_memory, import_realloc, needs, plan_of, use_of};
-ghost use Rattle.wc_plan.specs.PlanViews.{call_view, owner_view, plan_view, use_view};
+ghost use Rattle.wc_uses.specs.PlanViews.{call_view, owner_view, plan_view, use_view};
 ghost use Rattle.wc_plan.specs.Faults.{AreNameable, HasNoFault, IsServable};
-ghost use Rattle.wc_plan.specs.Views.{OwnerView};
+ghost use Rattle.wc_uses.specs.Views.{OwnerView};
 ghost use Rattle.wc_plan.specs.Progress.{AreModuleNameable, IsCallFault, IsContext, IsCounted, IsPlanFault, IsPlanned, Plans, RefusesPlan, owner_in, wanted_by_adapters, wanted_call, wanted_import, world_in};
 
 use crate::calls::{Call, call_of};
 use crate::fault::PlanFault;
 use crate::lowerings::{has_memory_option, has_realloc_option, is_indirect, lowering_of};
-use crate::uses::{Owner, Plan, Use};
 use std::alloc::{AllocError, AllocFailed, Global};
 use wc_maps::Set;
 use wc_names::Import;
+use wc_uses::{Owner, Plan, Use};
 use wc_validate::{ExportMap, ValidatedModule};
 use wc_world::{ComponentWorld, Lowering};
 

@@ -6,11 +6,13 @@ ghost use Rattle.std.specs.Process.{exit_status};
 use crate::files::{DirectoryStore, FileStore};
 use crate::output::Printer;
 use crate::shell::Shell;
-use std::io::{self, BufWriter};
+use std::alloc::{AllocError, Global};
+use std::env;
+use std::fs::{self, File};
+use std::io::{self, BufWriter, ErrorKind, Write};
 use std::process::ExitCode;
 use std::random::RandomSource;
 use std::rt::{Env, Files};
-use std::{env, fs};
 use wc_maps::Seed;
 
 /// The files of the system. Proofs know nothing of their bytes.
@@ -37,6 +39,51 @@ impl<R: Files + AllocGlobal> DirectoryStore for SystemFiles<'_, R> {
     fn make_directory(&mut self, path: &str) -> io::Result<()> {
         fs::create_dir_all(self.rt, path)
     }
+
+    /// As a whole: the bytes go to a new file beside the one of this path, `.new-N`, which then takes its name. Where that
+    /// fails the new file is removed. A program that is stopped meanwhile leaves it.
+    fn replace(&mut self, path: &str, bytes: &[u8]) -> io::Result<()> {
+        let (beside, file) = create_beside(self.rt, path)?;
+        let written = write_and_close(file, bytes);
+        let replaced = match written {
+            Ok(()) => fs::rename(self.rt, &beside, path),
+            Err(e) => Err(e),
+        };
+        if replaced.is_err() {
+            let _removed = fs::remove_file(self.rt, &beside);
+        }
+        replaced
+    }
+}
+
+/// How many files `.new-N` may be in one directory.
+const MOST_NEW_FILES: u32 = 1000;
+
+/// A new file in the directory of the file of this path, and its path: the first of `.new-0`, `.new-1` and so on that is not
+/// there, also not as a link.
+fn create_beside<R: Files + AllocGlobal>(rt: &R, path: &str) -> io::Result<(String, R::File)> {
+    for number in 0..MOST_NEW_FILES {
+        let beside = path_beside(rt.alloc(), path, number)?;
+        match File::create_new(rt, &beside) {
+            Ok(file) => return Ok((beside, file)),
+            Err(e) if e.kind() == ErrorKind::AlreadyExists => {}
+            Err(e) => return Err(e),
+        }
+    }
+    Err(io::Error::from(ErrorKind::AlreadyExists))
+}
+
+/// `.new-N` in the directory of the file of this path.
+fn path_beside(alloc: Global, path: &str, number: u32) -> Result<String, AllocError> {
+    match path.rsplit_once('/') {
+        Some((directory, _name)) => format!(in alloc; "{directory}/.new-{number}"),
+        None => format!(in alloc; ".new-{number}"),
+    }
+}
+
+/// Writes bytes to a file, and closes it.
+fn write_and_close<W: Write + Drop>(mut file: W, bytes: &[u8]) -> io::Result<()> {
+    file.write_all(bytes)
 }
 
 /// Standard output, through a buffer.

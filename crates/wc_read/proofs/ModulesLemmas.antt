@@ -23,7 +23,7 @@ use Rattle.wc_read.specs.declared.exports.Export.{Export}
 use Rattle.wc_read.specs.Sections.{SectionValue, section_value, SpellsFrames}
 use Rattle.wc_read.specs.SectionContents.{SectionContentsValue}
 use Rattle.wc_read.specs.Reading.Contents.{section_contents_in}
-use Rattle.wc_read.specs.Names.{GlobalNameValue, global_names_of}
+use Rattle.wc_read.specs.Names.{GlobalNameValue, global_names_id, global_names_of}
 use Rattle.wc_read.specs.Modules.{ModuleValue, module_value, CustomValue, HasCustom, module_of, HaveTypes, NameTypes, IsStart, IsModule, IsAssembled, AreModule}
 use Rattle.wc_read.specs.Modules.{SpellsModule}
 use Rattle.wc_read.proofs.NamesUniqueLemmas.{names_unique}
@@ -200,7 +200,7 @@ other_counts sections p v m e differ = differ (subst (λ (q : SectionContentsVal
 -- custom sections say one thing
 custom_one : (sections : List SectionValue) (c d : CustomValue) → HasCustom sections c → HasCustom sections d → c ≡ d
 custom_one sections c d h k =
-    let names : c.global_names ≡ d.global_names = h.has_names ∙ ap global_names_of (names_unique sections h.pairs k.pairs h.has_pairs k.has_pairs)
+    let names : c.global_names ≡ d.global_names = h.has_names ∙ ap global_names_of (names_unique global_names_id sections h.pairs k.pairs h.has_pairs k.has_pairs)
     ∙ sym k.has_names in
     let last : c.producers ≡ d.producers = producers_unique sections c.producers d.producers h.has_producers k.has_producers in
     made_same c d names last

@@ -11,7 +11,7 @@ use Rattle.wc_read.specs.Reading.Bytes.{number_at}
 use Rattle.wc_read.specs.Reading.Sections.{section_at}
 use Rattle.wc_read.specs.Sections.{SectionValue, section_value, SpellsSection}
 use Rattle.wc_read.specs.Reading.Custom.{ContentAfterName}
-use Rattle.wc_read.specs.Names.{GlobalNameValue, SpellsGlobalName, name_text, global_names_id, PairsThenRest, no_count, bytes_after, pair_missing, Subsection, NamesIn, no_more, other_id, complete, faulty, NamesOfSection, name_section, other_section, NamesOf, global_names_of}
+use Rattle.wc_read.specs.Names.{GlobalNameValue, SpellsGlobalName, name_text, PairsThenRest, no_count, bytes_after, pair_missing, Subsection, NamesUnder, no_more, other_id, complete, faulty, SectionNamesUnder, name_section, other_section, AllNamesUnder, global_names_of}
 use Rattle.wc_read.specs.Reading.Names.{global_name_value, global_name_at, PairsOf}
 use Rattle.wc_read.specs.declared.names.GlobalName.{GlobalName}
 use Rattle.wc_read.specs.declared.sections.Section.{Section}
@@ -71,53 +71,53 @@ pairs_end bytes n pairs counter (b ∷ rest) a all =
 -- subsections of a section
 
 -- the pairs that the rest gives, after those at the front, are those of all of the bytes
-pub record AreNames (bytes : List ℕ) (front : List GlobalNameValue) (rest : List ℕ) : Type 0 where
-  pub to_all : (others : List GlobalNameValue) → NamesIn rest others → NamesIn bytes (front ++ others)
+pub record AreNames (id : ℕ) (bytes : List ℕ) (front : List GlobalNameValue) (rest : List ℕ) : Type 0 where
+  pub to_all : (others : List GlobalNameValue) → NamesUnder id rest others → NamesUnder id bytes (front ++ others)
 
 subsection_of : (bytes : List ℕ) (s : SectionValue) (rest : List ℕ) → section_at bytes ≡ Some (s, rest) → Subsection bytes s rest
 subsection_of bytes s rest e = let t = section_meets.parses bytes s rest e in record { text = t.0; cut = t.1; spelled = t.2 }
 
-pub names_start : (bytes : List ℕ) → AreNames bytes [] bytes
-names_start bytes = record { to_all = λ others n. n }
+pub names_start : (id : ℕ) (bytes : List ℕ) → AreNames id bytes [] bytes
+names_start id bytes = record { to_all = λ others n. n }
 
-pub names_other : (bytes : List ℕ) (front : List GlobalNameValue) (rest : List ℕ) (s : SectionValue) (after : List ℕ) → AreNames bytes front rest → section_at rest ≡ Some (s, after) → s.id ≢ global_names_id → AreNames bytes front after
-names_other bytes front rest s after a e other = record { to_all = λ others n. a.to_all others (other_id s after (subsection_of rest s after e) other n) }
+pub names_other : (id : ℕ) (bytes : List ℕ) (front : List GlobalNameValue) (rest : List ℕ) (s : SectionValue) (after : List ℕ) → AreNames id bytes front rest → section_at rest ≡ Some (s, after) → s.id ≢ id → AreNames id bytes front after
+names_other id bytes front rest s after a e other = record { to_all = λ others n. a.to_all others (other_id s after (subsection_of rest s after e) other n) }
 
-pub names_more : (bytes : List ℕ) (front : List GlobalNameValue) (rest : List ℕ) (s : SectionValue) (after : List ℕ) (pairs : List GlobalNameValue) → AreNames bytes front rest → section_at rest ≡ Some (s, after) → s.id ≡ global_names_id → PairsOf s.content true pairs → AreNames bytes (front ++ pairs) after
-names_more bytes front rest s after pairs a e this p =
+pub names_more : (id : ℕ) (bytes : List ℕ) (front : List GlobalNameValue) (rest : List ℕ) (s : SectionValue) (after : List ℕ) (pairs : List GlobalNameValue) → AreNames id bytes front rest → section_at rest ≡ Some (s, after) → s.id ≡ id → PairsOf s.content true pairs → AreNames id bytes (front ++ pairs) after
+names_more id bytes front rest s after pairs a e this p =
     record { to_all = λ others n. rw append_assoc (a.to_all (pairs ++ others) (complete pairs others s after (subsection_of rest s after e) this p n)) }
 
-pub names_faulty : (bytes : List ℕ) (front : List GlobalNameValue) (rest : List ℕ) (s : SectionValue) (after : List ℕ) (pairs : List GlobalNameValue) → AreNames bytes front rest → section_at rest ≡ Some (s, after) → s.id ≡ global_names_id → PairsOf s.content false pairs → NamesIn bytes (front ++ pairs)
-names_faulty bytes front rest s after pairs a e this p = a.to_all pairs (faulty s after (subsection_of rest s after e) this p)
+pub names_faulty : (id : ℕ) (bytes : List ℕ) (front : List GlobalNameValue) (rest : List ℕ) (s : SectionValue) (after : List ℕ) (pairs : List GlobalNameValue) → AreNames id bytes front rest → section_at rest ≡ Some (s, after) → s.id ≡ id → PairsOf s.content false pairs → NamesUnder id bytes (front ++ pairs)
+names_faulty id bytes front rest s after pairs a e this p = a.to_all pairs (faulty s after (subsection_of rest s after e) this p)
 
-pub names_end : (bytes : List ℕ) (front : List GlobalNameValue) (rest : List ℕ) → AreNames bytes front rest → section_at rest ≡ None → NamesIn bytes front
-names_end bytes front rest a none = rw append-nil at (a.to_all [] (no_more (no_spelling SpellsSection section_at section_meets rest none)))
+pub names_end : (id : ℕ) (bytes : List ℕ) (front : List GlobalNameValue) (rest : List ℕ) → AreNames id bytes front rest → section_at rest ≡ None → NamesUnder id bytes front
+names_end id bytes front rest a none = rw append-nil at (a.to_all [] (no_more (no_spelling SpellsSection section_at section_meets rest none)))
 
 -- sections
 
-names_push : (ss : List SectionValue) (s : SectionValue) (front these : List GlobalNameValue) → NamesOf ss front → NamesOfSection s these → NamesOf (ss ++ s ∷ []) (front ++ these)
-names_push [] s front these n o = rw n (these, [], sym (append-nil these), o, refl)
-names_push (x ∷ xs) s front these n o = (n.0, n.1 ++ these, ap (λ (r : List GlobalNameValue). r ++ these) n.2 ∙ append_assoc n.0 n.1 these, n.3, names_push xs s n.1 these n.4 o)
+names_push : (id : ℕ) (ss : List SectionValue) (s : SectionValue) (front these : List GlobalNameValue) → AllNamesUnder id ss front → SectionNamesUnder id s these → AllNamesUnder id (ss ++ s ∷ []) (front ++ these)
+names_push id [] s front these n o = rw n (these, [], sym (append-nil these), o, refl)
+names_push id (x ∷ xs) s front these n o = (n.0, n.1 ++ these, ap (λ (r : List GlobalNameValue). r ++ these) n.2 ∙ append_assoc n.0 n.1 these, n.3, names_push id xs s n.1 these n.4 o)
 
 -- the sections up to an index give the pairs at the front
-pub record AreNamesTo (sections : List Section) (index : ℕ) (front : List GlobalNameValue) : Type 0 where
-  pub names : NamesOf (map section_value (take index sections)) front
+pub record AreNamesTo (id : ℕ) (sections : List Section) (index : ℕ) (front : List GlobalNameValue) : Type 0 where
+  pub names : AllNamesUnder id (map section_value (take index sections)) front
 
-pub sections_start : (sections : List Section) → AreNamesTo sections 0 []
-sections_start sections = record { names = refl }
+pub sections_start : (id : ℕ) (sections : List Section) → AreNamesTo id sections 0 []
+sections_start id sections = record { names = refl }
 
-one_more : (sections : List Section) (index : ℕ) (front these : List GlobalNameValue) (d : Section) → AreNamesTo sections index front → index < length sections → NamesOfSection (section_value (get_or sections index d)) these → AreNamesTo sections (index + 1) (front ++ these)
-one_more sections index front these d a less o =
-    record { names = rw (take_more sections index d less, map-append) (names_push (map section_value (take index sections)) (section_value (get_or sections index d)) front these a.names o) }
+one_more : (id : ℕ) (sections : List Section) (index : ℕ) (front these : List GlobalNameValue) (d : Section) → AreNamesTo id sections index front → index < length sections → SectionNamesUnder id (section_value (get_or sections index d)) these → AreNamesTo id sections (index + 1) (front ++ these)
+one_more id sections index front these d a less o =
+    record { names = rw (take_more sections index d less, map-append) (names_push id (map section_value (take index sections)) (section_value (get_or sections index d)) front these a.names o) }
 
-pub sections_more : (sections : List Section) (index : ℕ) (front these : List GlobalNameValue) (d : Section) (bytes : List ℕ) → AreNamesTo sections index front → index < length sections → ContentAfterName name_text (section_value (get_or sections index d)) (Some bytes) → NamesIn bytes these → AreNamesTo sections (index + 1) (front ++ these)
-sections_more sections index front these d bytes a less c n = one_more sections index front these d a less (name_section bytes c n)
+pub sections_more : (id : ℕ) (sections : List Section) (index : ℕ) (front these : List GlobalNameValue) (d : Section) (bytes : List ℕ) → AreNamesTo id sections index front → index < length sections → ContentAfterName name_text (section_value (get_or sections index d)) (Some bytes) → NamesUnder id bytes these → AreNamesTo id sections (index + 1) (front ++ these)
+sections_more id sections index front these d bytes a less c n = one_more id sections index front these d a less (name_section bytes c n)
 
-pub sections_other : (sections : List Section) (index : ℕ) (front : List GlobalNameValue) (d : Section) → AreNamesTo sections index front → index < length sections → ContentAfterName name_text (section_value (get_or sections index d)) None → AreNamesTo sections (index + 1) front
-sections_other sections index front d a less none = rw append-nil at (one_more sections index front [] d a less (other_section none))
+pub sections_other : (id : ℕ) (sections : List Section) (index : ℕ) (front : List GlobalNameValue) (d : Section) → AreNamesTo id sections index front → index < length sections → ContentAfterName name_text (section_value (get_or sections index d)) None → AreNamesTo id sections (index + 1) front
+sections_other id sections index front d a less none = rw append-nil at (one_more id sections index front [] d a less (other_section none))
 
-pub sections_end : (sections : List Section) (index : ℕ) (front : List GlobalNameValue) → AreNamesTo sections index front → length sections ≤ index → NamesOf (map section_value sections) front
-sections_end sections index front a all = rw (take_all index sections all) at a.names
+pub sections_end : (id : ℕ) (sections : List Section) (index : ℕ) (front : List GlobalNameValue) → AreNamesTo id sections index front → length sections ≤ index → AllNamesUnder id (map section_value sections) front
+sections_end id sections index front a all = rw (take_all index sections all) at a.names
 
 -- entries
 

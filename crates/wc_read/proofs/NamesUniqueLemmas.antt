@@ -4,7 +4,7 @@ use Rattle.wc_read.specs.Formats.{Format, SpellsNumber, SpellsItems, SpellsVecto
 use Rattle.wc_read.specs.Reading.Bytes.{Read, number_at, vector_at, items_at}
 use Rattle.wc_read.specs.Reading.Sections.{section_at}
 use Rattle.wc_read.specs.Sections.{SectionValue, SpellsSection}
-use Rattle.wc_read.specs.Names.{GlobalNameValue, SpellsGlobalName, name_text, global_names_id, PairsThenRest, PairsBeforeFault, no_count, bytes_after, pair_missing, Subsection, NamesIn, no_more, other_id, complete, faulty, NamesOfSection, name_section, other_section, NamesOf}
+use Rattle.wc_read.specs.Names.{GlobalNameValue, SpellsGlobalName, name_text, PairsThenRest, PairsBeforeFault, no_count, bytes_after, pair_missing, Subsection, NamesUnder, no_more, other_id, complete, faulty, SectionNamesUnder, name_section, other_section, AllNamesUnder}
 use Rattle.wc_read.specs.Reading.Names.{global_name_at}
 use Rattle.wc_read.proofs.MeetsLemmas.{Meets, AreItems, number_meets, items_meet, vector_meets, one_spelling, one_value}
 use Rattle.wc_read.proofs.NamesLemmas.{global_name_meets}
@@ -92,48 +92,48 @@ one_subsection bytes s t rest others f g =
 no_subsection : (bytes : List ℕ) (s : SectionValue) (rest : List ℕ) → HasNoPrefix SpellsSection bytes → Subsection bytes s rest → ⊥
 no_subsection bytes s rest none f = none f.text rest s f.cut f.spelled
 
-not_other : (bytes : List ℕ) (s t : SectionValue) (rest others : List ℕ) → Subsection bytes s rest → Subsection bytes t others → s.id ≢ global_names_id → t.id ≡ global_names_id → ⊥
-not_other bytes s t rest others f g other this = other (ap (λ (x : SectionValue). x.id) (one_subsection bytes s t rest others f g).0 ∙ this)
+not_other : (id : ℕ) (bytes : List ℕ) (s t : SectionValue) (rest others : List ℕ) → Subsection bytes s rest → Subsection bytes t others → s.id ≢ id → t.id ≡ id → ⊥
+not_other id bytes s t rest others f g other this = other (ap (λ (x : SectionValue). x.id) (one_subsection bytes s t rest others f g).0 ∙ this)
 
-names_one : (bytes : List ℕ) (ps qs : List GlobalNameValue) → NamesIn bytes ps → NamesIn bytes qs → ps ≡ qs
-names_one bytes ps qs (no_more none) (no_more end) = refl
-names_one bytes ps qs (no_more none) (other_id s rest f other n) = absurd (no_subsection bytes s rest none f)
-names_one bytes ps qs (no_more none) (complete pairs more s rest f this v n) = absurd (no_subsection bytes s rest none f)
-names_one bytes ps qs (no_more none) (faulty s rest f this p) = absurd (no_subsection bytes s rest none f)
-names_one bytes ps qs (other_id s rest f other n) (no_more none) = absurd (no_subsection bytes s rest none f)
-names_one bytes ps qs (other_id s rest f other n) (other_id t others g another m) =
-    names_one rest ps qs n (subst (λ (b : List ℕ). NamesIn b qs) (sym (one_subsection bytes s t rest others f g).1) m)
-names_one bytes ps qs (other_id s rest f other n) (complete pairs more t others g this v m) = absurd (not_other bytes s t rest others f g other this)
-names_one bytes ps qs (other_id s rest f other n) (faulty t others g this p) = absurd (not_other bytes s t rest others f g other this)
-names_one bytes ps qs (complete pairs more s rest f this v n) (no_more none) = absurd (no_subsection bytes s rest none f)
-names_one bytes ps qs (complete pairs more s rest f this v n) (other_id t others g other m) = absurd (not_other bytes t s others rest g f other this)
-names_one bytes ps qs (complete pairs more s rest f this v n) (complete pairs_2 more_2 t others g that w m) =
+names_one : (id : ℕ) (bytes : List ℕ) (ps qs : List GlobalNameValue) → NamesUnder id bytes ps → NamesUnder id bytes qs → ps ≡ qs
+names_one id bytes ps qs (no_more none) (no_more end) = refl
+names_one id bytes ps qs (no_more none) (other_id s rest f other n) = absurd (no_subsection bytes s rest none f)
+names_one id bytes ps qs (no_more none) (complete pairs more s rest f this v n) = absurd (no_subsection bytes s rest none f)
+names_one id bytes ps qs (no_more none) (faulty s rest f this p) = absurd (no_subsection bytes s rest none f)
+names_one id bytes ps qs (other_id s rest f other n) (no_more none) = absurd (no_subsection bytes s rest none f)
+names_one id bytes ps qs (other_id s rest f other n) (other_id t others g another m) =
+    names_one id rest ps qs n (subst (λ (b : List ℕ). NamesUnder id b qs) (sym (one_subsection bytes s t rest others f g).1) m)
+names_one id bytes ps qs (other_id s rest f other n) (complete pairs more t others g this v m) = absurd (not_other id bytes s t rest others f g other this)
+names_one id bytes ps qs (other_id s rest f other n) (faulty t others g this p) = absurd (not_other id bytes s t rest others f g other this)
+names_one id bytes ps qs (complete pairs more s rest f this v n) (no_more none) = absurd (no_subsection bytes s rest none f)
+names_one id bytes ps qs (complete pairs more s rest f this v n) (other_id t others g other m) = absurd (not_other id bytes t s others rest g f other this)
+names_one id bytes ps qs (complete pairs more s rest f this v n) (complete pairs_2 more_2 t others g that w m) =
     let o = one_subsection bytes s t rest others f g in
     let v_2 = subst (λ (x : SectionValue). SpellsVector SpellsGlobalName x.content pairs_2) (sym o.0) w in
     let front = one_value (SpellsVector SpellsGlobalName) (vector_at global_name_at) (vector_meets SpellsGlobalName global_name_at global_name_meets) s.content pairs pairs_2 v v_2 in
-    let back = names_one rest more more_2 n (subst (λ (b : List ℕ). NamesIn b more_2) (sym o.1) m) in
+    let back = names_one id rest more more_2 n (subst (λ (b : List ℕ). NamesUnder id b more_2) (sym o.1) m) in
     rw (front, back) refl
-names_one bytes ps qs (complete pairs more s rest f this v n) (faulty t others g that p) =
+names_one id bytes ps qs (complete pairs more s rest f this v n) (faulty t others g that p) =
     absurd (not_both s.content pairs qs v (subst (λ (x : SectionValue). PairsBeforeFault x.content qs) (sym (one_subsection bytes s t rest others f g).0) p))
-names_one bytes ps qs (faulty s rest f this p) (no_more none) = absurd (no_subsection bytes s rest none f)
-names_one bytes ps qs (faulty s rest f this p) (other_id t others g other m) = absurd (not_other bytes t s others rest g f other this)
-names_one bytes ps qs (faulty s rest f this p) (complete pairs more t others g that v m) =
+names_one id bytes ps qs (faulty s rest f this p) (no_more none) = absurd (no_subsection bytes s rest none f)
+names_one id bytes ps qs (faulty s rest f this p) (other_id t others g other m) = absurd (not_other id bytes t s others rest g f other this)
+names_one id bytes ps qs (faulty s rest f this p) (complete pairs more t others g that v m) =
     absurd (not_both s.content pairs ps (subst (λ (x : SectionValue). SpellsVector SpellsGlobalName x.content pairs) (sym (one_subsection bytes s t rest others f g).0) v) p)
-names_one bytes ps qs (faulty s rest f this p) (faulty t others g that q) =
+names_one id bytes ps qs (faulty s rest f this p) (faulty t others g that q) =
     pairs_one s.content ps qs p (subst (λ (x : SectionValue). PairsBeforeFault x.content qs) (sym (one_subsection bytes s t rest others f g).0) q)
 
 -- the pairs of sections
 
-section_one : (s : SectionValue) (ps qs : List GlobalNameValue) → NamesOfSection s ps → NamesOfSection s qs → ps ≡ qs
-section_one s ps qs (name_section bytes c n) (name_section others d m) =
-    names_one bytes ps qs n (subst (λ (b : List ℕ). NamesIn b qs) (after_one name_text s others bytes d c) m)
-section_one s ps qs (name_section bytes c n) (other_section none) = absurd (none bytes c)
-section_one s ps qs (other_section none) (name_section bytes c n) = absurd (none bytes c)
-section_one s ps qs (other_section none) (other_section other) = refl
+section_one : (id : ℕ) (s : SectionValue) (ps qs : List GlobalNameValue) → SectionNamesUnder id s ps → SectionNamesUnder id s qs → ps ≡ qs
+section_one id s ps qs (name_section bytes c n) (name_section others d m) =
+    names_one id bytes ps qs n (subst (λ (b : List ℕ). NamesUnder id b qs) (after_one name_text s others bytes d c) m)
+section_one id s ps qs (name_section bytes c n) (other_section none) = absurd (none bytes c)
+section_one id s ps qs (other_section none) (name_section bytes c n) = absurd (none bytes c)
+section_one id s ps qs (other_section none) (other_section other) = refl
 
-pub names_unique : (sections : List SectionValue) (ps qs : List GlobalNameValue) → NamesOf sections ps → NamesOf sections qs → ps ≡ qs
-names_unique [] ps qs n m = n ∙ sym m
-names_unique (s ∷ sections) ps qs n m =
-    let these = section_one s n.0 m.0 n.3 m.3 in
-    let others = names_unique sections n.1 m.1 n.4 m.4 in
+pub names_unique : (id : ℕ) (sections : List SectionValue) (ps qs : List GlobalNameValue) → AllNamesUnder id sections ps → AllNamesUnder id sections qs → ps ≡ qs
+names_unique id [] ps qs n m = n ∙ sym m
+names_unique id (s ∷ sections) ps qs n m =
+    let these = section_one id s n.0 m.0 n.3 m.3 in
+    let others = names_unique id sections n.1 m.1 n.4 m.4 in
     n.2 ∙ rw (these, others) refl ∙ sym m.2

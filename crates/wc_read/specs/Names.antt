@@ -1,5 +1,5 @@
--- Names of globals: the name section (WebAssembly core specification, 7.4.1), with the subsection of global names
--- (extended name section proposal). A fault in it refuses nothing: it ends the names of that section.
+-- Names of functions and of globals: the name section (WebAssembly core specification, 7.4.1), with the subsection of
+-- global names (extended name section proposal). A fault in it refuses nothing: it ends the names of that section.
 use Rattle.std.specs.Prelude.{◌≡◌, ◌≢◌, ℕ, ◌<◌, List, [], ◌∷◌, ◌++◌, length, map, nat_eq}
 use denote.Ref.{Bor}
 use Rattle.indexmap.specs.IndexMap.{insert_all}
@@ -12,7 +12,7 @@ use Rattle.wc_read.specs.Custom.{IsCustomSection}
 abbrev pub name_text : List ℕ
 name_text = 0x6e ∷ 0x61 ∷ 0x6d ∷ 0x65 ∷ []
 
--- a global's index and its name
+-- the index of a global, or of a function, and its name
 abbrev pub GlobalNameValue : Type 0
 GlobalNameValue = ℕ × List ℕ
 
@@ -34,7 +34,10 @@ pub data PairsBeforeFault : List ℕ → List GlobalNameValue → Type 0 where
   bytes_after : {bytes : List ℕ} {pairs : List GlobalNameValue} (rest : List ℕ) → PairsThenRest bytes (length pairs) pairs rest → rest ≢ [] → PairsBeforeFault bytes pairs
   pair_missing : {bytes : List ℕ} {pairs : List GlobalNameValue} (n : ℕ) (rest : List ℕ) → PairsThenRest bytes n pairs rest → length pairs < n → HasNoPrefix SpellsGlobalName rest → PairsBeforeFault bytes pairs
 
--- a subsection is spelled as a section is; this is the id of global names
+-- a subsection is spelled as a section is; these are the ids of names of functions and of globals
+abbrev pub function_names_id : ℕ
+function_names_id = 1
+
 abbrev pub global_names_id : ℕ
 global_names_id = 7
 
@@ -45,23 +48,27 @@ pub record Subsection (bytes : List ℕ) (s : SectionValue) (rest : List ℕ) : 
   pub spelled : SpellsSection text s
 
 -- the pairs that a name section's bytes after its name give: none where no subsection is at the front, as where nothing
--- is left; a subsection of another id gives none, whatever it holds; one of global names gives its pairs, and the rest
--- gives more; where it is faulty, it gives the pairs before the fault, and the rest gives none
-pub data NamesIn : List ℕ → List GlobalNameValue → Type 0 where
-  no_more : {bytes : List ℕ} → HasNoPrefix SpellsSection bytes → NamesIn bytes []
-  other_id : {bytes : List ℕ} {pairs : List GlobalNameValue} (s : SectionValue) (rest : List ℕ) → Subsection bytes s rest → s.id ≢ global_names_id → NamesIn rest pairs → NamesIn bytes pairs
-  complete : {bytes : List ℕ} (pairs others : List GlobalNameValue) (s : SectionValue) (rest : List ℕ) → Subsection bytes s rest → s.id ≡ global_names_id → SpellsVector SpellsGlobalName s.content pairs → NamesIn rest others → NamesIn bytes (pairs ++ others)
-  faulty : {bytes : List ℕ} {pairs : List GlobalNameValue} (s : SectionValue) (rest : List ℕ) → Subsection bytes s rest → s.id ≡ global_names_id → PairsBeforeFault s.content pairs → NamesIn bytes pairs
+-- is left; a subsection of another id gives none, whatever it holds; one of this id gives its pairs, and the rest gives
+-- more; where it is faulty, it gives the pairs before the fault, and the rest gives none
+pub data NamesUnder : ℕ → List ℕ → List GlobalNameValue → Type 0 where
+  no_more : {id : ℕ} {bytes : List ℕ} → HasNoPrefix SpellsSection bytes → NamesUnder id bytes []
+  other_id : {id : ℕ} {bytes : List ℕ} {pairs : List GlobalNameValue} (s : SectionValue) (rest : List ℕ) → Subsection bytes s rest → s.id ≢ id → NamesUnder id rest pairs → NamesUnder id bytes pairs
+  complete : {id : ℕ} {bytes : List ℕ} (pairs others : List GlobalNameValue) (s : SectionValue) (rest : List ℕ) → Subsection bytes s rest → s.id ≡ id → SpellsVector SpellsGlobalName s.content pairs → NamesUnder id rest others → NamesUnder id bytes (pairs ++ others)
+  faulty : {id : ℕ} {bytes : List ℕ} {pairs : List GlobalNameValue} (s : SectionValue) (rest : List ℕ) → Subsection bytes s rest → s.id ≡ id → PairsBeforeFault s.content pairs → NamesUnder id bytes pairs
 
 -- the pairs that one section gives: those of a name section, and none of any other
-pub data NamesOfSection : SectionValue → List GlobalNameValue → Type 0 where
-  name_section : {s : SectionValue} {pairs : List GlobalNameValue} (rest : List ℕ) → IsCustomSection name_text s rest → NamesIn rest pairs → NamesOfSection s pairs
-  other_section : {s : SectionValue} → ((rest : List ℕ) → IsCustomSection name_text s rest → ⊥) → NamesOfSection s []
+pub data SectionNamesUnder : ℕ → SectionValue → List GlobalNameValue → Type 0 where
+  name_section : {id : ℕ} {s : SectionValue} {pairs : List GlobalNameValue} (rest : List ℕ) → IsCustomSection name_text s rest → NamesUnder id rest pairs → SectionNamesUnder id s pairs
+  other_section : {id : ℕ} {s : SectionValue} → ((rest : List ℕ) → IsCustomSection name_text s rest → ⊥) → SectionNamesUnder id s []
 
 -- the pairs of all sections, in order
+abbrev pub AllNamesUnder : ℕ → List SectionValue → List GlobalNameValue → Type 0
+AllNamesUnder id [] pairs = pairs ≡ []
+AllNamesUnder id (s ∷ sections) pairs = (these others : List GlobalNameValue) × (pairs ≡ these ++ others) × SectionNamesUnder id s these × AllNamesUnder id sections others
+
+-- those of globals
 abbrev pub NamesOf : List SectionValue → List GlobalNameValue → Type 0
-NamesOf [] pairs = pairs ≡ []
-NamesOf (s ∷ sections) pairs = (these others : List GlobalNameValue) × (pairs ≡ these ++ others) × NamesOfSection s these × NamesOf sections others
+NamesOf sections pairs = AllNamesUnder global_names_id sections pairs
 
 -- the map of the pairs: indices by their first positions, each with its last name
 abbrev pub global_names_of : List GlobalNameValue → List GlobalNameValue

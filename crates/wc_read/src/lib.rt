@@ -31,7 +31,7 @@
 //! }
 //! ```
 //!
-//! This function is proved in `wc_tests`, as `examples::read::exports_memory`.
+//! This function is proved in `wc_example_rows`, as `examples::read::exports_memory`.
 #![tactic(auto)]
 
 mod blocks;
@@ -82,6 +82,7 @@ pub use imports::read_imports;
 pub use inits::{Init, read_init};
 pub use items::{Def, Func, Global, Item, Memory, Table};
 pub use modules::read_module;
+pub use names::function_names;
 pub use operators::{
     BlockType, Form, Immediates, Index, IndexKind, Instr, MemArg, Opcode, Refs, Space, form_of,
 };

@@ -1,21 +1,26 @@
-//! Names of globals, out of name sections.
+//! Names of functions and of globals, out of name sections.
 
-ghost use Rattle.std.specs.Prelude.{◌≡◌, IfOk, IfErr};
-ghost use Rattle.wc_read.specs.Names.{GlobalNameValue, NamesIn, NamesOf, name_entries};
-ghost use Rattle.wc_read.specs.Reading.Names.{global_name_value, global_name_at, PairsOf, AreGlobalNames, named_pairs};
-ghost use Rattle.wc_read.specs.Sections.{section_values};
+ghost use Rattle.std.specs.Prelude.{◌≡◌, ◌↔◌, IfOk, IfErr, IsErrOf};
+ghost use Rattle.wc_read.specs.Faults.{IfRefused, SpellsNothing};
+ghost use Rattle.wc_read.specs.Names.{GlobalNameValue, NamesUnder, AllNamesUnder, name_entries};
+ghost use Rattle.wc_read.specs.Reading.Names.{global_name_value, global_name_at, PairsOf, AreNamesUnder, AreGlobalNames, AreFunctionNames, named_pairs};
+ghost use Rattle.wc_read.specs.Sections.{section_values, SpellsFrames, IsComponent};
 
 use crate::custom::content_after_name;
 use crate::fault::ReadFault;
+use crate::framing::frames;
 use crate::reader::{Reader, Spelled};
 use crate::sections::Section;
 use std::alloc::Global;
 use wc_maps::OrderedMap;
 
+/// The subsection of names of functions.
+const FUNCTION_NAMES: u8 = 1;
+
 /// The subsection of global names.
 const GLOBAL_NAMES: u8 = 7;
 
-/// A global's index and its name.
+/// The index of a global, or of a function, and its name.
 #[derive(Clone, Copy)]
 struct GlobalName<'a> {
     index: u32,
@@ -57,7 +62,44 @@ pub fn global_names<'a>(
         (name_entries m)) }
     ensures memory { IfErr result (λ e. e ≡ ReadFault.Memory) }
 {
-    let pairs = all_pairs(alloc, sections)?;
+    names_under(alloc, sections, GLOBAL_NAMES)
+}
+
+/// The names of a module's functions by their indices, as the subsections of function names give them (WebAssembly core
+/// specification, 7.4.1): of the functions that have one there. Indices are in the order of their first pairs; of
+/// several names for one index the last is. An index may be past the last function.
+///
+/// A fault in a name section refuses nothing. It ends the names of its section; pairs before it stay. Of other
+/// sections nothing is read but their sizes.
+///
+/// # Errors
+///
+/// - `Component`: the bytes begin with the header of a component.
+/// - `NotWasm`: the bytes begin with the header of neither a module nor a component.
+/// - `Truncated`: the bytes end inside a section.
+/// - `BadNumber`: the size of a section is not a u32 in LEB128.
+/// - `Memory`: an allocation failed.
+pub fn function_names(alloc: Global, bytes: &[u8]) -> Result<OrderedMap<u32, &str>, ReadFault>
+    ensures found { IfOk result (λ m. AreFunctionNames bytes.now (name_entries m)) }
+    // Unless memory runs out, there are names of all bytes that spell sections.
+    ensures refused { IfRefused result (SpellsNothing SpellsFrames bytes.now) }
+    ensures component { IsErrOf result ReadFault.Component ↔ IsComponent bytes.now }
+{
+    let frames = frames(alloc, bytes)?;
+    names_under(alloc, &frames.sections, FUNCTION_NAMES)
+}
+
+/// The names that subsections of this id give.
+fn names_under<'a>(
+    alloc: Global,
+    sections: &[Section<'a>],
+    id: u8,
+) -> Result<OrderedMap<u32, &'a str>, ReadFault>
+    ensures found { IfOk result (λ m. AreNamesUnder id (section_values sections.now)
+        (name_entries m)) }
+    ensures memory { IfErr result (λ e. e ≡ ReadFault.Memory) }
+{
+    let pairs = all_pairs(alloc, sections, id)?;
     let mut names = OrderedMap::new(alloc);
     for pair in &pairs {
         names.insert(pair.index, pair.name)?;
@@ -66,15 +108,19 @@ pub fn global_names<'a>(
 }
 
 /// The pairs of all sections, in order.
-fn all_pairs<'a>(alloc: Global, sections: &[Section<'a>]) -> Result<Vec<GlobalName<'a>>, ReadFault>
+fn all_pairs<'a>(
+    alloc: Global,
+    sections: &[Section<'a>],
+    id: u8,
+) -> Result<Vec<GlobalName<'a>>, ReadFault>
     ensures found { IfOk result
-        (λ v. NamesOf (section_values sections.now) (named_pairs v.items)) }
+        (λ v. AllNamesUnder id (section_values sections.now) (named_pairs v.items)) }
     ensures memory { IfErr result (λ e. e ≡ ReadFault.Memory) }
 {
     let mut all = Vec::new(alloc);
     for section in sections {
         if let Some(bytes) = content_after_name(alloc, section, "name")? {
-            let pairs = section_pairs(alloc, bytes)?;
+            let pairs = section_pairs(alloc, bytes, id)?;
             all.extend_from_slice(&pairs)?;
         }
     }
@@ -82,8 +128,8 @@ fn all_pairs<'a>(alloc: Global, sections: &[Section<'a>]) -> Result<Vec<GlobalNa
 }
 
 /// The pairs of a name section, of which `bytes` are after its name.
-fn section_pairs(alloc: Global, bytes: &[u8]) -> Result<Vec<GlobalName<'_>>, ReadFault>
-    ensures found { IfOk result (λ v. NamesIn bytes.now (named_pairs v.items)) }
+fn section_pairs(alloc: Global, bytes: &[u8], id: u8) -> Result<Vec<GlobalName<'_>>, ReadFault>
+    ensures found { IfOk result (λ v. NamesUnder id bytes.now (named_pairs v.items)) }
     ensures memory { IfErr result (λ e. e ≡ ReadFault.Memory) }
 {
     let mut reader = Reader::new(bytes);
@@ -92,7 +138,7 @@ fn section_pairs(alloc: Global, bytes: &[u8]) -> Result<Vec<GlobalName<'_>>, Rea
         let Some(subsection) = reader.find::<Section>(alloc)? else {
             return Ok(all);
         };
-        if subsection.id == GLOBAL_NAMES {
+        if subsection.id == id {
             let pairs = subsection_pairs(alloc, subsection.content)?;
             all.extend_from_slice(&pairs.names)?;
             if !pairs.complete {
@@ -102,7 +148,7 @@ fn section_pairs(alloc: Global, bytes: &[u8]) -> Result<Vec<GlobalName<'_>>, Rea
     }
 }
 
-/// The pairs of a subsection of global names.
+/// The pairs of a subsection of names.
 fn subsection_pairs(alloc: Global, content: &[u8]) -> Result<Pairs<'_>, ReadFault>
     ensures found { IfOk result (λ p. PairsOf content.now p.complete (named_pairs p.names.items)) }
     ensures memory { IfErr result (λ e. e ≡ ReadFault.Memory) }

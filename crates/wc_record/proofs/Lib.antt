@@ -1,3 +1,4 @@
 pub mod ShapeLemmas
 pub mod UsedLemmas
 pub mod LibraryRoundTripLemmas
+pub mod ChainLemmas

@@ -4,7 +4,7 @@ use Rattle.std.specs.Prelude.{⊤}
 use Rattle.json.specs.Json.{Json, boolean, document}
 use Rattle.json.specs.Strict.{HasUniqueKeys}
 use Rattle.json.proofs.Printed.Trees.{document-print}
-use Rattle.wc_encoder.specs.Adapters.{WhichView, main_module, adapter_of, LibraryItemView, InstanceView, module_instance, item_instance, LibraryView}
+use Rattle.wc_adapters.specs.Adapters.{WhichView, main_module, adapter_of, LibraryItemView, InstanceView, module_instance, item_instance, LibraryView}
 use Rattle.wc_json.specs.Faults.{Reading}
 use Rattle.wc_json.specs.FromJson.{list}
 use Rattle.wc_json.specs.Libraries.{argument, export_kind, instance, library, library_item, which}

@@ -32,6 +32,20 @@ field_then {a} {b} {c} {name} {j} {fs} p q = record {
   tokens = q.tokens ∙ ap (λ ts. ts ++ fields_tokens fs) p.tokens ∙ append_assoc a.tokens (key name ∷ json_tokens j) (fields_tokens fs);
 }
 
+-- members before others
+fields_tokens-append : (fs gs : List Field) → fields_tokens (fs ++ gs) ≡ fields_tokens fs ++ fields_tokens gs
+fields_tokens-append [] gs = refl
+fields_tokens-append (f ∷ fs) gs =
+    ap (λ ts. (key f.0 ∷ json_tokens f.1) ++ ts) (fields_tokens-append fs gs)
+    ∙ sym (append_assoc (key f.0 ∷ json_tokens f.1) (fields_tokens fs) (fields_tokens gs))
+
+pub fields_then : {a b c : Written} {fs gs : List Field} → PutsFields a b fs → PutsFields b c gs → PutsFields a c (fs ++ gs)
+fields_then {a} {b} {c} {fs} {gs} p q = record {
+  before = q.before ∙ p.before;
+  tokens = q.tokens ∙ ap (λ ts. ts ++ fields_tokens gs) p.tokens ∙ append_assoc a.tokens (fields_tokens fs) (fields_tokens gs)
+      ∙ ap (λ ts. a.tokens ++ ts) (sym (fields_tokens-append fs gs));
+}
+
 -- an object, by the bracket that opens it, its members, and the bracket that closes it
 pub object_written : {E : Type 0} {a b c : Written} {fs : List Field} (d : Written) (r : Result (Unit {0}) E) → Puts a b (begin_object ∷ [])
     → PutsFields b c fs → OnOk r (Puts c d (end_object ∷ [])) → OnOk r (PutsJson a d (object_of fs))

@@ -6,7 +6,7 @@ use Rattle.wc_names.specs.declared.async_values.AsyncValue.{AsyncValue}
 use Rattle.wc_names.specs.declared.async_values.AsyncValue.TheVariants.{Future, Stream}
 use Rattle.wc_names.specs.declared.async_values.Operation.{Operation}
 use Rattle.wc_names.specs.declared.async_values.Operation.TheVariants.{New, Write, Read, CancelWrite, CancelRead, Forward, DropWritable, DropReadable}
-use Rattle.wc_encoder.specs.declared.encoding.StringEncoding.{StringEncoding}
+use Rattle.wc_adapters.specs.declared.encoding.StringEncoding.{StringEncoding}
 use Rattle.wc_read.specs.declared.types.ValType.{ValType}
 use Rattle.wc_resolve.specs.Views.{KeyView}
 use Rattle.wc_resolve.specs.declared.functions.AbiVariant.{AbiVariant}

@@ -2,7 +2,7 @@
 use Rattle.std.specs.Prelude.{◌≡◌, ℕ, List, Ok, IsSomeAnd}
 use Rattle.json.specs.Json.{document}
 use Rattle.json.specs.Strict.{HasUniqueKeys}
-use Rattle.wc_encoder.specs.Adapters.{InstanceView, LibraryItemView, LibraryView, WhichView}
+use Rattle.wc_adapters.specs.Adapters.{InstanceView, LibraryItemView, LibraryView, WhichView}
 use Rattle.wc_json.specs.Libraries.{argument, export_kind, instance, library, library_item, which}
 use Rattle.wc_read.specs.declared.exports.ExportKind.{ExportKind}
 use Rattle.wc_record.specs.CoreTypes.{export_kind_json}

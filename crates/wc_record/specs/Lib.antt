@@ -1,3 +1,4 @@
+pub mod Chains
 pub mod CoreTypes
 pub mod Exports
 pub mod Imports

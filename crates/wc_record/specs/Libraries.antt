@@ -1,7 +1,7 @@
 -- How libraries are instantiated, as JSON.
 use Rattle.std.specs.Prelude.{ℕ, List, [], ◌∷◌, map, codes}
 use Rattle.json.specs.Json.{Json, boolean, string}
-use Rattle.wc_encoder.specs.Adapters.{WhichView, main_module, adapter_of, LibraryItemView, InstanceView, module_instance, item_instance, LibraryView}
+use Rattle.wc_adapters.specs.Adapters.{WhichView, main_module, adapter_of, LibraryItemView, InstanceView, module_instance, item_instance, LibraryView}
 use Rattle.wc_record.specs.CoreTypes.{export_kind_json}
 use Rattle.wc_json.specs.Shapes.{array_of, object_of}
 use Rattle.wc_record.specs.Shapes.{object_of_kind}

@@ -1,8 +1,8 @@
 -- Keys of worlds, ways to call functions, and core signatures as JSON.
 use Rattle.std.specs.Prelude.{ℕ, List, [], ◌∷◌, map, codes}
 use Rattle.json.specs.Json.{Json, boolean, string}
-use Rattle.wc_encoder.specs.declared.encoding.StringEncoding.{StringEncoding}
-use Rattle.wc_encoder.specs.declared.encoding.StringEncoding.TheVariants.{UTF8, UTF16, CompactUTF16}
+use Rattle.wc_adapters.specs.declared.encoding.StringEncoding.{StringEncoding}
+use Rattle.wc_adapters.specs.declared.encoding.StringEncoding.TheVariants.{UTF8, UTF16, CompactUTF16}
 use Rattle.wc_resolve.specs.Signatures.{SignatureView}
 use Rattle.wc_resolve.specs.Views.{KeyView, plain_key, interface_key}
 use Rattle.wc_resolve.specs.declared.flat.WasmType.{WasmType}

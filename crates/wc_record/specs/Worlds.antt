@@ -1,5 +1,5 @@
 -- A component's world as JSON.
-use Rattle.std.specs.Prelude.{ℕ, List, [], ◌∷◌, map, length, filter, Option, Bool, codes}
+use Rattle.std.specs.Prelude.{ℕ, List, [], ◌∷◌, ◌++◌, map, length, filter, Option, Bool, codes}
 use Rattle.std.specs.List.{filter_map}
 use Rattle.std.specs.Option.{option_map}
 use Rattle.json.specs.Json.{Json, string}
@@ -7,11 +7,13 @@ use Rattle.wc_dedupe.specs.Dedupe.{renames_in}
 use Rattle.wc_dedupe.specs.Renaming.{RenameValue}
 use Rattle.wc_encoder.specs.Distinct.{exported_interfaces}
 use Rattle.wc_encoder.specs.EncoderParts.{world_exports}
+use Rattle.wc_uses.specs.Views.{UseView}
 use Rattle.wc_world.specs.Used.{UsedView}
 use Rattle.wc_world.specs.Views.{ComponentWorldView, ImportedView, LoweringKey, LoweringView, NamedWorldAdapter, direct, indirect, resource_drop}
 use Rattle.wc_record.specs.Libraries.{library_json}
 use Rattle.wc_record.specs.Modules.{module_json}
-use Rattle.wc_json.specs.Shapes.{array_of, nullable_json, number_json, object_of}
+use Rattle.wc_record.specs.Plans.{plan_json}
+use Rattle.wc_json.specs.Shapes.{Field, array_of, nullable_json, number_json, object_of}
 use Rattle.wc_record.specs.Shapes.{object_of_kind}
 use Rattle.wc_record.specs.Wit.{abi_json, signature_json}
 
@@ -64,11 +66,16 @@ used_interfaces exported used = filter_map (used_interface exported used) export
 abbrev pub used_interface_json : UsedInterface → Json
 used_interface_json e = object_of ((codes "interface", number_json e.0) ∷ (codes "uses", array_of (map number_json e.1)) ∷ [])
 
-abbrev pub world_json : ComponentWorldView → Json
-world_json w =
-    object_of (
+abbrev pub world_members : ComponentWorldView → List Field
+world_members w =
     (codes "info", module_json w.info) ∷ (codes "renames", array_of (map rename_json (renames_in w.encoder.module_import_map)))
     ∷ (codes "adapters", array_of (map adapter_entry_json w.adapters)) ∷ (codes "import_map", array_of (map imported_entry_json w.import_map))
     ∷ (codes "live_type_imports", array_of (map live_entry_json w.live_type_imports))
     ∷ (codes "exports_used", array_of (map used_interface_json (used_interfaces (exported_interfaces (world_exports w.encoder)) w.exports_used))) ∷ []
-    )
+
+abbrev pub world_json : ComponentWorldView → Json
+world_json w = object_of (world_members w)
+
+-- the same, and its plan as one member more
+abbrev pub planned_world_json : ComponentWorldView → List UseView → Json
+planned_world_json w uses = object_of (world_members w ++ (codes "plan", plan_json uses) ∷ [])

@@ -6,6 +6,7 @@
 //! Ids are indices, as in the JSON that worlds are read from (`wc_json`).
 #![tactic(auto)]
 
+mod chains;
 mod core_types;
 mod exports;
 mod imports;
@@ -21,6 +22,7 @@ mod used;
 mod wit;
 mod worlds;
 
+pub use chains::import_chains_to_json;
 pub use places::{part_to_json, trim_place_to_json, world_place_to_json};
 pub use plans::plan_to_json;
-pub use worlds::world_to_json;
+pub use worlds::{planned_world_to_json, world_to_json};

@@ -7,7 +7,7 @@ use std::alloc::AllocError;
 use wc_encoder::{Instance, Item, LibraryInfo, MainOrAdapter};
 
 impl ToJson for MainOrAdapter {
-    ghost use Rattle.wc_encoder.specs.Adapters.{WhichView, which_view};
+    ghost use Rattle.wc_adapters.specs.Adapters.{WhichView, which_view};
     ghost use Rattle.wc_record.specs.Libraries.{which_json};
 
     ghost View = { WhichView };
@@ -25,7 +25,7 @@ impl ToJson for MainOrAdapter {
 }
 
 impl ToJson for Item {
-    ghost use Rattle.wc_encoder.specs.Adapters.{LibraryItemView, library_item_view};
+    ghost use Rattle.wc_adapters.specs.Adapters.{LibraryItemView, library_item_view};
     ghost use Rattle.wc_record.specs.Libraries.{library_item_json};
 
     ghost View = { LibraryItemView };
@@ -45,7 +45,7 @@ impl ToJson for Item {
 }
 
 impl ToJson for Instance {
-    ghost use Rattle.wc_encoder.specs.Adapters.{InstanceView, instance_view};
+    ghost use Rattle.wc_adapters.specs.Adapters.{InstanceView, instance_view};
     ghost use Rattle.wc_record.specs.Libraries.{instance_json};
 
     ghost View = { InstanceView };
@@ -65,7 +65,7 @@ impl ToJson for Instance {
 /// What a library gets under the name of a module.
 impl ToJson for (String, Instance) {
     ghost use Rattle.std.specs.Prelude.{List, ℕ};
-    ghost use Rattle.wc_encoder.specs.Adapters.{InstanceView, argument_view};
+    ghost use Rattle.wc_adapters.specs.Adapters.{InstanceView, argument_view};
     ghost use Rattle.wc_record.specs.Libraries.{argument_json};
 
     ghost View = { List ℕ × InstanceView };
@@ -83,7 +83,7 @@ impl ToJson for (String, Instance) {
 }
 
 impl<'a> ToJson for &'a LibraryInfo {
-    ghost use Rattle.wc_encoder.specs.Adapters.{LibraryView, library_view};
+    ghost use Rattle.wc_adapters.specs.Adapters.{LibraryView, library_view};
     ghost use Rattle.wc_record.specs.Libraries.{library_json};
 
     ghost View = { LibraryView };

@@ -4,7 +4,7 @@ ghost use Rattle.std.specs.Prelude.{◌≡◌, ◌∷◌, ◌++◌, [], IfOk, On
 ghost use Rattle.std.specs.List.{cons_option};
 ghost use Rattle.wc_encoder.specs.Distinct.{exported_interfaces, item_interface};
 ghost use Rattle.wc_encoder.specs.EncoderParts.{world_exports};
-ghost use Rattle.wc_encoder.specs.Entries.{entries_of};
+ghost use Rattle.wc_adapters.specs.Entries.{entries_of};
 ghost use Rattle.wc_resolve.specs.Dependencies.{interface_ids};
 ghost use Rattle.wc_resolve.specs.Views.{item_view};
 ghost use Rattle.wc_world.specs.Used.{has_interface, used_view};

@@ -160,7 +160,7 @@ fn encoding_text(encoding: StringEncoding) -> &'static str
 }
 
 impl ToJson for StringEncoding {
-    ghost use Rattle.wc_encoder.specs.declared.encoding.StringEncoding.{StringEncoding as string_encoding};
+    ghost use Rattle.wc_adapters.specs.declared.encoding.StringEncoding.{StringEncoding as string_encoding};
     ghost use Rattle.wc_record.specs.Wit.{encoding_json};
 
     ghost View = { string_encoding };

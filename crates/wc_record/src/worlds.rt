@@ -6,13 +6,14 @@ ghost use Rattle.std.specs.Str.{IsUtf8};
 ghost use Rattle.wc_dedupe.specs.Dedupe.{renames_in};
 ghost use Rattle.wc_json.specs.Shapes.{array_of};
 ghost use Rattle.wc_record.specs.Shapes.{PutsField};
-ghost use Rattle.wc_record.specs.Texts.{world_text};
+ghost use Rattle.wc_record.specs.Texts.{planned_world_text, world_text};
 ghost use Rattle.wc_record.specs.Worlds.{rename_json};
 ghost use Rattle.wc_resolve.specs.Signatures.{signature_view};
 ghost use Rattle.wc_world.specs.Views.{indirect};
 ghost use Rattle.wc_world.specs.WorldViews.{world_view};
-ghost use Rattle.wc_record.specs.Worlds.{lowering_json, world_json};
-ghost use Rattle.wc_record.specs.Shapes.{PutsJson};
+ghost use Rattle.wc_record.specs.Worlds.{lowering_json, planned_world_json, world_json, world_members};
+ghost use Rattle.wc_record.specs.Shapes.{PutsFields, PutsJson};
+ghost use Rattle.wc_uses.specs.PlanViews.{plan_view};
 
 use crate::maps::EntryToJson;
 use crate::objects::{
@@ -26,6 +27,7 @@ use json::Writer;
 use std::alloc::{AllocError, Global};
 use wc_dedupe::{ModuleImportMap, Rename};
 use wc_resolve::{AbiVariant, InterfaceId, TypeId, WasmSignature};
+use wc_uses::Plan;
 use wc_world::{ComponentWorld, ImportedInterface, Lowering, RequiredOptions, WorldAdapter};
 
 impl ToJson for Rename {
@@ -199,18 +201,46 @@ impl EntryToJson<InterfaceId> for IndexSet<TypeId> {
     }
 }
 
-/// Writes a component's world.
-fn put_world(alloc: Global, out: &mut Writer, world: &ComponentWorld<'_>) -> Result<(), AllocError>
-    ensures { OnOk result (PutsJson out.old out.new (world_json (world_view world.now))) }
+/// Writes the members of a component's world.
+fn put_members(
+    alloc: Global,
+    out: &mut Writer,
+    world: &ComponentWorld<'_>,
+) -> Result<(), AllocError>
+    ensures { OnOk result (PutsFields out.old out.new (world_members (world_view world.now))) }
 {
     let used = used_interfaces(alloc, world.encoder, &world.exports_used)?;
-    begin_object(out)?;
     put_member(out, "info", &world.info)?;
     put_renames(out, world.encoder.module_import_map())?;
     put_member(out, "adapters", &world.adapters)?;
     put_member(out, "import_map", &world.import_map)?;
     put_member(out, "live_type_imports", &world.live_type_imports)?;
     put_member(out, "exports_used", &used)?;
+    Ok(())
+}
+
+/// Writes a component's world.
+fn put_world(alloc: Global, out: &mut Writer, world: &ComponentWorld<'_>) -> Result<(), AllocError>
+    ensures { OnOk result (PutsJson out.old out.new (world_json (world_view world.now))) }
+{
+    begin_object(out)?;
+    put_members(alloc, out, world)?;
+    end_object(out)
+}
+
+/// Writes a component's world with its plan.
+fn put_planned_world(
+    alloc: Global,
+    out: &mut Writer,
+    world: &ComponentWorld<'_>,
+    plan: &Plan,
+) -> Result<(), AllocError>
+    ensures { OnOk result (PutsJson out.old out.new
+        (planned_world_json (world_view world.now) (plan_view plan.now))) }
+{
+    begin_object(out)?;
+    put_members(alloc, out, world)?;
+    put_member(out, "plan", &plan.uses)?;
     end_object(out)
 }
 
@@ -235,5 +265,25 @@ pub fn world_to_json(alloc: Global, world: &ComponentWorld<'_>) -> Result<Vec<u8
 {
     let mut out = Writer::new(Vec::new(alloc));
     put_world(alloc, &mut out, world)?;
+    Ok(out.into_inner())
+}
+
+/// A component's world and its plan as JSON: the object of `world_to_json` with one member more, which is the last:
+/// `plan`, the list of `plan_to_json`.
+///
+/// # Errors
+///
+/// `AllocError`: an allocation failed.
+pub fn planned_world_to_json(
+    alloc: Global,
+    world: &ComponentWorld<'_>,
+    plan: &Plan,
+) -> Result<Vec<u8>, AllocError>
+    ensures text { IfOk result (λ bytes. bytes.items
+        ≡ planned_world_text (world_view world.now) (plan_view plan.now)) }
+    ensures utf8 { IfOk result (λ bytes. IsUtf8 bytes.items) }
+{
+    let mut out = Writer::new(Vec::new(alloc));
+    put_planned_world(alloc, &mut out, world, plan)?;
     Ok(out.into_inner())
 }

@@ -1,14 +1,14 @@
 //! Calls of `wc_dedupe`, and of it with the reader: what was renamed is read.
 
-use crate::imports::{imports_of, is_import};
-use crate::input::bytes_of;
-use crate::lines::Lines;
 use crate::read_calls::answer_module;
-use crate::rows::Row;
-use crate::values::{put_bytes_lines, put_fault, put_import};
 use std::alloc::Global;
 use std::borrow::CowSlice;
 use wc_dedupe::{DedupeFault, ModuleImportMap};
+use wc_lines::imports::{imports_of, is_import};
+use wc_lines::input::bytes_of;
+use wc_lines::lines::Lines;
+use wc_lines::rows::Row;
+use wc_lines::values::{put_bytes_lines, put_fault, put_import};
 use wc_read::{Import, Section, frames, read_imports};
 use wc_write::append_import_section;
 

@@ -1,11 +1,11 @@
 //! The texts of faults: whether `Display` writes the text that is proved of `Printable`.
 
-use crate::lines::Lines;
-use crate::values::put_bytes_lines;
 use std::alloc::Global;
 use std::fmt::Display;
 use wc_dedupe::DedupeFault;
 use wc_gc::GcFault;
+use wc_lines::lines::Lines;
+use wc_lines::values::put_bytes_lines;
 use wc_program::Printable;
 use wc_read::ReadFault;
 use wc_write::{PutFailed, WriteFault, WriterSink};

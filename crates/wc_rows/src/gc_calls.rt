@@ -2,13 +2,13 @@
 
 ghost use Rattle.std.specs.Prelude.{IfSome, ◌≤◌};
 
-use crate::input::{bad_row, bytes_of};
-use crate::lines::Lines;
-use crate::rows::Row;
-use crate::seeds::row_seed;
-use crate::values::{put_bytes_lines, put_fault, put_place};
-use std::alloc::{AllocError, Global};
+use std::alloc::Global;
 use wc_gc::{GcFault, LiveSet, Liveness, RangeSet, explain, liveness_counted, run};
+use wc_lines::input::{bad_row, bytes_of};
+use wc_lines::lines::Lines;
+use wc_lines::names::names_from;
+use wc_lines::rows::Row;
+use wc_lines::values::{put_bytes_lines, put_fault, put_place};
 use wc_maps::Set;
 
 /// The calls on bytes and names.
@@ -58,21 +58,6 @@ fn first_name(call: Call) -> usize {
         Call::TrimFor => 2,
         _ => 0,
     }
-}
-
-/// The arguments of a row from one on, as names.
-pub fn names_from(alloc: Global, row: &Row<'_>, first: usize) -> Result<Set<String>, AllocError> {
-    let mut names = Set::with_hasher(alloc, row_seed());
-    for name in row.arguments.iter().skip(first) {
-        add_name(alloc, &mut names, name)?;
-    }
-    Ok(names)
-}
-
-fn add_name(alloc: Global, names: &mut Set<String>, name: &str) -> Result<(), AllocError> {
-    let name = String::from_str(alloc, name)?;
-    names.insert(name)?;
-    Ok(())
 }
 
 fn answer_on_names(

@@ -1,16 +1,16 @@
 //! Calls on modules that are cut off or have long chains of calls, and on sets for which memory runs out.
 
-use crate::gc_calls::names_from;
-use crate::input::{bad_row, bytes_of};
-use crate::lines::Lines;
-use crate::rows::Row;
-use crate::seeds::row_seed;
 use crate::set_calls::put_flag;
-use crate::values::put_fault;
 use std::alloc::{AllocError, Global};
-use wc_gc::{BitVec, GcFault, LiveSet, Liveness, RangeSet, liveness_counted, run};
+use wc_gc::{BitVec, GcFault, LiveSet, Liveness, RangeSet, liveness_counted, run, why};
+use wc_lines::input::{bad_row, bytes_of};
+use wc_lines::lines::Lines;
+use wc_lines::names::names_from;
+use wc_lines::rows::Row;
+use wc_lines::seeds::row_seed;
+use wc_lines::values::put_fault;
 use wc_maps::Set;
-use wc_read::read_module;
+use wc_read::{Space, read_module};
 
 /// The calls on such modules and sets.
 #[derive(Clone, Copy)]
@@ -74,8 +74,8 @@ fn put_trimmed(trimmed: Result<Vec<u8>, GcFault>, out: &mut Lines) {
     }
 }
 
-/// `call_chain COUNT`: how many of so many functions are live, each of which calls the next, and the turns. The first
-/// is exported, and the last is empty.
+/// `call_chain COUNT`: how many of so many functions are live, each of which calls the next, and the turns; and how long
+/// the chain to the last one is. The first is exported, and the last is empty.
 fn answer_call_chain(alloc: Global, row: &Row<'_>, out: &mut Lines) {
     let count = row.arguments.first().copied().unwrap_or("");
     match count.parse::<u32>() {
@@ -96,7 +96,7 @@ fn put_call_chain(alloc: Global, count: u32, out: &mut Lines) {
 
 fn put_found(alloc: Global, bytes: &[u8], count: u32, out: &mut Lines) {
     match first_name(alloc) {
-        Ok(names) => put_live(liveness_counted(alloc, bytes, &names), count, out),
+        Ok(names) => put_live(alloc, bytes, &names, count, out),
         Err(_) => out.lack_memory(),
     }
 }
@@ -108,9 +108,24 @@ fn first_name(alloc: Global) -> Result<Set<String>, AllocError> {
     Ok(names)
 }
 
-fn put_live(found: Result<Liveness<RangeSet>, GcFault>, count: u32, out: &mut Lines) {
-    match found {
-        Ok(found) => put_count(&found, count, out),
+fn put_live(alloc: Global, bytes: &[u8], names: &Set<String>, count: u32, out: &mut Lines) {
+    match liveness_counted(alloc, bytes, names) {
+        Ok(found) => {
+            put_count(&found, count, out);
+            put_longest(alloc, bytes, names, count, out);
+        }
+        Err(fault) => put_fault(out, fault),
+    }
+}
+
+/// How many items the chain to the last function has.
+fn put_longest(alloc: Global, bytes: &[u8], names: &Set<String>, count: u32, out: &mut Lines) {
+    match why(alloc, bytes, names, (Space::Funcs, count.saturating_sub(1))) {
+        Ok(Some(chain)) => {
+            out.number("chain of ", chain.items.len() as u64);
+            out.end();
+        }
+        Ok(None) => out.push_str("no chain\n"),
         Err(fault) => put_fault(out, fault),
     }
 }
@@ -197,14 +212,21 @@ fn put_inserted_into(alloc: Global, words: &[&str], had: &mut BitVec, out: &mut 
         Some((word, numbers)) if *word == "bits" => {
             put_inserted(BitVec::new(alloc), numbers, had, out);
         }
-        Some((_, numbers)) => put_inserted(RangeSet::new(alloc), numbers, had, out),
-        None => {}
+        Some((word, numbers)) if *word == "ranges" => {
+            put_inserted(RangeSet::new(alloc), numbers, had, out);
+        }
+        _ => {
+            let _ = bad_row(out, "no kind of set", words.first().copied().unwrap_or(""));
+        }
     }
 }
 
 fn put_inserted<L: LiveSet + Drop>(mut set: L, words: &[&str], had: &mut BitVec, out: &mut Lines) {
     for word in words {
-        let number = word.parse::<u32>().unwrap_or(0);
+        let Ok(number) = word.parse::<u32>() else {
+            let _ = bad_row(out, "no number", word);
+            return;
+        };
         if !put_insert(&mut set, had, number, out) {
             return put_kept(&set, had, out);
         }

@@ -1,10 +1,10 @@
 //! The functions of the libraries' laws, which do nothing when they run.
 
-use crate::input::bytes_of;
-use crate::lines::Lines;
 use crate::read_calls::answer_module;
-use crate::rows::Row;
 use std::alloc::Global;
+use wc_lines::input::bytes_of;
+use wc_lines::lines::Lines;
+use wc_lines::rows::Row;
 
 /// Calls all laws, and then answers a row of `laws` as one of `read_module`.
 pub fn answer(alloc: Global, row: &Row<'_>, out: &mut Lines) {

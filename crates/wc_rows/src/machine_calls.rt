@@ -1,13 +1,13 @@
 //! The code that trimming adds, and runs of it on the small machine.
 
-use crate::input::{bad_row, bytes_of};
-use crate::lines::Lines;
 use crate::machine::{Machine, Outcome};
-use crate::rows::Row;
-use crate::table::named;
-use crate::values::put_bytes_lines;
 use std::alloc::{AllocError, Global};
 use wc_gc::{allocate_stack_via_realloc, realloc_via_memory_grow};
+use wc_lines::input::{bad_row, bytes_of};
+use wc_lines::lines::Lines;
+use wc_lines::rows::Row;
+use wc_lines::table::named;
+use wc_lines::values::put_bytes_lines;
 use wc_read::{Body, Locals, read_body};
 
 /// The calls of code that trimming adds, and of runs.
@@ -46,12 +46,23 @@ fn made(code: Result<Vec<u8>, AllocError>, out: &mut Lines) -> Option<Vec<u8>> {
     code.ok()
 }
 
-/// A word as a number; 0 where it is none, which the answer says.
+/// A word as a number; 0 where it is none, which alone the answer then says.
 fn number(word: &str, out: &mut Lines) -> u32 {
     match word.parse::<u32>() {
         Ok(number) => number,
         Err(_) => {
             let _ = bad_row(out, "no number", word);
+            0
+        }
+    }
+}
+
+/// A word as the number of a memory's pages, 2^32 at most.
+fn page_count(word: &str, out: &mut Lines) -> u64 {
+    match word.parse::<u64>() {
+        Ok(count) if count <= 1 << 32 => count,
+        _ => {
+            let _ = bad_row(out, "no number of pages", word);
             0
         }
     }
@@ -179,7 +190,7 @@ fn put_step(alloc: Global, machine: &mut Machine, body: &Body<'_>, line: &str, o
     let (word, rest) = line.split_once(' ').unwrap_or((line, ""));
     match named(&STEPS, word) {
         Some(Step::Globals) => put_numbers(&mut machine.globals, rest, out),
-        Some(Step::Pages) => machine.pages = number(rest, out) as u64,
+        Some(Step::Pages) => machine.pages = page_count(rest, out),
         Some(Step::Grants) => set_grants(machine, rest, out),
         Some(Step::Write) => write(machine, rest, out),
         Some(Step::State) => put_state(machine, out),

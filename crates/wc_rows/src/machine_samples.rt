@@ -1,11 +1,11 @@
 //! Runs of the code that trimming adds on the small machine, from states and over events that a generator makes.
 
-use crate::input::bad_row;
-use crate::lines::Lines;
 use crate::machine::{Machine, Outcome};
-use crate::rows::Row;
 use std::alloc::Global;
 use wc_gc::{allocate_stack_via_realloc, realloc_via_memory_grow};
+use wc_lines::input::bad_row;
+use wc_lines::lines::Lines;
+use wc_lines::rows::Row;
 use wc_read::{Instr, read_body};
 
 /// The bytes of a stack.

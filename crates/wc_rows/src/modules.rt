@@ -1,7 +1,7 @@
 //! Lines for modules and their frames.
 
-use crate::lines::Lines;
-use crate::values::{
+use wc_lines::lines::Lines;
+use wc_lines::values::{
     put_bytes_def, put_bytes_line, put_def, put_exports, put_func_type, put_global_type,
     put_imports, put_memory_type, put_table_type,
 };
@@ -73,8 +73,17 @@ fn put_number_line(out: &mut Lines, word: &str, number: u32) {
 }
 
 fn put_global_names(out: &mut Lines, names: &OrderedMap<u32, &str>) {
+    put_names(out, "name of global ", names);
+}
+
+/// A line for each name of a function.
+pub fn put_function_names(out: &mut Lines, names: &OrderedMap<u32, &str>) {
+    put_names(out, "name of func ", names);
+}
+
+fn put_names(out: &mut Lines, word: &str, names: &OrderedMap<u32, &str>) {
     for (index, name) in names.entries() {
-        out.number("name of global ", *index as u64);
+        out.number(word, *index as u64);
         out.quoted(" ", name);
         out.end();
     }

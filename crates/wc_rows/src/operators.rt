@@ -1,7 +1,7 @@
 //! Lines for bodies, initialisers and their operators.
 
-use crate::lines::Lines;
-use crate::values::{put_bytes, put_val_type, put_val_types};
+use wc_lines::lines::Lines;
+use wc_lines::values::{put_bytes, put_val_type, put_val_types};
 use wc_read::{
     BlockType, Body, Form, Immediates, Index, IndexKind, Init, Instr, MemArg, Opcode, Refs, Space,
 };

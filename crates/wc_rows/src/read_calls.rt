@@ -1,17 +1,17 @@
 //! Calls of `wc_read`.
 
-use crate::imports::parse_val_type;
-use crate::input::{bad_row, bytes_of};
-use crate::lines::Lines;
-use crate::modules::{put_frames, put_module};
+use crate::modules::{put_frames, put_function_names, put_module};
 use crate::operators::{put_body, put_form, put_init, put_opcode, put_refs};
-use crate::rows::Row;
-use crate::table::named;
-use crate::values::{put_fault, put_func_type, put_imports};
 use std::alloc::Global;
+use wc_lines::imports::parse_val_type;
+use wc_lines::input::{bad_row, bytes_of};
+use wc_lines::lines::Lines;
+use wc_lines::rows::Row;
+use wc_lines::table::named;
+use wc_lines::values::{put_fault, put_func_type, put_imports};
 use wc_read::{
-    Body, Form, FuncType, MemoryType, Opcode, ValType, form_of, frames, read_body, read_imports,
-    read_init, read_module, refs,
+    Body, Form, FuncType, MemoryType, Opcode, ValType, form_of, frames, function_names, read_body,
+    read_imports, read_init, read_module, refs,
 };
 
 /// The calls on bytes, and from `FormOf` on those on arguments.
@@ -20,6 +20,7 @@ pub enum Call {
     Frames,
     Imports,
     Module,
+    FunctionNames,
     Init,
     Body,
     Refs,
@@ -52,6 +53,7 @@ fn answer_on_bytes(alloc: Global, call: Call, bytes: &[u8], out: &mut Lines) {
         Call::Frames => answer_frames(alloc, bytes, out),
         Call::Imports => answer_imports(alloc, bytes, out),
         Call::Module => answer_module(alloc, bytes, out),
+        Call::FunctionNames => answer_function_names(alloc, bytes, out),
         Call::Init => answer_init(alloc, bytes, out),
         _ => answer_body(alloc, call, bytes, out),
     }
@@ -67,6 +69,14 @@ fn answer_frames(alloc: Global, bytes: &[u8], out: &mut Lines) {
 fn answer_imports(alloc: Global, bytes: &[u8], out: &mut Lines) {
     match read_imports(alloc, bytes) {
         Ok(imports) => put_imports(out, &imports),
+        Err(fault) => put_fault(out, fault),
+    }
+}
+
+/// A line for each function that has a name.
+fn answer_function_names(alloc: Global, bytes: &[u8], out: &mut Lines) {
+    match function_names(alloc, bytes) {
+        Ok(names) => put_function_names(out, &names),
         Err(fault) => put_fault(out, fault),
     }
 }

@@ -1,10 +1,10 @@
 //! Calls on sets of numbers.
 
-use crate::input::bad_row;
-use crate::lines::Lines;
-use crate::rows::Row;
-use std::alloc::{AllocError, Global};
+use std::alloc::Global;
 use wc_gc::{BitVec, LiveSet, RangeSet, Ranks};
+use wc_lines::input::{Stop, bad_row, end_answer};
+use wc_lines::lines::Lines;
+use wc_lines::rows::Row;
 
 /// The calls on a set.
 #[derive(Clone, Copy)]
@@ -62,8 +62,10 @@ fn put_steps<L: LiveSet>(set: &mut L, lines: &[&str], out: &mut Lines) {
 fn put_step<L: LiveSet>(set: &mut L, word: &str, number: u32, out: &mut Lines) {
     if word == "insert" {
         put_insert(set, number, out);
-    } else {
+    } else if word == "contains" {
         put_flag(set.contains(number), out);
+    } else {
+        let _ = bad_row(out, "no step of a set", word);
     }
 }
 
@@ -85,17 +87,22 @@ pub fn put_flag(is_set: bool, out: &mut Lines) {
 fn answer_rank(alloc: Global, row: &Row<'_>, out: &mut Lines) {
     match row.arguments.as_slice().split_first() {
         Some((word, numbers)) if *word == "bits" => {
-            put_ranks(ranks_of::<BitVec>(alloc, &row.input), numbers, out);
+            put_ranks(ranks_of::<BitVec>(alloc, &row.input, out), numbers, out);
         }
-        Some((_, numbers)) => put_ranks(ranks_of::<RangeSet>(alloc, &row.input), numbers, out),
-        None => {}
+        Some((word, numbers)) if *word == "ranges" => {
+            put_ranks(ranks_of::<RangeSet>(alloc, &row.input, out), numbers, out);
+        }
+        _ => {
+            let word = row.arguments.first().copied().unwrap_or("");
+            let _ = bad_row(out, "no kind of set", word);
+        }
     }
 }
 
-fn put_ranks(ranks: Result<Ranks, AllocError>, numbers: &[&str], out: &mut Lines) {
+fn put_ranks(ranks: Result<Ranks, Stop>, numbers: &[&str], out: &mut Lines) {
     match ranks {
         Ok(ranks) => put_each_rank(&ranks, numbers, out),
-        Err(_) => out.lack_memory(),
+        Err(stop) => end_answer(Err(stop), out),
     }
 }
 
@@ -106,14 +113,16 @@ fn put_each_rank(ranks: &Ranks, numbers: &[&str], out: &mut Lines) {
 }
 
 /// The ranks in the set of the numbers in lines.
-fn ranks_of<L: LiveSet>(alloc: Global, lines: &[&str]) -> Result<Ranks, AllocError> {
+fn ranks_of<L: LiveSet>(alloc: Global, lines: &[&str], out: &mut Lines) -> Result<Ranks, Stop> {
     let mut set = L::new(alloc);
     for line in lines {
-        if let Ok(number) = line.parse::<u32>() {
-            set.insert(number)?;
-        }
+        let Ok(number) = line.parse::<u32>() else {
+            return Err(bad_row(out, "no number", line));
+        };
+        set.insert(number)?;
     }
-    set.ranks(alloc)
+    let ranks = set.ranks(alloc)?;
+    Ok(ranks)
 }
 
 fn put_rank(ranks: &Ranks, argument: &str, out: &mut Lines) {
@@ -124,6 +133,8 @@ fn put_rank(ranks: &Ranks, argument: &str, out: &mut Lines) {
             out.number(" by ", probes as u64);
             out.end();
         }
-        Err(_) => out.push_str("no number\n"),
+        Err(_) => {
+            let _ = bad_row(out, "no number", argument);
+        }
     }
 }

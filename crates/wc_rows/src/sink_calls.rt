@@ -2,13 +2,13 @@
 
 ghost use Rattle.wctrim_command.specs.Command.{IsExecutable, command_value};
 
-use crate::input::{bad_row, bytes_of};
-use crate::lines::Lines;
-use crate::rows::Row;
-use crate::seeds::row_seed;
 use crate::tool_calls::{named_command, put_answer};
 use std::alloc::Global;
 use std::io::{self, Write};
+use wc_lines::input::{bad_row, bytes_of};
+use wc_lines::lines::Lines;
+use wc_lines::rows::Row;
+use wc_lines::seeds::row_seed;
 use wc_write::{PutFailed, Sink, WriterSink};
 use wctrim_command::{Command, execute};
 

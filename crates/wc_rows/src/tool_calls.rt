@@ -3,13 +3,13 @@
 ghost use Rattle.std.specs.Prelude.{IfSome, None};
 ghost use Rattle.wctrim_command.specs.Command.{IsExecutable, command_value};
 
-use crate::input::{bad_row, bytes_of};
-use crate::lines::Lines;
-use crate::rows::Row;
-use crate::seeds::row_seed;
-use crate::values::{put_bytes_lines, put_fault};
 use std::alloc::{AllocError, Global};
 use std::{io, str};
+use wc_lines::input::{bad_row, bytes_of};
+use wc_lines::lines::Lines;
+use wc_lines::rows::Row;
+use wc_lines::seeds::row_seed;
+use wc_lines::values::{put_bytes_lines, put_fault};
 use wc_program::{FileStore, Output, Shell};
 use wc_write::{PutFailed, Sink, WriterSink};
 use wctrim_command::{Command, ToolFault, execute, parse, run};
@@ -225,10 +225,8 @@ pub fn put_answer(out: &mut Lines, answer: &Result<Option<Vec<u8>>, ToolFault>) 
     }
 }
 
-/// What a program prints that can't read the row's bytes. They are there, so memory ran out for their copy.
-const UNREAD: &[u8] = b"wctrim: cannot read in.wasm\n";
-
-/// The files of a program that a row runs: `in.wasm`, which has the row's bytes, and `out.wasm`, which can be written.
+/// The files of a program that a row runs: `in.wasm`, which has the row's bytes; `huge.wasm`, which is too large for
+/// memory; and `out.wasm`, which can be written.
 #[derive(Drop)]
 struct RowFiles<'a> {
     alloc: Global,
@@ -241,6 +239,9 @@ impl FileStore for RowFiles<'_> {
     ghost held = { λ _. None };
 
     fn read(&self, path: &str) -> io::Result<Vec<u8>> {
+        if path == "huge.wasm" {
+            return Err(io::Error::from(io::ErrorKind::OutOfMemory));
+        }
         if path != "in.wasm" {
             return Err(io::Error::from(io::ErrorKind::NotFound));
         }
@@ -336,9 +337,6 @@ fn answer_run(alloc: Global, row: &Row<'_>, files: RowFiles<'_>, bytes: Vec<u8>,
 
 /// The lines that a program printed, as they are, and its status.
 fn put_program(out: &mut Lines, bytes: &[u8], status: u8) {
-    if bytes == UNREAD {
-        return out.lack_memory();
-    }
     match str::from_utf8(bytes) {
         Ok(text) => put_printed_lines(out, text),
         Err(_) => put_bytes_lines(out, "printed", bytes),

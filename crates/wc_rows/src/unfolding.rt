@@ -1,19 +1,19 @@
 //! Unfoldings of items: what an item is without its indices, and below it, one step to the right, the same of each item
 //! that it names, in their order, down to a depth; `..` is where the depth ends.
 
-use crate::gc_calls::names_from;
-use crate::input::{bad_row, bytes_of};
-use crate::lines::Lines;
 use crate::operators::{
     put_block_type, put_immediates, put_index, put_lane, put_opcode, space_word,
 };
-use crate::rows::Row;
-use crate::values::{
+use std::alloc::Global;
+use wc_gc::{realloc_via_memory_grow, run};
+use wc_lines::input::{bad_row, bytes_of};
+use wc_lines::lines::Lines;
+use wc_lines::names::names_from;
+use wc_lines::rows::Row;
+use wc_lines::values::{
     put_def, put_fault, put_import_names, put_memory_type, put_mutable, put_table_limits,
     put_val_type,
 };
-use std::alloc::Global;
-use wc_gc::{realloc_via_memory_grow, run};
 use wc_maps::Set;
 use wc_read::{
     BlockType, Body, Def, ExportKind, Immediates, Index, IndexKind, Instr, MemArg, Module, Space,

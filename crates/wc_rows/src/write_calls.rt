@@ -1,12 +1,12 @@
 //! Calls of `wc_write`, and of it with `wc_read`: what is read is written.
 
 use crate::built::built_of;
-use crate::imports::imports_of;
-use crate::input::{bad_row, bytes_of};
-use crate::lines::Lines;
-use crate::rows::Row;
-use crate::values::{put_bytes_lines, put_fault};
 use std::alloc::Global;
+use wc_lines::imports::imports_of;
+use wc_lines::input::{bad_row, bytes_of};
+use wc_lines::lines::Lines;
+use wc_lines::rows::Row;
+use wc_lines::values::{put_bytes_lines, put_fault};
 use wc_read::{Body, Def, Func, read_body, read_imports, read_module};
 use wc_write::{
     Built, WriteFault, append_import_section, append_raw_section, raw_section, write_body,

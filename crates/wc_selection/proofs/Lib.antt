@@ -4,3 +4,7 @@ pub mod WorldLemmas
 pub mod KeyListLemmas
 pub mod KeyNameLemmas
 pub mod FirstLemmas
+pub mod SetLemmas
+pub mod KeyTextLemmas
+pub mod RequiredLemmas
+pub mod TaskHookLemmas

@@ -1,5 +1,5 @@
 -- The texts by which a request gives the keys of a world's exports.
-use Rattle.std.specs.Prelude.{ℕ, ◌==◌, ◌&&◌, Bool, not, List, map, filter, length, if◌then◌else◌}
+use Rattle.std.specs.Prelude.{ℕ, ◌==◌, ◌&&◌, Bool, not, List, ◌++◌, map, filter, length, if◌then◌else◌, codes, decimal}
 use Rattle.std.specs.List.{before_first}
 use Rattle.std.specs.Str.{bytes_eq}
 use Rattle.wc_resolve.specs.Views.{KeyView, plain_key, interface_key}
@@ -43,3 +43,27 @@ keys_as_given given keys = map (λ (k : NamedKey). (k.0, text_as_given given key
 -- the keys of a world's exports, in order, each under the text by which a request gives it
 abbrev pub request_keys : RequestValue → ResolveView → ℕ → List NamedKey
 request_keys q r world = keys_as_given (given_keys q) (export_keys r world)
+
+-- the text of an interface's index, by which a document has its key under its own id: `interface-3`
+abbrev pub index_text : ℕ → List ℕ
+index_text index = codes "interface-" ++ decimal index
+
+-- this text, if it is given; else another
+abbrev pub index_or_text : List (List ℕ) → ℕ → List ℕ → List ℕ
+index_or_text given index text = if is_in given (index_text index) then index_text index else text
+
+abbrev pub text_or_index_of : List (List ℕ) → KeyView → List ℕ → List ℕ
+text_or_index_of given (interface_key id) text = index_or_text given id text
+text_or_index_of given (plain_key name) text = text
+
+-- the text of a key, or the index of its interface, if that is given
+abbrev pub text_or_index : List (List ℕ) → NamedKey → List ℕ
+text_or_index given k = text_or_index_of given k.0 k.1
+
+abbrev pub keys_by_index : List (List ℕ) → List NamedKey → List NamedKey
+keys_by_index given keys = map (λ (k : NamedKey). (k.0, text_or_index given k)) keys
+
+-- the keys of a world's exports, in order, each under the text by which a request gives it, or under the index of its
+-- interface, where the request gives this
+abbrev pub indexed_keys : RequestValue → ResolveView → ℕ → List NamedKey
+indexed_keys q r world = keys_by_index (given_keys q) (request_keys q r world)

@@ -4,4 +4,7 @@ pub mod Worlds
 pub mod Keys
 pub mod Requests
 pub mod KeyNames
+pub mod KeyTexts
 pub mod ModuleKeys
+pub mod RequiredTexts
+pub mod TaskHook

@@ -20,6 +20,10 @@ second_parts pairs = map (λ (p : List ℕ × List ℕ). p.1) pairs
 abbrev pub is_in : List (List ℕ) → List ℕ → Bool
 is_in texts text = list_any (λ t. bytes_eq t text) texts
 
+-- a list of keys has the texts of another, however often each is there
+abbrev pub HasTexts : List (List ℕ) → List (List ℕ) → Type 0
+HasTexts texts keys = (t : List ℕ) → is_in keys t ≡ is_in texts t
+
 -- no text is there twice
 abbrev pub AreDistinct : List (List ℕ) → Type 0
 AreDistinct texts = AllPairs (λ a b. a ≢ b) texts

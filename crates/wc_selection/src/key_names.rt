@@ -1,21 +1,23 @@
 //! The texts by which a request gives the keys of a world's exports.
 
-ghost use Rattle.std.specs.Prelude.{◌≡◌, ◌<◌, ◌&&◌, IfOk, filter, length, map, not};
+ghost use Rattle.std.specs.Prelude.{◌≡◌, ◌<◌, ◌&&◌, IfOk, filter, length, map, not, string_bytes};
 ghost use Rattle.std.specs.Str.{bytes_eq};
-ghost use Rattle.wc_selection.specs.KeyNames.{count_unversioned, is_only, keys_as_given, request_keys, text_as_given, unversioned, unversioned_text};
+ghost use Rattle.wc_selection.specs.KeyNames.{count_unversioned, index_or_text, index_text, indexed_keys, keys_as_given, keys_by_index, request_keys, text_or_index, unversioned, unversioned_text};
 ghost use Rattle.wc_selection.specs.Keys.{AreKeysApart, named_key};
+ghost use Rattle.wc_selection.specs.KeyTexts.{HasSingles, is_single, keys_found, text_found};
 ghost use Rattle.wc_selection.specs.Requests.{request_value};
 ghost use Rattle.wc_selection.specs.Texts.{is_in, text_of};
 
-use crate::keys::{export_keys, is_export};
+use crate::keys::{export_keys, key_text_set};
 use crate::requests::{KeyRequest, given_keys};
-use crate::texts::has_text;
+use crate::texts::{is_in_set, text_set};
 use std::alloc::{AllocError, Global};
+use wc_maps::{Map, Seed, Set};
 use wc_resolve::{Resolve, WorldId, WorldKey};
 
 /// The keys of a world's exports, in order, each with the text by which the request gives it: for the key of an interface
 /// its text without a version, if the request gives this and not the whole text, and no other key has it; else its text
-/// (`Resolve::name_world_key`).
+/// (`Resolve::name_world_key`). `seed`: the seed of the maps that are made.
 ///
 /// The world must be in range (`Resolve::has_world`).
 ///
@@ -24,6 +26,7 @@ use wc_resolve::{Resolve, WorldId, WorldKey};
 /// `AllocError`: an allocation failed.
 pub fn request_keys(
     alloc: Global,
+    seed: Seed,
     request: &KeyRequest<'_, '_>,
     resolve: &Resolve,
     world: WorldId,
@@ -35,12 +38,113 @@ pub fn request_keys(
 {
     let keys = export_keys(alloc, resolve, world)?;
     let given = given_keys(alloc, request)?;
-    keys_as_given(alloc, &given, &keys)
+    keys_as_given(alloc, seed, &given, &keys)
+}
+
+/// The keys of a world's exports, as [`request_keys`] has them, but that the key of an interface which the request gives by
+/// its index has that text: `interface-3`, as a document has the key of the interface 3 under its own id. So another
+/// export of the same text is not given by it. `seed`: the seed of the maps that are made.
+///
+/// The world must be in range (`Resolve::has_world`).
+///
+/// # Errors
+///
+/// `AllocError`: an allocation failed.
+pub fn indexed_keys(
+    alloc: Global,
+    seed: Seed,
+    request: &KeyRequest<'_, '_>,
+    resolve: &Resolve,
+    world: WorldId,
+) -> Result<Vec<(WorldKey, String)>, AllocError>
+    requires { world.0 < length resolve.now.worlds }
+    ensures keys { IfOk result (λ v. map named_key v.items
+        ≡ indexed_keys (request_value request.now) resolve.now world.0) }
+    ensures differ { IfOk result (λ v. AreKeysApart (map named_key v.items)) }
+{
+    let keys = request_keys(alloc, seed, request, resolve, world)?;
+    let given = given_keys(alloc, request)?;
+    keys_by_index(alloc, seed, &given, &keys)
+}
+
+/// Keys, in order, each with the one of these texts that is its index, or with its own.
+fn keys_by_index(
+    alloc: Global,
+    seed: Seed,
+    given: &[&str],
+    keys: &[(WorldKey, String)],
+) -> Result<Vec<(WorldKey, String)>, AllocError>
+    requires { AreKeysApart (map named_key keys.now) }
+    ensures keys { IfOk result (λ v. map named_key v.items
+        ≡ keys_by_index (map text_of given.now) (map named_key keys.now)) }
+    ensures differ { IfOk result (λ v. AreKeysApart (map named_key v.items)) }
+{
+    let set = text_set(alloc, seed, given)?;
+    indexed_in(alloc, &set, keys)
+}
+
+/// The same, of the texts in a set.
+fn indexed_in(
+    alloc: Global,
+    given: &Set<&str>,
+    keys: &[(WorldKey, String)],
+) -> Result<Vec<(WorldKey, String)>, AllocError>
+    requires { AreKeysApart (map named_key keys.now) }
+    ensures keys { IfOk result (λ v. map named_key v.items
+        ≡ keys_by_index (map text_of given.now.keys) (map named_key keys.now)) }
+    ensures differ { IfOk result (λ v. AreKeysApart (map named_key v.items)) }
+{
+    let mut named = Vec::with_capacity(alloc, keys.len())?;
+    for key in keys {
+        let text = text_or_index(alloc, given, key)?;
+        named.push((key.0.clone(alloc)?, text))?;
+    }
+    Ok(named)
+}
+
+/// The text of a key, or the one of an interface's index, if that is in the set.
+fn text_or_index(
+    alloc: Global,
+    given: &Set<&str>,
+    key: &(WorldKey, String),
+) -> Result<String, AllocError>
+    ensures { IfOk result (λ s. string_bytes s
+        ≡ text_or_index (map text_of given.now.keys) (named_key key.now)) }
+{
+    match &key.0 {
+        WorldKey::Interface(id) => index_or_text(alloc, given, id.0, key.1.as_str()),
+        WorldKey::Name(_) => String::from_str(alloc, key.1.as_str()),
+    }
+}
+
+/// The text of an index, if it is in the set; else this one.
+fn index_or_text(
+    alloc: Global,
+    given: &Set<&str>,
+    index: u32,
+    text: &str,
+) -> Result<String, AllocError>
+    ensures { IfOk result (λ s. string_bytes s
+        ≡ index_or_text (map text_of given.now.keys) index text.now) }
+{
+    let indexed = index_text(alloc, index)?;
+    if is_in_set(given, &indexed) {
+        return Ok(indexed);
+    }
+    String::from_str(alloc, text)
+}
+
+/// The text of an index, as `interface-3`.
+fn index_text(alloc: Global, index: u32) -> Result<String, AllocError>
+    ensures { IfOk result (λ s. string_bytes s ≡ index_text index) }
+{
+    format!(in alloc; "interface-{index}")
 }
 
 /// Keys, in order, each with the one of these texts by which it is given, or with its own.
 fn keys_as_given(
     alloc: Global,
+    seed: Seed,
     given: &[&str],
     keys: &[(WorldKey, String)],
 ) -> Result<Vec<(WorldKey, String)>, AllocError>
@@ -49,45 +153,92 @@ fn keys_as_given(
         ≡ keys_as_given (map text_of given.now) (map named_key keys.now)) }
     ensures differ { IfOk result (λ v. AreKeysApart (map named_key v.items)) }
 {
+    let set = text_set(alloc, seed, given)?;
+    let own = key_text_set(alloc, seed, keys)?;
+    let short = short_texts(alloc, seed, keys)?;
+    keys_found(alloc, &set, &own, &short, keys)
+}
+
+/// The texts of keys without their versions, each with whether it is that of one key alone. `seed`: the seed of the map.
+fn short_texts<'k>(
+    alloc: Global,
+    seed: Seed,
+    keys: &'k [(WorldKey, String)],
+) -> Result<Map<&'k str, bool>, AllocError>
+    ensures { IfOk result (λ m. HasSingles (map named_key keys.now) m.entries) }
+{
+    let mut short: Map<&str, bool> = Map::with_hasher(alloc, seed);
+    for key in keys {
+        let text = unversioned(key);
+        let is_first = !short.contains_key(text);
+        short.insert(text, is_first)?;
+    }
+    Ok(short)
+}
+
+/// Keys, in order, each with the text by which it is given, among the texts that are given, the keys' own and those
+/// without their versions.
+fn keys_found(
+    alloc: Global,
+    given: &Set<&str>,
+    own: &Set<&str>,
+    short: &Map<&str, bool>,
+    keys: &[(WorldKey, String)],
+) -> Result<Vec<(WorldKey, String)>, AllocError>
+    requires { AreKeysApart (map named_key keys.now) }
+    ensures keys { IfOk result (λ v. map named_key v.items
+        ≡ keys_found (map text_of given.now.keys) (map text_of own.now.keys) short.now.entries
+        (map named_key keys.now)) }
+    ensures differ { IfOk result (λ v. AreKeysApart (map named_key v.items)) }
+{
     let mut named = Vec::with_capacity(alloc, keys.len())?;
     for key in keys {
-        let text = String::from_str(alloc, text_as_given(given, keys, key))?;
+        let text = String::from_str(alloc, text_found(given, own, short, key))?;
         named.push((key.0.clone(alloc)?, text))?;
     }
     Ok(named)
 }
 
-/// The one of these texts by which a key is given, or its own.
-fn text_as_given<'k>(
-    given: &[&str],
-    keys: &[(WorldKey, String)],
+/// The text by which a key is given, among the texts that are given, the keys' own and those without their versions.
+fn text_found<'k>(
+    given: &Set<&str>,
+    own: &Set<&str>,
+    short: &Map<&str, bool>,
     key: &'k (WorldKey, String),
 ) -> &'k str
-    ensures { result.now
-        ≡ text_as_given (map text_of given.now) (map named_key keys.now) (named_key key.now) }
+    ensures { result.now ≡ text_found (map text_of given.now.keys) (map text_of own.now.keys)
+        short.now.entries (named_key key.now) }
 {
     let whole = key.1.as_str();
-    let short = unversioned(key);
-    if is_given_as(given, short, whole) && is_only(keys, short) {
-        short
+    let text = unversioned(key);
+    if is_given_as(given, text, whole) && is_only(own, short, text) {
+        text
     } else {
         whole
     }
 }
 
 /// Whether the first of two texts is given, and the second is not.
-fn is_given_as(given: &[&str], short: &str, whole: &str) -> bool
-    ensures { result
-        ≡ (is_in (map text_of given.now) short.now && not (is_in (map text_of given.now) whole.now)) }
+fn is_given_as(given: &Set<&str>, short: &str, whole: &str) -> bool
+    ensures { result ≡ (is_in (map text_of given.now.keys) short.now
+        && not (is_in (map text_of given.now.keys) whole.now)) }
 {
-    has_text(given, short) && !has_text(given, whole)
+    is_in_set(given, short) && !is_in_set(given, whole)
 }
 
 /// Whether a text is that of one key without its version, and of no key with it.
-fn is_only(keys: &[(WorldKey, String)], text: &str) -> bool
-    ensures { result ≡ is_only (map named_key keys.now) text.now }
+fn is_only(own: &Set<&str>, short: &Map<&str, bool>, text: &str) -> bool
+    ensures { result ≡ (is_single short.now.entries text.now
+        && not (is_in (map text_of own.now.keys) text.now)) }
 {
-    count_unversioned(keys, text) == 1 && !is_export(keys, text)
+    is_single(short, text) && !is_in_set(own, text)
+}
+
+/// Whether a text is that of one key alone without its version.
+fn is_single(short: &Map<&str, bool>, text: &str) -> bool
+    ensures { result ≡ is_single short.now.entries text.now }
+{
+    short.get(text).copied().unwrap_or(false)
 }
 
 /// How many keys have this text without their versions.

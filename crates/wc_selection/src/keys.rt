@@ -8,10 +8,11 @@ ghost use Rattle.semver.specs.Identifiers.{parts_text};
 ghost use Rattle.wc_resolve.specs.Queries.{key_text};
 ghost use Rattle.wc_resolve.specs.Ranges.{IsKeyIn};
 ghost use Rattle.wc_resolve.specs.Views.{world_entry};
-ghost use Rattle.wc_selection.specs.Keys.{AreKeysApart, export_keys, named_key, named_keys};
+ghost use Rattle.wc_selection.specs.Keys.{AreKeysApart, export_keys, named_key, named_keys, texts_of};
+ghost use Rattle.wc_selection.specs.Texts.{HasTexts, is_in, text_of};
 
 use std::alloc::{AllocError, Global};
-use wc_maps::Map;
+use wc_maps::{Map, Seed, Set};
 use wc_resolve::{Resolve, WorldId, WorldItem, WorldKey};
 
 /// The keys of a world's exports, in order, each with its text (`Resolve::name_world_key`).
@@ -56,8 +57,31 @@ fn named_keys(
 }
 
 /// Whether a text is that of one of these keys.
-pub(crate) fn is_export(keys: &[(WorldKey, String)], text: &str) -> bool
+pub fn is_export(keys: &[(WorldKey, String)], text: &str) -> bool
+    ensures { result ≡ is_in (texts_of (map named_key keys.now)) text.now }
+{
+    has_key_text(keys, text)
+}
+
+/// Whether one of these has this text.
+fn has_key_text(keys: &[(WorldKey, String)], text: &str) -> bool
     ensures { result ≡ list_any (λ k. bytes_eq (string_bytes k.1) text.now) keys.now }
 {
     keys.iter().any(|key| key.1.as_str() == text)
+}
+
+/// The texts of keys as a set. `seed`: its seed.
+pub(crate) fn key_text_set<'k>(
+    alloc: Global,
+    seed: Seed,
+    keys: &'k [(WorldKey, String)],
+) -> Result<Set<&'k str>, AllocError>
+    ensures { IfOk result (λ s. HasTexts (texts_of (map named_key keys.now))
+        (map text_of s.keys)) }
+{
+    let mut set: Set<&str> = Set::with_hasher(alloc, seed);
+    for key in keys {
+        set.insert(key.1.as_str())?;
+    }
+    Ok(set)
 }

@@ -1,6 +1,10 @@
 //! What a request names of a document: the world that is encoded, by its name (`select_world`); the keys of its exports
-//! (`export_keys`), by their texts (`request_keys`, `check_keys`); and the keys that the main module and each adapter have
-//! to export (`required_keys`). And the main module with its repeated imports renamed (`MainModule`).
+//! (`export_keys`), by their texts (`request_keys`, `check_keys`) or by the indices of their interfaces (`indexed_keys`);
+//! and the keys that the main module and each adapter have to export (`required_keys`). And the main module with its
+//! repeated imports renamed (`MainModule`), and the name that stands for no task hook (`no_task_hook`).
+//!
+//! Texts are looked up in sets and maps that hash under the seed that is handed in (`wc_maps::Seed`): whoever chooses the
+//! names and doesn't know the seed can't make them slow.
 #![tactic(auto)]
 
 mod fault;
@@ -9,14 +13,16 @@ mod keys;
 mod main_module;
 mod module_keys;
 mod requests;
+mod task_hook;
 mod texts;
 mod worlds;
 
 pub use fault::RequestFault;
-pub use key_names::{count_unversioned, request_keys};
-pub use keys::export_keys;
+pub use key_names::{count_unversioned, indexed_keys, request_keys};
+pub use keys::{export_keys, is_export};
 pub use main_module::MainModule;
 pub use module_keys::{check_keys, required_keys};
 pub use requests::{Exporter, KeyRequest};
+pub use task_hook::{no_export_is_hook, no_task_hook};
 pub use texts::{first_missing, first_repeated, has_text};
 pub use worlds::select_world;

@@ -1,23 +1,23 @@
 //! What modules have to export.
 
-ghost use Rattle.std.specs.Prelude.{◌≡◌, ◌&&◌, All, Contains, IfErr, IfNone, IfOk, IfSome, OnOk, map};
-ghost use Rattle.std.specs.List.{list_any};
+ghost use Rattle.std.specs.Prelude.{◌≡◌, All, Contains, IfErr, IfNone, IfOk, IfSome, None, OnOk, map};
 ghost use Rattle.std.specs.Str.{bytes_eq};
 ghost use Rattle.wc_resolve.specs.Views.{key_view};
 ghost use Rattle.wc_selection.specs.Keys.{AreKeysApart, named_key, texts_of};
 ghost use Rattle.wc_selection.specs.Requests.{exporter_name, given_keys, request_value};
-ghost use Rattle.wc_selection.specs.ModuleKeys.{AreKeysThere, IsKeysCause, is_required, required_keys};
-ghost use Rattle.wc_selection.specs.Texts.{IsFirstMissing, text_of};
+ghost use Rattle.wc_selection.specs.ModuleKeys.{AreKeysThere, IsKeysCause, required_keys};
+ghost use Rattle.wc_selection.specs.RequiredTexts.{exporter_texts, gives_keys, is_required_in, required_in, texts_under};
+ghost use Rattle.wc_selection.specs.Texts.{IsFirstMissing, second_parts, text_of, text_pair};
 
 use crate::fault::RequestFault;
-use crate::keys::is_export;
+use crate::keys::key_text_set;
 use crate::requests::{Exporter, KeyRequest, given_keys};
-use crate::texts::{first_repeated, has_text};
+use crate::texts::{first_outside, first_repeated, is_in_set, text_set};
 use std::alloc::{AllocError, Global};
 use wc_maps::{Seed, Set};
 use wc_resolve::WorldKey;
 
-/// Checks the keys of a request against a world's exports. `seed`: the seed of the set that is made.
+/// Checks the keys of a request against a world's exports. `seed`: the seed of the sets that are made.
 ///
 /// # Errors
 ///
@@ -39,8 +39,8 @@ pub fn check_keys<'a>(
         (texts_of (map named_key keys.now))) }
 {
     let given = given_keys(alloc, request)?;
-    if let Some(key) = first_unknown(&given, keys) {
-        return Err(RequestFault::UnknownKey(key));
+    if let Some(unknown) = first_unknown(alloc, seed, &given, keys)? {
+        return Err(RequestFault::UnknownKey(unknown));
     }
     match first_repeated(alloc, seed, &given)? {
         Some(key) => Err(RequestFault::RepeatedKey(key)),
@@ -48,24 +48,25 @@ pub fn check_keys<'a>(
     }
 }
 
-/// The first text that is the text of none of these keys.
-fn first_unknown<'a>(texts: &[&'a str], keys: &[(WorldKey, String)]) -> Option<&'a str>
-    ensures unknown { IfSome result (λ text. IsFirstMissing (map text_of texts.now)
-        (texts_of (map named_key keys.now)) text.now) }
-    ensures none { IfNone result (All (Contains (texts_of (map named_key keys.now)))
-        (map text_of texts.now)) }
+/// The first text that is the text of none of these keys. `seed`: the seed of the set of their texts.
+fn first_unknown<'a>(
+    alloc: Global,
+    seed: Seed,
+    texts: &[&'a str],
+    keys: &[(WorldKey, String)],
+) -> Result<Option<&'a str>, AllocError>
+    ensures unknown { IfOk result (λ r. IfSome r (λ text. IsFirstMissing (map text_of texts.now)
+        (texts_of (map named_key keys.now)) text.now)) }
+    ensures none { IfOk result (λ r. IfNone r (All (Contains (texts_of (map named_key keys.now)))
+        (map text_of texts.now))) }
 {
-    for text in texts {
-        if !is_export(keys, text) {
-            return Some(*text);
-        }
-    }
-    None
+    let set = key_text_set(alloc, seed, keys)?;
+    Ok(first_outside(texts, &set))
 }
 
 /// The keys that a module has to export, in the order of the world's exports: an adapter those that the request says,
 /// and so the main module; or, if the request says none of it, all that no adapter has to export. `seed`: the seed of the
-/// set.
+/// sets that are made.
 ///
 /// # Errors
 ///
@@ -82,43 +83,113 @@ pub fn required_keys(
         ≡ required_keys (request_value request.now) (exporter_name exporter.entry)
         (map named_key keys.now)) }
 {
+    let texts = exporter_texts(alloc, request, exporter)?;
+    let set = text_set(alloc, seed, &texts)?;
+    required_in(alloc, seed, &set, gives_keys(request, exporter), keys)
+}
+
+/// The texts that decide what a module has to export: those of an adapter; and those of the main module or, if the request
+/// says none of it, those of all adapters, whose keys it doesn't export.
+fn exporter_texts<'a>(
+    alloc: Global,
+    request: &KeyRequest<'_, 'a>,
+    exporter: Exporter<'_>,
+) -> Result<Vec<&'a str>, AllocError>
+    ensures { IfOk result (λ v. map text_of v.items
+        ≡ exporter_texts (request_value request.now) (exporter_name exporter.entry)) }
+{
+    match exporter {
+        Exporter::Adapter(name) => texts_under(alloc, request.adapter_exports, name),
+        Exporter::Main => main_texts(alloc, request),
+    }
+}
+
+/// The texts of the main module; of all adapters, if it has none.
+fn main_texts<'a>(alloc: Global, request: &KeyRequest<'_, 'a>) -> Result<Vec<&'a str>, AllocError>
+    ensures { IfOk result (λ v. map text_of v.items
+        ≡ exporter_texts (request_value request.now) None) }
+{
+    if request.exports.is_empty() {
+        second_texts(alloc, request.adapter_exports)
+    } else {
+        Vec::from_slice(alloc, request.exports)
+    }
+}
+
+/// The second text of each pair.
+fn second_texts<'a>(alloc: Global, pairs: &[(&'a str, &'a str)]) -> Result<Vec<&'a str>, AllocError>
+    ensures { IfOk result (λ v. map text_of v.items ≡ second_parts (map text_pair pairs.now)) }
+{
+    let mut texts = Vec::with_capacity(alloc, pairs.len())?;
+    for pair in pairs {
+        texts.push(pair.1)?;
+    }
+    Ok(texts)
+}
+
+/// The second text of each pair that has this first one.
+fn texts_under<'a>(
+    alloc: Global,
+    pairs: &[(&'a str, &'a str)],
+    first: &str,
+) -> Result<Vec<&'a str>, AllocError>
+    ensures { IfOk result (λ v. map text_of v.items
+        ≡ texts_under first.now (map text_pair pairs.now)) }
+{
+    let mut texts = Vec::new(alloc);
+    for pair in pairs {
+        if is_under(pair, first) {
+            texts.push(pair.1)?;
+        }
+    }
+    Ok(texts)
+}
+
+/// Whether this is the first text of a pair.
+fn is_under(pair: &(&str, &str), first: &str) -> bool
+    ensures { result ≡ bytes_eq pair.now.0.now first.now }
+{
+    pair.0 == first
+}
+
+/// Whether a module has to export what these texts are of, and not what they are not of.
+fn gives_keys(request: &KeyRequest<'_, '_>, exporter: Exporter<'_>) -> bool
+    ensures { result ≡ gives_keys (request_value request.now) (exporter_name exporter.entry) }
+{
+    match exporter {
+        Exporter::Adapter(_) => true,
+        Exporter::Main => !request.exports.is_empty(),
+    }
+}
+
+/// The keys whose texts are in a set; or, if `gives` is false, those whose texts are not. `seed`: the seed of their set.
+fn required_in(
+    alloc: Global,
+    seed: Seed,
+    texts: &Set<&str>,
+    gives: bool,
+    keys: &[(WorldKey, String)],
+) -> Result<Set<WorldKey>, AllocError>
+    requires { AreKeysApart (map named_key keys.now) }
+    ensures { IfOk result (λ set. map key_view set.keys
+        ≡ required_in (map text_of texts.now.keys) gives (map named_key keys.now)) }
+{
     let mut required = Set::with_hasher(alloc, seed);
     for (key, text) in keys {
-        if is_required(request, exporter, text) {
+        if is_required(texts, gives, text) {
             required.insert(key.clone(alloc)?)?;
         }
     }
     Ok(required)
 }
 
-/// Whether a module has to export the key with this text.
-fn is_required(request: &KeyRequest<'_, '_>, exporter: Exporter<'_>, text: &str) -> bool
-    ensures { result ≡ is_required (request_value request.now) (exporter_name exporter.entry)
-        text.now }
+/// Whether a text is in a set; or, if `gives` is false, whether it is not.
+fn is_required(texts: &Set<&str>, gives: bool, text: &str) -> bool
+    ensures { result ≡ is_required_in (map text_of texts.now.keys) gives text.now }
 {
-    match exporter {
-        Exporter::Adapter(name) => has_pair(request.adapter_exports, name, text),
-        Exporter::Main => {
-            if request.exports.is_empty() {
-                !has_second(request.adapter_exports, text)
-            } else {
-                has_text(request.exports, text)
-            }
-        }
+    if gives {
+        is_in_set(texts, text)
+    } else {
+        !is_in_set(texts, text)
     }
-}
-
-/// Whether one of the pairs is this one.
-fn has_pair(pairs: &[(&str, &str)], first: &str, second: &str) -> bool
-    ensures { result ≡ list_any (λ p. bytes_eq p.0.now first.now && bytes_eq p.1.now second.now)
-        pairs.now }
-{
-    pairs.iter().any(|pair| pair.0 == first && pair.1 == second)
-}
-
-/// Whether the second text of one of the pairs is this one.
-fn has_second(pairs: &[(&str, &str)], text: &str) -> bool
-    ensures { result ≡ list_any (λ p. bytes_eq p.1.now text.now) pairs.now }
-{
-    pairs.iter().any(|pair| pair.1 == text)
 }

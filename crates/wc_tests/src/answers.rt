@@ -1,25 +1,31 @@
 //! A row's answer, from the library whose call it names.
 
 use crate::calls::{CALLS, Call};
-use crate::component::{calls as world_calls, plans as plan_calls};
-use crate::{examples, json_calls, law_calls, library_calls, plan_tool_calls};
+use crate::{law_calls, library_calls, plan_tool_calls, why_tool_calls};
 use std::alloc::Global;
+use wc_component_rows::{calls as world_calls, plans as plan_calls};
+use wc_example_rows::{examples, json_calls};
 use wc_fixtures::{encoder_calls, key_calls, resolve_calls};
-use wc_module_rows::names::calls as scheme_calls;
+use wc_lines::input::bad_row;
+use wc_lines::lines::Lines;
+use wc_lines::rows::{Flaw, Paragraph, Row};
+use wc_lines::table::named;
 use wc_module_rows::validation::calls as validate_calls;
-use wc_rows::lines::Lines;
-use wc_rows::rows::{Flaw, Paragraph, Row};
-use wc_rows::table::named;
+use wc_name_rows::calls as scheme_calls;
 use wc_rows::{
     dedupe_calls, fault_calls, gc_calls, hostile_calls, machine_calls, machine_samples, read_calls,
-    set_calls, sink_calls, tool_calls, unfolding, write_calls,
+    seed_calls, set_calls, sink_calls, tool_calls, unfolding, why_calls, write_calls,
 };
 
 /// Appends the lines of a row's answer.
 pub(crate) fn answer(alloc: Global, paragraph: &Paragraph<'_>, out: &mut Lines) {
     match paragraph.flaw {
-        Some(Flaw::Line(line)) => writeln!(out, "bad row: no line of a row {line:?}"),
-        Some(Flaw::Fixture(name)) => writeln!(out, "bad row: no fixture {name:?}"),
+        Some(Flaw::Line(line)) => {
+            let _ = bad_row(out, "no line of a row", line);
+        }
+        Some(Flaw::Fixture(name)) => {
+            let _ = bad_row(out, "no fixture", name);
+        }
         None => answer_row(alloc, &paragraph.row, out),
     }
 }
@@ -28,8 +34,7 @@ fn answer_row(alloc: Global, row: &Row<'_>, out: &mut Lines) {
     match named(&CALLS, row.call) {
         Some(call) => answer_call(alloc, call, row, out),
         None => {
-            let call = row.call;
-            writeln!(out, "bad row: no call {call:?}");
+            let _ = bad_row(out, "no call", row.call);
         }
     }
 }
@@ -40,6 +45,8 @@ fn answer_call(alloc: Global, call: Call, row: &Row<'_>, out: &mut Lines) {
         Call::Write(call) => write_calls::answer(alloc, call, row, out),
         Call::Dedupe(call) => dedupe_calls::answer(alloc, call, row, out),
         Call::Gc(call) => gc_calls::answer(alloc, call, row, out),
+        Call::Why(call) => why_calls::answer(alloc, call, row, out),
+        Call::Seed => seed_calls::answer(alloc, row, out),
         Call::Set(call) => set_calls::answer(alloc, call, row, out),
         Call::Machine(call) => machine_calls::answer(alloc, call, row, out),
         Call::Sample(call) => machine_samples::answer(alloc, call, row, out),
@@ -59,6 +66,7 @@ fn answer_call(alloc: Global, call: Call, row: &Row<'_>, out: &mut Lines) {
         Call::Plan(call) => plan_calls::answer(alloc, call, row, out),
         Call::Library(call) => library_calls::answer(alloc, call, row, out),
         Call::PlanTool(call) => plan_tool_calls::answer(alloc, call, row, out),
+        Call::WhyTool(call) => why_tool_calls::answer(alloc, call, row, out),
         Call::Example => examples::answer(alloc, row, out),
     }
 }
@@ -70,12 +78,17 @@ pub(crate) fn is_wanted(row: &Row<'_>, answer: &str, may_fail: bool) -> bool {
     for wanted in &row.answer {
         match lines.next() {
             Some(line) if line == *wanted => {}
-            Some(line) => return may_fail && line.ends_with("out of memory"),
+            Some(line) => return may_fail && lacks_memory(line),
             None => return false,
         }
     }
     match lines.next() {
-        Some(line) => may_fail && line.ends_with("out of memory"),
+        Some(line) => may_fail && lacks_memory(line),
         None => true,
     }
+}
+
+/// Whether a line says that memory ran out, for the answer or for what a fault is about.
+fn lacks_memory(line: &str) -> bool {
+    line.ends_with("out of memory") || line.ends_with("out of memory for what it is about")
 }

@@ -1,15 +1,15 @@
 //! The calls of rows, by their names.
 
-use crate::component::{calls as world_calls, plans as plan_calls};
-use crate::{library_calls, plan_tool_calls};
+use crate::{library_calls, plan_tool_calls, why_tool_calls};
+use wc_component_rows::{calls as world_calls, plans as plan_calls};
 use wc_fixtures::{encoder_calls, key_calls, name_calls, resolve_calls};
-use wc_module_rows::names::calls as scheme_calls;
-use wc_module_rows::names::in_worlds::InWorld;
-use wc_module_rows::names::meanings::OnName;
 use wc_module_rows::validation::calls as validate_calls;
+use wc_name_rows::calls as scheme_calls;
+use wc_name_rows::in_worlds::InWorld;
+use wc_name_rows::meanings::OnName;
 use wc_rows::{
     dedupe_calls, fault_calls, gc_calls, hostile_calls, machine_calls, machine_samples, read_calls,
-    set_calls, sink_calls, tool_calls, unfolding, write_calls,
+    set_calls, sink_calls, tool_calls, unfolding, why_calls, write_calls,
 };
 
 /// A call, by what answers it.
@@ -19,6 +19,8 @@ pub(crate) enum Call {
     Write(write_calls::Call),
     Dedupe(dedupe_calls::Call),
     Gc(gc_calls::Call),
+    Why(why_calls::Call),
+    Seed,
     Set(set_calls::Call),
     Machine(machine_calls::Call),
     Sample(machine_samples::Call),
@@ -38,14 +40,19 @@ pub(crate) enum Call {
     Plan(plan_calls::Call),
     Library(library_calls::Call),
     PlanTool(plan_tool_calls::Call),
+    WhyTool(why_tool_calls::Call),
     Example,
 }
 
 /// The call of each name.
-pub(crate) const CALLS: [(&str, Call); 127] = [
+pub(crate) const CALLS: [(&str, Call); 134] = [
     ("frames", Call::Read(read_calls::Call::Frames)),
     ("read_imports", Call::Read(read_calls::Call::Imports)),
     ("read_module", Call::Read(read_calls::Call::Module)),
+    (
+        "function_names_of",
+        Call::Read(read_calls::Call::FunctionNames),
+    ),
     ("read_init", Call::Read(read_calls::Call::Init)),
     ("read_body", Call::Read(read_calls::Call::Body)),
     ("refs", Call::Read(read_calls::Call::Refs)),
@@ -86,6 +93,9 @@ pub(crate) const CALLS: [(&str, Call); 127] = [
     ("trim", Call::Gc(gc_calls::Call::Trim)),
     ("trim_for", Call::Gc(gc_calls::Call::TrimFor)),
     ("explain_trim", Call::Gc(gc_calls::Call::Explain)),
+    ("why", Call::Why(why_calls::Call::Item)),
+    ("why_imports", Call::Why(why_calls::Call::Imports)),
+    ("drawn_seed", Call::Seed),
     ("bit_vec", Call::Set(set_calls::Call::BitVec)),
     ("range_set", Call::Set(set_calls::Call::RangeSet)),
     ("rank", Call::Set(set_calls::Call::Rank)),
@@ -306,6 +316,7 @@ pub(crate) const CALLS: [(&str, Call); 127] = [
         "trim_to_write",
         Call::Library(library_calls::Call::TrimToWrite),
     ),
+    ("why_into", Call::Library(library_calls::Call::Why)),
     ("world_into", Call::Library(library_calls::Call::World)),
     ("plan_into", Call::Library(library_calls::Call::Plan)),
     (
@@ -318,6 +329,11 @@ pub(crate) const CALLS: [(&str, Call); 127] = [
     (
         "wcplan_failing",
         Call::PlanTool(plan_tool_calls::Call::Failing),
+    ),
+    ("wcwhy", Call::WhyTool(why_tool_calls::Call::Program)),
+    (
+        "wcwhy_failing",
+        Call::WhyTool(why_tool_calls::Call::Failing),
     ),
     ("example", Call::Example),
 ];

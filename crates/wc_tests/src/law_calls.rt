@@ -1,9 +1,9 @@
 //! The functions of the laws of JSON, and the row `laws`, which calls all laws.
 
 use std::alloc::Global;
+use wc_lines::lines::Lines;
+use wc_lines::rows::Row;
 use wc_rows::law_calls;
-use wc_rows::lines::Lines;
-use wc_rows::rows::Row;
 
 /// Calls these laws and those of `wc_rows`, and then answers a row of `laws`.
 pub(crate) fn answer(alloc: Global, row: &Row<'_>, out: &mut Lines) {

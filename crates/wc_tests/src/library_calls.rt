@@ -1,13 +1,13 @@
 //! Calls of `wc_calls`, on a buffer whose bytes are all `ee` before.
 
-use crate::examples::calls::trim_to_write;
+use crate::call_example::trim_to_write;
 use std::alloc::{AllocError, Global};
-use wc_calls::{Answer, MEMORY, dedupe, plan, trim, validate, world};
-use wc_rows::input::{Stop, bad_row, bytes_of, end_answer};
-use wc_rows::lines::Lines;
-use wc_rows::rows::Row;
-use wc_rows::seeds::row_seed;
-use wc_rows::values::put_bytes_lines;
+use wc_calls::{Answer, MEMORY, dedupe, plan, trim, validate, why, world};
+use wc_lines::input::{Stop, bad_row, bytes_of, end_answer};
+use wc_lines::lines::Lines;
+use wc_lines::rows::Row;
+use wc_lines::seeds::row_seed;
+use wc_lines::values::put_bytes_lines;
 
 /// Each byte of a buffer before a call.
 const UNTOUCHED: u8 = 0xee;
@@ -18,6 +18,7 @@ pub(crate) enum Call {
     Dedupe,
     Trim,
     TrimToWrite,
+    Why,
     World,
     Plan,
     Validate,
@@ -34,6 +35,7 @@ fn answer_call(alloc: Global, call: Call, row: &Row<'_>, out: &mut Lines) -> Res
         Call::Dedupe => answer_dedupe(alloc, row, out),
         Call::Trim => answer_trim(alloc, row, out),
         Call::TrimToWrite => answer_trim_to_write(alloc, row, out),
+        Call::Why => answer_why(alloc, row, out),
         _ => answer_message(alloc, call, row, out),
     }
 }
@@ -51,7 +53,7 @@ fn answer_dedupe(alloc: Global, row: &Row<'_>, out: &mut Lines) -> Result<(), St
 /// and the names are bytes as those of input.
 fn answer_trim(alloc: Global, row: &Row<'_>, out: &mut Lines) -> Result<(), Stop> {
     let wasm = bytes_of(alloc, &row.input, out)?;
-    let names = names_of(alloc, row, out)?;
+    let names = names_from(alloc, row, 2, out)?;
     put_trimmed(alloc, row, &wasm, &names, out)
 }
 
@@ -99,6 +101,18 @@ fn answer_trim_to_write(alloc: Global, row: &Row<'_>, out: &mut Lines) -> Result
     Ok(())
 }
 
+/// `why_into ROOM NAME..`: the chains to the imports of an adapter, in a buffer of so many bytes. The names are bytes as
+/// those of input.
+fn answer_why(alloc: Global, row: &Row<'_>, out: &mut Lines) -> Result<(), Stop> {
+    let wasm = bytes_of(alloc, &row.input, out)?;
+    let names = names_from(alloc, row, 1, out)?;
+    let required = slices_of(alloc, &names)?;
+    let mut buffer = buffer_of(alloc, row, out)?;
+    let answer = why(alloc, row_seed(), &wasm, &required, &mut buffer);
+    put_answer(&answer, &buffer, out);
+    Ok(())
+}
+
 /// `world_into ROOM LINES`, `plan_into ROOM LINES`: the world of a component, or its plan, in a buffer of so many bytes. So
 /// many lines of input are the message, and the others the bytes of modules. `validate_into ROOM LINES [NAME]`: whether its
 /// main module is valid, or the adapter or the library of a name.
@@ -108,7 +122,7 @@ fn answer_message(alloc: Global, call: Call, row: &Row<'_>, out: &mut Lines) -> 
     };
     let message = text_of(alloc, message)?;
     let modules = bytes_of(alloc, bytes, out)?;
-    let names = names_of(alloc, row, out)?;
+    let names = names_from(alloc, row, 2, out)?;
     let mut buffer = buffer_of(alloc, row, out)?;
     let asked = Asked {
         message: message.as_bytes(),
@@ -185,10 +199,15 @@ fn buffer_of(alloc: Global, row: &Row<'_>, out: &mut Lines) -> Result<Vec<u8>, S
     Ok(buffer)
 }
 
-/// The bytes of the arguments from the third on. `-` has none.
-fn names_of(alloc: Global, row: &Row<'_>, out: &mut Lines) -> Result<Vec<Vec<u8>>, Stop> {
+/// The bytes of the arguments from one on. `-` has none.
+fn names_from(
+    alloc: Global,
+    row: &Row<'_>,
+    first: usize,
+    out: &mut Lines,
+) -> Result<Vec<Vec<u8>>, Stop> {
     let mut names = Vec::new(alloc);
-    for word in row.arguments.iter().skip(2) {
+    for word in row.arguments.iter().skip(first) {
         names.push(name_of(alloc, word, out)?)?;
     }
     Ok(names)

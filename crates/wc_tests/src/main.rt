@@ -2,14 +2,14 @@
 #![tactic(auto)]
 
 mod answers;
+mod call_example;
 mod calls;
-mod component;
-mod examples;
-mod json_calls;
 mod law_calls;
 mod library_calls;
 mod plan_tool_calls;
 mod program;
+mod program_runs;
+mod why_tool_calls;
 
 use std::process::ExitCode;
 

@@ -4,8 +4,8 @@ use crate::answers::{answer, is_wanted};
 use std::process::ExitCode;
 use std::rt::{Env, Files};
 use std::{env, fs, io};
-use wc_rows::lines::Lines;
-use wc_rows::rows::{Paragraph, Rows};
+use wc_lines::lines::Lines;
+use wc_lines::rows::{Paragraph, Rows};
 
 const USAGE: &str = "usage: wc_tests [--memory-may-fail] FILE...
        wc_tests -

@@ -7,9 +7,9 @@ use Rattle.std.specs.Str.{bytes_eq}
 use Rattle.std.proofs.lemmas.List.{map-append, take_more}
 use Rattle.std.specs.declared.alloc.Global.{Global}
 use Rattle.indexmap.specs.IndexMap.{insert_entry}
-use Rattle.wc_encoder.specs.declared.adapters.Item.{Item}
-use Rattle.wc_encoder.specs.declared.adapters.Instance.{Instance}
-use Rattle.wc_encoder.specs.Adapters.{InstanceView, LibraryView, LibraryItemView, argument_view, instance_view, library_item_view}
+use Rattle.wc_adapters.specs.declared.adapters.Item.{Item}
+use Rattle.wc_adapters.specs.declared.adapters.Instance.{Instance}
+use Rattle.wc_adapters.specs.Adapters.{InstanceView, LibraryView, LibraryItemView, argument_view, instance_view, library_item_view}
 use Rattle.wc_resolve.proofs.LookupLemmas.{lookup_viewed}
 use Rattle.wc_validate.specs.declared.imports.arguments.Argument.{Argument}
 use Rattle.wc_validate.specs.Private.Imports.Arguments.{AreMatched, IsArgumentOf, IsIndexOf, Matches, entry_among, entry_by, item_entry_of, module_entry}

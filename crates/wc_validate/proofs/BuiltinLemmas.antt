@@ -3,7 +3,7 @@ use Rattle.std.proofs.Common.{◌≡◌, ◌↔◌, ℕ, Bool, true, false, not,
 use Rattle.std.specs.Option.{IfSome}
 use Rattle.std.specs.Str.{bytes_eq}
 use Rattle.std.proofs.lemmas.Slice.Eq.{bytes_eq-Decides}
-use Rattle.wc_encoder.specs.declared.encoding.StringEncoding.{StringEncoding}
+use Rattle.wc_adapters.specs.declared.encoding.StringEncoding.{StringEncoding}
 use Rattle.wc_read.specs.declared.types.ValType.{ValType}
 use Rattle.wc_read.specs.declared.types.FuncType.{FuncType}
 use Rattle.wc_read.specs.Types.{FuncTypeValue, func_type_value}
@@ -11,8 +11,8 @@ use Rattle.wc_names.specs.declared.imports.Import.{Import}
 use Rattle.wc_names.specs.Builtins.{NamesBuiltin, IsThreadBuiltin, builtin_import, builtin_type}
 use Rattle.wc_names.specs.Schemes.{Scheme}
 use Rattle.wc_validate.specs.Classifications.{FaultKind, IsImportClassification, of_imports}
-use Rattle.wc_names.specs.Views.{ImportView, import_view, Builtin, error_context_drop, backpressure_inc, backpressure_dec, waitable_set_new, waitable_set_wait, waitable_set_poll, waitable_set_drop, waitable_join, subtask_drop, subtask_cancel, error_context_new, error_context_debug_message, context_get, context_set, thread_index, thread_new_indirect, thread_resume_later, thread_suspend, thread_yield, thread_suspend_then_resume, thread_yield_then_resume, thread_suspend_then_promote, thread_yield_then_promote}
-use Rattle.wc_validate.specs.Private.Imports.Builtins.{IsCheckedBy, IsMismatch, IsMismatchBy, IsAnyBuiltin, IsLaterBuiltin, MeansBuiltin, thread_type}
+use Rattle.wc_names.specs.Views.{Builtin, error_context_drop, backpressure_inc, backpressure_dec, waitable_set_new, waitable_set_wait, waitable_set_poll, waitable_set_drop, waitable_join, subtask_drop, subtask_cancel, error_context_new, error_context_debug_message, context_get, context_set, thread_index, thread_new_indirect, thread_resume_later, thread_suspend, thread_yield, thread_suspend_then_resume, thread_yield_then_resume, thread_suspend_then_promote, thread_yield_then_promote}
+use Rattle.wc_validate.specs.Private.Imports.Builtins.{IsCheckedAs, IsMismatch, IsTypeMismatch, IsAnyBuiltin, IsLaterBuiltin, MeansBuiltin, thread_type}
 use Rattle.wc_validate.specs.Faults.{fault_kind}
 use Rattle.wc_validate.specs.declared.name_fault.NameFault.{NameFault}
 use Rattle.wc_validate.specs.declared.name_fault.NameFault.TheVariants.{Memory}
@@ -22,21 +22,21 @@ use Rattle.wc_validate.proofs.SignatureLemmas.{same_some, same_type}
 pub not_so : (b : Bool) (P : Type 0) → IsTrue b ↔ P → b ≡ false → ¬ P
 not_so b P h f p = let t : true ≡ false = sym (h.1 p) ∙ f in let bad : ⊥ = cc t in bad
 
--- an import whose type is the one that it has to have
-pub checked_kept : (type_of : ImportView → Option FuncTypeValue) (i : Import) (ty : FuncType) (b : Bool)
-    → IsTrue b ↔ (type_of (import_view i) ≡ Some (func_type_value ty)) → b ≡ true → IsCheckedBy type_of i ty (Ok (Some i))
+-- a value whose type is the one that it has to have
+pub checked_kept : {V : Type 0} (type_of : V → Option FuncTypeValue) (i : V) (ty : FuncType) (b : Bool)
+    → IsTrue b ↔ (type_of i ≡ Some (func_type_value ty)) → b ≡ true → IsCheckedAs type_of i ty (Ok (Some i))
 checked_kept type_of i ty b law kept = λ required_type is. (refl, same_type (sym (law.0 kept) ∙ is))
 
--- an import whose type is another
-pub checked_mismatch : (type_of : ImportView → Option FuncTypeValue) (i : Import) (ty : FuncType) (b : Bool) (f : NameFault)
-    → IsTrue b ↔ (type_of (import_view i) ≡ Some (func_type_value ty)) → b ≡ false → IsMismatchBy type_of i f → IsCheckedBy type_of i ty (Err f)
+-- a value whose type is another
+pub checked_mismatch : {V : Type 0} (type_of : V → Option FuncTypeValue) (i : V) (ty : FuncType) (b : Bool) (f : NameFault)
+    → IsTrue b ↔ (type_of i ≡ Some (func_type_value ty)) → b ≡ false → IsTypeMismatch (type_of i) f → IsCheckedAs type_of i ty (Err f)
 checked_mismatch type_of i ty b f law differs h = λ required_type is.
     type_mismatch (fault_kind f) (func_type_value ty) required_type (subst (λ o. IfSome o (λ wanted. IsMismatch wanted f)) is h)
     (λ e. not_so b _ law differs (is ∙ same_some (sym e)))
 
--- an allocation failed where an import's type was compared
-pub checked_failed : (type_of : ImportView → Option FuncTypeValue) (i : Import) (ty : FuncType) (r : Result (Option Import) NameFault)
-    → IsErrAnd r (λ e. e ≡ Memory) → IsCheckedBy type_of i ty r
+-- an allocation failed where a value's type was compared
+pub checked_failed : {V : Type 0} (type_of : V → Option FuncTypeValue) (i : V) (ty : FuncType) (r : Result (Option V) NameFault)
+    → IsErrAnd r (λ e. e ≡ Memory) → IsCheckedAs type_of i ty r
 checked_failed type_of i ty r h = λ required_type is. type_failed fault_kind r i (func_type_value ty) required_type Memory h refl
 
 -- the signature of a built-in for threads

@@ -8,7 +8,7 @@ use Rattle.wc_read.specs.Types.{FuncTypeValue}
 use Rattle.wc_dedupe.specs.Renaming.{RenameValue}
 use Rattle.wc_resolve.specs.Views.{KeyView}
 use Rattle.wc_resolve.specs.World.{ResolveView}
-use Rattle.wc_encoder.specs.Adapters.{LibraryView}
+use Rattle.wc_adapters.specs.Adapters.{LibraryView}
 use Rattle.wc_encoder.specs.EncoderParts.{EncoderView}
 use Rattle.wc_names.specs.Exports.{CoreExport, ExportMeaning, is_export}
 use Rattle.wc_names.specs.ExportViews.{ExportView}

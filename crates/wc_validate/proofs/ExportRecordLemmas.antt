@@ -16,7 +16,7 @@ use Rattle.wc_read.specs.Exports.{ExportValue, export_value}
 use Rattle.wc_read.specs.Modules.{ModuleValue}
 use Rattle.wc_resolve.specs.Views.{KeyView}
 use Rattle.wc_resolve.proofs.LookupLemmas.{name_viewed}
-use Rattle.wc_encoder.proofs.PairLemmas.{pairs_head, pairs_tail}
+use Rattle.wc_adapters.proofs.PairLemmas.{pairs_head, pairs_tail}
 use Rattle.wc_names.specs.declared.exports.Export.{Export}
 use Rattle.wc_names.specs.Exports.{ClassifiedExport, CoreExport}
 use Rattle.wc_names.specs.ExportViews.{ExportView, export_view}

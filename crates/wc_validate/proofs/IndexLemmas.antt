@@ -3,7 +3,7 @@ use Rattle.std.proofs.Common.{◌≡◌, ℕ, Bool, true, false, cond, List, [],
 use Rattle.std.specs.Map.{lookup}
 use Rattle.std.specs.Str.{bytes_eq}
 use Rattle.std.proofs.lemmas.Slice.Eq.{bytes_eq-Decides}
-use Rattle.wc_encoder.specs.Adapters.{InstanceView}
+use Rattle.wc_adapters.specs.Adapters.{InstanceView}
 use Rattle.wc_validate.specs.Imports.AdapterTypes.{first_some}
 use Rattle.wc_validate.specs.Private.Imports.Arguments.{AreMatched, IsArgumentOf, IsIndexOf, Matches}
 use Rattle.wc_validate.specs.Imports.Entries.{first_by}

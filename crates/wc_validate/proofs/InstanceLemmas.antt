@@ -6,7 +6,7 @@ use Rattle.std.specs.Str.{bytes_eq}
 use Rattle.std.proofs.lemmas.Slice.Eq.{bytes_eq-Decides}
 use Rattle.std.proofs.lemmas.List.{map-append}
 use Rattle.std.proofs.lemmas.List.Elements.{filter-append, filter_map-append}
-use Rattle.wc_encoder.specs.Adapters.{WhichView}
+use Rattle.wc_adapters.specs.Adapters.{WhichView}
 use Rattle.wc_validate.specs.Imports.Entries.{Entry, single, whole, entry_module, InstanceRecord, names_of, single_of, whole_of, instance_record, by_modules, Records, IsAllRecorded}
 use Rattle.wc_maps.specs.Names.{first_occurrences}
 use Rattle.wc_validate.specs.Imports.Instances.{add_to, put_in, IsFree}

@@ -9,7 +9,7 @@ use Rattle.wc_read.specs.Types.{FuncTypeValue}
 use Rattle.wc_dedupe.specs.Renaming.{RenameValue}
 use Rattle.wc_resolve.specs.Views.{KeyView, WorldView}
 use Rattle.wc_resolve.specs.World.{ResolveView}
-use Rattle.wc_encoder.specs.Adapters.{InstanceView, module_instance, item_instance, LibraryItemView, LibraryView}
+use Rattle.wc_adapters.specs.Adapters.{InstanceView, module_instance, item_instance, LibraryItemView, LibraryView}
 use Rattle.wc_encoder.specs.EncoderParts.{EncoderView}
 use Rattle.wc_names.specs.Exports.{CoreExport, ExportMeaning, is_export}
 use Rattle.wc_names.specs.ExportViews.{ExportView}

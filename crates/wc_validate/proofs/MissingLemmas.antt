@@ -23,7 +23,7 @@ use Rattle.wc_resolve.specs.Views.{FunctionView, ItemView, KeyView, function_ite
 use Rattle.wc_resolve.specs.WellFormed.{IsWellFormed}
 use Rattle.wc_resolve.proofs.WellFormedLemmas.{export_keys_have_texts, export_keys_in}
 use Rattle.wc_resolve.specs.World.{ResolveView}
-use Rattle.wc_encoder.specs.Entries.{Entries}
+use Rattle.wc_adapters.specs.Entries.{Entries}
 use Rattle.wc_names.specs.declared.exports.Export.{Export}
 use Rattle.wc_names.specs.Exports.{CoreExport}
 use Rattle.wc_names.specs.Imports.{NameScope}
@@ -42,9 +42,9 @@ use Rattle.wc_validate.specs.Exports.Map.{ExportRecord, export_entry, is_memory}
 use Rattle.wc_validate.specs.Exports.Record.{AreExports, AreExportsAdded, AreRecordedBy, exports_in}
 use Rattle.wc_validate.specs.Imports.Map.{required_entry}
 use Rattle.wc_validate.specs.Places.{IsFirstFailing, IsFirstLacking, IsFirstUnexported, IsFunctionLack, IsFunctionPlace, IsKeyPlace, IsLack, IsSecondMemory, PlaceView, an_export, SubjectView, difference_of, missing_export, missing_function, place_view}
-use Rattle.wc_validate.specs.Private.Explained.{HasRecordedImports, IsNotExported, IsOfKey, IsSaidApart, IsCallbackExplained, IsFunctionLackAt, IsLackAt, IsLackNamed, IsLackOf, IsMemoryExplained, IsMissingExplained, IsMissingFrom, IsModuleExplained, IsRetyped, IsSaidAs, IsSecondNamed, IsUncalled}
+use Rattle.wc_validate.specs.Private.Explained.{HasRecordedImports, IsNotExported, IsOfKey, IsSaidApart, IsCallbackExplained, IsFunctionLackAt, IsLackAt, IsLackNamed, IsLackOf, IsMemoryExplained, IsMissingExplained, IsMissingFrom, IsModuleExplained, IsSaidAs, IsSecondNamed, IsUncalled, IsUnexported}
 use Rattle.wc_validate.specs.NameScopes.{HasItsWorld, name_scope_of}
-use Rattle.wc_validate.specs.Private.Requirements.{HasKeysNamed, required_of}
+use Rattle.wc_validate.specs.Private.Requirements.{HasKeysNamed}
 use Rattle.wc_validate.specs.Texts.{name_not_exported}
 use Rattle.wc_validate.specs.Private.ExportedFunctions.{IsExportIndexOf}
 use Rattle.wc_validate.specs.Private.ValidationInputs.{validation_input_of}
@@ -97,7 +97,7 @@ module _ (r : ResolveView) (xs : List CoreExport) (recorded : ExportRecord) (f :
   skip_met (m ∷ ms) ns met (inl h) = absurd (h.0 met.0)
   skip_met (m ∷ ms) ns met (inr h) = skip_met ms ns met.1 h.1
 
-  no_unmet : (ms : List Requirement) → AreMet r xs recorded ms → ¬ IsFirstUnmet r xs recorded ms f
+  pub no_unmet : (ms : List Requirement) → AreMet r xs recorded ms → ¬ IsFirstUnmet r xs recorded ms f
   no_unmet [] met h = h
   no_unmet (m ∷ ms) met (inl h) = h.0 met.0
   no_unmet (m ∷ ms) met (inr h) = no_unmet ms met.1 h.1
@@ -402,32 +402,22 @@ module _ (r : ResolveView) (xs : List CoreExport) (recorded : ExportRecord) (all
   function_first x f g h real said =
       record { before = h.before; after = h.after; cut = h.cut; met = h.met; unmet = h.unmet; short = said xs (type_requirement x) h.short }
 
-  pub function_retyped : {F : Type 0} (index : List (Bor (List ℕ) × Bor FuncType)) (name : List ℕ) (ty : FuncType) (f : ValidateFault)
-      (result : Result (Option Place) F) → IsExportIndexOf index xs → IsFirstUnexported r xs recorded all (name, func_type_value ty) f
-      → f ≡ AdapterExportType → IfOk result (IsRetyped index name ty)
-      → IfOk result (λ answer. MatchOption answer (¬ IsFirstUnmet r xs recorded (map type_requirement all) f)
-      (λ (p : Place). IsFunctionPlace r xs recorded all f (place_view p)))
-  function_retyped index name ty f (Ok None) same first is h =
-      absurd (none_there (exported_type xs name) (h xs same) (subst (IsShortfall xs (typed_function name (func_type_value ty))) is first.short).1)
-  function_retyped index name ty f (Ok (Some p)) same first is h = record {
-    required = (name, func_type_value ty);
-    first = first;
-    lack = subst (λ z. IsFunctionLack xs (name, func_type_value ty) z (place_view p)) (sym is) (h xs same);
-  }
-  function_retyped index name ty f (Err e) same first is h = tt
+  pub function_here : (index : List (Bor (List ℕ) × Bor FuncType)) (name : List ℕ) (ty : FuncType) (f : ValidateFault) (p : Place) → IsExportIndexOf index xs
+      → IsFirstUnexported r xs recorded all (name, func_type_value ty) f → IsUnexported index name ty p → IsFunctionPlace r xs recorded all f (place_view p)
+  function_here index name ty f p same first h = record { required = (name, func_type_value ty); first = first; lack = h xs same }
 
-  other_lack : (x : List ℕ × FuncTypeValue) (f : ValidateFault) (p : PlaceView) → f ≢ AdapterExportType → p.subject ≡ missing_export x.0 → p.types ≡ None
-      → IsFunctionLack xs x f p
-  other_lack x AdapterExportType p other subject types = absurd (other refl)
-  other_lack x f p other subject types = (subject, types)
+-- what is said of a required function, by the type with which one of its name is exported
+module _ (xs : List CoreExport) (name : List ℕ) (ty : FuncTypeValue) (p : PlaceView) where
+  pub lack_missing : exported_type xs name ≡ None → p.subject ≡ missing_export name → p.types ≡ None → IsFunctionLack xs (name, ty) p
+  lack_missing is subject types =
+      subst (λ o. MatchOption o ((p.subject ≡ missing_export name) × (p.types ≡ None))
+      (λ found. (p.subject ≡ an_export name) × (p.types ≡ Some (difference_of ty found)))) (sym is) (subject, types)
 
-  pub function_missing : (x : List ℕ × FuncTypeValue) (f : ValidateFault) (name : List ℕ) → IsFirstUnexported r xs recorded all x f → f ≢ AdapterExportType
-      → name ≡ x.0 → IsFunctionPlace r xs recorded all f (record { subject = missing_export name; types = None })
-  function_missing x f name first other called = record {
-    required = x;
-    first = first;
-    lack = other_lack x f (record { subject = missing_export name; types = None }) other (ap missing_export called) refl;
-  }
+  pub lack_retyped : (found : FuncTypeValue) → exported_type xs name ≡ Some found → p.subject ≡ an_export name → p.types ≡ Some (difference_of ty found)
+      → IsFunctionLack xs (name, ty) p
+  lack_retyped found is subject types =
+      subst (λ o. MatchOption o ((p.subject ≡ missing_export name) × (p.types ≡ None))
+      (λ found. (p.subject ≡ an_export name) × (p.types ≡ Some (difference_of ty found)))) (sym is) (subject, types)
 
 -- memories that are gone through
 swapped : (a b : Bool) (n : ℕ) → cond a (cond b (n + 1) n + 1) (cond b (n + 1) n) ≡ cond b (cond a (n + 1) n + 1) (cond a (n + 1) n)
@@ -564,14 +554,6 @@ module _ (n : Names) (q : RequiredExports) (xs : List CoreExport) (es : List (St
       (skip_met n.resolve.now xs (map export_entry es) f (one_memory ∷ callbacks ∷ []) (of_keys ++ of_functions) alone unmet))
   function_lacking (Ok (Some p)) alone keys h = inr (inr (alone, inr (keys, h)))
   function_lacking (Err e) alone keys h = tt
-
-  pub nothing_missing : AreMet n.resolve.now xs (map export_entry es) (one_memory ∷ callbacks ∷ [])
-      → AreMet n.resolve.now xs (map export_entry es) of_keys → AreMet n.resolve.now xs (map export_entry es) of_functions
-      → ¬ IsFirstUnmet n.resolve.now xs (map export_entry es) (required_of n q) f
-  nothing_missing alone keys functions =
-      no_unmet n.resolve.now xs (map export_entry es) f (one_memory ∷ callbacks ∷ (of_keys ++ of_functions))
-      (met_append n.resolve.now xs (map export_entry es) (one_memory ∷ callbacks ∷ []) (of_keys ++ of_functions) alone
-      (met_append n.resolve.now xs (map export_entry es) of_keys of_functions keys functions))
 
 -- by the context that the exports are recorded by
 pub missing_from : {F : Type 0} (c : ExportContext) (q : RequiredExports) (m : Module) (es : List (String Global × Export)) (passed : List RawExport)

@@ -1,5 +1,5 @@
 -- Where validation stops: the first import or export that is refused, and what is recorded before it.
-use Rattle.std.proofs.Common.{◌≡◌, ◌≢◌, ◌↔◌, ℕ, Bool, false, IsTrue, ◌<◌, ◌≤◌, ◌+◌, List, [], ◌∷◌, ◌++◌, length, map, take, get_or, Option, Some, None, option_copied, IfOk, MatchOption, Result, Ok, Err, String, string_bytes, refl, sym, ap, subst, ◌∙◌, append_assoc, append-nil, inl, inr}
+use Rattle.std.proofs.Common.{◌≡◌, ◌≢◌, ◌↔◌, ℕ, Bool, false, IsTrue, ◌<◌, ◌≤◌, ◌+◌, List, [], ◌∷◌, ◌++◌, length, map, take, get_or, Option, Some, None, option_copied, IfOk, IsOkAnd, MatchOption, Result, Ok, Err, String, string_bytes, refl, sym, ap, subst, ◌∙◌, append_assoc, append-nil, inl, inr}
 use Rattle.std.specs.List.{cons_option, filter_map, slice_get}
 use Rattle.std.specs.Option.{option_map}
 use Rattle.std.specs.declared.alloc.Global.{Global}
@@ -20,11 +20,12 @@ use Rattle.wc_resolve.specs.Views.{KeyView}
 use Rattle.wc_names.specs.declared.exports.Export.{Export as ClassifiedAs}
 use Rattle.wc_names.specs.Exports.{ClassifiedExport, CoreExport}
 use Rattle.wc_names.specs.ExportViews.{export_view}
-use Rattle.wc_encoder.specs.Adapters.{LibraryView}
+use Rattle.wc_adapters.specs.Adapters.{LibraryView}
 use Rattle.wc_names.specs.Imports.{Classified, CoreImport, ExternType, NameScope, func_type}
 use Rattle.wc_names.specs.Laws.{MeaningsUnique}
 use Rattle.wc_names.specs.Meanings.{means}
-use Rattle.wc_names.specs.Views.{ImportView}
+use Rattle.wc_names.specs.declared.imports.Import.{Import as NamedImport}
+use Rattle.wc_names.specs.Views.{ImportView, import_view}
 use Rattle.wc_validate.specs.declared.exports.classify.ExportContext.{ExportContext}
 use Rattle.wc_validate.specs.declared.explain.refused.RefusedExport.{RefusedExport}
 use Rattle.wc_validate.specs.declared.fault.ValidateFault.{ValidateFault}
@@ -42,16 +43,17 @@ use Rattle.wc_validate.specs.Faults.{import_fault_kind}
 use Rattle.wc_validate.specs.Classifications.{IsClassification}
 use Rattle.wc_validate.specs.Imports.Classify.{IsClassified, IsNameFault}
 use Rattle.wc_validate.specs.Imports.Entries.{Entry, adapter_type_of, by_modules, first_by, single, whole}
-use Rattle.wc_validate.specs.Imports.Record.{ImportScope, AreEntries, IsEntry, IsEntryCause, IsFaultOfImport, IsValidAfter, entry_faults, extern_type}
+use Rattle.wc_validate.specs.Imports.Record.{ImportScope, AreEntries, IsEntry, IsEntryCause, IsFaultOfImport, IsValidAfter, entry_faults, extern_type, library_entry}
 use Rattle.wc_validate.specs.NameScopes.{name_scope_of}
 use Rattle.wc_validate.specs.Places.{IsExplained, IsExportPlace, IsFirstRefused, IsImportPlace, IsOfImport, IsOtherMismatch, IsOtherRefused, IsTypedAt, DifferenceView, difference_of, an_export, an_import, place_view, subject_view}
-use Rattle.wc_validate.specs.Private.Explained.{AreDifferingTypes, AreMismatchedTypes, AreTypesIn, HasRecordedImports, IsAdapterFunction, IsExportStopAt, IsExportStopIn, IsImportExplained, IsMismatchExplained, IsModuleExplained, IsStopAt}
+use Rattle.wc_validate.specs.Private.Explained.{AreDifferingTypes, AreMismatchedTypes, AreTypesIn, HasRecordedImports, IsAdapterFunction, function_view, IsExportStopAt, IsExportStopIn, IsImportExplained, IsMismatchExplained, IsModuleExplained, IsStopAt}
 use Rattle.wc_validate.specs.Private.Exports.Classify.{IsExportClassified}
 use Rattle.wc_validate.specs.Private.Imports.Contexts.{AreRecorded, AreRecordedIn, HasLibrary, IsClassifiedIn, IsImportRecorded, IsImportRefusal, import_scope}
 use Rattle.wc_validate.specs.Private.Imports.Recorder.{IsRecorderOf, types_in}
 use Rattle.wc_validate.specs.Validated.{IsImportScopeFor, IsNameScopeOf, ValidationInput}
 use Rattle.wc_validate.proofs.BuiltinLemmas.{not_so}
 use Rattle.wc_validate.proofs.ExclusionLemmas.{kind_of}
+use Rattle.wc_validate.proofs.ImportRecordLemmas.{by_name}
 use Rattle.wc_validate.proofs.LawLemmas.{entries_same}
 use Rattle.wc_validate.proofs.ExportRecordLemmas.{entry_none, entry_some, recorded_nothing}
 
@@ -198,6 +200,19 @@ mismatched_at c i index d wanted found is below same h = λ library before.
     let found_is : (m.0).ty ≡ func_type (func_type_value found) = type_at c.types.now index d (m.0).ty below typed ∙ ap func_type (sym same) in
     let n = mismatch_of (name_scope_of c.names) m.0 wanted m.2 in
     (m.0, n.0, m.1, n.1, found_is, differ_as (m.0).ty (func_type_value wanted) (func_type_value found) found_is n.2)
+
+-- the function of an adapter that an import is by its name
+pub named_entry : (c : ImportContext) (i : Import) (o : Option Entry) (r : Result NamedImport NameFault)
+    (answer : Result ((String Global × String Global) × FuncType) AllocError) → None ≡ o
+    → ((library : Option LibraryView) → HasLibrary c library → o ≡ library_entry library i.module.now i.name.now)
+    → ((library : Option LibraryView) → IsClassifiedIn c library i r) → IfOk answer (λ f. IsOkAnd r (λ v. function_view f ≡ import_view v))
+    → IfOk answer (IsAdapterFunction c i)
+named_entry c i o r (Err e) none is found h = tt
+named_entry c i o (Err e) (Ok f) none is found h = absurd h
+named_entry c i o (Ok v) (Ok f) none is found h = λ library has.
+    let k = found library in
+    subst (λ z. IsEntry (import_scope c library) (import_value i) (single i.module.now i.name.now z)) (sym h)
+    (by_name (import_scope c library) (import_value i) v o none (is library has) k.0 k.1 k.2)
 
 -- the types of an import of a function of an adapter that was imported with another type
 pub differing_at : (c : ImportContext) (is : List Import) (i : Import) (recorder : Recorder) (key : String Global × String Global) (first wanted found : FuncType)

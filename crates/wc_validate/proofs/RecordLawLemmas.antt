@@ -7,7 +7,7 @@ use Rattle.wc_read.specs.Imports.{ImportValue}
 use Rattle.wc_resolve.proofs.SearchLemmas.{contains_head, contains_tail}
 use Rattle.wc_resolve.specs.Views.{KeyView, WorldView}
 use Rattle.wc_resolve.specs.World.{ResolveView}
-use Rattle.wc_encoder.specs.Adapters.{WhichView}
+use Rattle.wc_adapters.specs.Adapters.{WhichView}
 use Rattle.wc_encoder.specs.EncoderParts.{EncoderView, IsWorldOf}
 use Rattle.wc_names.specs.Exports.{CoreExport, is_export}
 use Rattle.wc_names.specs.ExportViews.{ExportView}

@@ -5,7 +5,7 @@ use Rattle.std.specs.Result.{IsErrAnd}
 use Rattle.std.specs.Str.{bytes_eq}
 use Rattle.wc_read.specs.declared.types.MemoryType.{MemoryType}
 use Rattle.wc_read.specs.Types.{FuncTypeValue}
-use Rattle.wc_encoder.specs.Adapters.{WhichView}
+use Rattle.wc_adapters.specs.Adapters.{WhichView}
 use Rattle.wc_names.specs.Views.{ImportView, adapter_export}
 use Rattle.wc_validate.specs.declared.fault.ValidateFault.{ValidateFault}
 use Rattle.wc_validate.specs.declared.fault.ValidateFault.TheVariants.{Memory, WholeDiffers, Mixed, SeveralMemoryImports, DuplicateImport, AdapterTypesDiffer}

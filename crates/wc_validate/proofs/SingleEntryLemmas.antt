@@ -7,7 +7,7 @@ use Rattle.std.proofs.lemmas.List.Elements.{All-contains, All-head, All-tail, Co
 use Rattle.wc_read.specs.declared.types.MemoryType.{MemoryType}
 use Rattle.wc_read.specs.Types.{FuncTypeValue}
 use Rattle.wc_resolve.proofs.SearchLemmas.{contains_cons, contains_none}
-use Rattle.wc_encoder.specs.Adapters.{WhichView}
+use Rattle.wc_adapters.specs.Adapters.{WhichView}
 use Rattle.wc_names.specs.Views.{ImportView, adapter_export, main_module_memory}
 use Rattle.wc_validate.specs.declared.fault.ValidateFault.TheVariants.{AdapterTypesDiffer, DuplicateImport, SeveralMemoryImports}
 use Rattle.wc_validate.specs.Imports.AdapterTypes.{first_some}

@@ -25,8 +25,8 @@ use Rattle.wc_resolve.specs.WellFormed.{IsWellFormed}
 use Rattle.wc_resolve.proofs.WellFormedLemmas.{export_items_in}
 use Rattle.wc_resolve.specs.World.{ResolveView}
 use Rattle.wc_dedupe.specs.Renaming.{RenameValue}
-use Rattle.wc_encoder.specs.declared.adapters.Adapter.{Adapter}
-use Rattle.wc_encoder.specs.Adapters.{AdapterView, LibraryView, adapter_entry}
+use Rattle.wc_adapters.specs.declared.adapters.Adapter.{Adapter}
+use Rattle.wc_adapters.specs.Adapters.{AdapterView, LibraryView, adapter_entry}
 use Rattle.wc_encoder.specs.EncoderParts.{EncoderView}
 use Rattle.wc_names.specs.declared.export_names.ExportSyntax.{ExportSyntax}
 use Rattle.wc_names.specs.ExportIndex.{ExportNamesView, names_view}

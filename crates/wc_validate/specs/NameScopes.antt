@@ -5,8 +5,8 @@ use Rattle.std.specs.declared.alloc.Global.{Global}
 use Rattle.wc_read.specs.Types.{FuncTypeValue}
 use Rattle.wc_resolve.specs.Views.{world_view}
 use Rattle.wc_resolve.specs.World.{ResolveView}
-use Rattle.wc_encoder.specs.declared.adapters.Adapter.{Adapter}
-use Rattle.wc_encoder.specs.Entries.{Entries}
+use Rattle.wc_adapters.specs.declared.adapters.Adapter.{Adapter}
+use Rattle.wc_adapters.specs.Entries.{Entries}
 use Rattle.wc_names.specs.Imports.{NameScope, CoreFunction}
 use Rattle.wc_names.specs.InterfaceIndex.{InterfaceNamesView, interface_names_view}
 use Rattle.wc_names.specs.Interfaces.{InterfaceTexts, canonical_ids, full_ids}

@@ -9,14 +9,14 @@ use Rattle.wc_read.specs.Types.{FuncTypeValue}
 use Rattle.wc_resolve.specs.Queries.{key_text}
 use Rattle.wc_resolve.specs.Views.{FunctionView, KeyView}
 use Rattle.wc_resolve.specs.World.{ResolveView}
-use Rattle.wc_encoder.specs.Entries.{Entries}
+use Rattle.wc_adapters.specs.Entries.{Entries}
 use Rattle.wc_names.specs.Exports.{ClassifiedExport, CoreExport, is_export}
 use Rattle.wc_names.specs.ExportViews.{ExportView}
 use Rattle.wc_names.specs.Imports.{CoreImport, NameScope, Classified, func_type}
 use Rattle.wc_names.specs.Meanings.{means}
 use Rattle.wc_names.specs.Views.{ImportView, adapter_export}
 use Rattle.wc_validate.specs.declared.fault.ValidateFault.{ValidateFault}
-use Rattle.wc_validate.specs.declared.fault.ValidateFault.TheVariants.{NotAFunction, SignatureMismatch, NoRootImport, RootNotFunction, BadSyntax, UnknownInterface, UnknownIntrinsic, MissingFunction, NoSuchExport, TypedReference, WholeDiffers, Mixed, SeveralMemoryImports, DuplicateImport, AdapterTypesDiffer, SeveralMemoryExports, MissingCallback, AdapterExportType}
+use Rattle.wc_validate.specs.declared.fault.ValidateFault.TheVariants.{NotAFunction, SignatureMismatch, NoRootImport, RootNotFunction, BadSyntax, UnknownInterface, UnknownIntrinsic, MissingFunction, NoSuchExport, TypedReference, WholeDiffers, Mixed, SeveralMemoryImports, DuplicateImport, AdapterTypesDiffer, SeveralMemoryExports, MissingCallback}
 use Rattle.wc_validate.specs.declared.place.Place.{Place}
 pub use Rattle.wc_validate.specs.PlaceViews.{SubjectView, an_import, an_export, missing_function, missing_export, subject_view, DifferenceView, difference_of, difference_view, PlaceView, place_view}
 use Rattle.wc_validate.specs.Imports.Entries.{Entry, Records, single, first_by, adapter_type_of}
@@ -173,12 +173,12 @@ pub record IsKeyPlace (r : ResolveView) (xs : List CoreExport) (recorded : Expor
   pub lack : IsLack r recorded key first.need p.subject
   pub types : p.types ≡ None
 
--- what a fault says of a required function: that it is exported with another type; or that it is missing as it is required
-abbrev pub IsFunctionLack : List CoreExport → List ℕ × FuncTypeValue → ValidateFault → PlaceView → Type 0
-IsFunctionLack xs required AdapterExportType p =
-    (found : FuncTypeValue) × (exported_type xs required.0 ≡ Some found) × (p.subject ≡ an_export required.0)
-    × (p.types ≡ Some (difference_of required.1 found))
-IsFunctionLack xs required f p = (p.subject ≡ missing_export required.0) × (p.types ≡ None)
+-- what is said of a required function that is not exported as it is required: that it is missing; or, where one of its
+-- name is exported, that one, with the type that is required and its own
+abbrev pub IsFunctionLack : List CoreExport → List ℕ × FuncTypeValue → PlaceView → Type 0
+IsFunctionLack xs required p =
+    MatchOption (exported_type xs required.0) ((p.subject ≡ missing_export required.0) × (p.types ≡ None))
+    (λ found. (p.subject ≡ an_export required.0) × (p.types ≡ Some (difference_of required.1 found)))
 
 -- the first required function that is not exported as it is required
 pub record IsFirstUnexported (r : ResolveView) (xs : List CoreExport) (recorded : ExportRecord) (functions : List (List ℕ × FuncTypeValue)) (required : List ℕ × FuncTypeValue) (f : ValidateFault) : Type 0 where
@@ -192,7 +192,7 @@ pub record IsFirstUnexported (r : ResolveView) (xs : List CoreExport) (recorded 
 pub record IsFunctionPlace (r : ResolveView) (xs : List CoreExport) (recorded : ExportRecord) (functions : List (List ℕ × FuncTypeValue)) (f : ValidateFault) (p : PlaceView) : Type 0 where
   pub required : List ℕ × FuncTypeValue
   pub first : IsFirstUnexported r xs recorded functions required f
-  pub lack : IsFunctionLack xs required f p
+  pub lack : IsFunctionLack xs required p
 
 -- the place of a fault is a second memory, or what is missing: a callback; something for a key, where memories and callbacks are as required; or
 -- a required function, where the keys have what they require besides

@@ -12,8 +12,8 @@ use Rattle.wc_read.specs.Types.{FuncTypeValue}
 use Rattle.wc_dedupe.specs.Renaming.{RenameValue}
 use Rattle.wc_resolve.specs.declared.worlds.WorldKey.{WorldKey}
 use Rattle.wc_resolve.specs.Views.{KeyView, WorldView, key_view}
-use Rattle.wc_encoder.specs.declared.adapters.LibraryInfo.{LibraryInfo}
-use Rattle.wc_encoder.specs.Adapters.{AdapterView, LibraryView, library_view}
+use Rattle.wc_adapters.specs.declared.adapters.LibraryInfo.{LibraryInfo}
+use Rattle.wc_adapters.specs.Adapters.{AdapterView, LibraryView, library_view}
 use Rattle.wc_encoder.specs.EncoderParts.{EncoderView, IsWorldOf}
 use Rattle.wc_names.specs.Imports.{NameScope}
 use Rattle.wc_validate.specs.declared.fault.ValidateFault.{ValidateFault}

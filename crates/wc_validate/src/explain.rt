@@ -164,7 +164,8 @@ pub fn explain_module(
 /// What a fault is about that [`validate_adapter_module`](crate::validate_adapter_module) answered for the same
 /// encoder, bytes, required functions, export set and library, as [`explain_module`] has it. Besides, of the functions
 /// that other modules import from this one, `TypedReference`, `AdapterModuleDidNotExport` and `AdapterExportType` are
-/// about the first that is not exported as it is required; the last has the required type and the one that is found.
+/// about the first that is not exported as it is required: the export of its name, with the required type and the one
+/// that is found; or that it is missing, where no function of its name is exported.
 ///
 /// # Errors
 ///

@@ -1,8 +1,8 @@
 //! Core types of imported functions, and the signatures that names fix.
 
-ghost use Rattle.std.specs.Prelude.{◌≡◌, ◌↔◌, Err, IfOk, IsTrue, Ok, Some, false, map};
+ghost use Rattle.std.specs.Prelude.{◌≡◌, ◌↔◌, Err, IfOk, IsTrue, Ok, Option, Some, false, map};
 ghost use Rattle.std.specs.List.{list_any};
-ghost use Rattle.wc_read.specs.Types.{func_type_value, names_type, names_types};
+ghost use Rattle.wc_read.specs.Types.{FuncTypeValue, func_type_value, names_type, names_types};
 ghost use Rattle.wc_resolve.specs.Signatures.{signature_view};
 ghost use Rattle.wc_resolve.specs.Views.{function_view};
 ghost use Rattle.wc_resolve.specs.WellFormed.{IsUsable};
@@ -10,7 +10,7 @@ ghost use Rattle.wc_names.specs.Builtins.{signature};
 ghost use Rattle.wc_names.specs.Exports.{post_return_type};
 ghost use Rattle.wc_names.specs.Imports.{function_type, signature_type, val_type};
 ghost use Rattle.wc_names.specs.Views.{import_view};
-ghost use Rattle.wc_validate.specs.Private.Imports.Builtins.{async_value_type, thread_type, IsCheckedBy, IsMismatch, IsMismatchBy};
+ghost use Rattle.wc_validate.specs.Private.Imports.Builtins.{async_value_type, thread_type, IsCheckedAs, IsCheckedBy, IsMismatch, IsMismatchBy, IsTypeMismatch};
 ghost use Rattle.wc_validate.specs.Classifications.{IsTypeChecked};
 ghost use Rattle.wc_validate.specs.Faults.{fault_kind};
 
@@ -82,6 +82,35 @@ pub(crate) fn kept<T: Drop, F: Drop>(is_kept: bool, item: T, fault: F) -> Result
     if is_kept { Ok(Some(item)) } else { Err(fault) }
 }
 
+/// The type that each value of one kind has to have.
+trait TypeRule<T> {
+    // The type that a value has to have, if it is of the kind.
+    ghost type_of: { T → Option FuncTypeValue };
+
+    /// Whether the type of a value is the one that it has to have.
+    fn has_its_type(&self, value: &T, ty: &FuncType) -> bool
+        ensures { IsTrue result ↔ (type_of value.now ≡ Some (func_type_value ty.now)) };
+
+    /// The fault of a value whose type is another than it has to have.
+    fn type_fault(&self, alloc: Global, value: &T) -> Result<NameFault, AllocError>
+        ensures { IfOk result (IsTypeMismatch (type_of value.now)) };
+}
+
+/// The value, if its type is the one that it has to have.
+fn checked_by<T: Drop, R: TypeRule<T>>(
+    alloc: Global,
+    rule: &R,
+    value: T,
+    ty: &FuncType,
+) -> Result<Option<T>, NameFault>
+    ensures { IsCheckedAs R.type_of value ty.now result }
+{
+    if rule.has_its_type(&value, ty) {
+        return Ok(Some(value));
+    }
+    Err(rule.type_fault(alloc, &value)?)
+}
+
 /// Whether the type of a built-in for threads is the one that it has to have.
 fn has_thread_type(import: &Import, ty: &FuncType) -> bool
     ensures { IsTrue result
@@ -117,6 +146,22 @@ fn thread_mismatch(alloc: Global, import: &Import) -> Result<NameFault, AllocErr
     }
 }
 
+/// The types of built-ins for threads.
+#[derive(Clone, Copy)]
+struct ThreadTypes;
+
+impl TypeRule<Import> for ThreadTypes {
+    ghost type_of = { λ import. thread_type (import_view import) };
+
+    fn has_its_type(&self, value: &Import, ty: &FuncType) -> bool {
+        has_thread_type(value, ty)
+    }
+
+    fn type_fault(&self, alloc: Global, value: &Import) -> Result<NameFault, AllocError> {
+        thread_mismatch(alloc, value)
+    }
+}
+
 /// The built-in for threads, if its type is the one that it has to have.
 pub(crate) fn checked_thread(
     alloc: Global,
@@ -125,10 +170,7 @@ pub(crate) fn checked_thread(
 ) -> Result<Option<Import>, NameFault>
     ensures { IsCheckedBy thread_type import ty.now result }
 {
-    if has_thread_type(&import, ty) {
-        return Ok(Some(import));
-    }
-    Err(thread_mismatch(alloc, &import)?)
+    checked_by(alloc, &ThreadTypes, import, ty)
 }
 
 /// Whether the type of a built-in of a future or stream is the one that it has to have.
@@ -188,6 +230,22 @@ fn async_value_mismatch(alloc: Global, import: &Import) -> Result<NameFault, All
     }
 }
 
+/// The types of built-ins of futures and streams.
+#[derive(Clone, Copy)]
+struct AsyncValueTypes;
+
+impl TypeRule<Import> for AsyncValueTypes {
+    ghost type_of = { λ import. async_value_type (import_view import) };
+
+    fn has_its_type(&self, value: &Import, ty: &FuncType) -> bool {
+        has_async_value_type(value, ty)
+    }
+
+    fn type_fault(&self, alloc: Global, value: &Import) -> Result<NameFault, AllocError> {
+        async_value_mismatch(alloc, value)
+    }
+}
+
 /// The built-in of a future or stream, if its type is the one that it has to have.
 pub(crate) fn checked_async_value(
     alloc: Global,
@@ -196,10 +254,7 @@ pub(crate) fn checked_async_value(
 ) -> Result<Option<Import>, NameFault>
     ensures { IsCheckedBy async_value_type import ty.now result }
 {
-    if has_async_value_type(&import, ty) {
-        return Ok(Some(import));
-    }
-    Err(async_value_mismatch(alloc, &import)?)
+    checked_by(alloc, &AsyncValueTypes, import, ty)
 }
 
 /// The value type of a core type: pointers and lengths are 32 bits.

@@ -13,10 +13,10 @@ use Rattle.indexmap.specs.IndexMap.{insert_entry}
 use Rattle.wc_read.specs.Types.{FuncTypeValue}
 use Rattle.wc_resolve.specs.World.{ResolveView}
 use Rattle.wc_resolve.proofs.KeyLemmas.{texts_law}
-use Rattle.wc_encoder.specs.declared.adapters.Adapter.{Adapter}
-use Rattle.wc_encoder.specs.Adapters.{adapter_entry as input_entry}
+use Rattle.wc_adapters.specs.declared.adapters.Adapter.{Adapter}
+use Rattle.wc_adapters.specs.Adapters.{adapter_entry as input_entry}
 use Rattle.wc_encoder.specs.EncoderParts.{EncoderView, world_exports}
-use Rattle.wc_encoder.specs.Entries.{Entries}
+use Rattle.wc_adapters.specs.Entries.{Entries}
 use Rattle.wc_validate.specs.Imports.Map.{required_in}
 use Rattle.wc_validate.specs.Validated.{IsValidateCause, IsRecordOf, ModuleRecord, main_input}
 use Rattle.wc_validate.specs.declared.fault.ValidateFault.{ValidateFault}

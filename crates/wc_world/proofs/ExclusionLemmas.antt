@@ -6,7 +6,7 @@ use Rattle.wc_read.specs.declared.types.MemoryType.{MemoryType}
 use Rattle.wc_read.specs.Laws.{HasOneValue}
 use Rattle.wc_read.specs.Modules.{ModuleValue, SpellsModule}
 use Rattle.wc_write.specs.ModuleText.{built_text}
-use Rattle.wc_encoder.specs.Adapters.{LibraryView}
+use Rattle.wc_adapters.specs.Adapters.{LibraryView}
 use Rattle.wc_encoder.specs.EncoderParts.{EncoderView}
 use Rattle.wc_gc.specs.Causes.{DecidesLive}
 use Rattle.wc_gc.specs.Decoded.{ItemIndex, decode}

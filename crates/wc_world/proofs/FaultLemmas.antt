@@ -6,8 +6,8 @@ use Rattle.std.specs.Result.{IsErrAnd}
 use Rattle.std.specs.declared.alloc.Global.{Global}
 use Rattle.wc_read.specs.declared.types.MemoryType.{MemoryType}
 use Rattle.wc_read.specs.Limits.{page_size_log2_of}
-use Rattle.wc_encoder.specs.declared.adapters.LibraryInfo.{LibraryInfo}
-use Rattle.wc_encoder.specs.Adapters.{LibraryView, library_view}
+use Rattle.wc_adapters.specs.declared.adapters.LibraryInfo.{LibraryInfo}
+use Rattle.wc_adapters.specs.Adapters.{LibraryView, library_view}
 use Rattle.wc_gc.specs.Liveness.{TrimInput, names_of, trim_input}
 use Rattle.wc_gc.specs.Parts.{SettingsValue, settings}
 use Rattle.wc_gc.specs.TrimmedText.{IsTrimmed}

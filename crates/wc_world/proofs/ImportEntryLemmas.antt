@@ -16,8 +16,8 @@ use Rattle.wc_resolve.proofs.ViewedLemmas.{all_unviewed}
 use Rattle.wc_resolve.proofs.WellFormedLemmas.{IsUsableItem, import_functions_usable, import_items_in, import_keys_have_texts, import_keys_in}
 use Rattle.wc_encoder.specs.Distinct.{AreNamesDistinct, import_name, item_interface}
 use Rattle.wc_encoder.specs.EncoderParts.{EncoderView, HasWorld, world_imports}
-use Rattle.wc_encoder.specs.Entries.{Entries}
-use Rattle.wc_encoder.proofs.PairLemmas.{pairs_head, pairs_none, pairs_tail}
+use Rattle.wc_adapters.specs.Entries.{Entries}
+use Rattle.wc_adapters.proofs.PairLemmas.{pairs_head, pairs_none, pairs_tail}
 use Rattle.wc_validate.specs.Imports.Map.{memory_in}
 use Rattle.wc_validate.specs.Validated.{ModuleRecord}
 use Rattle.wc_world.specs.Lowered.{AreEntriesDistinct, ImportEntry, IsImportable, IsLowerable, KeyedLowering, Lowerer, all_entries, entries_from}

@@ -21,3 +21,4 @@ pub mod RestrictedLemmas
 pub mod ExclusionLemmas
 pub mod ServedLemmas
 pub mod FunctionsLoweredLemmas
+pub mod RequiredLemmas

@@ -20,7 +20,7 @@ use Rattle.wc_resolve.specs.World.{ResolveView}
 use Rattle.wc_resolve.proofs.KeyLemmas.{texts_law}
 use Rattle.wc_resolve.proofs.WellFormedLemmas.{all_get}
 use Rattle.wc_encoder.specs.Distinct.{AreNamesDistinct, import_name}
-use Rattle.wc_encoder.proofs.PairLemmas.{pairs_none}
+use Rattle.wc_adapters.proofs.PairLemmas.{pairs_none}
 use Rattle.wc_names.specs.Keys.{resource_at}
 use Rattle.wc_names.proofs.RangeLemmas.{resource_is}
 use Rattle.wc_world.specs.Lowered.{AreKeysDistinct, KeyedLowering, Lowerer, called_lowering, drop_key, function_lowerings, interface_lowerings, is_drop_of, is_import_of, item_lowerings, lowered_function, resource_lowerings, resource_name, type_lowerings, lowerings_of_interface}

@@ -9,7 +9,7 @@ use Rattle.wc_resolve.specs.Views.{FunctionView, ItemView, KeyView, WorldView, f
 use Rattle.wc_resolve.specs.World.{ResolveView}
 use Rattle.wc_resolve.proofs.SearchLemmas.{contains_none}
 use Rattle.wc_encoder.specs.EncoderParts.{EncoderView, world_exports}
-use Rattle.wc_encoder.specs.Entries.{Entries}
+use Rattle.wc_adapters.specs.Entries.{Entries}
 use Rattle.wc_names.specs.Exports.{CoreExport}
 use Rattle.wc_names.specs.ExportViews.{ExportView}
 use Rattle.wc_names.specs.Imports.{NameScope}

@@ -4,7 +4,7 @@ use Rattle.std.specs.List.{flat_map}
 use Rattle.std.proofs.lemmas.List.Elements.{All-append, All-cons, All-head, All-nil, All-tail}
 use Rattle.std.proofs.lemmas.List.Kept.{AllPairs-cons}
 use Rattle.wc_resolve.proofs.ViewedLemmas.{all_unviewed}
-use Rattle.wc_encoder.proofs.PairLemmas.{pairs_head, pairs_none, pairs_tail}
+use Rattle.wc_adapters.proofs.PairLemmas.{pairs_head, pairs_none, pairs_tail}
 
 pub all_front : {X : Type 0} (P : X → Type 0) (xs ys : List X) → All P (xs ++ ys) → All P xs
 all_front P [] ys h = All-nil P

@@ -8,9 +8,9 @@ use Rattle.std.specs.declared.alloc.AllocError.{AllocError}
 use Rattle.std.specs.declared.alloc.Global.{Global}
 use Rattle.wc_dedupe.specs.Renaming.{RenameValue}
 use Rattle.wc_resolve.proofs.LookupLemmas.{name_viewed}
-use Rattle.wc_encoder.specs.declared.adapters.Adapter.{Adapter as InputAdapter}
-use Rattle.wc_encoder.specs.declared.adapters.LibraryInfo.{LibraryInfo}
-use Rattle.wc_encoder.specs.Adapters.{AdapterView, adapter_entry, adapter_view, library_view}
+use Rattle.wc_adapters.specs.declared.adapters.Adapter.{Adapter as InputAdapter}
+use Rattle.wc_adapters.specs.declared.adapters.LibraryInfo.{LibraryInfo}
+use Rattle.wc_adapters.specs.Adapters.{AdapterView, adapter_entry, adapter_view, library_view}
 use Rattle.wc_encoder.specs.EncoderParts.{EncoderView}
 use Rattle.wc_gc.specs.Liveness.{TrimInput, names_of, trim_input}
 use Rattle.wc_gc.specs.TrimPlaces.{IsExplained as IsTrimExplained, IsPlace as IsPlaceOfTrim}

@@ -178,7 +178,7 @@ others_there : (k m : List ℕ) (ks : List (List ℕ)) (b : Bool) → bytes_eq k
 others_there k m ks true e c = subst (Contains (k ∷ filter (λ z. not (bytes_eq k z)) ks)) (same k m e) (contains_head (filter (λ z. not (bytes_eq k z)) ks) k)
 others_there k m ks false e c = contains_tail k (filter (λ z. not (bytes_eq k z)) ks) m (filtered_there (λ z. not (bytes_eq k z)) ks m c (ap not e))
 
-occurrence_there : (ms : List (List ℕ)) (m : List ℕ) → Contains ms m → Contains (first_occurrences ms) m
+pub occurrence_there : (ms : List (List ℕ)) (m : List ℕ) → Contains ms m → Contains (first_occurrences ms) m
 occurrence_there [] m c = absurd (contains_none m c)
 occurrence_there (k ∷ ms) m c = elim (contains_cons k ms m c) [
   | inl is ↦ subst (Contains (first_occurrences (k ∷ ms))) is (contains_head (filter (λ z. not (bytes_eq k z)) (first_occurrences ms)) k)

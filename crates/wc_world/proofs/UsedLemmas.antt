@@ -17,7 +17,7 @@ use Rattle.wc_resolve.specs.declared.ids.InterfaceId.{InterfaceId}
 use Rattle.wc_resolve.specs.Dependencies.{direct_dependencies, id_of_interface, interface_ids}
 use Rattle.wc_resolve.specs.World.{ResolveView, Leads, refers, further}
 use Rattle.wc_resolve.proofs.SearchLemmas.{contains_cons, contains_head, contains_none, contains_tail}
-use Rattle.wc_encoder.specs.Entries.{Entries}
+use Rattle.wc_adapters.specs.Entries.{Entries}
 use Rattle.wc_world.specs.Used.{IsUsedPart, HasUsedSet, IsUsedSet, Used, UsedView, exported_dependencies, has_interface, is_exported_itself, same_interface}
 use Rattle.wc_world.specs.Used.{used_view}
 

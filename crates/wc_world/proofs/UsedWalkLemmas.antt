@@ -22,8 +22,8 @@ use Rattle.wc_resolve.proofs.SearchLemmas.{contains_cons, contains_head, contain
 use Rattle.wc_encoder.specs.Dependencies.{AreDependenciesBefore, AreItemsIn, DependsOn}
 use Rattle.wc_encoder.specs.Distinct.{exported_interfaces, item_interface}
 use Rattle.wc_encoder.specs.EncoderParts.{EncoderView, world_exports}
-use Rattle.wc_encoder.specs.Entries.{Entries}
-use Rattle.wc_encoder.proofs.PairLemmas.{pairs_head, pairs_tail}
+use Rattle.wc_adapters.specs.Entries.{Entries}
+use Rattle.wc_adapters.proofs.PairLemmas.{pairs_head, pairs_tail}
 use Rattle.wc_names.specs.Keys.{item_under}
 use Rattle.wc_world.specs.Used.{HasUsedSet, HasUsedSets, IsReady, IsUsedSet, UsedView, is_exported_itself}
 use Rattle.wc_world.proofs.UsedLemmas.{filter_from}

@@ -10,9 +10,9 @@ use Rattle.wc_read.specs.Limits.{page_size_log2_of}
 use Rattle.wc_read.specs.Types.{FuncTypeValue}
 use Rattle.wc_resolve.specs.Views.{ItemView, KeyView, function_item, interface_item, type_item}
 use Rattle.wc_resolve.specs.World.{ResolveView}
-use Rattle.wc_encoder.specs.Adapters.{AdapterView}
+use Rattle.wc_adapters.specs.Adapters.{AdapterView}
 use Rattle.wc_encoder.specs.EncoderParts.{EncoderView, world_exports}
-use Rattle.wc_encoder.specs.Entries.{Entries}
+use Rattle.wc_adapters.specs.Entries.{Entries}
 use Rattle.wc_names.specs.ExportViews.{ExportView}
 use Rattle.wc_names.specs.Keys.{item_under}
 use Rattle.wc_maps.specs.Names.{first_occurrences}

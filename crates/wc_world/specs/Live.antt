@@ -13,7 +13,7 @@ use Rattle.wc_resolve.specs.declared.ids.InterfaceId.{InterfaceId}
 use Rattle.wc_resolve.specs.declared.ids.TypeId.{TypeId}
 use Rattle.wc_encoder.specs.Dependencies.{AreItemsIn}
 use Rattle.wc_encoder.specs.EncoderParts.{EncoderView, IsWorldOf, world_exports, world_imports}
-use Rattle.wc_encoder.specs.Entries.{Entries}
+use Rattle.wc_adapters.specs.Entries.{Entries}
 use Rattle.wc_names.specs.Laws.{IsImportIn}
 use Rattle.wc_names.specs.Keys.{as_type, item_under}
 use Rattle.wc_maps.specs.Names.{under_name}

@@ -13,7 +13,7 @@ use Rattle.wc_resolve.specs.Views.{FunctionView, InterfaceView, ItemView, KeyVie
 use Rattle.wc_resolve.specs.WellFormed.{IsUsable, type_name}
 use Rattle.wc_resolve.specs.World.{ResolveView}
 use Rattle.wc_encoder.specs.EncoderParts.{EncoderView, world_imports}
-use Rattle.wc_encoder.specs.Entries.{Entries}
+use Rattle.wc_adapters.specs.Entries.{Entries}
 use Rattle.wc_names.specs.Keys.{resource_at}
 use Rattle.wc_names.specs.Views.{ImportView, imported_resource_drop, interface_func, world_func}
 use Rattle.wc_validate.specs.Imports.Map.{memory_in}

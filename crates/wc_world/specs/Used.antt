@@ -8,7 +8,7 @@ use Rattle.wc_resolve.specs.Dependencies.{direct_dependencies}
 use Rattle.wc_resolve.specs.Views.{ItemView, interface_item, interface_key, KeyView}
 use Rattle.wc_resolve.specs.World.{ResolveView, Leads}
 use Rattle.wc_encoder.specs.Distinct.{exported_interfaces}
-use Rattle.wc_encoder.specs.Entries.{Entries}
+use Rattle.wc_adapters.specs.Entries.{Entries}
 use Rattle.wc_names.specs.Keys.{item_under}
 
 -- the interface is exported under its own id

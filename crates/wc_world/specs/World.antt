@@ -2,7 +2,7 @@
 use Rattle.std.specs.Prelude.{◌≡◌, List, Option, None, Some, IfSome, filter, true, ◌++◌, ◌∷◌, [], All, Result, OnOk}
 use Rattle.std.specs.List.{AllZip}
 use Rattle.wc_read.specs.declared.types.MemoryType.{MemoryType}
-use Rattle.wc_encoder.specs.Adapters.{LibraryView}
+use Rattle.wc_adapters.specs.Adapters.{LibraryView}
 use Rattle.wc_encoder.specs.EncoderParts.{EncoderView, world_exports}
 use Rattle.wc_gc.specs.Liveness.{TrimInput}
 use Rattle.wc_gc.specs.Parts.{SettingsValue}

@@ -1,7 +1,7 @@
 //! The adapters and libraries that a component has.
 
 ghost use Rattle.std.specs.Prelude.{◌≡◌, ◌⊎◌, IfErr, IfOk, None, OnOk};
-ghost use Rattle.wc_encoder.specs.Adapters.{adapter_view as input_view};
+ghost use Rattle.wc_adapters.specs.Adapters.{adapter_view as input_view};
 ghost use Rattle.wc_gc.specs.Liveness.{names_of};
 ghost use Rattle.wc_validate.specs.Imports.Map.{required_in};
 ghost use Rattle.wc_validate.specs.Validated.{ModuleRecord, module_record};

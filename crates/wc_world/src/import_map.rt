@@ -7,7 +7,7 @@ ghost use Rattle.wc_resolve.specs.Queries.{external_id, implemented};
 ghost use Rattle.wc_resolve.specs.Ranges.{IsItemIn};
 ghost use Rattle.wc_resolve.specs.Views.{item_view, key_view, world_entry};
 ghost use Rattle.wc_encoder.specs.Distinct.{item_interface};
-ghost use Rattle.wc_encoder.specs.Entries.{entries_of};
+ghost use Rattle.wc_adapters.specs.Entries.{entries_of};
 ghost use Rattle.wc_validate.specs.Validated.{module_record};
 ghost use Rattle.wc_world.specs.Lowered.{AreKeysDistinct, IfDistinct, ImportEntry, IsImportable, IsLowerable, all_entries, interface_entry, lowered, lowerings_of_interface, own_entry, own_lowerings};
 ghost use Rattle.wc_world.specs.WorldViews.{adapters_view, import_map_view, imported_entry, imported_view, lowering_entry};

@@ -9,7 +9,7 @@ ghost use Rattle.wc_resolve.specs.Roots.{id_index, item_roots};
 ghost use Rattle.wc_resolve.specs.Views.{function_view, item_view, key_view, world_view};
 ghost use Rattle.wc_resolve.specs.World.{ResolveView};
 ghost use Rattle.wc_encoder.specs.Dependencies.{AreItemsIn};
-ghost use Rattle.wc_encoder.specs.Entries.{entries_of};
+ghost use Rattle.wc_adapters.specs.Entries.{entries_of};
 ghost use Rattle.wc_names.specs.Keys.{as_type, item_under};
 ghost use Rattle.wc_maps.specs.Names.{under_name};
 ghost use Rattle.wc_names.specs.Laws.{IsImportIn};

@@ -3,7 +3,7 @@
 ghost use Rattle.std.specs.Prelude.{◌≡◌, ◌↔◌, IfOk, IsTrue, None, Some, option_map};
 ghost use Rattle.std.specs.Map.{lookup};
 ghost use Rattle.std.specs.Str.{bytes_eq};
-ghost use Rattle.wc_encoder.specs.Adapters.{adapter_view};
+ghost use Rattle.wc_adapters.specs.Adapters.{adapter_view};
 ghost use Rattle.wc_validate.specs.Imports.Map.{required_in};
 ghost use Rattle.wc_validate.specs.Validated.{library_of, module_record};
 ghost use Rattle.wc_world.specs.Places.{IsIn, IsWorldExplained};

@@ -4,7 +4,7 @@ ghost use Rattle.std.specs.Prelude.{◌≡◌, ◌<◌, ◌||◌, ◌++◌, ◌�
 ghost use Rattle.wc_resolve.specs.WellFormed.{IsMatchingKey};
 ghost use Rattle.wc_encoder.specs.Dependencies.{AreDependenciesBefore, AreItemsIn};
 ghost use Rattle.wc_encoder.specs.EncoderParts.{world_exports};
-ghost use Rattle.wc_encoder.specs.Entries.{entries_of};
+ghost use Rattle.wc_adapters.specs.Entries.{entries_of};
 ghost use Rattle.wc_resolve.specs.Ranges.{IsItemIn};
 ghost use Rattle.wc_resolve.specs.Views.{item_view};
 ghost use Rattle.wc_world.specs.Used.{AddsUsedSetOnOk, AreUsed, ForDependent, HasDependencySets, HasUsedPart, IsReady, IsUsedSet, has_interface, is_exported_itself, used_view};

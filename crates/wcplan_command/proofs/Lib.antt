@@ -5,3 +5,4 @@ mod WorldsLemmas
 mod ProgramLemmas
 mod RunLemmas
 mod NearestLemmas
+pub mod DetailsLemmas

@@ -16,7 +16,7 @@ use Rattle.wc_resolve.specs.Ranges.{IsItemIn}
 use Rattle.wc_resolve.specs.Views.{FunctionView, InterfaceView, ItemView, KeyView, WorldView, function_entry, function_item, interface_item, item_view, key_view, type_item, world_entry}
 use Rattle.wc_resolve.specs.World.{ResolveView}
 use Rattle.wc_selection.specs.Keys.{NamedKey, named_keys, texts_of, with_text}
-use Rattle.wcplan_command.specs.Nearest.{first_near, function_names, has_key_text, interface_named, is_near, key_texts, names_in, near_function}
+use Rattle.wcplan_command.specs.Nearest.{first_near, function_names, has_key_text, interface_by, interface_for, is_near, key_texts, names_in, near_function}
 
 abbrev Entry : Type 0
 Entry = WorldKey × WorldItem
@@ -51,31 +51,31 @@ module _ (r : ResolveView) (left rest : List Entry) (key : WorldKey) (item : Wor
     abbrev interface_of : KeyView × ItemView → Option ℕ
     interface_of x = as_interface x.1
 
-    abbrev named_by : List ℕ → Bool → Option ℕ
-    named_by wanted is =
-        option_and_then interface_of (cond is (Some (key_view key, item_view item)) (find (has_key_text r wanted) (map world_entry rest)))
+    abbrev named_by : (List ℕ → Bool) → Bool → Option ℕ
+    named_by fits is =
+        option_and_then interface_of (cond is (Some (key_view key, item_view item)) (find (has_key_text r fits) (map world_entry rest)))
 
-    named_cut : (wanted : List ℕ) (is : Bool) → bytes_eq text wanted ≡ is → interface_named r (map world_entry left) wanted ≡ named_by wanted is
-    named_cut wanted is alike =
-        let same : has_key_text r wanted (key_view key, item_view item) ≡ bytes_eq text wanted = ap (λ (o : Option (List ℕ)). option_map_or (λ (t : List ℕ). bytes_eq t wanted) o false) named in
-        ap (λ (z : List Entry). interface_named r (map world_entry z) wanted) next ∙ ap (named_by wanted) (same ∙ alike)
+    named_cut : (fits : List ℕ → Bool) (is : Bool) → fits text ≡ is → interface_by r (map world_entry left) fits ≡ named_by fits is
+    named_cut fits is alike =
+        let same : has_key_text r fits (key_view key, item_view item) ≡ fits text = ap (λ (o : Option (List ℕ)). option_map_or fits o false) named in
+        ap (λ (z : List Entry). interface_by r (map world_entry z) fits) next ∙ ap (named_by fits) (same ∙ alike)
 
-    pub named_passed : (wanted : List ℕ) (all : Option ℕ) → bytes_eq text wanted ≡ false → interface_named r (map world_entry left) wanted ≡ all
-        → interface_named r (map world_entry rest) wanted ≡ all
-    named_passed wanted all off before = sym (named_cut wanted false off) ∙ before
+    pub named_passed : (fits : List ℕ → Bool) (all : Option ℕ) → fits text ≡ false → interface_by r (map world_entry left) fits ≡ all
+        → interface_by r (map world_entry rest) fits ≡ all
+    named_passed fits all off before = sym (named_cut fits false off) ∙ before
 
-    pub named_found : (wanted : List ℕ) (all : Option ℕ) → bytes_eq text wanted ≡ true → interface_named r (map world_entry left) wanted ≡ all
+    pub named_found : (fits : List ℕ → Bool) (all : Option ℕ) → fits text ≡ true → interface_by r (map world_entry left) fits ≡ all
         → as_interface (item_view item) ≡ all
-    named_found wanted all on before = sym (named_cut wanted true on) ∙ before
+    named_found fits all on before = sym (named_cut fits true on) ∙ before
 
 -- there are no more
 pub key_none : (r : ResolveView) (left : List Entry) (name : List ℕ) (all : Option (List ℕ)) → left ≡ [] → first_near name (key_texts r (map world_entry left)) ≡ all
     → None ≡ all
 key_none r left name all none before = sym (ap (λ (z : List Entry). first_near name (key_texts r (map world_entry z))) none) ∙ before
 
-pub named_none : (r : ResolveView) (left : List Entry) (text : List ℕ) (all : Option ℕ) → left ≡ [] → interface_named r (map world_entry left) text ≡ all
+pub named_none : (r : ResolveView) (left : List Entry) (fits : List ℕ → Bool) (all : Option ℕ) → left ≡ [] → interface_by r (map world_entry left) fits ≡ all
     → None ≡ all
-named_none r left text all none before = sym (ap (λ (z : List Entry). interface_named r (map world_entry z) text) none) ∙ before
+named_none r left fits all none before = sym (ap (λ (z : List Entry). interface_by r (map world_entry z) fits) none) ∙ before
 
 -- an interface that is an item in range is in range
 pub item_there : (r : ResolveView) (item : ItemView) (i : ℕ) → IsItemIn r item → as_interface item ≡ Some i → i < length r.interfaces
@@ -115,7 +115,7 @@ name_none left name all none before = sym (ap (λ (z : Functions). first_near na
 
 -- a function of the interface that the world imports under a text
 pub function_near : (e : EncoderView) (text name : List ℕ) (i : ℕ) (v : InterfaceView) → slice_get e.resolve.interfaces i ≡ Some v
-    → Some i ≡ interface_named e.resolve (world_imports e) text → near_function e text name ≡ first_near name (names_in v)
+    → Some i ≡ interface_for e.resolve (world_imports e) text → near_function e text name ≡ first_near name (names_in v)
 function_near e text name i v there is =
     ap (λ (o : Option ℕ). option_and_then (λ (j : ℕ). first_near name (function_names e.resolve j)) o) (sym is)
     ∙ ap (λ (o : Option InterfaceView). first_near name (option_map_or names_in o [])) there
@@ -135,5 +135,5 @@ module _ (e : EncoderView) (r : ResolveView) (world : ℕ) (same : r ≡ e.resol
     pub exports_near : (name : List ℕ) → first_near name (key_texts r w.exports) ≡ first_near name (key_texts e.resolve (world_exports e))
     exports_near name = (λ i. first_near name (key_texts (same i) (sym (exports_are e w world_is) i)))
 
-    pub interface_is : (text : List ℕ) → interface_named r w.imports text ≡ interface_named e.resolve (world_imports e) text
-    interface_is text = (λ i. interface_named (same i) (sym (imports_are e w world_is) i) text)
+    pub interface_is : (text : List ℕ) → interface_for r w.imports text ≡ interface_for e.resolve (world_imports e) text
+    interface_is text = (λ i. interface_for (same i) (sym (imports_are e w world_is) i) text)

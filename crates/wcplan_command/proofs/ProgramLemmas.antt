@@ -27,24 +27,41 @@ use Rattle.indexmap.specs.IndexMap.{insert_entry}
 use Rattle.wc_dedupe.specs.Dedupe.{IsDedupeCause}
 use Rattle.wc_dedupe.specs.declared.fault.DedupeFault.{DedupeFault}
 use Rattle.wc_dedupe.specs.declared.fault.DedupeFault.TheVariants.{Memory as dedupe_memory}
-use Rattle.wc_encoder.specs.Adapters.{AdapterView, adapter_entry, library_view}
-use Rattle.wc_encoder.specs.declared.adapters.Adapter.{Adapter}
-use Rattle.wc_encoder.proofs.PairLemmas.{pairs_head, pairs_tail}
+use Rattle.wc_adapters.specs.Adapters.{AdapterView, adapter_entry, library_view}
+use Rattle.wc_adapters.specs.declared.adapters.Adapter.{Adapter}
+use Rattle.wc_adapters.proofs.PairLemmas.{pairs_head, pairs_tail}
 use Rattle.wc_resolve.proofs.KeyLemmas.{texts_law}
 use Rattle.wc_resolve.proofs.SearchLemmas.{contains_cons, contains_head, contains_none, contains_tail}
 use Rattle.wcplan_command.specs.Faults.{of_dedupe, of_encoder}
 use Rattle.wcplan_command.specs.ModuleKeys.{AreNamesThere, IsNamesCause, request_of}
 use Rattle.wc_program.specs.Files.{Held, Holds}
 use Rattle.wcplan_command.specs.Arguments.{CommandValue}
-use Rattle.wcplan_command.specs.Program.{AreWorldsIn, IsAdapterIn, IsAdaptersCause, IsChosen, IsDocumentIn, IsListed, IsListedCause, IsListedSelection, IsMainCause, IsModulesCause, IsPartsOf, IsPartsWith, IsPlanCause, IsReadFault, IsUnknownKey}
+use Rattle.wcplan_command.specs.Program.{AreWorldsIn, IsAdapterIn, IsAdaptersCause, IsChosen, IsDocumentIn, IsListed, IsListedCause, IsListedSelection, IsMainCause, IsModulesCause, IsPartsOf, IsPartsWith, IsPlanCause, IsReadFault, IsUnknownKey, Reads}
 use Rattle.wcplan_command.specs.declared.faults.ProgramFault.{ProgramFault}
 use Rattle.wcplan_command.specs.declared.faults.ProgramFault.TheVariants.{Memory, CannotRead, Selection, NoExport, Dedupe}
 
 -- a fault of renaming is the cause of a fault of the main module
-pub main_cause : (before : Option Held) (path bytes : List ℕ) (f : DedupeFault) → Holds before path bytes → IsDedupeCause bytes f
-    → IsMainCause before path (of_dedupe f)
-main_cause before path bytes dedupe_memory read cause = tt
-main_cause before path bytes f read cause = (bytes, read, (λ e. cc), cause)
+pub main_cause : (before : Option Held) (fails : Reads) (path bytes : List ℕ) (f : DedupeFault) → Holds before path bytes → IsDedupeCause bytes f
+    → IsMainCause before fails path (of_dedupe f)
+main_cause before fails path bytes dedupe_memory read cause = tt
+main_cause before fails path bytes f read cause = (bytes, read, (λ e. cc), cause)
+
+-- and so is that of its reading
+pub unread_main : (before : Option Held) (fails : Reads) (path : List ℕ) (f : ProgramFault) → IsReadFault path fails f → IsMainCause before fails path f
+unread_main before fails path Memory h = tt
+unread_main before fails path (CannotRead at p) h = h
+unread_main before fails path f h = absurd h
+
+-- a fault of the main module or of adapters is one of modules
+pub main_modules : (c : CommandValue) (before : Option Held) (fails : Reads) (f : ProgramFault) → IsMainCause before fails c.main f
+    → IsModulesCause c before fails f
+main_modules c before fails (CannotRead at p) h = (inl h.0, h.1)
+main_modules c before fails f h = h
+
+pub adapters_modules : (c : CommandValue) (before : Option Held) (fails : Reads) (f : ProgramFault) → IsAdaptersCause c fails f → IsModulesCause c before fails f
+adapters_modules c before fails Memory h = tt
+adapters_modules c before fails (CannotRead at p) h = (inr h.0, h.1)
+adapters_modules c before fails f h = absurd h
 
 -- adapters that are put into a map under their names, which differ
 
@@ -93,13 +110,15 @@ path_at (y ∷ ys) zero d lt = contains_head (second_parts (map text_pair ys)) y
 path_at (y ∷ ys) (suc k) d lt = contains_tail y.1.now (second_parts (map text_pair ys)) (get_or ys k d).1.now (path_at ys k d (omega arith))
 
 -- an adapter that could not be read
-pub path_cause : (c : CommandValue) (pairs : Pairs) (k : ℕ) (d : Bor (List ℕ) × Bor (List ℕ)) → k < length pairs → map text_pair pairs ≡ c.adapters
-    → (f : ProgramFault) → IsReadFault (get_or pairs k d).1.now f → IsAdaptersCause c f
-path_cause c pairs k d lt is Memory h = tt
-path_cause c pairs k d lt is (CannotRead path) h =
-    subst (Contains (second_parts c.adapters)) (sym h) (subst (λ (l : List (List ℕ × List ℕ)). Contains (second_parts l) (get_or pairs k d).1.now) is
-    (path_at pairs k d lt))
-path_cause c pairs k d lt is f h = absurd h
+pub path_cause : (c : CommandValue) (fails : Reads) (pairs : Pairs) (k : ℕ) (d : Bor (List ℕ) × Bor (List ℕ)) → k < length pairs
+    → map text_pair pairs ≡ c.adapters → (f : ProgramFault) → IsReadFault (get_or pairs k d).1.now fails f → IsAdaptersCause c fails f
+path_cause c fails pairs k d lt is Memory h = tt
+path_cause c fails pairs k d lt is (CannotRead path p) h = (
+  subst (Contains (second_parts c.adapters)) (sym h.0) (subst (λ (l : List (List ℕ × List ℕ)). Contains (second_parts l) (get_or pairs k d).1.now) is
+      (path_at pairs k d lt)),
+  h.1,
+)
+path_cause c fails pairs k d lt is f h = absurd h
 
 zip_push : {A B : Type 0} (R : A → B → Type 0) (xs : List A) (ys : List B) (x : A) (y : B) → AllZip R xs ys → R x y → AllZip R (xs ++ x ∷ []) (ys ++ y ∷ [])
 zip_push R [] [] x y h r = (r, tt)
@@ -132,12 +151,13 @@ adapters_more before c keys pairs k d entries after name adapter lt distinct nam
 
 -- causes of faults that come before there is an encoder
 
-pub names_cause : (c : CommandValue) (before : Option Held) (d : DocumentView) (world : ℕ) (f : ProgramFault) → IsDocumentIn before c.worlds d
-    → IsSelected d c.world world → IsResolve d.parts → IsListedCause c (request_keys (request_of c) d.parts world) f → IsPlanCause c before f
-names_cause c before d world Memory document selected formed cause = tt
-names_cause c before d world (Selection f) document selected formed cause = inr (d, world, document, selected, formed, cause)
-names_cause c before d world (NoExport key listing) document selected formed cause = (d, world, document, selected, formed, cause)
-names_cause c before d world f document selected formed cause = absurd cause
+pub names_cause : (c : CommandValue) (before : Option Held) (fails : Reads) (d : DocumentView) (world : ℕ) (f : ProgramFault)
+    → IsDocumentIn before c.worlds d → IsSelected d c.world world → IsResolve d.parts
+    → IsListedCause c (request_keys (request_of c) d.parts world) f → IsPlanCause c before fails f
+names_cause c before fails d world Memory document selected formed cause = tt
+names_cause c before fails d world (Selection f) document selected formed cause = inr (d, world, document, selected, formed, cause)
+names_cause c before fails d world (NoExport key listing) document selected formed cause = (d, world, document, selected, formed, cause)
+names_cause c before fails d world f document selected formed cause = absurd cause
 
 -- a key that isn't there
 unknown_listed : (c : CommandValue) (keys : List NamedKey) (key : Bor (List ℕ)) (g : ProgramFault) → IsNamesCause c keys (Request (UnknownKey key))
@@ -166,17 +186,17 @@ listed_cause c keys f Memory cause listed = tt
 listed_cause c keys f (Selection g) cause listed = selection_listed c keys f g cause listed
 listed_cause c keys f g cause listed = absurd listed
 
-pub modules_cause : (c : CommandValue) (before : Option Held) (d : DocumentView) (world : ℕ) (f : ProgramFault) → IsChosen c before d world
-    → IsModulesCause c before f → IsPlanCause c before f
-modules_cause c before d world Memory chosen h = tt
-modules_cause c before d world (CannotRead path) chosen h = inr ((d, world, chosen), h)
-modules_cause c before d world (Dedupe f) chosen h = ((d, world, chosen), h)
-modules_cause c before d world f chosen h = absurd h
+pub modules_cause : (c : CommandValue) (before : Option Held) (fails : Reads) (d : DocumentView) (world : ℕ) (f : ProgramFault)
+    → IsChosen c before d world → IsModulesCause c before fails f → IsPlanCause c before fails f
+modules_cause c before fails d world Memory chosen h = tt
+modules_cause c before fails d world (CannotRead path p) chosen h = inr ((d, world, chosen), h)
+modules_cause c before fails d world (Dedupe f) chosen h = ((d, world, chosen), h)
+modules_cause c before fails d world f chosen h = absurd h
 
-pub encoder_cause : (c : CommandValue) (before : Option Held) (e : EncoderView) (f : EncoderFault) → IsPartsOf c before e → IsEncoderCause e f
-    → IsPlanCause c before (of_encoder f)
-encoder_cause c before e encoder_memory parts cause = tt
-encoder_cause c before e f parts cause = (e, parts, (λ e. cc), cause)
+pub encoder_cause : (c : CommandValue) (before : Option Held) (fails : Reads) (e : EncoderView) (f : EncoderFault) → IsPartsOf c before e → IsEncoderCause e f
+    → IsPlanCause c before fails (of_encoder f)
+encoder_cause c before fails e encoder_memory parts cause = tt
+encoder_cause c before fails e f parts cause = (e, parts, (λ e. cc), cause)
 
 pub parts_of : (c : CommandValue) (before : Option Held) (d : DocumentView) (world : ℕ) (keys : List NamedKey) (e : EncoderView) → IsChosen c before d world
     → e.world ≡ world → e.resolve ≡ d.parts → keys ≡ request_keys (request_of c) d.parts world → IsPartsWith c before keys e → IsPartsOf c before e
@@ -193,9 +213,10 @@ module _ (c : CommandValue) (before : Option Held) (r : ResolveView) (world : �
   keys_of : (keys : List NamedKey) → keys ≡ request_keys (request_of c) r world → keys ≡ request_keys (request_of c) there.0.parts world
   keys_of keys keyed = keyed ∙ ap (λ q. request_keys (request_of c) q world) there.4
 
-  pub listed_worlds : (keys : List NamedKey) (f : ProgramFault) → keys ≡ request_keys (request_of c) r world → IsListedCause c keys f → IsPlanCause c before f
-  listed_worlds keys f keyed cause =
-      names_cause c before there.0 world f there.1 there.2 there.3 (subst (λ (k : List NamedKey). IsListedCause c k f) (keys_of keys keyed) cause)
+  pub listed_worlds : (fails : Reads) (keys : List NamedKey) (f : ProgramFault) → keys ≡ request_keys (request_of c) r world → IsListedCause c keys f
+      → IsPlanCause c before fails f
+  listed_worlds fails keys f keyed cause =
+      names_cause c before fails there.0 world f there.1 there.2 there.3 (subst (λ (k : List NamedKey). IsListedCause c k f) (keys_of keys keyed) cause)
 
   pub chosen_worlds : (keys : List NamedKey) → keys ≡ request_keys (request_of c) r world → AreNamesThere c keys → IsChosen c before there.0 world
   chosen_worlds keys keyed named = record {

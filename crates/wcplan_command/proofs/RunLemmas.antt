@@ -6,7 +6,7 @@ use Rattle.wc_encoder.specs.EncoderParts.{EncoderView}
 use Rattle.wc_plan.specs.Faults.{IsFaultNamed, IsFirstFault, UseFault, no_lowering, no_memory, no_realloc}
 use Rattle.wc_plan.specs.declared.fault.PlanFault.{PlanFault}
 use Rattle.wc_plan.specs.declared.fault.PlanFault.TheVariants.{Memory as plan_memory, Output as plan_output}
-use Rattle.wc_program.specs.Files.{Held, KeepsOthers, Writes}
+use Rattle.wc_program.specs.Files.{FailsFrom, Held, StoreChange, Writes}
 use Rattle.wc_world.specs.Causes.{IsComponentWorldCause, IsMemory as IsWorldMemory}
 use Rattle.wc_world.specs.Options.{plain_options}
 use Rattle.wc_world.specs.Views.{ComponentWorldView}
@@ -18,9 +18,10 @@ use Rattle.wcplan_command.specs.Reading.{AsksMemory, read_arguments}
 use Rattle.wc_program.specs.Screen.{Printing, nothing, printed}
 use Rattle.wcplan_command.specs.declared.arguments.NoCommand.{NoCommand}
 use Rattle.wcplan_command.specs.declared.arguments.NoCommand.TheVariants.{Memory, Help, Version, Wrong}
-use Rattle.wcplan_command.specs.Faults.{of_plan}
-use Rattle.wcplan_command.specs.Program.{CommandEnds, EndsWell, EndsWith, IsEncoderOf, IsPlanCause, IsPlanned, IsRunCause, IsUnwrittenFile, ReadingEnds, WritesAll, file_view, files_of, printed_text}
-use Rattle.wcplan_command.specs.Private.Runs.{AnswersStop, IsOfWorld, IsWritingFault}
+use Rattle.wcplan_command.specs.Details.{fault_lines}
+use Rattle.wcplan_command.specs.Faults.{of_plan, program_fault_text}
+use Rattle.wcplan_command.specs.Program.{CommandEnds, EndsWell, EndsWith, IsEncoderOf, IsPlanCause, IsPlanned, IsReported, IsRunCause, IsUnwrittenFile, ReadingEnds, Reads, WritesAll, file_view, files_of, printed_text}
+use Rattle.wcplan_command.specs.Private.Runs.{AnswersStop, IsOfWorld, IsReportedWith, IsWritingFault}
 use Rattle.wcplan_command.specs.declared.faults.ProgramFault.{ProgramFault}
 use Rattle.wcplan_command.specs.declared.faults.ProgramFault.TheVariants.{CannotMake, CannotWrite, Output, World}
 
@@ -28,20 +29,21 @@ use Rattle.wcplan_command.specs.declared.faults.ProgramFault.TheVariants.{Cannot
 abbrev Files : Type 0
 Files = List (String Global × Bor (List ℕ))
 
-module _ (c : CommandValue) (before : Option Held) where
-  -- before files are written nothing is printed
-  pub quiet : (makes : List ℕ → Type 0) (out : Printing → Type 0) (f : ProgramFault) → out nothing → IsPlanCause c before f
-      → IsRunCause c before before makes out f
-  quiet makes out (CannotMake path) still h = absurd h
-  quiet makes out (CannotWrite path) still h = absurd h
-  quiet makes out Output still h = absurd h
-  quiet makes out f still h = (h, refl, still)
+-- before files are written nothing is printed
+pub quiet : (c : CommandValue) (files : StoreChange) (out : Printing → Type 0) (f : ProgramFault) → files.after ≡ files.before → out nothing
+    → IsPlanCause c files.before files.IsFailedRead f → IsRunCause c files out f
+quiet c files out (CannotMake path) kept still h = absurd h
+quiet c files out (CannotWrite path) kept still h = absurd h
+quiet c files out Output kept still h = absurd h
+quiet c files out f kept still h = (h, kept, still)
 
+module _ (c : CommandValue) (before : Option Held) (fails : Reads) where
   -- a fault of the component's world
   pub world_cause : (e : EncoderView) (f : WorldFault) (g : ProgramFault) → IsEncoderOf c before e → IsWorldMemory e f ⊎ IsComponentWorldCause e f
-      → IsOfWorld e f g → IsPlanCause c before g
-  world_cause e world_memory g encodes h is = subst (IsPlanCause c before) (sym is) tt
-  world_cause e f (World g x) encodes h is = subst (λ k. IsPlanCause c before (World k x)) (sym is.0) (e, encodes, (λ same. cc), h, is.1)
+      → IsOfWorld e f g → IsPlanCause c before fails g
+  world_cause e world_memory g encodes h is = subst (IsPlanCause c before fails) (sym is) tt
+  world_cause e f (World g x) encodes h is =
+      subst (λ k. IsPlanCause c before fails (World k x)) (sym is.0) (e, encodes, (λ same. cc), h, is.1)
   world_cause e f g encodes h is = absurd is
 
   -- a fault of its plan
@@ -51,60 +53,59 @@ module _ (c : CommandValue) (before : Option Held) where
   no_output w p no_lowering is = subst (λ k. IsFaultNamed k p.at.0.name plan_output) is p.named
 
   first_cause : (e : EncoderView) (w : ComponentWorldView) (f : PlanFault) → IsEncoderOf c before e → IsWorldOf plain_options e w → IsFirstFault w f
-      → IsPlanCause c before (of_plan f)
+      → IsPlanCause c before fails (of_plan f)
   first_cause e w plan_memory encodes world h = tt
   first_cause e w plan_output encodes world h = absurd (no_output w h h.kind refl)
   first_cause e w f encodes world h = (e, w, encodes, world, h)
 
   pub plan_cause : (e : EncoderView) (w : ComponentWorldView) (f : PlanFault) → IsEncoderOf c before e → IsWorldOf plain_options e w
-      → (f ≡ plan_memory) ⊎ IsFirstFault w f → IsPlanCause c before (of_plan f)
-  plan_cause e w f encodes world (inl is) = subst (λ g. IsPlanCause c before (of_plan g)) (sym is) tt
+      → (f ≡ plan_memory) ⊎ IsFirstFault w f → IsPlanCause c before fails (of_plan f)
+  plan_cause e w f encodes world (inl is) = subst (λ g. IsPlanCause c before fails (of_plan g)) (sym is) tt
   plan_cause e w f encodes world (inr h) = first_cause e w f encodes world h
 
-  module _ (after : Option Held) (makes : List ℕ → Type 0) (out : Printing → Type 0) (w : ComponentWorldView) (planned : IsPlanned c before w)
-      (files : Files) (outputs : map file_view files ≡ files_of c.out w)
-    where
-      -- all files were written, and the lines printed
-      pub all_written : {T : Type 0} (r : Result T ProgramFault)
-          → OnOk r (IfSome c.out makes) → OnOk r (WritesAll before after (map file_view files)) → OnOk r (out (printed (printed_text c.json w)))
-          → OnOk r (EndsWell c before after makes out)
-      all_written (Ok x) made written shown =
-          (w, record { planned = planned; made = made; written = subst (WritesAll before after) outputs written }, shown)
-      all_written (Err f) made written shown = tt
+module _ (c : CommandValue) (change : StoreChange) (out : Printing → Type 0) (w : ComponentWorldView) (planned : IsPlanned c change.before w)
+    (files : Files) (outputs : map file_view files ≡ files_of c.out w)
+  where
+    -- all files were written, and the lines printed
+    pub all_written : {T : Type 0} (r : Result T ProgramFault)
+        → OnOk r (IfSome c.out change.Makes) → OnOk r (WritesAll change.before change.after (map file_view files))
+        → OnOk r (out (printed (printed_text c.json w))) → OnOk r (EndsWell c change out)
+    all_written (Ok x) made written shown =
+        (w, record { planned = planned; made = made; written = subst (WritesAll change.before change.after) outputs written }, shown)
+    all_written (Err f) made written shown = tt
 
-      -- the directory could not be made, a file not be written, or the lines not be printed
-      unwritten : (f : ProgramFault) → IsWritingFault c.out before after makes files out f → IsRunCause c before after makes out f
-      unwritten (CannotMake path) h = (record { world = w; planned = planned; directory = h.0; kept = h.1 }, h.2)
-      unwritten (CannotWrite path) h =
-          let stopped = subst (λ fs. IsUnwrittenFile before after fs (string_bytes path)) outputs h.1 in
-          (record { world = w; planned = planned; made = h.0; stopped = stopped }, h.2)
-      unwritten Output h = (w, record { planned = planned; made = h.0; written = subst (WritesAll before after) outputs h.1 }, h.2)
-      unwritten f h = absurd h
+    -- the directory could not be made, a file not be written, or the lines not be printed
+    unwritten : (f : ProgramFault) → IsWritingFault c.out change files out f → IsRunCause c change out f
+    unwritten (CannotMake path) h = (record { world = w; planned = planned; directory = h.0; failed = h.1; kept = h.2 }, h.3)
+    unwritten (CannotWrite path) h =
+        let stopped = subst (λ fs. IsUnwrittenFile change.before change.after change.IsFailedWrite fs (string_bytes path)) outputs h.1 in
+        (record { world = w; planned = planned; made = h.0; stopped = stopped }, h.2)
+    unwritten Output h = (w, record { planned = planned; made = h.0; written = subst (WritesAll change.before change.after) outputs h.1 }, h.2)
+    unwritten f h = absurd h
 
-      pub some_unwritten : {T : Type 0} (r : Result T ProgramFault)
-          → IfErr r (IsWritingFault c.out before after makes files out) → IfErr r (IsRunCause c before after makes out)
-      some_unwritten (Ok x) h = tt
-      some_unwritten (Err f) h = unwritten f h
+    pub some_unwritten : {T : Type 0} (r : Result T ProgramFault) → IfErr r (IsWritingFault c.out change files out) → IfErr r (IsRunCause c change out)
+    some_unwritten (Ok x) h = tt
+    some_unwritten (Err f) h = unwritten f h
 
 -- how the program ends by what its arguments are read as
 
-pub ends_by_command : (arguments : List (List ℕ)) (c : CommandValue) (before after : Option Held) (makes : List ℕ → Type 0)
-    (out err : Printing → Type 0) (status : ℕ) → read_arguments arguments ≡ Ok c → CommandEnds c before after makes out err status
-    → EndsWith arguments before after makes out err status
-ends_by_command arguments c before after makes out err status read ends =
-    inl (subst (λ (r : Reading CommandValue). ReadingEnds r before after makes out err status) (sym read) ends)
+pub ends_by_command : (arguments : List (List ℕ)) (c : CommandValue) (files : StoreChange)
+    (out err : Printing → Type 0) (status : ℕ) → read_arguments arguments ≡ Ok c → CommandEnds c files out err status
+    → EndsWith arguments files out err status
+ends_by_command arguments c files out err status read ends =
+    inl (subst (λ (r : Reading CommandValue). ReadingEnds r files out err status) (sym read) ends)
 
-pub ends_by_stop : (arguments : List (List ℕ)) (e : NoCommand) (files : Option Held) (makes : List ℕ → Type 0)
-    (out err : Printing → Type 0) (status : ℕ) → IsStop (AsksMemory arguments) (read_arguments arguments) e → AnswersStop e out err status
-    → EndsWith arguments files files makes out err status
-ends_by_stop arguments Memory files makes out err status stops answer = inr (inl stops, refl, answer)
-ends_by_stop arguments Help files makes out err status stops answer =
-    inl (subst (λ (r : Reading CommandValue). ReadingEnds r files files makes out err status) (sym stops) (refl, answer))
-ends_by_stop arguments Version files makes out err status stops answer =
-    inl (subst (λ (r : Reading CommandValue). ReadingEnds r files files makes out err status) (sym stops) (refl, answer))
-ends_by_stop arguments (Wrong w) files makes out err status stops (inl answer) =
-    inl (subst (λ (r : Reading CommandValue). ReadingEnds r files files makes out err status) (sym stops) (refl, answer))
-ends_by_stop arguments (Wrong w) files makes out err status stops (inr none) = inr (inr (wrong_value w, stops), refl, none)
+pub ends_by_stop : (arguments : List (List ℕ)) (e : NoCommand) (files : StoreChange) (out err : Printing → Type 0) (status : ℕ)
+    → files.after ≡ files.before → IsStop (AsksMemory arguments) (read_arguments arguments) e → AnswersStop e out err status
+    → EndsWith arguments files out err status
+ends_by_stop arguments Memory files out err status kept stops answer = inr (inl stops, kept, answer)
+ends_by_stop arguments Help files out err status kept stops answer =
+    inl (subst (λ (r : Reading CommandValue). ReadingEnds r files out err status) (sym stops) (kept, answer))
+ends_by_stop arguments Version files out err status kept stops answer =
+    inl (subst (λ (r : Reading CommandValue). ReadingEnds r files out err status) (sym stops) (kept, answer))
+ends_by_stop arguments (Wrong w) files out err status kept stops (inl answer) =
+    inl (subst (λ (r : Reading CommandValue). ReadingEnds r files out err status) (sym stops) (kept, answer))
+ends_by_stop arguments (Wrong w) files out err status kept stops (inr none) = inr (inr (wrong_value w, stops), kept, none)
 
 -- files that are written one after another: one more is
 pub writes_more : (before middle after : Option Held) (files : Files) (file : String Global × Bor (List ℕ)) → WritesAll before middle (map file_view files)
@@ -122,11 +123,11 @@ map_id [] = refl
 map_id (x ∷ xs) = ap (λ l. x ∷ l) (map_id xs)
 
 -- one could not be, after those before it
-pub unwritten_at : (before middle after : Option Held) (files front : Files) (file : String Global × Bor (List ℕ))
+pub unwritten_at : (before after : Option Held) (fails : Option Held → List ℕ → List ℕ → Type 0) (files front : Files) (file : String Global × Bor (List ℕ))
     → (length front < length files) × (file ≡ get_or files (length front) file) → map (λ f. f) front ≡ take (length front) files
-    → WritesAll before middle (map file_view front)
-    → KeepsOthers middle after (string_bytes file.0) → IsUnwrittenFile before after (map file_view files) (string_bytes file.0)
-unwritten_at before middle after files front file at passed written others =
+    → WritesAll before after (map file_view front)
+    → fails after (string_bytes file.0) file.1.now → IsUnwrittenFile before after fails (map file_view files) (string_bytes file.0)
+unwritten_at before after fails files front file at passed written failed =
     let cut : files ≡ front ++ file ∷ drop (suc (length front)) files = cut_at files (length front) file at.0
     ∙ (λ i. sym passed i ++ sym at.1 i ∷ drop (suc (length front)) files) ∙ ap (λ l. l ++ file ∷ drop (suc (length front)) files) (map_id front) in
     record {
@@ -134,7 +135,20 @@ unwritten_at before middle after files front file at passed written others =
       back = map file_view (drop (suc (length front)) files);
       bytes = file.1.now;
       cut = ap (map file_view) cut ∙ map-append file_view front (file ∷ drop (suc (length front)) files);
-      middle = middle;
       written = written;
-      others = others;
+      failed = failed;
     }
+
+-- a write that failed, of files that stay as they were
+pub failed_from : {S : Type 0} (held : S → Option Held) (fails : S → S → List ℕ → List ℕ → Type 0) (s after : S) (path bytes : List ℕ)
+    → held after ≡ held s → fails s after path bytes → FailsFrom held fails after (held after) path bytes
+failed_from held fails s after path bytes kept failed = (s, sym kept, failed)
+
+-- how a fault is printed
+
+pub reported_with : (fault : ProgramFault) (text : List ℕ) (err : Printing → Type 0) (status : ℕ) → text ≡ program_fault_text fault
+    → IsReportedWith fault text err status → IsReported fault err status
+reported_with fault text err status is (lines, inl all, prints) =
+    (text ++ lines, inl ((λ i. is i ++ all i)), prints)
+reported_with fault text err status is (lines, inr (some, none), prints) =
+    (text ++ lines, inr (inl (some, (λ i. is i ++ none i))), prints)

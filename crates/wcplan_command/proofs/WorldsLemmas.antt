@@ -1,5 +1,5 @@
 -- Why there are no worlds, or none of the name, in the file of a command.
-use Rattle.std.proofs.Common.{◌≡◌, ℕ, List, Option, Some, None, Result, Ok, Err, IfOk, IfErr, sym, ◌∙◌, subst, IfSome, inl}
+use Rattle.std.proofs.Common.{◌≡◌, ℕ, List, Option, Some, None, Result, Ok, Err, IfOk, IfErr, sym, ◌∙◌, subst, inl}
 use Rattle.json.specs.Json.{Json, document}
 use Rattle.wc_json.specs.Document.{DocumentView, document_of}
 use Rattle.wc_resolve.specs.Faults.{IsResolveCause}
@@ -12,9 +12,9 @@ use Rattle.wc_selection.specs.declared.fault.RequestFault.TheVariants.{Memory as
 use Rattle.wc_program.specs.Files.{Held, Holds}
 use Rattle.wcplan_command.specs.Arguments.{CommandValue}
 use Rattle.wcplan_command.specs.Faults.{of_request, of_selection}
-use Rattle.wcplan_command.specs.Parts.{IsAboutPart, IsPartExplanation}
+use Rattle.wcplan_command.specs.Parts.{IsPartExplanation}
 use Rattle.wcplan_command.specs.Private.Runs.{AreWorldsOf, IsOfResolve, IsPartIn, IsWorldsCause}
-use Rattle.wcplan_command.specs.Program.{AreWorldsIn, IsDocumentIn, IsDocumentOf, IsPlanCause, IsReadFault, IsTextCause}
+use Rattle.wcplan_command.specs.Program.{AreWorldsIn, IsDocumentIn, IsDocumentOf, IsPlanCause, IsReadFault, IsTextCause, Reads}
 use Rattle.wcplan_command.specs.declared.explained_part.ExplainedPart.{ExplainedPart}
 use Rattle.wcplan_command.specs.declared.faults.ProgramFault.{ProgramFault}
 use Rattle.wcplan_command.specs.declared.faults.ProgramFault.TheVariants.{Memory, CannotRead, NotText, NotJson, RepeatedMember, Json as json_fault, Selection, NoExport, Resolve, Dedupe, Encoder, World, Plan, CannotMake, CannotWrite, Output}
@@ -28,10 +28,10 @@ one_document None d e h k = absurd h
 one_document (Some j) d e h k = one_value (document_of j) d e h.1 k.1
 
 -- a file that could not be read, or is no text
-pub unread : (c : CommandValue) (before : Option Held) (f : ProgramFault) → IsReadFault c.worlds f → IsPlanCause c before f
-unread c before Memory h = tt
-unread c before (CannotRead path) h = inl h
-unread c before f h = absurd h
+pub unread : (c : CommandValue) (before : Option Held) (fails : Reads) (f : ProgramFault) → IsReadFault c.worlds fails f → IsPlanCause c before fails f
+unread c before fails Memory h = tt
+unread c before fails (CannotRead path p) h = inl h
+unread c before fails f h = absurd h
 
 -- a text has no worlds
 pub text_cause : (c : CommandValue) (text : List ℕ) (f : ProgramFault) → IsTextCause text f → IsWorldsCause c text f
@@ -46,17 +46,11 @@ pub unselected : (c : CommandValue) (text : List ℕ) (d : DocumentView) (f : Re
 unselected c text d request_memory read cause = tt
 unselected c text d f read cause = (d, read, cause)
 
--- they are not well-formed
-about_part : (read : Option Json) (d : DocumentView) (f : ResolveFault) (x : Option ExplainedPart) → IsDocumentOf read d
-    → IfSome x (λ part. (e : DocumentView) × IsDocumentOf read e × IsAboutPart e.parts f part) → IfSome x (IsAboutPart d.parts f)
-about_part read d f None is h = tt
-about_part read d f (Some part) is h = subst (λ (e : DocumentView). IsAboutPart e.parts f part) (one_document read h.0 d h.1 is) h.2
-
--- what is answered of a fault is what it is about
-pub of_part : (read : Option Json) (f : ResolveFault) (x : Option ExplainedPart) → IsPartIn read f x
-    → IfSome x (λ part. (e : DocumentView) × IsDocumentOf read e × IsAboutPart e.parts f part)
-of_part read f None h = tt
-of_part read f (Some part) (d, is, about) = (d, is, about)
+-- they are not well-formed: what the fault is about
+about_parts : {E : Type 0} (read : Option Json) (d : DocumentView) (f : ResolveFault) (r : Result (Option ExplainedPart) E) → IsDocumentOf read d
+    → IfOk r (IsPartIn read f) → IfOk r (IsPartExplanation d.parts f)
+about_parts read d f (Ok x) is h = subst (λ (e : DocumentView). IsPartExplanation e.parts f x) (one_document read h.0 d h.1 is) h.2
+about_parts read d f (Err e) is h = tt
 
 pub part_in : {E : Type 0} (read : Option Json) (d : DocumentView) (f : ResolveFault) (r : Result (Option ExplainedPart) E) → IsDocumentOf read d
     → IfOk r (IsPartExplanation d.parts f) → IfOk r (IsPartIn read f)
@@ -68,7 +62,7 @@ pub resolve_cause : (c : CommandValue) (text : List ℕ) (d : DocumentView) (wor
 resolve_cause c text d world resolve_memory g read selected cause is = subst (IsWorldsCause c text) (sym is) tt
 resolve_cause c text d world f (Resolve g x) read selected cause is =
     subst (λ k. IsWorldsCause c text (Resolve k x)) (sym is.0)
-    (d, world, read, selected, (λ same. cc), cause, about_part (document text) d f x read is.1)
+    (d, world, read, selected, (λ same. cc), cause, about_parts (document text) d f x read is.1)
 resolve_cause c text d world f g read selected cause is = absurd is
 
 -- the worlds of a text, where this is that of the command's file
@@ -80,25 +74,25 @@ pub there : (c : CommandValue) (before : Option Held) (text : List ℕ) (r : Res
     → AreWorldsOf c (document text) r world → AreWorldsIn c before r world
 there c before text r world held (d, read, selected, formed, same) = (d, in_file before c.worlds text d held read, selected, formed, same)
 
-pub file_cause : (c : CommandValue) (before : Option Held) (text : List ℕ) (f : ProgramFault) → Holds before c.worlds text → IsWorldsCause c text f
-    → IsPlanCause c before f
-file_cause c before text Memory held h = tt
-file_cause c before text (CannotRead path) held h = absurd h
-file_cause c before text NotText held h = absurd h
-file_cause c before text (NotJson at) held h = (text, held, h)
-file_cause c before text (RepeatedMember path) held h = (text, held, h)
-file_cause c before text (json_fault f) held h = (text, held, h)
-file_cause c before text (Selection f) held h = inl (h.0, in_file before c.worlds text h.0 held h.1, h.2)
-file_cause c before text (NoExport key listing) held h = absurd h
-file_cause c before text (Resolve f x) held (d, world, read, selected, real, cause, about) =
+pub file_cause : (c : CommandValue) (before : Option Held) (fails : Reads) (text : List ℕ) (f : ProgramFault) → Holds before c.worlds text
+    → IsWorldsCause c text f → IsPlanCause c before fails f
+file_cause c before fails text Memory held h = tt
+file_cause c before fails text (CannotRead path p) held h = absurd h
+file_cause c before fails text NotText held h = absurd h
+file_cause c before fails text (NotJson at) held h = (text, held, h)
+file_cause c before fails text (RepeatedMember path) held h = (text, held, h)
+file_cause c before fails text (json_fault f) held h = (text, held, h)
+file_cause c before fails text (Selection f) held h = inl (h.0, in_file before c.worlds text h.0 held h.1, h.2)
+file_cause c before fails text (NoExport key listing) held h = absurd h
+file_cause c before fails text (Resolve f x) held (d, world, read, selected, real, cause, about) =
     (d, world, in_file before c.worlds text d held read, selected, real, cause, about)
-file_cause c before text (Dedupe f) held h = absurd h
-file_cause c before text (Encoder f) held h = absurd h
-file_cause c before text (World f x) held h = absurd h
-file_cause c before text (Plan f) held h = absurd h
-file_cause c before text (CannotMake path) held h = absurd h
-file_cause c before text (CannotWrite path) held h = absurd h
-file_cause c before text Output held h = absurd h
+file_cause c before fails text (Dedupe f) held h = absurd h
+file_cause c before fails text (Encoder f) held h = absurd h
+file_cause c before fails text (World f x) held h = absurd h
+file_cause c before fails text (Plan f) held h = absurd h
+file_cause c before fails text (CannotMake path) held h = absurd h
+file_cause c before fails text (CannotWrite path) held h = absurd h
+file_cause c before fails text Output held h = absurd h
 
 -- the same of an answer
 
@@ -107,7 +101,7 @@ pub all_there : {M E : Type 0} (c : CommandValue) (before : Option Held) (text :
 all_there c before text resolve world (Ok m) held h = there c before text (resolve m) (world m) held h
 all_there c before text resolve world (Err f) held h = tt
 
-pub some_cause : {M : Type 0} (c : CommandValue) (before : Option Held) (text : List ℕ) (r : Result M ProgramFault) → Holds before c.worlds text
-    → IfErr r (IsWorldsCause c text) → IfErr r (IsPlanCause c before)
-some_cause c before text (Ok m) held h = tt
-some_cause c before text (Err f) held h = file_cause c before text f held h
+pub some_cause : {M : Type 0} (c : CommandValue) (before : Option Held) (fails : Reads) (text : List ℕ) (r : Result M ProgramFault)
+    → Holds before c.worlds text → IfErr r (IsWorldsCause c text) → IfErr r (IsPlanCause c before fails)
+some_cause c before fails text (Ok m) held h = tt
+some_cause c before fails text (Err f) held h = file_cause c before fails text f held h

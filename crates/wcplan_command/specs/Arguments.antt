@@ -4,7 +4,7 @@ use Rattle.std.specs.Option.{option_map}
 use Rattle.wc_selection.specs.Texts.{text_of, text_pair}
 use Rattle.wcplan_command.specs.declared.arguments.Command.{Command}
 use Rattle.wcplan_command.specs.declared.arguments.CommandOption.{CommandOption}
-use Rattle.wcplan_command.specs.declared.arguments.CommandOption.TheVariants.{Adapt, Export, AdapterExport, RejectLegacyNames, ReallocViaMemoryGrow, Json, Out}
+use Rattle.wcplan_command.specs.declared.arguments.CommandOption.TheVariants.{Adapt, Export, AdapterExport, RejectLegacyNames, ReallocViaMemoryGrow, TaskHook, Json, Out}
 use Rattle.wcplan_command.specs.declared.arguments.NoCommand.{NoCommand}
 use Rattle.wcplan_command.specs.declared.arguments.NoCommand.TheVariants.{Memory, Help, Version, Wrong}
 use Rattle.wcplan_command.specs.declared.arguments.WrongArgument.{WrongArgument}
@@ -20,6 +20,7 @@ pub record CommandValue : Type 0 where
   pub adapter_exports : List (List ℕ × List ℕ)
   pub reject_legacy_names : Bool
   pub realloc_via_memory_grow : Bool
+  pub task_hook : Option (List ℕ)
   pub json : Bool
   pub out : Option (List ℕ)
 
@@ -33,6 +34,7 @@ command_value c = record {
   adapter_exports = map text_pair c.adapter_exports.items;
   reject_legacy_names = c.reject_legacy_names;
   realloc_via_memory_grow = c.realloc_via_memory_grow;
+  task_hook = option_map text_of c.task_hook;
   json = c.json;
   out = option_map text_of c.out;
 }
@@ -44,6 +46,7 @@ pub data OptionValue : Type 0 where
   adapter_export : (name key : List ℕ) → OptionValue
   reject_legacy_names : OptionValue
   realloc_via_memory_grow : OptionValue
+  task_hook : (name : List ℕ) → OptionValue
   json : OptionValue
   out : (directory : List ℕ) → OptionValue
 
@@ -53,6 +56,7 @@ option_value (Export key) = export key.now
 option_value (AdapterExport name key) = adapter_export name.now key.now
 option_value RejectLegacyNames = reject_legacy_names
 option_value ReallocViaMemoryGrow = realloc_via_memory_grow
+option_value (TaskHook name) = task_hook name.now
 option_value Json = json
 option_value (Out directory) = out directory.now
 

@@ -1,20 +1,21 @@
 -- What is printed under the text of a fault: what it is about.
-use Rattle.std.specs.Prelude.{◌≡◌, ℕ, List, [], ◌++◌, codes, Option, Some, None, MatchOption, String, string_bytes}
+use Rattle.std.specs.Prelude.{◌≡◌, ℕ, List, [], ◌++◌, codes, Option, Some, None, MatchOption, Result, Ok, Err, string_bytes}
 use Rattle.std.specs.Option.{option_map}
-use Rattle.std.specs.declared.alloc.Global.{Global}
+use Rattle.std.specs.declared.alloc.AllocError.{AllocError}
 use Rattle.wc_encoder.specs.EncoderParts.{EncoderView}
-use Rattle.wc_json.specs.Escape.{escaped}
+use Rattle.wc_json.specs.Escape.{escaped, quoted}
 use Rattle.wc_plan.specs.declared.fault.PlanFault.{PlanFault}
 use Rattle.wc_plan.specs.declared.fault.PlanFault.TheVariants.{NoMemory, NoRealloc, NoLowering}
-use Rattle.wc_validate.specs.Texts.{difference_text, subject_text}
-use Rattle.wc_validate.specs.Places.{DifferenceView, PlaceView, place_view}
+use Rattle.wc_validate.specs.Texts.{difference_text}
+use Rattle.wc_validate.specs.Places.{DifferenceView, PlaceView, SubjectView, an_export, an_import, missing_export, missing_function, place_view}
 use Rattle.wc_gc.specs.TrimPlaces.{place_text as trim_place_text}
 use Rattle.wc_world.specs.declared.places.ModulePlace.{ModulePlace}
 use Rattle.wc_world.specs.declared.places.ModulePlace.TheVariants as place
 use Rattle.wc_world.specs.Places.{IsWorldExplained}
 use Rattle.wc_world.specs.declared.fault.WorldFault.{WorldFault}
+use Rattle.wc_resolve.specs.declared.explain.Part.{Part}
 use Rattle.wcplan_command.specs.Nearest.{near_place}
-use Rattle.wcplan_command.specs.Parts.{part_text}
+use Rattle.wcplan_command.specs.Parts.{path_text}
 use Rattle.wcplan_command.specs.declared.explained_part.ExplainedPart.{ExplainedPart}
 use Rattle.wcplan_command.specs.declared.explained.Explained.{Explained}
 use Rattle.wcplan_command.specs.declared.faults.ProgramFault.{ProgramFault}
@@ -33,6 +34,17 @@ IsExplanation e f answer = MatchOption answer (IsWorldExplained e f None) (IsAbo
 abbrev pub detail_line : List ℕ → List ℕ
 detail_line text = codes "\n  " ++ escaped text
 
+-- the line under the text of a fault, where there was no memory for what it is about
+abbrev pub unplaced_line : List ℕ
+unplaced_line = codes "\n  out of memory for what it is about"
+
+-- the line of what a fault is about, by its names; they are escaped
+abbrev pub subject_line : SubjectView → List ℕ
+subject_line (an_import module_name name index) = codes "\n  import " ++ (quoted module_name ++ (codes " " ++ quoted name))
+subject_line (an_export name) = codes "\n  export " ++ quoted name
+subject_line (missing_function module_name name) = codes "\n  missing " ++ (quoted module_name ++ (codes " " ++ quoted name))
+subject_line (missing_export name) = codes "\n  missing export " ++ quoted name
+
 -- core types that differ
 abbrev pub types_line : Option DifferenceView → List ℕ
 types_line None = []
@@ -48,7 +60,7 @@ nearest_line (Some name) = detail_line (nearest_text name)
 
 -- the lines of a place: the import or the export, the types that differ, and what is there in place of a name
 abbrev pub place_lines : PlaceView → Option (List ℕ) → List ℕ
-place_lines p near = detail_line (subject_text p.subject) ++ (types_line p.types ++ nearest_line near)
+place_lines p near = subject_line p.subject ++ (types_line p.types ++ nearest_line near)
 
 -- and those of a place in a module, which may be a section or the body of a function
 abbrev pub module_place_lines : ModulePlace → Option (List ℕ) → List ℕ
@@ -56,33 +68,39 @@ module_place_lines (place.Validation p) near = place_lines (place_view p) near
 module_place_lines (place.Trim p) near = detail_line (trim_place_text p)
 
 -- the function that a fault of a plan is about
-abbrev pub function_text : List ℕ → List ℕ
-function_text name = codes "function \"" ++ (name ++ codes "\"")
-
-abbrev pub function_line : String Global → List ℕ
-function_line name = detail_line (function_text (string_bytes name))
+abbrev pub function_line : List ℕ → List ℕ
+function_line name = codes "\n  function " ++ quoted name
 
 abbrev pub plan_fault_lines : PlanFault → List ℕ
-plan_fault_lines (NoMemory name) = function_line name
-plan_fault_lines (NoRealloc name) = function_line name
-plan_fault_lines (NoLowering name) = function_line name
+plan_fault_lines (NoMemory name) = function_line (string_bytes name)
+plan_fault_lines (NoRealloc name) = function_line (string_bytes name)
+plan_fault_lines (NoLowering name) = function_line (string_bytes name)
 plan_fault_lines f = []
 
 abbrev pub world_fault_lines : Option Explained → List ℕ
 world_fault_lines None = []
 world_fault_lines (Some x) = module_place_lines x.place.place (option_map string_bytes x.nearest)
 
--- the line of what a fault of worlds is about
+-- the line of what a fault of worlds is about: its path, and its name, if there is one
+abbrev pub named_part : Part → Option (List ℕ) → List ℕ
+named_part p None = path_text p
+named_part p (Some name) = path_text p ++ (codes " " ++ quoted name)
+
 abbrev pub part_line : ExplainedPart → List ℕ
-part_line x = detail_line (part_text x.part (option_map string_bytes x.name))
+part_line x = codes "\n  " ++ named_part x.part (option_map string_bytes x.name)
 
 abbrev pub part_lines : Option ExplainedPart → List ℕ
 part_lines None = []
 part_lines (Some x) = part_line x
 
+-- what was found, or that there was no memory for it
+abbrev pub lines_or_memory : {A : Type 0} → (A → List ℕ) → Result A AllocError → List ℕ
+lines_or_memory lines (Ok x) = lines x
+lines_or_memory lines (Err e) = unplaced_line
+
 -- the lines under the text of a fault
 abbrev pub fault_lines : ProgramFault → List ℕ
-fault_lines (Resolve f x) = part_lines x
-fault_lines (World f x) = world_fault_lines x
+fault_lines (Resolve f x) = lines_or_memory part_lines x
+fault_lines (World f x) = lines_or_memory world_fault_lines x
 fault_lines (Plan f) = plan_fault_lines f
 fault_lines f = []

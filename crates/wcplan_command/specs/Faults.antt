@@ -1,6 +1,7 @@
 -- The fault for the fault of a call inside; and the texts of faults.
 use Rattle.std.specs.Prelude.{ℕ, List, ◌++◌, codes, decimal, string_bytes}
 use Rattle.wc_program.specs.FaultTexts.{carried_text, dedupe_fault_text, memory_text}
+use Rattle.wc_program.specs.Files.{problem_text}
 use Rattle.wc_json.specs.Escape.{escaped}
 use Rattle.wc_json.specs.Faults.{json_fault_text}
 use Rattle.wc_dedupe.specs.declared.fault.DedupeFault.{DedupeFault}
@@ -73,10 +74,14 @@ abbrev pub world_text : WorldFault → List ℕ
 world_text (PageSize name own main) = escaped (page_size_text (string_bytes name) own main)
 world_text f = carried_text (codes "World") (escaped (world_fault_text f))
 
+-- what was to be printed could not be
+abbrev pub unprinted_text : List ℕ
+unprinted_text = codes "cannot print"
+
 -- the text of a fault. What comes from outside is escaped; paths in faults of JSON are escaped already
 abbrev pub program_fault_text : ProgramFault → List ℕ
 program_fault_text Memory = memory_text
-program_fault_text (CannotRead path) = codes "cannot read " ++ escaped path.now
+program_fault_text (CannotRead path p) = codes "cannot read " ++ (escaped path.now ++ problem_text p)
 program_fault_text NotText = codes "Json: not UTF-8"
 program_fault_text (NotJson at) = codes "Json: not JSON at byte " ++ decimal at
 program_fault_text (RepeatedMember path) = repeated_text (string_bytes path)
@@ -90,4 +95,4 @@ program_fault_text (World f x) = world_text f
 program_fault_text (Plan f) = carried_text (codes "Plan") (escaped (plan_fault_text f))
 program_fault_text (CannotMake path) = codes "cannot make directory " ++ escaped path.now
 program_fault_text (CannotWrite path) = codes "cannot write " ++ escaped (string_bytes path)
-program_fault_text Output = codes "cannot print"
+program_fault_text Output = unprinted_text

@@ -3,7 +3,7 @@ use Rattle.std.specs.Prelude.{ℕ, List, ◌++◌, codes}
 use Rattle.std.specs.List.{flat_map}
 use Rattle.wc_json.specs.Escape.{escaped}
 use Rattle.wc_plan.specs.Lines.{called_text, owner_text, realloc_text, slot_text, space}
-use Rattle.wc_plan.specs.Views.{UseView}
+use Rattle.wc_uses.specs.Views.{UseView}
 
 -- ` slot N realloc NAME`
 abbrev pub needed_text : UseView → List ℕ

@@ -1,9 +1,10 @@
 -- What a command asks of adapters and of exports.
-use Rattle.std.specs.Prelude.{ℕ, List, All, Contains}
+use Rattle.std.specs.Prelude.{ℕ, List, All, Contains, unwrap_or}
 use Rattle.wc_json.specs.Document.{DocumentView}
 use Rattle.wc_selection.specs.Keys.{NamedKey, texts_of}
 use Rattle.wc_selection.specs.Requests.{RequestValue, given_keys}
 use Rattle.wc_selection.specs.ModuleKeys.{AreKeysThere, IsKeysCause}
+use Rattle.wc_selection.specs.TaskHook.{no_task_hook}
 use Rattle.wc_selection.specs.Texts.{AreDistinct, IsFirstMissing, IsFirstRepeated, first_parts}
 use Rattle.wc_selection.specs.Worlds.{IsWorldCause}
 use Rattle.wcplan_command.specs.Arguments.{CommandValue}
@@ -14,6 +15,10 @@ use Rattle.wcplan_command.specs.declared.faults.SelectionFault.TheVariants.{Memo
 -- the keys that a command gives
 abbrev pub request_of : CommandValue → RequestValue
 request_of c = record { exports = c.exports; adapter_exports = c.adapter_exports }
+
+-- the name of the task hook: the one that is given, or else one that no export is taken for
+abbrev pub hook_of : CommandValue → List ℕ
+hook_of c = unwrap_or c.task_hook no_task_hook
 
 -- why no world is selected
 abbrev pub IsSelectionCause : DocumentView → List ℕ → SelectionFault → Type 0

@@ -1,5 +1,5 @@
 -- The program: what it prints, what becomes of files, and its exit status.
-use Rattle.std.specs.Prelude.{◌≡◌, ◌≢◌, ◌⊎◌, ◌<◌, ◌≤◌, length, ℕ, Bool, List, [], ◌∷◌, ◌++◌, map, codes, Option, Some, None, IfSome, IsSomeAnd, if◌then◌else◌, Ok, Err, Contains, String, string_bytes}
+use Rattle.std.specs.Prelude.{◌≡◌, ◌≢◌, ◌⊎◌, ◌<◌, ◌≤◌, length, ℕ, Bool, List, [], ◌∷◌, ◌++◌, map, codes, Option, Some, None, IfOk, IfSome, IsSomeAnd, if◌then◌else◌, Ok, Err, Contains, ⊤, String, string_bytes}
 use Rattle.std.specs.declared.alloc.Global.{Global}
 use Rattle.std.specs.Borrow.{Bor}
 use Rattle.std.specs.List.{AllZip}
@@ -9,7 +9,7 @@ use Rattle.json.specs.Strict.{HasUniqueKeys}
 use Rattle.wc_dedupe.specs.Dedupe.{IsDeduped, IsDedupeCause, renames_in}
 use Rattle.wc_dedupe.specs.Renaming.{RenameValue}
 use Rattle.wc_dedupe.specs.declared.fault.DedupeFault.TheVariants.{Memory as dedupe_memory}
-use Rattle.wc_encoder.specs.Adapters.{AdapterView}
+use Rattle.wc_adapters.specs.Adapters.{AdapterView}
 use Rattle.wc_encoder.specs.EncoderParts.{EncoderView}
 use Rattle.wc_encoder.specs.Fault.{IsEncoderCause}
 use Rattle.wc_encoder.specs.WellFormed.{IsWellFormed}
@@ -19,14 +19,16 @@ use Rattle.wc_json.specs.Document.{DocumentView, document_of, IsJsonCause}
 use Rattle.wc_json.specs.declared.fault.JsonFault.TheVariants.{NotJson as json_invalid, RepeatedMember as json_repeated, Wrong as json_wrong}
 use Rattle.wc_plan.specs.Faults.{HasNoFault, IsFirstFault}
 use Rattle.wc_plan.specs.Plans.{plan_of}
-use Rattle.wc_record.specs.Texts.{world_text}
+use Rattle.wc_record.specs.Texts.{planned_world_text}
 use Rattle.wc_resolve.specs.Faults.{IsResolveCause}
 use Rattle.wc_resolve.specs.WellFormed.{IsWellFormed as IsResolve}
 use Rattle.wc_resolve.specs.World.{ResolveView}
 use Rattle.wc_resolve.specs.declared.fault.ResolveFault.TheVariants.{Memory as resolve_memory}
 use Rattle.wc_program.specs.FaultTexts.{memory_text}
-use Rattle.wc_program.specs.Files.{Held, Holds, KeepsOthers, Writes}
+use Rattle.wc_program.specs.Files.{Held, Holds, StoreChange, Writes}
 use Rattle.wc_program.specs.Program.{Prints, EndsByArguments, EndsByReason, failure, success, wrong_arguments}
+use Rattle.wc_program.specs.declared.files.ReadProblem.{ReadProblem}
+use Rattle.wc_program.specs.declared.files.ReadProblem.TheVariants.{Memory as no_memory}
 use Rattle.wc_program.specs.declared.program.NoArguments.{NoArguments}
 use Rattle.wc_program.specs.declared.program.NoArguments.TheVariants.{Empty, NoMemory, NoText}
 use Rattle.wc_world.specs.Causes.{IsComponentWorldCause, IsMemory as IsWorldMemory}
@@ -40,13 +42,13 @@ use Rattle.wc_selection.specs.ModuleKeys.{required_keys}
 use Rattle.wc_selection.specs.Texts.{second_parts}
 use Rattle.wc_selection.specs.Worlds.{IsSelected}
 use Rattle.wcplan_command.specs.Arguments.{CommandValue, Reading, Stop, WrongValue, help, version, wrong}
-use Rattle.wcplan_command.specs.Details.{IsAbout, fault_lines}
-use Rattle.wcplan_command.specs.Faults.{program_fault_text}
+use Rattle.wcplan_command.specs.Details.{IsExplanation, fault_lines, unplaced_line}
+use Rattle.wcplan_command.specs.Faults.{program_fault_text, unprinted_text}
 use Rattle.wcplan_command.specs.Lines.{lines_text}
 use Rattle.wcplan_command.specs.Listing.{listing_text}
-use Rattle.wcplan_command.specs.Parts.{IsAboutPart}
+use Rattle.wcplan_command.specs.Parts.{IsPartExplanation}
 use Rattle.wcplan_command.specs.Reading.{AsksMemory, read_arguments}
-use Rattle.wcplan_command.specs.ModuleKeys.{AreNamesThere, IsNamesCause, IsSelectionCause, request_of}
+use Rattle.wcplan_command.specs.ModuleKeys.{AreNamesThere, IsNamesCause, IsSelectionCause, hook_of, request_of}
 use Rattle.wc_program.specs.Screen.{Printing, nothing, printed, failed}
 use Rattle.wcplan_command.specs.Usage.{fault_and_usage, fault_line, help_text, no_text, usage_text, version_text, wrong_text}
 use Rattle.wcplan_command.specs.declared.faults.SelectionFault.{SelectionFault}
@@ -95,14 +97,14 @@ abbrev pub AreAdaptersIn : Option Held → CommandValue → List NamedKey → Li
 AreAdaptersIn before c keys adapters = AllZip (IsAdapterIn before c keys) c.adapters adapters
 
 -- what a command is encoded from besides the world: the main module with the keys that it has to export, the adapters, the
--- flags, and a task hook without a name
+-- flags, and the name of the task hook
 pub record IsPartsWith (c : CommandValue) (before : Option Held) (keys : List NamedKey) (e : EncoderView) : Type 0 where
   pub main : IsMainIn before c.main e.module_bytes (renames_in e.module_import_map)
   pub exports : e.main_module_exports ≡ required_keys (request_of c) None keys
   pub adapters : AreAdaptersIn before c keys e.adapters
   pub rejects : e.reject_legacy_names ≡ c.reject_legacy_names
   pub grows : e.realloc_via_memory_grow ≡ c.realloc_via_memory_grow
-  pub hook : e.task_hook ≡ []
+  pub hook : e.task_hook ≡ hook_of c
 
 -- what a command is encoded from, with the chosen world
 pub record IsPartsOf (c : CommandValue) (before : Option Held) (e : EncoderView) : Type 0 where
@@ -125,9 +127,9 @@ pub record IsPlanned (c : CommandValue) (before : Option Held) (w : ComponentWor
 abbrev pub plan_lines : ComponentWorldView → List ℕ
 plan_lines w = lines_text (plan_of w)
 
--- the record of a component's world, in a line
+-- the record of a component's world and of its plan, in a line
 abbrev pub record_line : ComponentWorldView → List ℕ
-record_line w = world_text w ++ codes "\n"
+record_line w = planned_world_text w (plan_of w) ++ codes "\n"
 
 -- what is printed of a component's world: its record, where that is asked for; else the lines of its plan
 abbrev pub printed_text : Bool → ComponentWorldView → List ℕ
@@ -151,48 +153,56 @@ WritesAll before after [] = after ≡ before
 WritesAll before after (f ∷ fs) = (middle : Option Held) × Writes before middle f.0 f.1 × WritesAll middle after fs
 
 -- the component's world of a command is there, its directory could be made, and all its files are written
-pub record IsWritten (c : CommandValue) (before after : Option Held) (makes : List ℕ → Type 0) (world : ComponentWorldView) : Type 0 where
-  pub planned : IsPlanned c before world
-  pub made : IfSome c.out makes
-  pub written : WritesAll before after (files_of c.out world)
+pub record IsWritten (c : CommandValue) (files : StoreChange) (world : ComponentWorldView) : Type 0 where
+  pub planned : IsPlanned c files.before world
+  pub made : IfSome c.out files.Makes
+  pub written : WritesAll files.before files.after (files_of c.out world)
 
 -- a path with the bytes of its file
 abbrev pub file_view : String Global × Bor (List ℕ) → List ℕ × List ℕ
 file_view f = (string_bytes f.0, f.1.now)
 
--- of files one could not be written, those before it were, and each other file has the bytes that it had
-pub record IsUnwrittenFile (before after : Option Held) (files : List (List ℕ × List ℕ)) (path : List ℕ) : Type 0 where
+-- of files one could not be written, and those before it were: the write of this one failed, and no other file is changed
+pub record IsUnwrittenFile (before after : Option Held) (fails : Option Held → List ℕ → List ℕ → Type 0) (files : List (List ℕ × List ℕ)) (path : List ℕ) : Type 0 where
   pub front : List (List ℕ × List ℕ)
   pub back : List (List ℕ × List ℕ)
   pub bytes : List ℕ
   pub cut : files ≡ front ++ (path, bytes) ∷ back
-  pub middle : Option Held
-  pub written : WritesAll before middle front
-  pub others : KeepsOthers middle after path
+  pub written : WritesAll before after front
+  pub failed : fails after path bytes
 
-abbrev pub IsFileFault : Option Held → Option Held → List (List ℕ × List ℕ) → ProgramFault → Type 0
-IsFileFault before after files (CannotWrite path) = IsUnwrittenFile before after files (string_bytes path)
-IsFileFault before after files f = ⊥
+abbrev pub IsFileFault : Option Held → Option Held → (Option Held → List ℕ → List ℕ → Type 0) → List (List ℕ × List ℕ) → ProgramFault → Type 0
+IsFileFault before after fails files (CannotWrite path) = IsUnwrittenFile before after fails files (string_bytes path)
+IsFileFault before after fails files f = ⊥
 
 -- the directory of a command could not be made
-pub record IsUnmade (c : CommandValue) (before after : Option Held) (path : List ℕ) : Type 0 where
+pub record IsUnmade (c : CommandValue) (files : StoreChange) (path : List ℕ) : Type 0 where
   pub world : ComponentWorldView
-  pub planned : IsPlanned c before world
+  pub planned : IsPlanned c files.before world
   pub directory : c.out ≡ Some path
-  pub kept : after ≡ before
+  pub failed : files.IsFailedMake path
+  pub kept : files.after ≡ files.before
 
 -- it could, and after some files one could not be written
-pub record IsUnwritten (c : CommandValue) (before after : Option Held) (makes : List ℕ → Type 0) (path : List ℕ) : Type 0 where
+pub record IsUnwritten (c : CommandValue) (files : StoreChange) (path : List ℕ) : Type 0 where
   pub world : ComponentWorldView
-  pub planned : IsPlanned c before world
-  pub made : IfSome c.out makes
-  pub stopped : IsUnwrittenFile before after (files_of c.out world) path
+  pub planned : IsPlanned c files.before world
+  pub made : IfSome c.out files.Makes
+  pub stopped : IsUnwrittenFile files.before files.after files.IsFailedWrite (files_of c.out world) path
+
+-- why reads of paths fail
+abbrev pub Reads : Type 1
+Reads = List ℕ → ReadProblem → Type 0
+
+-- the file of a path could not be read, for a problem other than memory
+abbrev pub IsUnreadable : Reads → List ℕ → ReadProblem → Type 0
+IsUnreadable fails path p = fails path p × (p ≢ no_memory)
 
 -- why a file, the worlds in it, or the main module in it, could not be read
-abbrev pub IsReadFault : List ℕ → ProgramFault → Type 0
-IsReadFault path Memory = Unit {0}
-IsReadFault path (CannotRead p) = p.now ≡ path
-IsReadFault path f = ⊥
+abbrev pub IsReadFault : List ℕ → Reads → ProgramFault → Type 0
+IsReadFault path fails Memory = fails path no_memory
+IsReadFault path fails (CannotRead at p) = (at.now ≡ path) × IsUnreadable fails at.now p
+IsReadFault path fails f = ⊥
 
 -- why a text has no worlds: it is not JSON, and the byte that is named is in it; or an object has a member twice; or a value
 -- is wrong. It is open which byte, and which member
@@ -215,26 +225,26 @@ IsTextCause text f = ⊥
 
 abbrev pub IsDocumentCause : Option Held → List ℕ → ProgramFault → Type 0
 IsDocumentCause before path Memory = Unit {0}
-IsDocumentCause before path (CannotRead p) = p.now ≡ path
 IsDocumentCause before path NotText = (text : List ℕ) × Holds before path text × ¬ IsUtf8 text
 IsDocumentCause before path f = (text : List ℕ) × Holds before path text × IsTextCause text f
 
-abbrev pub IsMainCause : Option Held → List ℕ → ProgramFault → Type 0
-IsMainCause before path Memory = Unit {0}
-IsMainCause before path (CannotRead p) = p.now ≡ path
-IsMainCause before path (Dedupe f) = (bytes : List ℕ) × Holds before path bytes × (f ≢ dedupe_memory) × IsDedupeCause bytes f
-IsMainCause before path f = ⊥
+abbrev pub IsMainCause : Option Held → Reads → List ℕ → ProgramFault → Type 0
+IsMainCause before fails path Memory = Unit {0}
+IsMainCause before fails path (CannotRead at p) = IsReadFault path fails (CannotRead at p)
+IsMainCause before fails path (Dedupe f) = (bytes : List ℕ) × Holds before path bytes × (f ≢ dedupe_memory) × IsDedupeCause bytes f
+IsMainCause before fails path f = ⊥
 
 -- why adapters could not be
-abbrev pub IsAdaptersCause : CommandValue → ProgramFault → Type 0
-IsAdaptersCause c Memory = Unit {0}
-IsAdaptersCause c (CannotRead path) = Contains (second_parts c.adapters) path.now
-IsAdaptersCause c f = ⊥
+abbrev pub IsAdaptersCause : CommandValue → Reads → ProgramFault → Type 0
+IsAdaptersCause c fails Memory = Unit {0}
+IsAdaptersCause c fails (CannotRead path p) = Contains (second_parts c.adapters) path.now × IsUnreadable fails path.now p
+IsAdaptersCause c fails f = ⊥
 
 -- why modules could not be read, or not renamed
-abbrev pub IsModulesCause : CommandValue → Option Held → ProgramFault → Type 0
-IsModulesCause c before (CannotRead path) = (path.now ≡ c.main) ⊎ Contains (second_parts c.adapters) path.now
-IsModulesCause c before f = IsMainCause before c.main f
+abbrev pub IsModulesCause : CommandValue → Option Held → Reads → ProgramFault → Type 0
+IsModulesCause c before fails (CannotRead path p) =
+    ((path.now ≡ c.main) ⊎ Contains (second_parts c.adapters) path.now) × IsUnreadable fails path.now p
+IsModulesCause c before fails f = IsMainCause before fails c.main f
 
 -- a world is chosen
 abbrev pub IsAnyChosen : CommandValue → Option Held → Type 0
@@ -282,93 +292,108 @@ IsUnnamed c before f =
     × IsListedCause c (request_keys (request_of c) d.parts world) f
 
 -- why there is no plan
-abbrev pub IsPlanCause : CommandValue → Option Held → ProgramFault → Type 0
-IsPlanCause c before Memory = Unit {0}
-IsPlanCause c before (CannotRead path) = (path.now ≡ c.worlds) ⊎ (IsAnyChosen c before × IsModulesCause c before (CannotRead path))
-IsPlanCause c before NotText = IsDocumentCause before c.worlds NotText
-IsPlanCause c before (NotJson at) = IsDocumentCause before c.worlds (NotJson at)
-IsPlanCause c before (RepeatedMember path) = IsDocumentCause before c.worlds (RepeatedMember path)
-IsPlanCause c before (Json f) = IsDocumentCause before c.worlds (Json f)
-IsPlanCause c before (Selection f) = ((d : DocumentView) × IsDocumentIn before c.worlds d × IsSelectionCause d c.world f) ⊎ IsUnnamed c before (Selection f)
-IsPlanCause c before (NoExport key listing) = IsUnnamed c before (NoExport key listing)
-IsPlanCause c before (Resolve f x) =
+abbrev pub IsPlanCause : CommandValue → Option Held → Reads → ProgramFault → Type 0
+IsPlanCause c before fails Memory = Unit {0}
+IsPlanCause c before fails (CannotRead path p) =
+    ((path.now ≡ c.worlds) × IsUnreadable fails path.now p) ⊎ (IsAnyChosen c before × IsModulesCause c before fails (CannotRead path p))
+IsPlanCause c before fails NotText = IsDocumentCause before c.worlds NotText
+IsPlanCause c before fails (NotJson at) = IsDocumentCause before c.worlds (NotJson at)
+IsPlanCause c before fails (RepeatedMember path) = IsDocumentCause before c.worlds (RepeatedMember path)
+IsPlanCause c before fails (Json f) = IsDocumentCause before c.worlds (Json f)
+IsPlanCause c before fails (Selection f) =
+    ((d : DocumentView) × IsDocumentIn before c.worlds d × IsSelectionCause d c.world f) ⊎ IsUnnamed c before (Selection f)
+IsPlanCause c before fails (NoExport key listing) = IsUnnamed c before (NoExport key listing)
+IsPlanCause c before fails (Resolve f x) =
     (d : DocumentView) × (world : ℕ) × IsDocumentIn before c.worlds d × IsSelected d c.world world
-    × (f ≢ resolve_memory) × IsResolveCause d.parts f × IfSome x (IsAboutPart d.parts f)
-IsPlanCause c before (Dedupe f) = IsAnyChosen c before × IsMainCause before c.main (Dedupe f)
-IsPlanCause c before (Encoder f) = (e : EncoderView) × IsPartsOf c before e × (f ≢ encoder_memory) × IsEncoderCause e f
-IsPlanCause c before (World f x) =
-    (e : EncoderView) × IsEncoderOf c before e × (f ≢ world_memory) × (IsWorldMemory e f ⊎ IsComponentWorldCause e f) × IfSome x (IsAbout e f)
-IsPlanCause c before (Plan f) = (e : EncoderView) × (w : ComponentWorldView) × IsEncoderOf c before e × IsWorldOf plain_options e w × IsFirstFault w f
-IsPlanCause c before (CannotMake path) = ⊥
-IsPlanCause c before (CannotWrite path) = ⊥
-IsPlanCause c before Output = ⊥
+    × (f ≢ resolve_memory) × IsResolveCause d.parts f × IfOk x (IsPartExplanation d.parts f)
+IsPlanCause c before fails (Dedupe f) = IsAnyChosen c before × IsMainCause before fails c.main (Dedupe f)
+IsPlanCause c before fails (Encoder f) = (e : EncoderView) × IsPartsOf c before e × (f ≢ encoder_memory) × IsEncoderCause e f
+IsPlanCause c before fails (World f x) =
+    (e : EncoderView) × IsEncoderOf c before e × (f ≢ world_memory) × (IsWorldMemory e f ⊎ IsComponentWorldCause e f)
+    × IfOk x (IsExplanation e f)
+IsPlanCause c before fails (Plan f) =
+    (e : EncoderView) × (w : ComponentWorldView) × IsEncoderOf c before e × IsWorldOf plain_options e w × IsFirstFault w f
+IsPlanCause c before fails (CannotMake path) = ⊥
+IsPlanCause c before fails (CannotWrite path) = ⊥
+IsPlanCause c before fails Output = ⊥
 
 -- why a command could not be run; before all its files are written nothing is printed
-abbrev pub IsRunCause : CommandValue → Option Held → Option Held → (List ℕ → Type 0) → (Printing → Type 0) → ProgramFault → Type 0
-IsRunCause c before after makes out (CannotMake path) = IsUnmade c before after path.now × out nothing
-IsRunCause c before after makes out (CannotWrite path) = IsUnwritten c before after makes (string_bytes path) × out nothing
-IsRunCause c before after makes out Output = (world : ComponentWorldView) × IsWritten c before after makes world × out failed
-IsRunCause c before after makes out f = IsPlanCause c before f × (after ≡ before) × out nothing
+abbrev pub IsRunCause : CommandValue → StoreChange → (Printing → Type 0) → ProgramFault → Type 0
+IsRunCause c files out (CannotMake path) = IsUnmade c files path.now × out nothing
+IsRunCause c files out (CannotWrite path) = IsUnwritten c files (string_bytes path) × out nothing
+IsRunCause c files out Output = (world : ComponentWorldView) × IsWritten c files world × out failed
+IsRunCause c files out f = IsPlanCause c files.before files.IsFailedRead f × (files.after ≡ files.before) × out nothing
 
 -- the command did its work: all its files are written, and then its lines are printed
-abbrev pub EndsWell : CommandValue → Option Held → Option Held → (List ℕ → Type 0) → (Printing → Type 0) → Type 0
-EndsWell c before after makes out = (world : ComponentWorldView) × IsWritten c before after makes world × out (printed (printed_text c.json world))
+abbrev pub EndsWell : CommandValue → StoreChange → (Printing → Type 0) → Type 0
+EndsWell c files out = (world : ComponentWorldView) × IsWritten c files world × out (printed (printed_text c.json world))
 
--- what is printed of a fault: its text, or that there was no memory for it
+-- memory is needed for the text of a fault, unless it is always the same
+abbrev pub NeedsText : ProgramFault → Type 0
+NeedsText Memory = ⊥
+NeedsText NotText = ⊥
+NeedsText Output = ⊥
+NeedsText f = ⊤
+
+-- what is printed of a fault: its text, and under it its lines, or that there was no memory for them; or that there was none
+-- for the text
 abbrev pub IsPrintedOf : ProgramFault → List ℕ → Type 0
-IsPrintedOf fault text = (text ≡ program_fault_text fault) ⊎ (text ≡ memory_text)
-
--- what is printed under it: the lines of the fault, or none, where there was no memory for them
-abbrev pub ArePrintedUnder : ProgramFault → List ℕ → Type 0
-ArePrintedUnder fault lines = (lines ≡ fault_lines fault) ⊎ (lines ≡ [])
+IsPrintedOf fault text =
+    (text ≡ program_fault_text fault ++ fault_lines fault)
+    ⊎ ((fault_lines fault ≢ []) × (text ≡ program_fault_text fault ++ unplaced_line))
+    ⊎ (NeedsText fault × (text ≡ memory_text))
 
 -- a fault is printed in a line, and under it the lines that say what it is about
 abbrev pub IsReported : ProgramFault → (Printing → Type 0) → ℕ → Type 0
-IsReported fault err status =
-    (text lines : List ℕ) × IsPrintedOf fault text × ArePrintedUnder fault lines × Prints (fault_line (text ++ lines)) failure err status
+IsReported fault err status = (text : List ℕ) × IsPrintedOf fault text × Prints (fault_line text) failure err status
 
 -- there was no memory, which is printed
 abbrev pub EndsWithoutMemory : (Printing → Type 0) → (Printing → Type 0) → ℕ → Type 0
 EndsWithoutMemory out err status = out nothing × Prints (fault_line memory_text) failure err status
 
+-- a text that was asked for is printed; or it can't be, which is printed to the other output
+abbrev pub PrintsAsked : List ℕ → (Printing → Type 0) → (Printing → Type 0) → ℕ → Type 0
+PrintsAsked text out err status =
+    (out (printed text) × err nothing × (status ≡ success)) ⊎ (out failed × Prints (fault_line unprinted_text) failure err status)
+
 -- a command did its work, or could not be run, and then its fault is printed to the other output
-abbrev pub CommandEnds : CommandValue → Option Held → Option Held → (List ℕ → Type 0) → (Printing → Type 0) → (Printing → Type 0) → ℕ → Type 0
-CommandEnds c before after makes out err status =
-    (EndsWell c before after makes out × err nothing × (status ≡ success))
-    ⊎ ((fault : ProgramFault) × IsRunCause c before after makes out fault × IsReported fault err status)
+abbrev pub CommandEnds : CommandValue → StoreChange → (Printing → Type 0) → (Printing → Type 0) → ℕ → Type 0
+CommandEnds c files out err status =
+    (EndsWell c files out × err nothing × (status ≡ success))
+    ⊎ ((fault : ProgramFault) × IsRunCause c files out fault × IsReported fault err status)
 
 -- there is no command: what is asked for is printed; or what is wrong, and the usage text, to the other output
 abbrev pub StopEnds : Stop → (Printing → Type 0) → (Printing → Type 0) → ℕ → Type 0
-StopEnds help out err status = Prints help_text success out status × err nothing
-StopEnds version out err status = Prints version_text success out status × err nothing
+StopEnds help out err status = PrintsAsked help_text out err status
+StopEnds version out err status = PrintsAsked version_text out err status
 StopEnds (wrong w) out err status = out nothing × Prints (fault_and_usage (escaped (wrong_text w))) wrong_arguments err status
 
-abbrev pub ReadingEnds : Reading CommandValue → Option Held → Option Held → (List ℕ → Type 0) → (Printing → Type 0) → (Printing → Type 0) → ℕ → Type 0
-ReadingEnds (Ok c) before after makes out err status = CommandEnds c before after makes out err status
-ReadingEnds (Err stop) before after makes out err status = (after ≡ before) × StopEnds stop out err status
+abbrev pub ReadingEnds : Reading CommandValue → StoreChange → (Printing → Type 0) → (Printing → Type 0) → ℕ → Type 0
+ReadingEnds (Ok c) files out err status = CommandEnds c files out err status
+ReadingEnds (Err stop) files out err status = (files.after ≡ files.before) × StopEnds stop out err status
 
 -- where there is no command, memory is asked for by arguments, or by the text of what is wrong with them
 abbrev pub NeedsMemory : List (List ℕ) → Type 0
 NeedsMemory arguments = AsksMemory arguments ⊎ ((w : WrongValue) × (read_arguments arguments ≡ Err (wrong w)))
 
 -- how the program ends with some arguments
-abbrev pub EndsWith : List (List ℕ) → Option Held → Option Held → (List ℕ → Type 0) → (Printing → Type 0) → (Printing → Type 0) → ℕ → Type 0
-EndsWith arguments before after makes out err status =
-    ReadingEnds (read_arguments arguments) before after makes out err status
-    ⊎ (NeedsMemory arguments × (after ≡ before) × EndsWithoutMemory out err status)
+abbrev pub EndsWith : List (List ℕ) → StoreChange → (Printing → Type 0) → (Printing → Type 0) → ℕ → Type 0
+EndsWith arguments files out err status =
+    ReadingEnds (read_arguments arguments) files out err status
+    ⊎ (NeedsMemory arguments × (files.after ≡ files.before) × EndsWithoutMemory out err status)
 
 -- how it ends without arguments: there are none, there was no memory for them, or one is no text
 abbrev pub EndsWithout : NoArguments → Option Held → Option Held → (Printing → Type 0) → (Printing → Type 0) → ℕ → Type 0
-EndsWithout Empty before after out err status = (after ≡ before) × Prints usage_text success out status × err nothing
+EndsWithout Empty before after out err status = (after ≡ before) × PrintsAsked usage_text out err status
 EndsWithout NoMemory before after out err status = EndsWithoutMemory out err status
 EndsWithout NoText before after out err status = out nothing × Prints (fault_and_usage no_text) wrong_arguments err status
 
 -- how the program ends with these arguments
-abbrev pub ProgramEnds : List (String Global) → Option Held → Option Held → (List ℕ → Type 0) → (Printing → Type 0) → (Printing → Type 0) → ℕ → Type 0
-ProgramEnds arguments before after makes out err status =
-    EndsByArguments arguments (EndsWithout Empty before after out err status) (λ texts. EndsWith texts before after makes out err status)
+abbrev pub ProgramEnds : List (String Global) → StoreChange → (Printing → Type 0) → (Printing → Type 0) → ℕ → Type 0
+ProgramEnds arguments files out err status =
+    EndsByArguments arguments (EndsWithout Empty files.before files.after out err status) (λ texts. EndsWith texts files out err status)
 
 -- how it ends where its arguments are not known: there was no memory for them, or they are no text
 abbrev pub EndsWithoutArguments : Type 0 → (Printing → Type 0) → (Printing → Type 0) → ℕ → Type 0
-EndsWithoutArguments no_memory out err status =
-    EndsByReason no_memory (EndsWithoutMemory out err status) (out nothing × Prints (fault_and_usage no_text) wrong_arguments err status)
+EndsWithoutArguments without out err status =
+    EndsByReason without (EndsWithoutMemory out err status) (out nothing × Prints (fault_and_usage no_text) wrong_arguments err status)

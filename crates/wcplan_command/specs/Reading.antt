@@ -1,10 +1,11 @@
 -- What arguments are read as, one after another.
-use Rattle.std.specs.Prelude.{ℕ, ◌<◌, ◌⊎◌, ◌==◌, ◌&&◌, ◌||◌, Bool, true, false, not, nat_lt, length, cond, List, [], ◌∷◌, ◌++◌, codes, map, Option, Some, None, is_some, Ok, Err}
+use Rattle.std.specs.Prelude.{ℕ, ◌<◌, ◌⊎◌, ◌==◌, ◌&&◌, ◌||◌, Bool, true, false, not, nat_lt, length, cond, List, [], ◌∷◌, ◌++◌, codes, map, Option, Some, None, is_some, unwrap_or, Ok, Err}
 use Rattle.std.specs.List.{position_or_len, before_first, after_first}
 use Rattle.std.specs.Option.{option_map}
+use Rattle.std.specs.Path.{dot, path_file_name}
 use Rattle.std.specs.Str.{bytes_eq}
 use Rattle.wc_selection.specs.Texts.{text_of}
-use Rattle.wcplan_command.specs.Arguments.{CommandValue, OptionValue, Reading, adapt, export, adapter_export, reject_legacy_names, realloc_via_memory_grow, json, out, help, version, wrong, unknown_option, missing_value, not_a_pair, repeated_option, unexpected, missing}
+use Rattle.wcplan_command.specs.Arguments.{CommandValue, OptionValue, Reading, adapt, export, adapter_export, reject_legacy_names, realloc_via_memory_grow, task_hook, json, out, help, version, wrong, unknown_option, missing_value, not_a_pair, repeated_option, unexpected, missing}
 use Rattle.wcplan_command.specs.declared.arguments.Draft.{Draft}
 
 -- the code of `=`, and of `-`
@@ -27,19 +28,38 @@ flag_of argument =
     (cond (bytes_eq argument (codes "--realloc-via-memory-grow")) (Some realloc_via_memory_grow)
     (cond (bytes_eq argument (codes "--json")) (Some json) None))
 
--- an option of this name has a value
-abbrev pub takes_value : List ℕ → Bool
-takes_value option =
-    bytes_eq option (codes "--adapt") || bytes_eq option (codes "--export")
-    || bytes_eq option (codes "--adapter-export") || bytes_eq option (codes "--out")
+-- an option of this name has a value, and may come several times; and one of this name has a value
+abbrev pub takes_module_value : List ℕ → Bool
+takes_module_value option =
+    bytes_eq option (codes "--adapt") || bytes_eq option (codes "--export") || bytes_eq option (codes "--adapter-export")
 
--- the option of this name with this value
+unfoldable pub takes_value : List ℕ → Bool
+takes_value option =
+    takes_module_value option || bytes_eq option (codes "--task-hook") || bytes_eq option (codes "--out")
+
+-- the name of a file: the last component of its path; the path itself, if that has none
+abbrev pub file_name : List ℕ → List ℕ
+file_name path = unwrap_or (path_file_name path) path
+
+-- what is before the first `.`; without one all
+abbrev pub stem : List ℕ → List ℕ
+stem name = before_first (λ b. b == dot) name
+
+-- the name and the file of an adapter: the texts before and after the first `=`; or the file's own name, up to its first `.`
+abbrev pub adapter_file_of : List ℕ → List ℕ × List ℕ
+adapter_file_of value = unwrap_or (pair_of value) (stem (file_name value), value)
+
+-- the option of this name with this value, if one of this name may come several times; and the option of this name with it
+abbrev pub module_valued_of : List ℕ → List ℕ → Option OptionValue
+module_valued_of option value =
+    cond (bytes_eq option (codes "--adapt")) (Some (adapt (adapter_file_of value).0 (adapter_file_of value).1))
+    (cond (bytes_eq option (codes "--export")) (Some (export value))
+    (cond (bytes_eq option (codes "--adapter-export")) (option_map (λ (p : List ℕ × List ℕ). adapter_export p.0 p.1) (pair_of value)) None))
+
 abbrev pub valued_of : List ℕ → List ℕ → Option OptionValue
 valued_of option value =
-    cond (bytes_eq option (codes "--adapt")) (option_map (λ (p : List ℕ × List ℕ). adapt p.0 p.1) (pair_of value))
-    (cond (bytes_eq option (codes "--export")) (Some (export value))
-    (cond (bytes_eq option (codes "--adapter-export")) (option_map (λ (p : List ℕ × List ℕ). adapter_export p.0 p.1) (pair_of value))
-    (cond (bytes_eq option (codes "--out")) (Some (out value)) None)))
+    cond (bytes_eq option (codes "--task-hook")) (Some (task_hook value))
+    (cond (bytes_eq option (codes "--out")) (Some (out value)) (module_valued_of option value))
 
 -- a command without options, whose paths and world are empty
 abbrev pub plain_command : CommandValue
@@ -52,82 +72,24 @@ plain_command = record {
   adapter_exports = [];
   reject_legacy_names = false;
   realloc_via_memory_grow = false;
+  task_hook = None;
   json = false;
   out = None;
 }
 
 -- a command with one more adapter, key, or key of an adapter
 abbrev pub with_adapter : CommandValue → List ℕ × List ℕ → CommandValue
-with_adapter c x = record {
-  worlds = c.worlds;
-  world = c.world;
-  main = c.main;
-  adapters = c.adapters ++ x ∷ [];
-  exports = c.exports;
-  adapter_exports = c.adapter_exports;
-  reject_legacy_names = c.reject_legacy_names;
-  realloc_via_memory_grow = c.realloc_via_memory_grow;
-  json = c.json;
-  out = c.out;
-}
+with_adapter c x = record c { adapters = c.adapters ++ x ∷ [] }
 
 abbrev pub with_export : CommandValue → List ℕ → CommandValue
-with_export c x = record {
-  worlds = c.worlds;
-  world = c.world;
-  main = c.main;
-  adapters = c.adapters;
-  exports = c.exports ++ x ∷ [];
-  adapter_exports = c.adapter_exports;
-  reject_legacy_names = c.reject_legacy_names;
-  realloc_via_memory_grow = c.realloc_via_memory_grow;
-  json = c.json;
-  out = c.out;
-}
+with_export c x = record c { exports = c.exports ++ x ∷ [] }
 
 abbrev pub with_adapter_export : CommandValue → List ℕ × List ℕ → CommandValue
-with_adapter_export c x = record {
-  worlds = c.worlds;
-  world = c.world;
-  main = c.main;
-  adapters = c.adapters;
-  exports = c.exports;
-  adapter_exports = c.adapter_exports ++ x ∷ [];
-  reject_legacy_names = c.reject_legacy_names;
-  realloc_via_memory_grow = c.realloc_via_memory_grow;
-  json = c.json;
-  out = c.out;
-}
-
--- a command with these flags, and this directory
-abbrev pub with_flags : CommandValue → Bool → Bool → Bool → Option (List ℕ) → CommandValue
-with_flags c rejects grows asks directory = record {
-  worlds = c.worlds;
-  world = c.world;
-  main = c.main;
-  adapters = c.adapters;
-  exports = c.exports;
-  adapter_exports = c.adapter_exports;
-  reject_legacy_names = rejects;
-  realloc_via_memory_grow = grows;
-  json = asks;
-  out = directory;
-}
+with_adapter_export c x = record c { adapter_exports = c.adapter_exports ++ x ∷ [] }
 
 -- a command with these paths and this world
 abbrev pub with_paths : CommandValue → List ℕ → List ℕ → List ℕ → CommandValue
-with_paths c worlds world main = record {
-  worlds = worlds;
-  world = world;
-  main = main;
-  adapters = c.adapters;
-  exports = c.exports;
-  adapter_exports = c.adapter_exports;
-  reject_legacy_names = c.reject_legacy_names;
-  realloc_via_memory_grow = c.realloc_via_memory_grow;
-  json = c.json;
-  out = c.out;
-}
+with_paths c worlds world main = record c { worlds = worlds; world = world; main = main }
 
 -- an option that is given once, if it was not given before
 abbrev pub once : Bool → List ℕ → CommandValue → Reading CommandValue
@@ -138,10 +100,11 @@ abbrev pub add_option : CommandValue → List ℕ → OptionValue → Reading Co
 add_option c name (adapt adapter file) = Ok (with_adapter c (adapter, file))
 add_option c name (export key) = Ok (with_export c key)
 add_option c name (adapter_export adapter key) = Ok (with_adapter_export c (adapter, key))
-add_option c name reject_legacy_names = once c.reject_legacy_names name (with_flags c true c.realloc_via_memory_grow c.json c.out)
-add_option c name realloc_via_memory_grow = once c.realloc_via_memory_grow name (with_flags c c.reject_legacy_names true c.json c.out)
-add_option c name json = once c.json name (with_flags c c.reject_legacy_names c.realloc_via_memory_grow true c.out)
-add_option c name (out directory) = once (is_some c.out) name (with_flags c c.reject_legacy_names c.realloc_via_memory_grow c.json (Some directory))
+add_option c name reject_legacy_names = once c.reject_legacy_names name (record c { reject_legacy_names = true })
+add_option c name realloc_via_memory_grow = once c.realloc_via_memory_grow name (record c { realloc_via_memory_grow = true })
+add_option c name (task_hook hook) = once (is_some c.task_hook) name (record c { task_hook = Some hook })
+add_option c name json = once c.json name (record c { json = true })
+add_option c name (out directory) = once (is_some c.out) name (record c { out = Some directory })
 
 -- a command with the option of this name with this value
 abbrev pub add_valued : CommandValue → List ℕ → List ℕ → Option OptionValue → Reading CommandValue

@@ -5,8 +5,8 @@ use Rattle.wcplan_command.specs.Arguments.{WrongValue, unknown_option, missing_v
 -- the usage text
 abbrev pub usage_text : List ℕ
 usage_text =
-    codes "usage: wcplan WORLDS.json WORLD MAIN.wasm [--adapt NAME=FILE]... [--export KEY]... [--adapter-export NAME=KEY]...\n"
-    ++ (codes "              [--reject-legacy-names] [--realloc-via-memory-grow] [--json] [--out DIR]\n"
+    codes "usage: wcplan WORLDS.json WORLD MAIN.wasm [--adapt [NAME=]FILE]... [--export KEY]... [--adapter-export NAME=KEY]...\n"
+    ++ (codes "              [--reject-legacy-names] [--realloc-via-memory-grow] [--task-hook NAME] [--json] [--out DIR]\n"
     ++ codes "       wcplan --help | --version\n")
 
 -- what each argument is
@@ -15,15 +15,16 @@ options_text =
     codes "  WORLDS.json                the worlds, as `wasm-tools component wit --json` prints them\n"
     ++ (codes "  WORLD                      the name of the world that is encoded for\n"
     ++ (codes "  MAIN.wasm                  the main module\n"
-    ++ (codes "  --adapt NAME=FILE          an adapter, and its module\n"
+    ++ (codes "  --adapt [NAME=]FILE        an adapter, and its module; NAME is else FILE's name up to its first `.`\n"
     ++ (codes "  --export KEY               a key of the world's exports that the main module exports\n"
     ++ (codes "  --adapter-export NAME=KEY  a key of the world's exports that the adapter exports\n"
     ++ (codes "  --reject-legacy-names      refuse names of the older scheme\n"
     ++ (codes "  --realloc-via-memory-grow  let adapters grow memory for themselves\n"
-    ++ (codes "  --json                     print the component's world as JSON\n"
+    ++ (codes "  --task-hook NAME           the export of MAIN.wasm that is the hook of tasks\n"
+    ++ (codes "  --json                     print the component's world and its plan as JSON\n"
     ++ (codes "  --out DIR                  write the modules to DIR, which is made if need be\n"
     ++ (codes "  -h, --help                 print this text\n"
-    ++ codes "  --version                  print the version\n"))))))))))
+    ++ codes "  --version                  print the version\n")))))))))))
 
 abbrev pub help_text : List ℕ
 help_text = usage_text ++ options_text

@@ -1,12 +1,13 @@
 //! The arguments of the program.
 
-ghost use Rattle.std.specs.Prelude.{◌≡◌, IfErr, IfOk, OnOk, None, Some, false, map, string_bytes, true};
+ghost use Rattle.std.specs.Prelude.{◌≡◌, IfErr, IfOk, OnOk, None, Some, false, is_some, map, string_bytes, true};
 ghost use Rattle.std.specs.Option.{option_map};
 ghost use Rattle.wcplan_command.specs.Arguments.{IsRead, IsReadWithoutMemory, IsStopOf, command_value, option_value};
-ghost use Rattle.wcplan_command.specs.Reading.{AsksMemory, HasMoreOptions, HasMorePaths, KeepsMore, add_option, add_path, add_value, draft_value, finish, flag_of, none_read, pair_of, plain_command, read_arguments, take_option, take_up, takes_value, valued_of};
+ghost use Rattle.wcplan_command.specs.Reading.{AsksMemory, HasMoreOptions, HasMorePaths, KeepsMore, adapter_file_of, add_option, add_path, add_value, draft_value, file_name, finish, flag_of, module_valued_of, none_read, pair_of, plain_command, read_arguments, stem, take_option, take_up, takes_module_value, takes_value, valued_of};
 ghost use Rattle.wcplan_command.specs.declared.arguments.NoCommand.TheVariants.{Memory};
 
 use std::alloc::{AllocFailed, Global};
+use std::path::Path;
 
 /// What the program is asked to do. Paths, names and keys are any texts.
 #[derive(Debug, Drop)]
@@ -17,7 +18,7 @@ pub struct Command<'a> {
     pub world: &'a str,
     /// The path of the main module.
     pub main: &'a str,
-    /// The names of the adapters, which have no `=`, and the paths of their modules, in order.
+    /// The names of the adapters and the paths of their modules, in order.
     pub adapters: Vec<(&'a str, &'a str)>,
     /// The keys that the main module has to export, in order.
     pub exports: Vec<&'a str>,
@@ -27,7 +28,9 @@ pub struct Command<'a> {
     pub reject_legacy_names: bool,
     /// Whether adapters grow memory for themselves, in place of calling the main module's realloc.
     pub realloc_via_memory_grow: bool,
-    /// Whether the record of the component's world is printed, as JSON, in place of the lines of its plan.
+    /// The name of the export that is the hook of tasks; `None`, where no export is.
+    pub task_hook: Option<&'a str>,
+    /// Whether the record of the component's world and its plan are printed as JSON, in place of the lines of the plan.
     pub json: bool,
     /// The path of the directory that files are written to, if they are.
     pub out: Option<&'a str>,
@@ -79,6 +82,7 @@ enum CommandOption<'a> {
     AdapterExport { name: &'a str, key: &'a str },
     RejectLegacyNames,
     ReallocViaMemoryGrow,
+    TaskHook { name: &'a str },
     Json,
     Out { directory: &'a str },
 }
@@ -96,10 +100,12 @@ struct Draft<'a> {
 
 /// The command of these arguments, the first of them the one after the program's name: `WORLDS.json`, `WORLD` and
 /// `MAIN.wasm` in this order, and options before, between and after them. `--adapt NAME=FILE`, `--export KEY` and
-/// `--adapter-export NAME=KEY` may come several times, `--reject-legacy-names`, `--realloc-via-memory-grow`, `--json`
-/// and `--out DIR` once. What comes after the name of an option that has a value is its value, whatever it is; in one
-/// argument there is a `=` between them, as in `--out=DIR`. NAME ends at the first `=`. `--` is not an argument, and
-/// says that those after it are no options. No option is `-` alone, nor what begins with another character.
+/// `--adapter-export NAME=KEY` may come several times, `--reject-legacy-names`, `--realloc-via-memory-grow`,
+/// `--task-hook NAME`, `--json` and `--out DIR` once. What comes after the name of an option that has a value is its
+/// value, whatever it is; in one argument there is a `=` between them, as in `--out=DIR`. NAME of an adapter ends at the
+/// first `=`. Without a `=` the value of `--adapt` is FILE, and NAME is the name of this file up to its first `.`. `--` is
+/// not an argument, and says that those after it are no options. No option is `-` alone, nor what begins with another
+/// character.
 ///
 /// # Errors
 ///
@@ -138,6 +144,7 @@ fn no_options<'a>(alloc: Global) -> Command<'a>
         adapter_exports: Vec::new(alloc),
         reject_legacy_names: false,
         realloc_via_memory_grow: false,
+        task_hook: None,
         json: false,
         out: None,
     }
@@ -271,28 +278,77 @@ fn flag(argument: &str) -> Option<CommandOption<'_>>
 }
 
 /// Whether an option of this name has a value.
+#[tactic(auto, unfolding(crate::specs::Reading::takes_value))]
 fn takes_value(option: &str) -> bool
     ensures { result ≡ takes_value option.now }
 {
-    option == "--adapt" || option == "--export" || option == "--adapter-export" || option == "--out"
+    takes_module_value(option) || option == "--task-hook" || option == "--out"
+}
+
+/// Whether an option of this name has a value, and may come several times.
+fn takes_module_value(option: &str) -> bool
+    ensures { result ≡ takes_module_value option.now }
+{
+    option == "--adapt" || option == "--export" || option == "--adapter-export"
 }
 
 /// The option of this name with this value.
 fn valued<'a>(argument: &str, value: &'a str) -> Option<CommandOption<'a>>
     ensures { option_map option_value result ≡ valued_of argument.now value.now }
 {
+    if argument == "--task-hook" {
+        Some(CommandOption::TaskHook { name: value })
+    } else if argument == "--out" {
+        Some(CommandOption::Out { directory: value })
+    } else {
+        module_valued(argument, value)
+    }
+}
+
+/// The option of this name with this value, if one of this name may come several times.
+fn module_valued<'a>(argument: &str, value: &'a str) -> Option<CommandOption<'a>>
+    ensures { option_map option_value result ≡ module_valued_of argument.now value.now }
+{
     if argument == "--adapt" {
-        let (name, file) = pair(value)?;
+        let (name, file) = adapter_file(value);
         Some(CommandOption::Adapt { name, file })
     } else if argument == "--export" {
         Some(CommandOption::Export { key: value })
     } else if argument == "--adapter-export" {
         let (name, key) = pair(value)?;
         Some(CommandOption::AdapterExport { name, key })
-    } else if argument == "--out" {
-        Some(CommandOption::Out { directory: value })
     } else {
         None
+    }
+}
+
+/// The name and the file of an adapter: the texts before and after the first `=`; or else the file's own name.
+fn adapter_file(value: &str) -> (&str, &str)
+    ensures { (result.0.now, result.1.now) ≡ adapter_file_of value.now }
+{
+    match pair(value) {
+        Some((name, file)) => (name, file),
+        None => (stem(file_name(value)), value),
+    }
+}
+
+/// The name of a file: the last component of its path; the path itself, if that has none.
+fn file_name(path: &str) -> &str
+    ensures { result.now ≡ file_name path.now }
+{
+    match Path::new(path).file_name() {
+        Some(name) => name,
+        None => path,
+    }
+}
+
+/// What comes before the first `.`; without one all.
+fn stem(name: &str) -> &str
+    ensures { result.now ≡ stem name.now }
+{
+    match name.split_once('.') {
+        Some((stem, _rest)) => stem,
+        None => name,
     }
 }
 
@@ -322,13 +378,27 @@ fn add_option<'a>(
         CommandOption::RejectLegacyNames => set(&mut command.reject_legacy_names, name)?,
         CommandOption::ReallocViaMemoryGrow => set(&mut command.realloc_via_memory_grow, name)?,
         CommandOption::Json => set(&mut command.json, name)?,
-        CommandOption::Out { directory } => {
-            if command.out.is_some() {
-                return Err(NoCommand::Wrong(WrongArgument::RepeatedOption(name)));
-            }
-            command.out = Some(directory);
-        }
+        CommandOption::TaskHook { name: hook } => set_text(&mut command.task_hook, name, hook)?,
+        CommandOption::Out { directory } => set_text(&mut command.out, name, directory)?,
     }
+    Ok(())
+}
+
+/// Sets the value of an option of this name, which is given once.
+fn set_text<'a>(
+    held: &mut Option<&'a str>,
+    name: &'a str,
+    value: &'a str,
+) -> Result<(), NoCommand<'a>>
+    ensures set { OnOk result ((held.old ≡ None) × (held.new ≡ Some value.entry)) }
+    ensures repeated { IfErr result (λ e.
+        (e ≡ NoCommand.Wrong (WrongArgument.RepeatedOption name.entry))
+        × (is_some held.old ≡ true)) }
+{
+    if held.is_some() {
+        return Err(NoCommand::Wrong(WrongArgument::RepeatedOption(name)));
+    }
+    *held = Some(value);
     Ok(())
 }
 

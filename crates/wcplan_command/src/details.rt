@@ -1,21 +1,24 @@
 //! What is printed under the text of a fault.
 
-ghost use Rattle.std.specs.Prelude.{◌≡◌, ◌++◌, IfOk, string_bytes};
+ghost use Rattle.std.specs.Prelude.{◌≡◌, ◌≢◌, ◌++◌, [], Some, IfOk, IsErr, codes, string_bytes};
 ghost use Rattle.std.specs.Option.{option_map};
-ghost use Rattle.wc_validate.specs.Places.{difference_view, place_view, subject_view};
+ghost use Rattle.wc_validate.specs.Places.{an_export, an_import, difference_view, missing_export, missing_function, place_view, subject_view};
 ghost use Rattle.wc_gc.specs.TrimPlaces.{place_text as trim_place_text};
-ghost use Rattle.wc_validate.specs.Texts.{difference_text, subject_text};
-ghost use Rattle.wcplan_command.specs.Details.{detail_line, fault_lines, function_text, module_place_lines, nearest_line, nearest_text, part_line, part_lines, place_lines, plan_fault_lines, types_line, world_fault_lines};
+ghost use Rattle.wc_validate.specs.Texts.{difference_text};
+ghost use Rattle.wcplan_command.specs.Details.{detail_line, fault_lines, function_line, lines_or_memory, module_place_lines, named_part, nearest_line, nearest_text, part_line, part_lines, place_lines, plan_fault_lines, subject_line, types_line, unplaced_line, world_fault_lines};
 
 use crate::explained::Explained;
-use crate::explained_part::ExplainedPart;
+use crate::explained_part::{ExplainedPart, PartPath};
 use crate::faults::ProgramFault;
 use std::alloc::{AllocError, Global};
 use wc_gc::TrimPlace;
-use wc_json::escaped;
+use wc_json::{escaped, quoted};
 use wc_plan::PlanFault;
 use wc_validate::{Place, Subject, TypeDifference};
 use wc_world::ModulePlace;
+
+/// What is printed under the text of a fault where there is no memory for what it is about.
+pub(crate) const UNPLACED: &str = "\n  out of memory for what it is about";
 
 impl ProgramFault<'_> {
     /// The lines that the program prints under the text of the fault, each after the end of the line before and two
@@ -31,16 +34,18 @@ impl ProgramFault<'_> {
     ///   `is there: NAME`.
     ///
     /// For a component's world without a plan it is `function "NAME"`. Texts from outside are escaped
-    /// (`wc_json::escaped`).
+    /// (`wc_json::escaped`), and so are quotes in names between quotes (`wc_json::quoted`). Where there was no memory for
+    /// what the fault is about, the line says that.
     ///
     /// # Errors
     ///
-    /// `AllocError`: an allocation failed.
+    /// `AllocError`: there are lines, and an allocation failed.
     pub fn details(&self, alloc: Global) -> Result<String, AllocError>
-        ensures { IfOk result (λ text. string_bytes text ≡ fault_lines self.now) }
+        ensures text { IfOk result (λ text. string_bytes text ≡ fault_lines self.now) }
+        ensures lines { IsErr result → fault_lines self.now ≢ [] }
     {
         match self {
-            ProgramFault::Resolve(_, explained) => part_lines(alloc, explained),
+            ProgramFault::Resolve(_, explained) => resolve_lines(alloc, explained),
             ProgramFault::World(_, explained) => world_lines(alloc, explained),
             ProgramFault::Plan(fault) => plan_lines(alloc, fault),
             _ => Ok(String::new(alloc)),
@@ -48,25 +53,19 @@ impl ProgramFault<'_> {
     }
 }
 
-/// A text, and under it what a fault is about.
-pub(crate) fn detailed_text(
-    alloc: Global,
-    fault: &ProgramFault<'_>,
-    text: &str,
-) -> Result<String, AllocError>
-    ensures { IfOk result (λ r. string_bytes r ≡ text.now ++ fault_lines fault.now) }
-{
-    let details = fault.details(alloc)?;
-    format!(in alloc; "{text}{details}")
-}
-
 /// The lines of a fault of worlds that are not well-formed.
-fn part_lines(alloc: Global, explained: &Option<ExplainedPart>) -> Result<String, AllocError>
-    ensures { IfOk result (λ text. string_bytes text ≡ part_lines explained.now) }
+fn resolve_lines(
+    alloc: Global,
+    explained: &Result<Option<ExplainedPart>, AllocError>,
+) -> Result<String, AllocError>
+    ensures text { IfOk result (λ text. string_bytes text
+        ≡ lines_or_memory part_lines explained.now) }
+    ensures lines { IsErr result → lines_or_memory part_lines explained.now ≢ [] }
 {
     match explained {
-        Some(explained) => part_line(alloc, explained),
-        None => Ok(String::new(alloc)),
+        Ok(Some(explained)) => part_line(alloc, explained),
+        Ok(None) => Ok(String::new(alloc)),
+        Err(AllocError) => unplaced_line(alloc),
     }
 }
 
@@ -74,18 +73,44 @@ fn part_lines(alloc: Global, explained: &Option<ExplainedPart>) -> Result<String
 fn part_line(alloc: Global, explained: &ExplainedPart) -> Result<String, AllocError>
     ensures { IfOk result (λ text. string_bytes text ≡ part_line explained.now) }
 {
-    let text = format!(in alloc; "{explained}")?;
-    detail_line(alloc, &text)
+    let path = PartPath(explained.part);
+    match &explained.name {
+        Some(name) => named_line(alloc, path, name),
+        None => format!(in alloc; "\n  {path}"),
+    }
+}
+
+/// The line of one that has a name.
+fn named_line(alloc: Global, path: PartPath, name: &str) -> Result<String, AllocError>
+    ensures { IfOk result (λ text. string_bytes text
+        ≡ codes "\n  " ++ named_part path.0 (Some name.now)) }
+{
+    let name = quoted(alloc, name)?;
+    format!(in alloc; "\n  {path} {name}")
 }
 
 /// The lines of a fault of a component's world.
-fn world_lines(alloc: Global, explained: &Option<Explained>) -> Result<String, AllocError>
-    ensures { IfOk result (λ text. string_bytes text ≡ world_fault_lines explained.now) }
+#[tactic(auto, using(crate::proofs::DetailsLemmas::world_some))]
+fn world_lines(
+    alloc: Global,
+    explained: &Result<Option<Explained>, AllocError>,
+) -> Result<String, AllocError>
+    ensures text { IfOk result (λ text. string_bytes text
+        ≡ lines_or_memory world_fault_lines explained.now) }
+    ensures lines { IsErr result → lines_or_memory world_fault_lines explained.now ≢ [] }
 {
     match explained {
-        Some(explained) => explained_lines(alloc, explained),
-        None => Ok(String::new(alloc)),
+        Ok(Some(explained)) => explained_lines(alloc, explained),
+        Ok(None) => Ok(String::new(alloc)),
+        Err(AllocError) => unplaced_line(alloc),
     }
+}
+
+/// The line where there was no memory for what a fault is about.
+fn unplaced_line(alloc: Global) -> Result<String, AllocError>
+    ensures { IfOk result (λ text. string_bytes text ≡ unplaced_line) }
+{
+    String::from_str(alloc, UNPLACED)
 }
 
 /// The lines of what a fault is about.
@@ -120,11 +145,54 @@ fn trim_line(alloc: Global, place: &TrimPlace) -> Result<String, AllocError>
 
 /// The line of an import or an export.
 fn subject_line(alloc: Global, subject: &Subject) -> Result<String, AllocError>
-    ensures { IfOk result (λ text. string_bytes text
-        ≡ detail_line (subject_text (subject_view subject.now))) }
+    ensures { IfOk result (λ text. string_bytes text ≡ subject_line (subject_view subject.now)) }
 {
-    let text = format!(in alloc; "{subject}")?;
-    detail_line(alloc, &text)
+    match subject {
+        Subject::Import {
+            module_name,
+            name,
+            ..
+        } => import_line(alloc, module_name, name),
+        Subject::Export(name) => export_line(alloc, name),
+        Subject::MissingFunction { module_name, name } => missing_line(alloc, module_name, name),
+        Subject::MissingExport(name) => missing_export_line(alloc, name),
+    }
+}
+
+/// The line of an import.
+fn import_line(alloc: Global, module_name: &str, name: &str) -> Result<String, AllocError>
+    ensures { IfOk result (λ text. string_bytes text
+        ≡ subject_line (an_import module_name.now name.now 0)) }
+{
+    let module_name = quoted(alloc, module_name)?;
+    let name = quoted(alloc, name)?;
+    format!(in alloc; "\n  import {module_name} {name}")
+}
+
+/// The line of an export.
+fn export_line(alloc: Global, name: &str) -> Result<String, AllocError>
+    ensures { IfOk result (λ text. string_bytes text ≡ subject_line (an_export name.now)) }
+{
+    let name = quoted(alloc, name)?;
+    format!(in alloc; "\n  export {name}")
+}
+
+/// The line of a function of an interface that is missing.
+fn missing_line(alloc: Global, module_name: &str, name: &str) -> Result<String, AllocError>
+    ensures { IfOk result (λ text. string_bytes text
+        ≡ subject_line (missing_function module_name.now name.now)) }
+{
+    let module_name = quoted(alloc, module_name)?;
+    let name = quoted(alloc, name)?;
+    format!(in alloc; "\n  missing {module_name} {name}")
+}
+
+/// The line of an export that is missing.
+fn missing_export_line(alloc: Global, name: &str) -> Result<String, AllocError>
+    ensures { IfOk result (λ text. string_bytes text ≡ subject_line (missing_export name.now)) }
+{
+    let name = quoted(alloc, name)?;
+    format!(in alloc; "\n  missing export {name}")
 }
 
 /// The line of two types.
@@ -160,7 +228,8 @@ fn nearest_line(alloc: Global, nearest: &Option<String>) -> Result<String, Alloc
 
 /// The lines of a fault of a plan.
 fn plan_lines(alloc: Global, fault: &PlanFault) -> Result<String, AllocError>
-    ensures { IfOk result (λ text. string_bytes text ≡ plan_fault_lines fault.now) }
+    ensures text { IfOk result (λ text. string_bytes text ≡ plan_fault_lines fault.now) }
+    ensures lines { IsErr result → plan_fault_lines fault.now ≢ [] }
 {
     match fault {
         PlanFault::NoMemory(name) => function_line(alloc, name),
@@ -180,10 +249,10 @@ fn near_line(alloc: Global, name: &str) -> Result<String, AllocError>
 
 /// The line of a function.
 fn function_line(alloc: Global, name: &str) -> Result<String, AllocError>
-    ensures { IfOk result (λ text. string_bytes text ≡ detail_line (function_text name.now)) }
+    ensures { IfOk result (λ text. string_bytes text ≡ function_line name.now) }
 {
-    let text = format!(in alloc; "function \"{name}\"")?;
-    detail_line(alloc, &text)
+    let name = quoted(alloc, name)?;
+    format!(in alloc; "\n  function {name}")
 }
 
 /// A line under the text of a fault, escaped.

@@ -3,7 +3,7 @@
 ghost use Rattle.std.specs.Prelude.{IfErr, IfOk};
 ghost use Rattle.json.specs.Json.{document};
 ghost use Rattle.wc_json.specs.Document.{IsDocument};
-ghost use Rattle.wc_program.specs.Files.{Holds};
+ghost use Rattle.wc_program.specs.Files.{FailsToRead, Holds};
 ghost use Rattle.wcplan_command.specs.Arguments.{command_value};
 ghost use Rattle.wcplan_command.specs.Program.{AreWorldsIn, IsNotJson, IsPlanCause, IsReadFault, IsRepeatedMember, IsTextCause};
 ghost use Rattle.wcplan_command.specs.Private.Runs.{AreWorldsOf, IsWorldsCause};
@@ -13,11 +13,10 @@ use crate::explained_part::resolve_fault;
 use crate::faults::ProgramFault;
 use crate::json_place::{json_end, repeated_member};
 use std::alloc::{AllocError, Global};
-use std::io::ErrorKind;
 use wc_encoder::Metadata;
 use wc_json::{Document, JsonFault, document_from_json};
 use wc_maps::Seed;
-use wc_program::FileStore;
+use wc_program::{FileStore, ReadProblem};
 use wc_resolve::Resolve;
 use wc_selection::select_world;
 
@@ -30,7 +29,8 @@ pub(crate) fn read_worlds<'a, F: FileStore>(
 ) -> Result<Metadata, ProgramFault<'a>>
     ensures worlds { IfOk result (λ m. AreWorldsIn (command_value command.now) (F.held files.now)
         m.resolve m.world.0) }
-    ensures fault { IfErr result (IsPlanCause (command_value command.now) (F.held files.now)) }
+    ensures fault { IfErr result (IsPlanCause (command_value command.now) (F.held files.now)
+        (FailsToRead F.read_fails files.now)) }
 {
     let bytes = read_file(command.worlds, files)?;
     match str::from_utf8(&bytes) {
@@ -100,11 +100,11 @@ pub(crate) fn read_file<'a, F: FileStore>(
     files: &F,
 ) -> Result<Vec<u8>, ProgramFault<'a>>
     ensures read { IfOk result (λ v. Holds (F.held files.now) path.now v.items) }
-    ensures fault { IfErr result (IsReadFault path.now) }
+    ensures fault { IfErr result (IsReadFault path.now (FailsToRead F.read_fails files.now)) }
 {
-    match files.read(path) {
+    match wc_program::read_file(files, path) {
         Ok(bytes) => Ok(bytes),
-        Err(e) if e.kind() == ErrorKind::OutOfMemory => Err(ProgramFault::Memory),
-        Err(_) => Err(ProgramFault::CannotRead(path)),
+        Err(ReadProblem::Memory) => Err(ProgramFault::Memory),
+        Err(problem) => Err(ProgramFault::CannotRead(path, problem)),
     }
 }

@@ -22,7 +22,7 @@ pub struct Explained {
 }
 
 /// The fault of a command whose component has no world, for the one that `ComponentWorld::new` answered:
-/// with what it is about, if there is memory for this.
+/// with what it is about, or that there was no memory for this.
 pub(crate) fn world_fault<'a>(
     alloc: Global,
     encoder: &ComponentEncoder,
@@ -34,8 +34,8 @@ pub(crate) fn world_fault<'a>(
         return ProgramFault::Memory;
     }
     match explain_fault(alloc, encoder, &fault) {
-        Ok(explained) => ProgramFault::World(fault, explained),
-        Err(AllocError) => ProgramFault::World(fault, None),
+        Ok(explained) => ProgramFault::World(fault, Ok(explained)),
+        Err(AllocError) => ProgramFault::World(fault, Err(AllocError)),
     }
 }
 

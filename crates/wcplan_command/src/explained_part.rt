@@ -43,7 +43,7 @@ impl fmt::Display for ExplainedPart {
 
 /// A part, as its path is printed.
 #[derive(Clone, Copy)]
-struct PartPath(Part);
+pub(crate) struct PartPath(pub(crate) Part);
 
 impl fmt::Display for PartPath {
     ghost use Rattle.wcplan_command.specs.Parts.{path_text};
@@ -61,8 +61,7 @@ impl fmt::Display for PartPath {
 }
 
 /// The fault of a command whose worlds are in this text, for the one that `Resolve::build` answered for them: with what it
-/// is about, if there is memory for this. `seed`: the seed of the maps that are made.
-#[tactic(auto, using(crate::proofs::WorldsLemmas::of_part))]
+/// is about, or that there was no memory for this. `seed`: the seed of the maps that are made.
 pub(crate) fn resolve_fault<'a>(
     alloc: Global,
     seed: Seed,
@@ -75,8 +74,8 @@ pub(crate) fn resolve_fault<'a>(
         return ProgramFault::Memory;
     }
     match explain_worlds(alloc, seed, text, fault) {
-        Ok(explained) => ProgramFault::Resolve(fault, explained),
-        Err(AllocError) => ProgramFault::Resolve(fault, None),
+        Ok(explained) => ProgramFault::Resolve(fault, Ok(explained)),
+        Err(AllocError) => ProgramFault::Resolve(fault, Err(AllocError)),
     }
 }
 

@@ -1,8 +1,11 @@
 //! Why the program could not do what its arguments say.
 
-ghost use Rattle.std.specs.Prelude.{◌≡◌, ◌++◌, IfOk, Some, string_bytes};
+ghost use Rattle.std.specs.Prelude.{◌≡◌, ◌++◌, IfNone, IfOk, IfSome, Some, codes, string_bytes};
 ghost use Rattle.wc_json.specs.Escape.{escaped};
 ghost use Rattle.wc_program.specs.FaultTexts.{carried_text};
+ghost use Rattle.wc_program.specs.Files.{problem_text};
+ghost use Rattle.wcplan_command.specs.Details.{fault_lines};
+ghost use Rattle.wcplan_command.specs.Program.{NeedsText};
 ghost use Rattle.wcplan_command.specs.Faults.{no_export_text, page_size_text, program_fault_text, repeated_text, selection_fault_text, world_text};
 
 use crate::explained::Explained;
@@ -15,6 +18,7 @@ use wc_dedupe::DedupeFault;
 use wc_encoder::EncoderFault;
 use wc_json::{JsonFault, escaped};
 use wc_plan::PlanFault;
+use wc_program::{OUT_OF_MEMORY, ReadProblem, problem_text};
 use wc_resolve::ResolveFault;
 use wc_selection::RequestFault;
 use wc_world::WorldFault;
@@ -101,8 +105,8 @@ impl<'a> From<RequestFault<'a>> for SelectionFault<'a> {
 pub enum ProgramFault<'a> {
     /// An allocation failed.
     Memory,
-    /// The file of this path could not be read.
-    CannotRead(&'a str),
+    /// The file of this path could not be read, and why.
+    CannotRead(&'a str, ReadProblem),
     /// The file of the worlds is not text.
     NotText,
     /// The file of the worlds is not JSON, or nests deeper than 128; it carries the byte at which reading stopped.
@@ -116,16 +120,16 @@ pub enum ProgramFault<'a> {
     Selection(SelectionFault<'a>),
     /// The world has no export with this key. It carries what exports it has, as a text.
     NoExport(&'a str, String),
-    /// The worlds are not well-formed. It carries why, never `Memory`, and what that is about; without memory for this
-    /// `None`.
-    Resolve(ResolveFault, Option<ExplainedPart>),
+    /// The worlds are not well-formed. It carries why, never `Memory`, and what that is about, if it is about a part, or that
+    /// there was no memory for this.
+    Resolve(ResolveFault, Result<Option<ExplainedPart>, AllocError>),
     /// The imports of the main module could not be renamed. It carries why, never `Memory`.
     Dedupe(DedupeFault),
     /// Modules can't be encoded for the world. It carries why, never `Memory`.
     Encoder(EncoderFault),
-    /// The component has no world. It carries why, never `Memory` itself, and what that is about, if it is about an import
-    /// or an export; without memory for this `None`.
-    World(WorldFault, Option<Explained>),
+    /// The component has no world. It carries why, never `Memory` itself, and what that is about, if it is about an import,
+    /// an export or a part of an adapter, or that there was no memory for this.
+    World(WorldFault, Result<Option<Explained>, AllocError>),
     /// The component's world has no plan. It carries why, never `Memory`.
     Plan(PlanFault),
     /// The directory of this path could not be made.
@@ -149,7 +153,7 @@ impl ProgramFault<'_> {
     {
         match self {
             ProgramFault::Memory => String::from_str(alloc, "out of memory"),
-            ProgramFault::CannotRead(path) => path_text(alloc, "cannot read ", path),
+            ProgramFault::CannotRead(path, problem) => unread_text(alloc, path, *problem),
             ProgramFault::NotText => String::from_str(alloc, "Json: not UTF-8"),
             ProgramFault::NotJson(at) => format!(in alloc; "Json: not JSON at byte {at}"),
             ProgramFault::RepeatedMember(path) => repeated_text(alloc, path),
@@ -166,7 +170,39 @@ impl ProgramFault<'_> {
             ProgramFault::Output => String::from_str(alloc, "cannot print"),
         }
     }
+
+    /// The text of the fault, where it is always the same; such a fault has no lines under it.
+    pub(crate) fn fixed_text(&self) -> Option<&'static [u8]>
+        ensures whole { IfSome result (λ text. text.now
+            ≡ program_fault_text self.now ++ fault_lines self.now) }
+        ensures none { IfNone result (NeedsText self.now) }
+    {
+        match self {
+            ProgramFault::Memory => Some(OUT_OF_MEMORY),
+            ProgramFault::NotText => Some(NOT_TEXT),
+            ProgramFault::Output => Some(UNPRINTED),
+            ProgramFault::CannotRead(_, _)
+            | ProgramFault::NotJson(_)
+            | ProgramFault::RepeatedMember(_)
+            | ProgramFault::Json(_)
+            | ProgramFault::Selection(_)
+            | ProgramFault::NoExport(_, _)
+            | ProgramFault::Resolve(_, _)
+            | ProgramFault::Dedupe(_)
+            | ProgramFault::Encoder(_)
+            | ProgramFault::World(_, _)
+            | ProgramFault::Plan(_)
+            | ProgramFault::CannotMake(_)
+            | ProgramFault::CannotWrite(_) => None,
+        }
+    }
 }
+
+/// The text of `NotText`.
+const NOT_TEXT: &[u8] = b"Json: not UTF-8";
+
+/// The text where what was to be printed could not be.
+pub(crate) const UNPRINTED: &[u8] = b"cannot print";
 
 /// What could not be done, and the path with which it could not be, escaped.
 fn path_text(alloc: Global, problem: &str, path: &str) -> Result<String, AllocError>
@@ -174,6 +210,16 @@ fn path_text(alloc: Global, problem: &str, path: &str) -> Result<String, AllocEr
 {
     let path = escaped(alloc, path)?;
     format!(in alloc; "{problem}{path}")
+}
+
+/// That the file of a path could not be read, and why.
+fn unread_text(alloc: Global, path: &str, problem: ReadProblem) -> Result<String, AllocError>
+    ensures { IfOk result (λ text. string_bytes text
+        ≡ codes "cannot read " ++ (escaped path.now ++ problem_text problem)) }
+{
+    let path = escaped(alloc, path)?;
+    let problem = problem_text(problem);
+    format!(in alloc; "cannot read {path}{problem}")
 }
 
 /// That a member is there twice, with its path, escaped.

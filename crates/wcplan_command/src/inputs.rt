@@ -2,11 +2,12 @@
 
 ghost use Rattle.std.specs.Prelude.{◌≡◌, IfErr, IfOk, OnOk, map};
 ghost use Rattle.wc_dedupe.specs.Dedupe.{renames_in};
-ghost use Rattle.wc_encoder.specs.Adapters.{adapter_entry};
+ghost use Rattle.wc_adapters.specs.Adapters.{adapter_entry};
 ghost use Rattle.wc_encoder.specs.EncoderParts.{parts_view};
 ghost use Rattle.wc_selection.specs.KeyNames.{request_keys};
 ghost use Rattle.wc_selection.specs.Keys.{AreKeysApart, named_key, texts_of};
 ghost use Rattle.wc_selection.specs.Texts.{AreDistinct};
+ghost use Rattle.wc_program.specs.Files.{FailsToRead};
 ghost use Rattle.wcplan_command.specs.Arguments.{command_value};
 ghost use Rattle.wcplan_command.specs.ModuleKeys.{AreNamesThere, adapter_names, request_of};
 ghost use Rattle.wcplan_command.specs.Program.{AreAdaptersIn, AreWorldsIn, IsAdaptersCause, IsEncoderOf, IsListed, IsListedCause, IsMainCause, IsMainIn, IsModulesCause, IsNoExport, IsPartsWith, IsPlanCause, IsUnknownKey};
@@ -15,7 +16,7 @@ use crate::arguments::Command;
 use crate::documents::{read_file, read_worlds};
 use crate::faults::{ProgramFault, SelectionFault};
 use crate::listing::listing;
-use crate::module_keys::{check_names, command_keys, required_keys};
+use crate::module_keys::{check_names, command_keys, required_keys, task_hook};
 use std::alloc::{AllocError, Global};
 use std::borrow::CowSlice;
 use wc_encoder::{Adapter, ComponentEncoder, EncoderParts, Metadata};
@@ -32,7 +33,8 @@ pub(crate) fn read_encoder<'a, F: FileStore>(
     files: &F,
 ) -> Result<ComponentEncoder, ProgramFault<'a>>
     ensures encoder { IfOk result (IsEncoderOf (command_value command.now) (F.held files.now)) }
-    ensures fault { IfErr result (IsPlanCause (command_value command.now) (F.held files.now)) }
+    ensures fault { IfErr result (IsPlanCause (command_value command.now) (F.held files.now)
+        (FailsToRead F.read_fails files.now)) }
 {
     let chosen = chosen_world(alloc, seed, command, files)?;
     let parts = read_parts(alloc, seed, command, chosen, files)?;
@@ -62,10 +64,11 @@ fn chosen_world<'a, F: FileStore>(
     ensures differ { IfOk result (λ w. AreKeysApart (map named_key w.keys.items)) }
     ensures there { IfOk result (λ w. AreNamesThere (command_value command.now)
         (map named_key w.keys.items)) }
-    ensures fault { IfErr result (IsPlanCause (command_value command.now) (F.held files.now)) }
+    ensures fault { IfErr result (IsPlanCause (command_value command.now) (F.held files.now)
+        (FailsToRead F.read_fails files.now)) }
 {
     let metadata = read_worlds(alloc, seed, command, files)?;
-    let keys = command_keys(alloc, command, &metadata.resolve, metadata.world)?;
+    let keys = command_keys(alloc, seed, command, &metadata.resolve, metadata.world)?;
     check_listed(alloc, seed, command, &keys)?;
     Ok(ChosenWorld { metadata, keys })
 }
@@ -126,6 +129,7 @@ fn no_export<'a>(alloc: Global, key: &'a str, keys: &[(WorldKey, String)]) -> Pr
 }
 
 /// The parts of the encoder of a command, with its modules from their files.
+#[tactic(auto, using(crate::proofs::ProgramLemmas::main_modules, crate::proofs::ProgramLemmas::adapters_modules))]
 fn read_parts<'a, F: FileStore>(
     alloc: Global,
     seed: Seed,
@@ -138,12 +142,14 @@ fn read_parts<'a, F: FileStore>(
     ensures parts { IfOk result (λ p. IsPartsWith (command_value command.now) (F.held files.now)
         (map named_key chosen.keys.items) (parts_view p)) }
     ensures metadata { IfOk result (λ p. p.metadata ≡ chosen.metadata) }
-    ensures fault { IfErr result (IsModulesCause (command_value command.now) (F.held files.now)) }
+    ensures fault { IfErr result (IsModulesCause (command_value command.now) (F.held files.now)
+        (FailsToRead F.read_fails files.now)) }
 {
     let ChosenWorld { metadata, keys } = chosen;
     let main = read_main(alloc, command.main, files)?;
     let adapters = read_adapters(alloc, seed, command, &keys, files)?;
     let main_module_exports = required_keys(alloc, seed, command, Exporter::Main, &keys)?;
+    let task_hook = task_hook(alloc, command)?;
     Ok(EncoderParts {
         module: main.wasm,
         module_import_map: main.import_map,
@@ -152,11 +158,12 @@ fn read_parts<'a, F: FileStore>(
         adapters,
         reject_legacy_names: command.reject_legacy_names,
         realloc_via_memory_grow: command.realloc_via_memory_grow,
-        task_hook: String::new(alloc),
+        task_hook,
     })
 }
 
 /// The main module in the file of this path, with its repeated imports renamed.
+#[tactic(auto, using(crate::proofs::ProgramLemmas::unread_main))]
 fn read_main<'a, F: FileStore>(
     alloc: Global,
     path: &'a str,
@@ -164,7 +171,8 @@ fn read_main<'a, F: FileStore>(
 ) -> Result<MainModule, ProgramFault<'a>>
     ensures main { IfOk result (λ m. IsMainIn (F.held files.now) path.now m.wasm.items
         (renames_in m.import_map)) }
-    ensures fault { IfErr result (IsMainCause (F.held files.now) path.now) }
+    ensures fault { IfErr result (IsMainCause (F.held files.now)
+        (FailsToRead F.read_fails files.now) path.now) }
 {
     let bytes = read_file(path, files)?;
     Ok(MainModule::new(alloc, CowSlice::Owned(bytes))?)
@@ -182,7 +190,8 @@ fn read_adapters<'a, F: FileStore>(
     requires names { AreDistinct (adapter_names (command_value command.now)) }
     ensures adapters { IfOk result (λ m. AreAdaptersIn (F.held files.now)
         (command_value command.now) (map named_key keys.now) (map adapter_entry m.entries)) }
-    ensures fault { IfErr result (IsAdaptersCause (command_value command.now)) }
+    ensures fault { IfErr result (IsAdaptersCause (command_value command.now)
+        (FailsToRead F.read_fails files.now)) }
 {
     let mut adapters = Map::with_hasher(alloc, seed);
     for (name, path) in &command.adapters {

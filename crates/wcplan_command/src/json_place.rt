@@ -1,6 +1,6 @@
 //! Where a text is not JSON, or has a member twice. It is looked for after a fault alone.
 
-ghost use Rattle.std.specs.Prelude.{◌≤◌, IfOk, length};
+ghost use Rattle.std.specs.Prelude.{◌<◌, ◌≤◌, IfOk, IfSome, length};
 
 use json::{MAX_DEPTH, Reader, Scratch, Token, Value};
 use std::alloc::{AllocError, Global};
@@ -73,8 +73,8 @@ impl Nesting {
     }
 }
 
-/// The byte at which the first token begins that a JSON text can't have there: the length of a text that is JSON, or only
-/// the beginning of one. That it is this byte is in no contract.
+/// The byte at which the first token begins, or the comma is, that a JSON text can't have there: the length of a text that
+/// is JSON, or only the beginning of one. That it is this byte is in no contract.
 ///
 /// # Errors
 ///
@@ -95,8 +95,36 @@ pub(crate) fn json_end(alloc: Global, text: &str) -> Result<usize, AllocError>
             return Ok(at);
         }
         at = token_start(text, reader.offset());
+        // The reader passes a comma after each value.
+        if let Some(comma) = comma_after_all(text, at, nesting.is_done) {
+            return Ok(comma);
+        }
     }
     Ok(text.len())
+}
+
+/// Where a comma is that ends before this byte, but for blanks, if a value was read that nothing is around.
+fn comma_after_all(text: &str, end: usize, is_done: bool) -> Option<usize>
+    ensures { IfSome result (λ at. at < length text.now) }
+{
+    if is_done {
+        comma_before(text, end)
+    } else {
+        None
+    }
+}
+
+/// Where a comma is, if it is the last byte before this one but for blanks.
+fn comma_before(text: &str, end: usize) -> Option<usize>
+    ensures { IfSome result (λ at. at < length text.now) }
+{
+    let front = text.as_bytes().get(..end)?;
+    let blanks = front.iter().rev().take_while(|c| is_blank(**c)).count();
+    let last = front.len().checked_sub(blanks)?.checked_sub(1)?;
+    match front.get(last) {
+        Some(b',') => Some(last),
+        _ => None,
+    }
 }
 
 /// Where a token begins that follows this byte and blanks; at the end of the text, if none does.
@@ -164,13 +192,14 @@ fn path_in_items(alloc: Global, items: &Vec<Value<'_>>) -> Result<String, AllocE
     Ok(String::new(alloc))
 }
 
-/// The same from an object on: its own members first.
+/// The same from an object on.
 #[cycle(path)]
 fn path_in_members(alloc: Global, members: &Vec<(&str, Value<'_>)>) -> Result<String, AllocError> {
-    if let Some(name) = repeated_name(alloc, members)? {
-        return step(alloc, name);
-    }
+    let mut seen: BTreeSet<&str> = BTreeSet::new(alloc);
     for member in members {
+        if !seen.insert(member.0)? {
+            return step(alloc, member.0);
+        }
         let path = path_in(alloc, &member.1)?;
         if !path.is_empty() {
             let step = step(alloc, member.0)?;
@@ -178,20 +207,6 @@ fn path_in_members(alloc: Global, members: &Vec<(&str, Value<'_>)>) -> Result<St
         }
     }
     Ok(String::new(alloc))
-}
-
-/// The first name that a member before has.
-fn repeated_name<'a>(
-    alloc: Global,
-    members: &[(&'a str, Value<'_>)],
-) -> Result<Option<&'a str>, AllocError> {
-    let mut seen: BTreeSet<&str> = BTreeSet::new(alloc);
-    for member in members {
-        if !seen.insert(member.0)? {
-            return Ok(Some(member.0));
-        }
-    }
-    Ok(None)
 }
 
 /// `.NAME`, or `["NAME"]` where the name is not of letters, digits, `-` and `_` alone.

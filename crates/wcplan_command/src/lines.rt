@@ -3,7 +3,7 @@
 ghost use Rattle.std.specs.Prelude.{◌≡◌, IfOk, map, string_bytes, unwrap_or};
 ghost use Rattle.std.specs.Option.{option_map};
 ghost use Rattle.wc_plan.specs.Lines.{call_text, called_text, owner_text, slot_text};
-ghost use Rattle.wc_plan.specs.PlanViews.{owner_view, plan_view, use_view};
+ghost use Rattle.wc_uses.specs.PlanViews.{owner_view, plan_view, use_view};
 ghost use Rattle.wcplan_command.specs.Lines.{lines_text, needed_text, printed_line, use_text};
 
 use itoa::Buffer;

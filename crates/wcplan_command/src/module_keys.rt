@@ -1,6 +1,6 @@
 //! What a command asks of adapters and of exports.
 
-ghost use Rattle.std.specs.Prelude.{◌≡◌, ◌<◌, IfErr, IfOk, OnOk, length, map};
+ghost use Rattle.std.specs.Prelude.{◌≡◌, ◌<◌, IfErr, IfOk, OnOk, length, map, string_bytes};
 ghost use Rattle.wc_resolve.specs.Views.{key_view};
 ghost use Rattle.wc_selection.specs.KeyNames.{request_keys};
 ghost use Rattle.wc_selection.specs.Keys.{AreKeysApart, named_key, texts_of};
@@ -8,7 +8,7 @@ ghost use Rattle.wc_selection.specs.Requests.{exporter_name, given_keys, request
 ghost use Rattle.wc_selection.specs.ModuleKeys.{AreKeysThere, required_keys};
 ghost use Rattle.wc_selection.specs.Texts.{first_parts, text_of, text_pair};
 ghost use Rattle.wcplan_command.specs.Arguments.{command_value};
-ghost use Rattle.wcplan_command.specs.ModuleKeys.{AreNamesThere, IsGivenCause, IsNamesCause, request_of};
+ghost use Rattle.wcplan_command.specs.ModuleKeys.{AreNamesThere, IsGivenCause, IsNamesCause, hook_of, request_of};
 
 use crate::arguments::Command;
 use crate::faults::SelectionFault;
@@ -16,7 +16,9 @@ use crate::file_names::file_fault;
 use std::alloc::{AllocError, Global};
 use wc_maps::{Seed, Set};
 use wc_resolve::{Resolve, WorldId, WorldKey};
-use wc_selection::{Exporter, KeyRequest, first_missing, first_repeated, request_keys};
+use wc_selection::{
+    Exporter, KeyRequest, first_missing, first_repeated, no_task_hook, request_keys,
+};
 
 /// The keys that a command gives.
 fn key_request<'r, 'a>(command: &'r Command<'a>) -> KeyRequest<'r, 'a>
@@ -28,7 +30,8 @@ fn key_request<'r, 'a>(command: &'r Command<'a>) -> KeyRequest<'r, 'a>
     }
 }
 
-/// The keys of a world's exports, in order, each with the text by which the command gives it (`request_keys`).
+/// The keys of a world's exports, in order, each with the text by which the command gives it (`request_keys`). `seed`: the
+/// seed of the sets that are made.
 ///
 /// The world must be in range (`Resolve::has_world`).
 ///
@@ -37,6 +40,7 @@ fn key_request<'r, 'a>(command: &'r Command<'a>) -> KeyRequest<'r, 'a>
 /// `AllocError`: an allocation failed.
 pub(crate) fn command_keys(
     alloc: Global,
+    seed: Seed,
     command: &Command<'_>,
     resolve: &Resolve,
     world: WorldId,
@@ -47,7 +51,7 @@ pub(crate) fn command_keys(
     ensures differ { IfOk result (λ v. AreKeysApart (map named_key v.items)) }
 {
     let request = key_request(command);
-    request_keys(alloc, &request, resolve, world)
+    request_keys(alloc, seed, &request, resolve, world)
 }
 
 /// Checks the names of adapters and the keys of a command against a world's exports. `seed`: the seed of the sets that are
@@ -80,7 +84,7 @@ pub(crate) fn check_names<'a>(
         return Err(SelectionFault::RepeatedAdapter(name));
     }
     let exporters = first_parts(alloc, &command.adapter_exports)?;
-    if let Some(name) = first_missing(&exporters, &adapters) {
+    if let Some(name) = first_missing(alloc, seed, &exporters, &adapters)? {
         return Err(SelectionFault::UnknownAdapter(name));
     }
     if let Some(fault) = file_fault(command.out, &adapters) {
@@ -139,4 +143,19 @@ pub(crate) fn required_keys(
 {
     let request = key_request(command);
     wc_selection::required_keys(alloc, seed, &request, exporter, keys)
+}
+
+/// The name of the task hook that is handed to the encoder: the one that a command gives, or else one that no export of
+/// a module is taken for (`no_task_hook`).
+///
+/// # Errors
+///
+/// `AllocError`: an allocation failed.
+pub(crate) fn task_hook(alloc: Global, command: &Command<'_>) -> Result<String, AllocError>
+    ensures { IfOk result (λ hook. string_bytes hook ≡ hook_of (command_value command.now)) }
+{
+    match command.task_hook {
+        Some(name) => String::from_str(alloc, name),
+        None => no_task_hook(alloc),
+    }
 }

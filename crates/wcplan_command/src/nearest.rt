@@ -8,10 +8,11 @@ ghost use Rattle.wc_encoder.specs.EncoderParts.{world_exports, world_imports};
 ghost use Rattle.wc_resolve.specs.Queries.{key_text};
 ghost use Rattle.wc_resolve.specs.Ranges.{IsItemIn, IsKeyIn};
 ghost use Rattle.wc_resolve.specs.Views.{interface_view, item_view, world_entry};
+ghost use Rattle.wc_json.specs.Keys.{rest_after};
 ghost use Rattle.wc_names.specs.Keys.{as_interface};
 ghost use Rattle.wc_selection.specs.KeyNames.{unversioned_text};
 ghost use Rattle.wc_validate.specs.Places.{subject_view};
-ghost use Rattle.wcplan_command.specs.Nearest.{exported_name, first_near, imported_name, interface_named, is_near, key_texts, names_in, near_function, near_import, near_interface, near_place, near_result, near_subject, nearest};
+ghost use Rattle.wcplan_command.specs.Nearest.{exported_interface, exported_name, first_near, function_name, imported_name, interface_alike, interface_for, interface_named, is_alike, is_near, key_texts, names_in, near_function, near_import, near_interface, near_place, near_result, near_subject, nearest};
 
 use std::alloc::{AllocError, Global};
 use wc_encoder::ComponentEncoder;
@@ -20,11 +21,12 @@ use wc_resolve::{Interface, InterfaceId, Resolve, WorldItem, WorldKey};
 use wc_validate::{Subject, ValidateFault};
 use wc_world::{ModulePlace, WorldFault};
 
-/// What is there in place of what a fault is about: the first name that is the same but for its version or for the case of
-/// letters. For `UnknownInterface` it is one of the interfaces that the world imports, or exports where the name is after
-/// `[export]`; for `NoRootImport` one of all that the world imports; for `MissingFunction` a function of the interface
-/// under the text of the module; for `NoSuchExport`, where the name is after `[task-return]`, one of all that the world
-/// exports. `None` where there is none, and for all other faults.
+/// What is there in place of what a fault is about: the first name that differs only in its version or in the case of
+/// letters. For `UnknownInterface` it is one of all that the world imports, or exports where the name is after
+/// `[export]` or `_ex_`; for `NoRootImport` one of all that the world imports; for `MissingFunction` a function of the
+/// interface that has the module's name, or else of the first that has it but for its version and for the case of letters;
+/// for `NoSuchExport`, where the name is after `[task-return]`, one of all that the world exports. A function's name is
+/// what is after `[async-lower]`. `None` where there is none, and for all other faults.
 ///
 /// # Errors
 ///
@@ -95,8 +97,13 @@ fn near_import(
 {
     match fault {
         ValidateFault::UnknownInterface => near_interface(alloc, encoder, module_name),
-        ValidateFault::NoRootImport => near_imported(alloc, encoder, name),
-        ValidateFault::MissingFunction => near_function(alloc, encoder, module_name, name),
+        ValidateFault::NoRootImport => near_imported(alloc, encoder, function_name(name)),
+        ValidateFault::MissingFunction => near_function(
+            alloc,
+            encoder,
+            imported_name(module_name),
+            function_name(name),
+        ),
         ValidateFault::NoSuchExport => near_result(alloc, encoder, name),
         _ => Ok(None),
     }
@@ -111,10 +118,37 @@ fn near_interface(
     ensures { IfOk result (λ r. option_map string_bytes r
         ≡ near_interface encoder.now module_name.now) }
 {
-    match exported_name(module_name) {
+    match exported_interface(module_name) {
         Some(name) => near_exported(alloc, encoder, name),
         None => near_imported(alloc, encoder, imported_name(module_name)),
     }
+}
+
+/// What the world exports that a module's name is about: after the first `]`, or in the standard scheme after `_ex_`.
+fn exported_interface(module_name: &str) -> Option<&str>
+    ensures { option_map (λ t. t.now) result ≡ exported_interface module_name.now }
+{
+    match exported_name(module_name) {
+        Some(name) => Some(name),
+        None => rest_after(imported_name(module_name), "_ex_"),
+    }
+}
+
+/// The function that a name is about: what is after `[async-lower]`; without that the whole name.
+fn function_name(name: &str) -> &str
+    ensures { result.now ≡ function_name name.now }
+{
+    match rest_after(name, "[async-lower]") {
+        Some(function) => function,
+        None => name,
+    }
+}
+
+/// What comes after a prefix.
+fn rest_after<'a>(text: &'a str, prefix: &str) -> Option<&'a str>
+    ensures { option_map (λ rest. rest.now) result ≡ rest_after prefix.now text.now }
+{
+    text.strip_prefix(prefix)
 }
 
 /// What the world exports in place of the function whose result a name is about.
@@ -205,25 +239,46 @@ fn near_key(
     Ok(None)
 }
 
-/// The function that is there in place of the one of this name, in the interface that the world imports under the text of
-/// the module.
+/// The function that is there in place of the one of this name, in the interface that the world imports under this text.
 fn near_function(
     alloc: Global,
     encoder: &ComponentEncoder,
-    module_name: &str,
+    text: &str,
     name: &str,
 ) -> Result<Option<String>, AllocError>
     ensures { IfOk result (λ r. option_map string_bytes r
-        ≡ near_function encoder.now module_name.now name.now) }
+        ≡ near_function encoder.now text.now name.now) }
 {
     encoder.well_formedness();
     let metadata = encoder.metadata();
     metadata.resolve.well_formedness();
     let resolve = &metadata.resolve;
     let imports = &resolve.world(metadata.world).imports;
-    match interface_named(alloc, resolve, imports, module_name)? {
+    match interface_for(alloc, resolve, imports, text)? {
         Some(id) => near_name(alloc, resolve.interface(id), name),
         None => Ok(None),
+    }
+}
+
+/// The interface that has a key with this text, or else the first that has one with it but for its version and for the case
+/// of letters.
+fn interface_for(
+    alloc: Global,
+    resolve: &Resolve,
+    items: &Map<WorldKey, WorldItem>,
+    text: &str,
+) -> Result<Option<InterfaceId>, AllocError>
+    requires there { All (λ x. IsKeyIn resolve.now x.0) (map world_entry items.now.entries) }
+    requires named { All (λ x. IsSome (key_text parts_text resolve.now x.0))
+        (map world_entry items.now.entries) }
+    requires items { All (λ x. IsItemIn resolve.now x.1) (map world_entry items.now.entries) }
+    ensures named { IfOk result (λ r. option_map (λ i. i.0) r
+        ≡ interface_for resolve.now (map world_entry items.now.entries) text.now) }
+    ensures there { IfOk result (λ r. IfSome r (λ i. i.0 < length resolve.now.interfaces)) }
+{
+    match interface_named(alloc, resolve, items, text)? {
+        Some(id) => Ok(Some(id)),
+        None => interface_alike(alloc, resolve, items, text),
     }
 }
 
@@ -245,6 +300,30 @@ fn interface_named(
     for (key, item) in items.iter() {
         let key_text = resolve.name_world_key(alloc, key)?;
         if key_text.as_str() == text {
+            return Ok(interface_in(item));
+        }
+    }
+    Ok(None)
+}
+
+/// The first interface that has a key with this text but for its version and for the case of letters.
+fn interface_alike(
+    alloc: Global,
+    resolve: &Resolve,
+    items: &Map<WorldKey, WorldItem>,
+    text: &str,
+) -> Result<Option<InterfaceId>, AllocError>
+    requires there { All (λ x. IsKeyIn resolve.now x.0) (map world_entry items.now.entries) }
+    requires named { All (λ x. IsSome (key_text parts_text resolve.now x.0))
+        (map world_entry items.now.entries) }
+    requires items { All (λ x. IsItemIn resolve.now x.1) (map world_entry items.now.entries) }
+    ensures named { IfOk result (λ r. option_map (λ i. i.0) r
+        ≡ interface_alike resolve.now (map world_entry items.now.entries) text.now) }
+    ensures there { IfOk result (λ r. IfSome r (λ i. i.0 < length resolve.now.interfaces)) }
+{
+    for (key, item) in items.iter() {
+        let key_text = resolve.name_world_key(alloc, key)?;
+        if is_alike(text, &key_text) {
             return Ok(interface_in(item));
         }
     }
@@ -274,9 +353,20 @@ fn near_name(alloc: Global, interface: &Interface, name: &str) -> Result<Option<
     Ok(None)
 }
 
-/// Whether names are the same but for their versions and for the case of ASCII letters.
+/// Whether names differ, and only in their versions and in the case of ASCII letters.
 fn is_near(name: &str, other: &str) -> bool
     ensures { result ≡ is_near name.now other.now }
+{
+    if name == other {
+        false
+    } else {
+        is_alike(name, other)
+    }
+}
+
+/// Whether names are the same but for their versions and for the case of ASCII letters.
+fn is_alike(name: &str, other: &str) -> bool
+    ensures { result ≡ is_alike name.now other.now }
 {
     same_letters(unversioned(name), unversioned(other))
 }

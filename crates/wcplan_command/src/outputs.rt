@@ -2,10 +2,11 @@
 
 ghost use Rattle.std.specs.Prelude.{◌≡◌, IfErr, IfOk, IfSome, OnOk, Some, map, string_bytes};
 ghost use Rattle.std.specs.Option.{option_map};
-ghost use Rattle.wc_plan.specs.PlanViews.{plan_view};
+ghost use Rattle.wc_uses.specs.PlanViews.{plan_view};
 ghost use Rattle.wc_plan.specs.Plans.{plan_of};
 ghost use Rattle.wc_world.specs.WorldViews.{world_view};
 ghost use Rattle.wc_selection.specs.Texts.{text_of};
+ghost use Rattle.wc_program.specs.Files.{FailsFrom, store_change};
 ghost use Rattle.wc_program.specs.Screen.{Becomes};
 ghost use Rattle.wcplan_command.specs.Program.{IsFileFault, WritesAll, file_view, files_of, path_in, printed_text, record_line};
 ghost use Rattle.wcplan_command.specs.Private.Runs.{IsMakingFault, IsWritingFault};
@@ -15,8 +16,8 @@ use crate::faults::ProgramFault;
 use crate::lines::plan_lines;
 use std::alloc::{AllocError, Global};
 use wc_plan::Plan;
-use wc_program::{DirectoryStore, FileStore, Screen};
-use wc_record::world_to_json;
+use wc_program::{DirectoryStore, Screen};
+use wc_record::planned_world_to_json;
 use wc_world::ComponentWorld;
 use wc_write::PutFailed;
 
@@ -32,17 +33,22 @@ pub(crate) fn description_of(
         ≡ printed_text command.now.json (world_view world.now)) }
 {
     if command.json {
-        record_line(alloc, world)
+        record_line(alloc, world, plan)
     } else {
         Ok(plan_lines(alloc, plan)?.into_bytes())
     }
 }
 
-/// The record of a component's world, in a line.
-fn record_line(alloc: Global, world: &ComponentWorld<'_>) -> Result<Vec<u8>, AllocError>
+/// The record of a component's world and of its plan, in a line.
+fn record_line(
+    alloc: Global,
+    world: &ComponentWorld<'_>,
+    plan: &Plan,
+) -> Result<Vec<u8>, AllocError>
+    requires { plan_view plan.now ≡ plan_of (world_view world.now) }
     ensures { IfOk result (λ text. text.items ≡ record_line (world_view world.now)) }
 {
-    let mut line = world_to_json(alloc, world)?;
+    let mut line = planned_world_to_json(alloc, world, plan)?;
     line.push(b'\n')?;
     Ok(line)
 }
@@ -60,7 +66,7 @@ pub(crate) fn write_and_print<'a, F: DirectoryStore, O: Screen>(
         (map file_view outputs.entry.items)) }
     ensures printed { OnOk result (O.ends out.old out.new (Some text.now)) }
     ensures fault { IfErr result (IsWritingFault (option_map text_of directory.entry)
-        (F.held files.old) (F.held files.new) (F.makes files.old)
+        (store_change F.held F.makes F.read_fails F.make_fails F.write_fails files.old files.new)
         outputs.entry.items (Becomes O.ends out.old out.new)) }
 {
     make_directory(directory, files)?;
@@ -77,7 +83,8 @@ fn make_directory<'a, F: DirectoryStore>(
     files: &mut F,
 ) -> Result<(), ProgramFault<'a>>
     ensures made { OnOk result (IfSome (option_map text_of directory.entry) (F.makes files.old)) }
-    ensures fault { IfErr result (IsMakingFault (option_map text_of directory.entry)) }
+    ensures fault { IfErr result (IsMakingFault (option_map text_of directory.entry)
+        (F.make_fails files.old files.new)) }
     ensures kept { F.held files.new ≡ F.held files.old }
 {
     let Some(path) = directory else {
@@ -129,17 +136,17 @@ fn path_in(alloc: Global, directory: &str, name: &str) -> Result<String, AllocEr
 }
 
 /// Writes files, in order.
-fn write_files<'a, F: FileStore>(
+fn write_files<'a, F: DirectoryStore>(
     outputs: Vec<(String, &[u8])>,
     files: &mut F,
 ) -> Result<(), ProgramFault<'a>>
     ensures written { OnOk result (WritesAll (F.held files.old) (F.held files.new)
         (map file_view outputs.entry.items)) }
     ensures fault { IfErr result (IsFileFault (F.held files.old) (F.held files.new)
-        (map file_view outputs.entry.items)) }
+        (FailsFrom F.held F.write_fails files.new) (map file_view outputs.entry.items)) }
 {
     for (path, bytes) in outputs {
-        let Ok(()) = files.write(&path, bytes) else {
+        let Ok(()) = files.replace(&path, bytes) else {
             return Err(ProgramFault::CannotWrite(path));
         };
     }

@@ -1,22 +1,23 @@
 //! The program: its arguments, its files, what it prints, and its exit status.
 
-ghost use Rattle.std.specs.Prelude.{◌≡◌, IfErr, IfOk, IsErr, OnOk};
+ghost use Rattle.std.specs.Prelude.{◌≡◌, ◌++◌, IfErr, IfOk, IsErr, OnOk};
 ghost use Rattle.std.specs.IoError.{error_kind};
 ghost use Rattle.wc_plan.specs.Faults.{AreNameable};
-ghost use Rattle.wc_plan.specs.PlanViews.{plan_view};
+ghost use Rattle.wc_uses.specs.PlanViews.{plan_view};
 ghost use Rattle.wc_plan.specs.Plans.{plan_of};
 ghost use Rattle.wc_world.specs.WorldViews.{world_view};
 ghost use Rattle.wcplan_command.specs.Arguments.{command_value};
+ghost use Rattle.wc_program.specs.Files.{store_change};
 ghost use Rattle.wc_program.specs.Screen.{Becomes};
-ghost use Rattle.wc_program.specs.Program.{Prints, failure, success, wrong_arguments};
-ghost use Rattle.wcplan_command.specs.Program.{CommandEnds, EndsWell, EndsWith, EndsWithout, EndsWithoutArguments, IsEncoderOf, IsPlanned, IsReported, IsRunCause, ProgramEnds};
+ghost use Rattle.wc_program.specs.Program.{Prints, failure, wrong_arguments};
+ghost use Rattle.wcplan_command.specs.Program.{CommandEnds, EndsWell, EndsWith, EndsWithout, EndsWithoutArguments, IsEncoderOf, IsPlanned, IsReported, IsRunCause, NeedsText, PrintsAsked, ProgramEnds};
 ghost use Rattle.wcplan_command.specs.Private.Runs.{AnswersStop, IsMadeFor, IsReportedWith};
 ghost use Rattle.wcplan_command.specs.Usage.{fault_and_usage, fault_line, help_text};
 
 use crate::arguments::{Command, NoCommand, parse};
-use crate::details::detailed_text;
+use crate::details::UNPLACED;
 use crate::explained::world_fault;
-use crate::faults::ProgramFault;
+use crate::faults::{ProgramFault, UNPRINTED};
 use crate::inputs::read_encoder;
 use crate::outputs::{description_of, outputs_of, write_and_print};
 use crate::usage::{AND_USAGE, NO_TEXT, OPTIONS, USAGE, VERSION};
@@ -27,10 +28,11 @@ use wc_maps::Seed;
 use wc_plan::laws::worlds_nameable;
 use wc_plan::{Plan, plan};
 use wc_program::{
-    DirectoryStore, FAILURE, Message, NoArguments, OUT_OF_MEMORY, Program, SUCCESS, Screen, Shell,
-    WRONG_ARGUMENTS, print,
+    DirectoryStore, FAILURE, Message, NoArguments, OUT_OF_MEMORY, Printable, Program, SUCCESS,
+    Screen, Shell, WRONG_ARGUMENTS, print, put_after,
 };
 use wc_world::{ComponentWorld, PlainOptions};
+use wc_write::{PutFailed, Sink};
 
 /// Runs the program with these arguments, the first of them the one after the program's name. What is done is the same for
 /// every seed of the shell. The answer is its exit status:
@@ -43,19 +45,21 @@ use wc_world::{ComponentWorld, PlainOptions};
 /// | 1 | the command could not be run | the line `wcplan: TEXT`, and lines of what the fault is about, to `err` |
 /// | 1 | there was no memory for the arguments | the line `wcplan: out of memory`, to `err` |
 /// | 2 | an argument is wrong, or no text | the line `wcplan: TEXT` and the usage text, to `err` |
-/// | 1 | `out` or `err` failed | not known there |
+/// | 1 | `out` failed | not known there; the line `wcplan: cannot print`, to `err` |
+/// | 1 | `err` failed | not known there |
 ///
 /// TEXT is the text of `run_command`'s fault (`ProgramFault::text`) or of the wrong argument (`WrongArgument::text`), or
 /// `out of memory` where there was no memory for it; then the status is 1. The lines under it are those of
-/// `ProgramFault::details`, or none where there was no memory for them. All that is printed is flushed. Nothing is
-/// printed to the other output, unless `out` failed before. Files are as `run_command` leaves them; without a command
-/// they are unchanged.
+/// `ProgramFault::details`, or one that says that there was no memory for them. All that is printed is flushed. Nothing is
+/// printed to the other output, unless `out` failed before: then the line `wcplan: cannot print` is. Files are as
+/// `run_command` leaves them; without a command they are unchanged.
 pub fn run<F: DirectoryStore, O: Screen, E: Screen>(
     arguments: &io::Result<Vec<String>>,
     shell: &mut Shell<F, O, E>,
 ) -> u8
     ensures known { IfOk arguments.now (λ v. ProgramEnds v.items
-        (F.held shell.old.files) (F.held shell.new.files) (F.makes shell.old.files)
+        (store_change F.held F.makes F.read_fails F.make_fails F.write_fails
+        shell.old.files shell.new.files)
         (Becomes O.ends shell.old.out shell.new.out) (Becomes E.ends shell.old.err shell.new.err)
         result) }
     ensures unknown { IfErr arguments.now (λ e. EndsWithoutArguments
@@ -72,7 +76,7 @@ struct Wcplan;
 
 impl<F: DirectoryStore, O: Screen, E: Screen> Program<F, O, E> for Wcplan {
     ghost ends_with = { λ texts before after status. EndsWith texts
-        (F.held before.files) (F.held after.files) (F.makes before.files)
+        (store_change F.held F.makes F.read_fails F.make_fails F.write_fails before.files after.files)
         (Becomes O.ends before.out after.out) (Becomes E.ends before.err after.err) status };
 
     ghost ends_without = { λ why before after status. EndsWithout why
@@ -88,7 +92,7 @@ impl<F: DirectoryStore, O: Screen, E: Screen> Program<F, O, E> for Wcplan {
 
     fn run_without(&self, why: NoArguments, shell: &mut Shell<F, O, E>) -> u8 {
         match why {
-            NoArguments::Empty => print(&mut shell.out, &USAGE, SUCCESS),
+            NoArguments::Empty => print_asked(&mut shell.out, &mut shell.err, &USAGE),
             NoArguments::NoMemory => print_fault(&mut shell.err, OUT_OF_MEMORY),
             NoArguments::NoText => print_usage_fault(&mut shell.err, NO_TEXT),
         }
@@ -107,8 +111,8 @@ fn answer_stop<O: Screen, E: Screen>(
 {
     match stop {
         NoCommand::Memory => print_fault(err, OUT_OF_MEMORY),
-        NoCommand::Help => print_help(out),
-        NoCommand::Version => print(out, &VERSION, SUCCESS),
+        NoCommand::Help => print_help(out, err),
+        NoCommand::Version => print_asked(out, err, &VERSION),
         NoCommand::Wrong(wrong) => match wrong.text(alloc) {
             Ok(text) => print_usage_fault(err, text.as_bytes()),
             Err(AllocError) => print_fault(err, OUT_OF_MEMORY),
@@ -122,7 +126,8 @@ fn run_and_report<F: DirectoryStore, O: Screen, E: Screen>(
     shell: &mut Shell<F, O, E>,
 ) -> u8
     ensures { CommandEnds (command_value command.now)
-        (F.held shell.old.files) (F.held shell.new.files) (F.makes shell.old.files)
+        (store_change F.held F.makes F.read_fails F.make_fails F.write_fails
+        shell.old.files shell.new.files)
         (Becomes O.ends shell.old.out shell.new.out) (Becomes E.ends shell.old.err shell.new.err)
         result }
 {
@@ -140,10 +145,10 @@ fn run_and_report<F: DirectoryStore, O: Screen, E: Screen>(
 
 /// Reads the worlds and the modules of a command, renames the main module's repeated imports, and makes the component's
 /// world with `PlainOptions`. If the command has a directory, it makes this, and writes `main.wasm` there, the main module
-/// as it was renamed, and then `NAME.wasm` for each adapter of the component's world, as it was trimmed. Every other file
-/// stays the same. Then it prints the lines of the plan, as `wc_plan::write_plan` writes them, but each escaped
-/// (`wc_json::escaped`); or with `--json` the record in a line (`wc_record::world_to_json`). `seed`: the seed of the maps
-/// that are made.
+/// as it was renamed, and then `NAME.wasm` for each adapter of the component's world, as it was trimmed: each as a whole
+/// (`DirectoryStore::replace`). Every other file stays the same. Then it prints the lines of the plan, as
+/// `wc_plan::write_plan` writes them, but each escaped (`wc_json::escaped`); or with `--json` the record in a line
+/// (`wc_record::planned_world_to_json`). `seed`: the seed of the maps that are made.
 ///
 /// # Errors
 ///
@@ -157,7 +162,7 @@ fn run_and_report<F: DirectoryStore, O: Screen, E: Screen>(
 /// - `CannotRead`: an adapter could not be read; they are read in order.
 /// - `Encoder`, `World`, `Plan`: there is no encoder, no component's world, or no plan.
 /// - `CannotMake`: the directory could not be made.
-/// - `CannotWrite`: a file could not be written. The files before it were; what bytes it has is left open.
+/// - `CannotWrite`: a file could not be written. The files before it were; it has what it had.
 /// - `Output`: the lines, or the record, could not be printed. All files were written; `out` is failed, and how much was
 ///   printed is left open.
 /// - `Memory`: an allocation failed.
@@ -171,10 +176,12 @@ pub fn run_command<'a, F: DirectoryStore, O: Screen>(
     out: &mut O,
 ) -> Result<(), ProgramFault<'a>>
     ensures done { OnOk result (EndsWell
-        (command_value command.now) (F.held files.old) (F.held files.new) (F.makes files.old)
+        (command_value command.now)
+        (store_change F.held F.makes F.read_fails F.make_fails F.write_fails files.old files.new)
         (Becomes O.ends out.old out.new)) }
     ensures fault { IfErr result (IsRunCause
-        (command_value command.now) (F.held files.old) (F.held files.new) (F.makes files.old)
+        (command_value command.now)
+        (store_change F.held F.makes F.read_fails F.make_fails F.write_fails files.old files.new)
         (Becomes O.ends out.old out.new)) }
 {
     let encoder = read_encoder(alloc, seed, command, files)?;
@@ -191,10 +198,12 @@ fn run_encoder<'a, F: DirectoryStore, O: Screen>(
 ) -> Result<(), ProgramFault<'a>>
     requires { IsEncoderOf (command_value command.now) (F.held files.old) encoder.now }
     ensures done { OnOk result (EndsWell
-        (command_value command.now) (F.held files.old) (F.held files.new) (F.makes files.old)
+        (command_value command.now)
+        (store_change F.held F.makes F.read_fails F.make_fails F.write_fails files.old files.new)
         (Becomes O.ends out.old out.new)) }
     ensures fault { IfErr result (IsRunCause
-        (command_value command.now) (F.held files.old) (F.held files.new) (F.makes files.old)
+        (command_value command.now)
+        (store_change F.held F.makes F.read_fails F.make_fails F.write_fails files.old files.new)
         (Becomes O.ends out.old out.new)) }
 {
     // So what modules import can be named.
@@ -217,10 +226,12 @@ fn run_world<'a, F: DirectoryStore, O: Screen>(
         (world_view world.now) }
     requires nameable { AreNameable (world_view world.now) }
     ensures done { OnOk result (EndsWell
-        (command_value command.now) (F.held files.old) (F.held files.new) (F.makes files.old)
+        (command_value command.now)
+        (store_change F.held F.makes F.read_fails F.make_fails F.write_fails files.old files.new)
         (Becomes O.ends out.old out.new)) }
     ensures fault { IfErr result (IsRunCause
-        (command_value command.now) (F.held files.old) (F.held files.new) (F.makes files.old)
+        (command_value command.now)
+        (store_change F.held F.makes F.read_fails F.make_fails F.write_fails files.old files.new)
         (Becomes O.ends out.old out.new)) }
 {
     match plan(alloc, world) {
@@ -248,10 +259,12 @@ fn run_plan<'a, F: DirectoryStore, O: Screen>(
         (world_view planned.world.now) }
     requires plan { plan_view planned.plan.now ≡ plan_of (world_view planned.world.now) }
     ensures done { OnOk result (EndsWell
-        (command_value command.now) (F.held files.old) (F.held files.new) (F.makes files.old)
+        (command_value command.now)
+        (store_change F.held F.makes F.read_fails F.make_fails F.write_fails files.old files.new)
         (Becomes O.ends out.old out.new)) }
     ensures fault { IfErr result (IsRunCause
-        (command_value command.now) (F.held files.old) (F.held files.new) (F.makes files.old)
+        (command_value command.now)
+        (store_change F.held F.makes F.read_fails F.make_fails F.write_fails files.old files.new)
         (Becomes O.ends out.old out.new)) }
 {
     let outputs = outputs_of(alloc, command.out, planned.world)?;
@@ -261,6 +274,17 @@ fn run_plan<'a, F: DirectoryStore, O: Screen>(
 
 /// Prints why the program failed, and what that is about. The answer is the status of a failure.
 fn report<E: Screen>(alloc: Global, err: &mut E, fault: &ProgramFault<'_>) -> u8
+    ensures { IsReported fault.now (Becomes E.ends err.old err.new) result }
+{
+    match fault.fixed_text() {
+        Some(text) => print_fault(err, text),
+        None => report_made(alloc, err, fault),
+    }
+}
+
+/// Prints why the program failed, where memory is needed for the text. The answer is the status of a failure.
+fn report_made<E: Screen>(alloc: Global, err: &mut E, fault: &ProgramFault<'_>) -> u8
+    requires { NeedsText fault.now }
     ensures { IsReported fault.now (Becomes E.ends err.old err.new) result }
 {
     match fault.text(alloc) {
@@ -273,31 +297,74 @@ fn report<E: Screen>(alloc: Global, err: &mut E, fault: &ProgramFault<'_>) -> u8
 fn report_text<E: Screen>(alloc: Global, err: &mut E, fault: &ProgramFault<'_>, text: &str) -> u8
     ensures { IsReportedWith fault.now text.now (Becomes E.ends err.old err.new) result }
 {
-    match detailed_text(alloc, fault, text) {
-        Ok(text) => print_fault(err, text.as_bytes()),
-        Err(AllocError) => print_fault(err, text.as_bytes()),
+    match fault.details(alloc) {
+        Ok(lines) => print_under(err, text, &lines),
+        Err(AllocError) => print_under(err, text, UNPLACED),
+    }
+}
+
+/// Prints the text of a fault in a line, and lines under it. The answer is the status of a failure.
+fn print_under<E: Screen>(err: &mut E, text: &str, lines: &str) -> u8
+    ensures { Prints (fault_line (text.now ++ lines.now)) failure
+        (Becomes E.ends err.old err.new) result }
+{
+    print_line(err, &Joined { text, lines })
+}
+
+/// A text, and lines under it.
+#[derive(Clone, Copy)]
+struct Joined<'a> {
+    text: &'a str,
+    lines: &'a str,
+}
+
+impl Printable for Joined<'_> {
+    ghost text = { λ j. j.text.now ++ j.lines.now };
+
+    fn put_text<S: Sink>(&self, out: &mut S) -> Result<(), PutFailed> {
+        put_after(out, self.text.as_bytes(), self.lines)
     }
 }
 
 /// Prints the help text. The answer is the exit status.
-fn print_help<O: Screen>(out: &mut O) -> u8
-    ensures { Prints help_text success (Becomes O.ends out.old out.new) result }
+fn print_help<O: Screen, E: Screen>(out: &mut O, err: &mut E) -> u8
+    ensures { PrintsAsked help_text
+        (Becomes O.ends out.old out.new) (Becomes E.ends err.old err.new) result }
 {
     let text = Message {
         before: USAGE,
         text: &OPTIONS,
         after: b"",
     };
-    print(out, &text, SUCCESS)
+    print_asked(out, err, &text)
+}
+
+/// Prints a text that was asked for; or to `err` that it could not be. The answer is the exit status.
+fn print_asked<O: Screen, E: Screen, T: Printable>(out: &mut O, err: &mut E, text: &T) -> u8
+    ensures { PrintsAsked (T.text text.now)
+        (Becomes O.ends out.old out.new) (Becomes E.ends err.old err.new) result }
+{
+    match out.show(text) {
+        Ok(_) => SUCCESS,
+        Err(PutFailed) => print_fault(err, UNPRINTED),
+    }
 }
 
 /// Prints the text of a fault in a line. The answer is the status of a failure.
 fn print_fault<E: Screen>(err: &mut E, text: &[u8]) -> u8
     ensures { Prints (fault_line text.now) failure (Becomes E.ends err.old err.new) result }
 {
+    print_line(err, &text)
+}
+
+/// The same of a text of any kind.
+fn print_line<E: Screen, T: Printable>(err: &mut E, text: &T) -> u8
+    ensures { Prints (fault_line (T.text text.now)) failure
+        (Becomes E.ends err.old err.new) result }
+{
     let line = Message {
         before: b"wcplan: ",
-        text: &text,
+        text,
         after: b"\n",
     };
     print(err, &line, FAILURE)

@@ -11,9 +11,10 @@ use wc_json::escaped;
 
 /// The usage text.
 pub(crate) const USAGE: &[u8] =
-    b"usage: wcplan WORLDS.json WORLD MAIN.wasm [--adapt NAME=FILE]... [--export KEY]... \
+    b"usage: wcplan WORLDS.json WORLD MAIN.wasm [--adapt [NAME=]FILE]... [--export KEY]... \
       [--adapter-export NAME=KEY]...
-              [--reject-legacy-names] [--realloc-via-memory-grow] [--json] [--out DIR]
+              [--reject-legacy-names] [--realloc-via-memory-grow] [--task-hook NAME] [--json] \
+      [--out DIR]
        wcplan --help | --version
 ";
 
@@ -22,12 +23,13 @@ pub(crate) const OPTIONS: &[u8] =
     b"  WORLDS.json                the worlds, as `wasm-tools component wit --json` prints them
   WORLD                      the name of the world that is encoded for
   MAIN.wasm                  the main module
-  --adapt NAME=FILE          an adapter, and its module
+  --adapt [NAME=]FILE        an adapter, and its module; NAME is else FILE's name up to its first `.`
   --export KEY               a key of the world's exports that the main module exports
   --adapter-export NAME=KEY  a key of the world's exports that the adapter exports
   --reject-legacy-names      refuse names of the older scheme
   --realloc-via-memory-grow  let adapters grow memory for themselves
-  --json                     print the component's world as JSON
+  --task-hook NAME           the export of MAIN.wasm that is the hook of tasks
+  --json                     print the component's world and its plan as JSON
   --out DIR                  write the modules to DIR, which is made if need be
   -h, --help                 print this text
   --version                  print the version
@@ -38,9 +40,10 @@ pub(crate) const VERSION: &[u8] = b"wcplan 0.262.0\n";
 
 /// The end of the line of a wrong argument, and the usage text.
 pub(crate) const AND_USAGE: &[u8] = b"
-usage: wcplan WORLDS.json WORLD MAIN.wasm [--adapt NAME=FILE]... [--export KEY]... \
+usage: wcplan WORLDS.json WORLD MAIN.wasm [--adapt [NAME=]FILE]... [--export KEY]... \
       [--adapter-export NAME=KEY]...
-              [--reject-legacy-names] [--realloc-via-memory-grow] [--json] [--out DIR]
+              [--reject-legacy-names] [--realloc-via-memory-grow] [--task-hook NAME] [--json] \
+      [--out DIR]
        wcplan --help | --version
 ";
 

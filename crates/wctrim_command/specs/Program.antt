@@ -5,6 +5,8 @@ use Rattle.wc_program.specs.FaultTexts.{memory_text}
 use Rattle.wc_program.specs.Files.{Held, Holds, Writes, KeepsOthers, FileChange}
 use Rattle.wc_program.specs.Program.{success, failure, wrong_arguments, Prints, EndsByArguments, EndsByReason}
 use Rattle.wc_program.specs.Screen.{Printing, nothing, printed, failed}
+use Rattle.wc_program.specs.declared.files.ReadProblem.{ReadProblem}
+use Rattle.wc_program.specs.declared.files.ReadProblem.TheVariants.{Memory as read_memory}
 use Rattle.wc_program.specs.declared.program.NoArguments.{NoArguments}
 use Rattle.wc_program.specs.declared.program.NoArguments.TheVariants.{Empty, NoMemory, NoText}
 use Rattle.wctrim_command.specs.Command.{CommandValue, source_of, target_of, IsCommandLine}
@@ -12,7 +14,7 @@ use Rattle.wctrim_command.specs.Lines.{line_feed}
 use Rattle.wctrim_command.specs.Execution.{Runs, IsToolCause}
 use Rattle.wctrim_command.specs.Faults.{tool_fault_text}
 use Rattle.wctrim_command.specs.declared.fault.ToolFault.{ToolFault}
-use Rattle.wctrim_command.specs.declared.fault.ToolFault.TheVariants.{Output}
+use Rattle.wctrim_command.specs.declared.fault.ToolFault.TheVariants.{Memory, Output}
 use Rattle.wctrim_command.specs.declared.program.RunFault.{RunFault}
 use Rattle.wctrim_command.specs.declared.program.RunFault.TheVariants.{CannotRead, CannotWrite, Tool}
 
@@ -44,6 +46,15 @@ pub record IsDone (c : CommandValue) (before after : Option Held) (lines : List 
   pub runs : Runs c input lines answer
   pub written : IsAnswered (target_of c) answer before after
 
+-- the input file could not be read, for a problem other than memory
+abbrev pub IsUnreadInput : CommandValue → FileChange → Type 0
+IsUnreadInput c files = (p : ReadProblem) × files.IsFailedRead (source_of c) p × (p ≢ read_memory)
+
+-- it is too large for memory, and each file has the bytes that it had
+abbrev pub IsTooLarge : CommandValue → FileChange → ToolFault → Type 0
+IsTooLarge c files Memory = files.IsFailedRead (source_of c) read_memory × (files.after ≡ files.before)
+IsTooLarge c files f = ⊥
+
 -- the bytes of the input file were refused, and each file has the bytes that it had
 pub record IsRefused (c : CommandValue) (before after : Option Held) (fault : ToolFault) : Type 0 where
   pub input : List ℕ
@@ -64,8 +75,8 @@ pub record IsUnwritten (c : CommandValue) (files : FileChange) (lines target : L
 
 -- the cause of a fault of a command that was run on its files, after these lines
 abbrev pub IsRunCause : CommandValue → FileChange → List ℕ → RunFault → Type 0
-IsRunCause c files lines (CannotRead path) = (path.now ≡ source_of c) × (files.after ≡ files.before) × (lines ≡ [])
-IsRunCause c files lines (Tool fault) = IsRefused c files.before files.after fault × (lines ≡ [])
+IsRunCause c files lines (CannotRead path) = (path.now ≡ source_of c) × (files.after ≡ files.before) × (lines ≡ []) × IsUnreadInput c files
+IsRunCause c files lines (Tool fault) = (IsRefused c files.before files.after fault ⊎ IsTooLarge c files fault) × (lines ≡ [])
 IsRunCause c files lines (CannotWrite path) = IsUnwritten c files lines path.now
 
 -- what was done with the output: it failed; or the lines were printed, and the file could not be written; or nothing was put

@@ -17,8 +17,8 @@ use std::alloc::Global;
 use std::io::{self, ErrorKind};
 use wc_maps::Seed;
 use wc_program::{
-    FAILURE, FileStore, Message, NoArguments, Output, Printable, Program, SUCCESS, Shell,
-    WRONG_ARGUMENTS, print, put_after,
+    FAILURE, FileStore, Message, NoArguments, Output, Printable, Program, ReadProblem, SUCCESS,
+    Shell, WRONG_ARGUMENTS, print, put_after, read_file,
 };
 use wc_write::{PutFailed, Sink};
 
@@ -70,7 +70,7 @@ pub fn run<F: FileStore, O: Output>(
     shell: &mut Shell<F, O, ()>,
 ) -> u8
     ensures known { IfOk arguments.now (λ v. ProgramEnds v.items
-        (file_change F.held F.write_fails shell.old.files shell.new.files)
+        (file_change F.held F.read_fails F.write_fails shell.old.files shell.new.files)
         (Becomes (output_ends O.written O.sent O.is_failed) shell.old.out shell.new.out)
         result) }
     ensures unknown { IfErr arguments.now (λ e. EndsWithoutArguments
@@ -87,11 +87,11 @@ struct Wctrim;
 
 impl<F: FileStore, O: Output> Program<F, O, ()> for Wctrim {
     ghost ends_with = { λ texts before after status. EndsWith texts
-        (file_change F.held F.write_fails before.files after.files)
+        (file_change F.held F.read_fails F.write_fails before.files after.files)
         (Becomes (output_ends O.written O.sent O.is_failed) before.out after.out) status };
 
     ghost ends_without = { λ why before after status. EndsWithout why
-        (file_change F.held F.write_fails before.files after.files)
+        (file_change F.held F.read_fails F.write_fails before.files after.files)
         (Becomes (output_ends O.written O.sent O.is_failed) before.out after.out) status };
 
     fn run_with(&self, arguments: &[String], shell: &mut Shell<F, O, ()>) -> u8 {
@@ -114,7 +114,7 @@ impl<F: FileStore, O: Output> Program<F, O, ()> for Wctrim {
 fn run_and_report<F: FileStore, O: Output>(command: &Command<'_>, shell: &mut Shell<F, O, ()>) -> u8
     requires { IsExecutable (command_value command.now) }
     ensures { CommandEnds (command_value command.now)
-        (file_change F.held F.write_fails shell.old.files shell.new.files)
+        (file_change F.held F.read_fails F.write_fails shell.old.files shell.new.files)
         (Becomes (output_ends O.written O.sent O.is_failed) shell.old.out shell.new.out)
         result }
 {
@@ -150,7 +150,7 @@ fn report<O: Output>(out: &mut O, fault: &RunFault<'_>) -> u8
 ///
 /// - `CannotRead`: the input file could not be read. Nothing is put.
 /// - `Tool`: the fault of `execute`. Nothing is put; with `Tool(Output)` `out` is failed instead, and how much was
-///   written is left open.
+///   written is left open. `Tool(Memory)` also where the input file is too large for memory.
 /// - `CannotWrite`: the write of the output file failed. The lines were put and handed on before, and `out` is not failed.
 ///   What bytes that file has is left open.
 ///
@@ -167,12 +167,14 @@ pub fn run_command<'a, F: FileStore, O: Output>(
         (command_value command.now) (F.held files.old) (F.held files.new)
         (Becomes (output_ends O.written O.sent O.is_failed) out.old out.new)) }
     ensures fault { IfErr result (IsRunFault (command_value command.now)
-        (file_change F.held F.write_fails files.old files.new)
+        (file_change F.held F.read_fails F.write_fails files.old files.new)
         (Becomes (output_ends O.written O.sent O.is_failed) out.old out.new)) }
 {
     let source = command.source();
-    let Ok(input) = files.read(source) else {
-        return Err(RunFault::CannotRead(source));
+    let input = match read_file(&*files, source) {
+        Ok(input) => input,
+        Err(ReadProblem::Memory) => return Err(RunFault::Tool(ToolFault::Memory)),
+        Err(_) => return Err(RunFault::CannotRead(source)),
     };
     let answer = match execute_and_flush(alloc, seed, command, input.as_slice(), out) {
         Ok(answer) => answer,

@@ -7,25 +7,14 @@
 //! have the others.
 
 use nuigatre::{
-    Adapter, ComponentEncoder, ComponentWorld, Export, Import, ImportInstance, Lowering,
-    RequiredOptions, ValidatedModule,
+    AbiVariant, Adapter, ComponentEncoder, ComponentWorld, Export, Import, ImportInstance,
+    Lowering, MainOrAdapter, Plan, ValidatedModule,
 };
 use std::error::Error;
 use std::{env, fs};
 
 /// A step: what is done, to what, and with what.
 type Step = [String; 3];
-
-fn options(options: RequiredOptions) -> String {
-    let names = [
-        (RequiredOptions::MEMORY, " memory"),
-        (RequiredOptions::REALLOC, " realloc"),
-        (RequiredOptions::STRING_ENCODING, " strings"),
-        (RequiredOptions::ASYNC, " async"),
-    ];
-    let set = names.iter().filter(|it| options.contains(it.0));
-    set.map(|it| it.1).collect()
-}
 
 /// Interfaces are imported as instances, with their live types and with the functions that core modules import.
 fn imports(world: &ComponentWorld, steps: &mut Vec<Step>) {
@@ -54,22 +43,38 @@ fn modules(world: &ComponentWorld, encoder: &ComponentEncoder<'_>, steps: &mut V
     }
 }
 
-/// Functions are lowered. Those that need a memory get a shim before there is one, with a slot of a table.
-fn lowerings(world: &ComponentWorld, steps: &mut Vec<Step>) {
-    let mut slots = 0..;
+/// Functions are lowered, each for each module that imports it: as the plan says, which is what `wcplan` prints. Those with
+/// a slot need a memory, and get a shim before there is one.
+fn functions(plan: &Plan, steps: &mut Vec<Step>) {
+    for used in plan {
+        let module = match &used.module {
+            MainOrAdapter::Main => "main".to_string(),
+            MainOrAdapter::Adapter(name) => format!("adapter {name}"),
+        };
+        let interface = used.interface.as_deref().unwrap_or("$root");
+        let abi = match used.abi {
+            AbiVariant::GuestImportAsync => "async",
+            _ => "sync",
+        };
+        let slot = used.slot.map_or("-".to_string(), |it| it.to_string());
+        let realloc = used.realloc.as_deref().unwrap_or("-");
+        let step = if used.slot.is_some() { "shim" } else { "lower" };
+        let what = format!("{module} {interface} {}", used.name);
+        let with = format!("{abi} slot {slot} realloc {realloc}");
+        steps.push([step.into(), what, with]);
+    }
+}
+
+/// All else that is imported is no function of the world: it is built in, or drops a resource.
+fn built_in(world: &ComponentWorld, steps: &mut Vec<Step>) {
     for (module, imported) in &world.import_map {
         let module = module.as_deref().unwrap_or("$root");
         for ((name, _), lowering) in &imported.lowerings {
             let what = format!("{module} {name}");
             steps.push(match lowering {
-                Lowering::Direct { options: set } => ["lower".into(), what, options(*set)],
-                Lowering::Indirect { sig, options: set } => {
-                    let slot = slots.next().unwrap_or_default();
-                    let with = format!("slot {slot}, {:?},{}", sig.params, options(*set));
-                    ["shim".into(), what, with]
-                }
+                Lowering::Direct { .. } | Lowering::Indirect { .. } => continue,
                 Lowering::ResourceDrop(ty) => ["drop".into(), what, format!("type {}", ty.0)],
-                other => ["lower".into(), what, format!("{other:?}")],
+                other => ["built-in".into(), what, format!("{other:?}")],
             });
         }
     }
@@ -122,11 +127,12 @@ fn main() -> Result<(), Box<dyn Error>> {
         adapter.required_exports = keys.iter().map(String::as_str).collect();
         encoder.adapters.push(adapter);
     }
-    let world = ComponentWorld::new(&encoder)?;
+    let (world, plan) = (ComponentWorld::new(&encoder)?, Plan::new(&encoder)?);
     let mut steps = Vec::new();
     imports(&world, &mut steps);
     modules(&world, &encoder, &mut steps);
-    lowerings(&world, &mut steps);
+    functions(&plan, &mut steps);
+    built_in(&world, &mut steps);
     instance("main", &world.info, &world, &mut steps);
     for (name, adapter) in &world.adapters {
         instance(name, &adapter.info, &world, &mut steps);

@@ -1,8 +1,8 @@
-//! Each allocation of a call failing in turn, those of the archive and those of this crate: the answer is that memory
-//! ran out, the process goes on, and nothing stays allocated.
+//! Each allocation of a call failing in turn, with all after it and alone, those of the archive and those of this crate: the
+//! answer is that memory ran out, the process goes on, and nothing stays allocated.
 
 use crate::error::Error;
-use crate::heap::counts::{add, fail_after, held, may_allocate};
+use crate::heap::counts::{add, fail_after, fail_once_after, has_failed, held, may_allocate};
 use crate::{
     Adapter, ComponentEncoder, ComponentWorld, ExportKind, ImportOptions, Instance, Item,
     LibraryInfo, MainOrAdapter, ModuleImportMap, Plan, RequiredOptions, Resolved, World, gc,
@@ -58,6 +58,9 @@ const STARTED_B: &[u8] = b"\0asm\x01\0\0\0\x01\x04\x01\x60\0\0\x03\x02\x01\0\x07
 /// An adapter with an imported realloc and an imported memory.
 const REALLOC: &[u8] = b"\0asm\x01\0\0\0\x01\x0c\x02\x60\x04\x7f\x7f\x7f\x7f\x01\x7f\x60\0\0\x02\x2e\x02\x0f__main_module__\x0ccabi_realloc\0\0\x03env\x06memory\x02\0\x01\x03\x02\x01\x01\x07\x05\x01\x01f\0\x01\x0a\x12\x01\x10\0\x41\0\x41\0\x41\0\x41\0\x10\0\x1a\x3f\0\x1a\x0b";
 
+/// Imports the functions `f` and `g` of `env`; `b` calls a function that calls `f`.
+const IMPORTS: &[u8] = b"\0asm\x01\0\0\0\x01\x04\x01\x60\0\0\x02\x11\x02\x03env\x01f\0\0\x03env\x01g\0\0\x03\x03\x02\0\0\x07\x05\x01\x01b\0\x03\x0a\x0b\x02\x04\0\x10\0\x0b\x04\0\x10\x02\x0b";
+
 /// Two modules, from each of which a name is imported three times.
 const REPEATS: &[u8] = b"\0asm\x01\0\0\0\x01\x04\x01\x60\0\0\x02\x25\x06\x01a\x01f\0\0\x01a\x01f\0\0\x01b\x01g\0\0\x01a\x01f\0\0\x01b\x01g\0\0\x01b\x01g\0\0";
 
@@ -104,23 +107,38 @@ const MAIN: &[u8] = b"\0asm\x01\0\0\0\x01\x08\x02\x60\x01\x7f\0\x60\0\0\x02\x33\
 /// Imports `b` of `old`.
 const LIBRARY: &[u8] = b"\0asm\x01\0\0\0\x01\x04\x01\x60\0\0\x02\x09\x01\x03old\x01b\0\0";
 
-/// How many allocations had to fail, one in each run, before all succeeded.
+/// How many allocations had to fail, the first of them in each run, before all succeeded. With all after it, and alone: then
+/// the answer may be the wanted one too, since some memory is asked for that a call can do without.
 fn failures<T: Debug + PartialEq>(call: impl Fn() -> Result<T, Error>) -> u64 {
     let wanted = call();
     assert!(wanted != Err(Error::Memory));
+    let alone = refusals(&call, &wanted, fail_once_after);
+    let count = refusals(&call, &wanted, fail_after);
+    assert!(alone >= count, "{alone} alone, {count} with all after them");
+    count
+}
+
+/// The same, where `fail` says which allocations fail after so many.
+fn refusals<T: Debug + PartialEq>(
+    call: impl Fn() -> Result<T, Error>,
+    wanted: &Result<T, Error>,
+    fail: impl Fn(u64),
+) -> u64 {
     for count in 0.. {
         let before = held();
-        fail_after(count);
+        fail(count);
         let answer = call();
+        let failed = has_failed();
         fail_after(u64::MAX);
-        let is_wanted = answer == wanted;
+        let is_wanted = answer == *wanted;
         let is_memory = answer == Err(Error::Memory);
         drop(answer);
         assert_eq!(held(), before, "blocks that were not given back");
-        if is_wanted {
+        assert!(is_wanted || is_memory, "the allocation after {count}");
+        if !failed {
+            assert!(is_wanted, "no allocation failed");
             return count;
         }
-        assert!(is_memory, "the allocation after {count}");
     }
     unreachable!("a call has an end")
 }
@@ -199,6 +217,17 @@ fn trimming() {
     // one whose fault carries a name, and one that has a place
     assert!(failures(|| gc::run(THREE, ["b", "x"], None, 16)) > 5);
     assert!(failures(|| gc::run(STARTED, ["a"], None, 16)) > 5);
+}
+
+/// An import that is reached, and one that is not; a name that is no export.
+#[test]
+fn chains() {
+    let chains = gc::why(IMPORTS, ["b"]).expect("chains");
+    assert_eq!(chains.len(), 2);
+    assert!(failures(|| gc::why(IMPORTS, ["b"])) > 20);
+    assert!(failures(|| chains.of_import(0)) > 0);
+    assert!(failures(|| gc::why(IMPORTS, ["b", "x"])) > 5);
+    assert!(failures(|| gc::why(STARTED, ["a"])) > 5);
 }
 
 #[test]

@@ -137,7 +137,8 @@ pub struct ComponentEncoder<'a> {
     ///
     /// A key is a plain name (`run`), or the id of an interface: `wasi:cli/run@0.2.6`, or `wasi:cli/run` where one export
     /// alone has this id but for its version. An interface that is exported under its own id may be given by its index
-    /// among all interfaces too, as in the JSON: `interface-27`. Each key is given once, for one module.
+    /// among all interfaces too, as in the JSON: `interface-27`, which is that interface alone, also where another export has
+    /// its id. Each key is given once, for one module.
     pub main_module_exports: Option<Vec<&'a str>>,
     /// Adapters and libraries.
     pub adapters: Vec<Adapter<'a>>,
@@ -145,7 +146,7 @@ pub struct ComponentEncoder<'a> {
     pub reject_legacy_names: bool,
     /// Whether adapters grow memory for themselves, in place of calling the main module's realloc.
     pub realloc_via_memory_grow: bool,
-    /// The name of the export that is the task hook, if one may be.
+    /// The name of the export that is the task hook; with `None` no export is taken for it.
     pub task_hook: Option<&'a str>,
     /// Functions that have other options where they are lowered than those that their parameters and results need. Of
     /// several entries of one name the first counts, and an entry of no function's name says nothing.
@@ -198,7 +199,10 @@ impl<'a> ComponentEncoder<'a> {
             ",\"reject_legacy_names\":{},\"realloc_via_memory_grow\":{},\"task_hook\":",
             self.reject_legacy_names, self.realloc_via_memory_grow
         ))?;
-        put_string(out, self.task_hook.unwrap_or_default())?;
+        match self.task_hook {
+            Some(name) => put_string(out, name)?,
+            None => out.put("null")?,
+        }
         put_length(out, self.module)?;
         if let Some(keys) = &self.main_module_exports {
             put_exports(out, keys)?;

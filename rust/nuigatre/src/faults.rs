@@ -102,7 +102,7 @@ pub enum GcFault {
     MissingExport(String),
     /// The adapter has a start function, or a section of elements, data or a data count.
     UnsupportedSection,
-    /// A body that is reached is no code, or names an index that is out of range.
+    /// A body that is reached is no code, or names a segment, or an index that is out of range.
     LiveBody,
     /// Two live globals are named as the stack pointer, or two as the state of its allocation.
     SeveralNamed,

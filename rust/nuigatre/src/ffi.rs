@@ -38,7 +38,7 @@ const BAD_ARGUMENT: u32 = 4;
 const MEMORY: u32 = 5;
 
 /// The form of the calls, of messages and of answers that this crate knows: the archive's own number has to be this one.
-const ABI: u32 = 3;
+const ABI: u32 = 4;
 
 unsafe extern "C" {
     safe fn nuigatre_abi() -> u32;
@@ -61,6 +61,17 @@ unsafe extern "C" {
         realloc: *const u8,
         realloc_length: usize,
         page_size_log2: u32,
+        out: *mut u8,
+        out_length: usize,
+    ) -> Answer;
+
+    fn nuigatre_why(
+        seed0: u64,
+        seed1: u64,
+        wasm: *const u8,
+        wasm_length: usize,
+        required: *const Slice<'_>,
+        required_length: usize,
         out: *mut u8,
         out_length: usize,
     ) -> Answer;
@@ -191,6 +202,26 @@ pub(crate) fn trim(arguments: TrimArguments<'_>, room: usize) -> Result<Answered
                 name.as_ptr(),
                 name.len(),
                 page_size_log2,
+                start(out),
+                out.len(),
+            )
+        }
+    })
+}
+
+/// Says why an adapter imports what it does. The answer is the tree of chains, which is JSON.
+pub(crate) fn why(wasm: &[u8], required: &[Slice<'_>], room: usize) -> Result<Answered, Error> {
+    let (seed0, seed1) = seed();
+    answered(room, |out| {
+        // SAFETY: as above. The slices of `required` are borrowed for the call.
+        unsafe {
+            nuigatre_why(
+                seed0,
+                seed1,
+                wasm.as_ptr(),
+                wasm.len(),
+                required.as_ptr(),
+                required.len(),
                 start(out),
                 out.len(),
             )

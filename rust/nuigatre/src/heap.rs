@@ -109,6 +109,8 @@ pub(crate) mod counts {
     thread_local! {
         static HELD: Cell<i64> = const { Cell::new(0) };
         static LEFT: Cell<u64> = const { Cell::new(u64::MAX) };
+        static ALONE: Cell<bool> = const { Cell::new(false) };
+        static FAILED: Cell<bool> = const { Cell::new(false) };
     }
 
     /// How many blocks were allocated on this thread, less those that were given back.
@@ -118,13 +120,36 @@ pub(crate) mod counts {
 
     /// The next `count` allocations of this thread may succeed, and all after them fail.
     pub(crate) fn fail_after(count: u64) {
+        fail(count, false);
+    }
+
+    /// The next `count` allocations of this thread may succeed, and the one after them fails; all later ones may succeed.
+    pub(crate) fn fail_once_after(count: u64) {
+        fail(count, true);
+    }
+
+    fn fail(count: u64, alone: bool) {
         LEFT.set(count);
+        ALONE.set(alone);
+        FAILED.set(false);
+    }
+
+    /// Whether an allocation of this thread failed since it was said which fail.
+    pub(crate) fn has_failed() -> bool {
+        FAILED.get()
     }
 
     pub(crate) fn may_allocate() -> bool {
         let left = LEFT.get();
-        LEFT.set(left.saturating_sub(1));
-        left > 0
+        if left > 0 {
+            LEFT.set(left - 1);
+            return true;
+        }
+        FAILED.set(true);
+        if ALONE.get() {
+            LEFT.set(u64::MAX);
+        }
+        false
     }
 
     pub(crate) fn add(blocks: i64) {

@@ -1,11 +1,12 @@
 //! Core WebAssembly modules made ready to be parts of a component: repeated imports renamed
 //! ([`ModuleImportMap`]), adapters trimmed to what is used of them ([`gc::run`]), and all of that for the world of a
 //! component and its plan ([`ComponentWorld`], [`Plan`]), by resolved worlds as JSON, which may be read once for many
-//! components ([`Resolved`]). One module may be validated alone ([`validate_module`], [`validate_adapter_module`]). The names
-//! are those of the Rust crate `wit-component`, and so is what they do. A fault says what it is about ([`Error::place`]).
+//! components ([`Resolved`]). One module may be validated alone ([`validate_module`], [`validate_adapter_module`]), and an
+//! adapter asked why it imports what it does ([`gc::why`]). The names are those of the Rust crate `wit-component`, and so is
+//! what they do. A fault says what it is about ([`Error::place`]).
 //!
 //! The work is done by `libnuigatre.a`, whose functions are proved: each ends on all bytes, and answers what its
-//! contract says. This crate is the way there, and is tested: a heap, five calls, and the reading of their answers. It
+//! contract says. This crate is the way there, and is tested: a heap, six calls, and the reading of their answers. It
 //! has no dependency but the standard library. Calls may run on several threads at once, and keep nothing but the seed of
 //! their maps, which the first trim, world or plan draws for the process.
 //!

@@ -29,6 +29,27 @@ fn names_are_passed() {
     assert_eq!(gc::run(THREE, ["b", "a"], None, 0), Ok(THREE.to_vec()));
 }
 
+/// Imports the functions `f` and `g` of `env`, as 0 and 1; the function 2 calls `f`, and 3, which is `b`, calls 2.
+const IMPORTS: &[u8] = b"\0asm\x01\0\0\0\x01\x04\x01\x60\0\0\x02\x11\x02\x03env\x01f\0\0\x03env\x01g\0\0\x03\x03\x02\0\0\x07\x05\x01\x01b\0\x03\x0a\x0b\x02\x04\0\x10\0\x0b\x04\0\x10\x02\x0b";
+
+/// Chains to imports, and that there is none.
+#[test]
+fn chains_to_imports() {
+    let chains = gc::why(IMPORTS, ["b", "b"]).expect("an adapter");
+    assert_eq!((chains.len(), chains.is_empty()), (2, false));
+    let chain = chains.of_import(0).expect("memory").expect("a chain");
+    let items: Vec<String> = chain.items.iter().map(ToString::to_string).collect();
+    assert_eq!(chain.export, "b");
+    assert_eq!(items, ["func 3", "func 2", "func 0"]);
+    assert_eq!(chains.of_import(1), Ok(None));
+    assert_eq!(chains.of_import(2), Ok(None));
+    let none = gc::why(IMPORTS, [""; 0]).expect("an adapter");
+    assert_eq!(none.of_import(0), Ok(None));
+    assert!(gc::why(THREE, ["a"]).expect("an adapter").is_empty());
+    let fault = gc::why(IMPORTS, ["b", "x", "y"]).expect_err("x");
+    assert_eq!(trim_fault(&fault), &GcFault::MissingExport("x".to_owned()));
+}
+
 /// Names of any collection of texts.
 #[test]
 fn collections_of_names() {

@@ -28,6 +28,19 @@ const WORLDS: &str = r#"{
         {"name": "my:demo@2.0.0", "interfaces": {"run": 1}, "worlds": {"two": 1, "both": 3}}]
 }"#;
 
+/// The world `one` exports the interface `run` and a clone of it, which have one text.
+const CLONES: &str = r#"{
+    "worlds": [{"name": "one", "package": 0, "imports": {}, "exports": {
+        "interface-0": {"interface": {"id": 0}}, "interface-1": {"interface": {"id": 1}}}}],
+    "interfaces": [
+        {"name": "run", "package": 0, "types": {}, "functions": {
+            "go": {"name": "go", "kind": "freestanding", "params": []}}},
+        {"name": "run", "package": 0, "types": {}, "functions": {
+            "go": {"name": "go", "kind": "freestanding", "params": []}}}],
+    "types": [],
+    "packages": [{"name": "my:demo@1.2.0", "interfaces": {"run": 0}, "worlds": {"one": 0}}]
+}"#;
+
 /// A module of one function, which it exports under these names.
 fn exporting(names: &[&str]) -> Vec<u8> {
     let mut exports = vec![names.len() as u8];
@@ -52,6 +65,19 @@ fn fault_of(encoder: &ComponentEncoder<'_>) -> (WorldFault, String) {
         Err(Error::World(error)) => (error.fault().clone(), error.to_string()),
         answer => panic!("no fault of a world: {answer:?}"),
     }
+}
+
+/// Without a task hook no export is taken for it, also not one without a name; with the empty name that one is.
+#[test]
+fn no_task_hook() {
+    // exports the function 0, which takes a number, without a name
+    let module = b"\0asm\x01\0\0\0\x01\x05\x01\x60\x01\x7e\0\x03\x02\x01\0\x07\x04\x01\0\0\0\x0a\x04\x01\x02\0\x0b";
+    let mut encoder = ComponentEncoder::new(WORLDS, "one", module);
+    encoder.main_module_exports = Some(Vec::new());
+    assert!(ComponentWorld::new(&encoder).is_ok());
+    encoder.task_hook = Some("");
+    let mismatch = WorldFault::Main(ValidateFault::SignatureMismatch);
+    assert_eq!(fault_of(&encoder).0, mismatch);
 }
 
 /// Where nobody says what the main module exports, it is all that no adapter has to.
@@ -129,11 +155,30 @@ fn keys_that_are_refused() {
     let repeated = |key: &str| WorldFault::RepeatedKey(key.into());
     assert_eq!(refused("one", &["start", "start"], &[]), repeated("start"));
     assert_eq!(refused("one", &["start"], &["start"]), repeated("start"));
-    let whole = repeated("my:demo/run@1.2.0");
-    assert_eq!(
-        refused("one", &["my:demo/run@1.2.0"], &["interface-0"]),
-        whole
-    );
+    // an export that is given by its index is not given by its text too
+    for key in ["my:demo/run@1.2.0", "my:demo/run"] {
+        assert_eq!(refused("one", &[key], &["interface-0"]), repeated(key));
+        assert_eq!(refused("one", &["interface-0"], &[key]), repeated(key));
+    }
+    let index = repeated("interface-0");
+    assert_eq!(refused("one", &["interface-0", "interface-0"], &[]), index);
+}
+
+/// An index is that of one interface, also where another export has its text.
+#[test]
+fn indices_are_of_one_interface() {
+    let go = exporting(&[GO]);
+    let world = CLONES;
+    let exports = |main: &[&'static str]| {
+        let mut encoder = ComponentEncoder::new(world, "one", &go);
+        encoder.main_module_exports = Some(main.to_vec());
+        ComponentWorld::new(&encoder).map(|_| ())
+    };
+    assert_eq!(exports(&["interface-0"]), Ok(()));
+    let repeated = WorldFault::RepeatedKey("my:demo/run@1.2.0".into());
+    let mut encoder = ComponentEncoder::new(world, "one", &go);
+    encoder.main_module_exports = Some(vec!["interface-0", "interface-1", "my:demo/run@1.2.0"]);
+    assert_eq!(fault_of(&encoder).0, repeated);
 }
 
 #[test]

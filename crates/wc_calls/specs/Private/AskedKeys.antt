@@ -1,16 +1,17 @@
 -- Words of contracts of private functions. No contract of a public function cites these, directly or through others.
 -- What is asked of a world's exports, and the faults of keys.
-use Rattle.std.specs.Prelude.{◌≡◌, ◌<◌, ℕ, Bool, List, map, Option, ⊤, string_bytes}
+use Rattle.std.specs.Prelude.{◌≡◌, ◌⊎◌, ◌<◌, ℕ, Bool, true, false, List, map, Option, ⊤, string_bytes}
 use Rattle.wc_resolve.specs.Views.{key_view}
 use Rattle.wc_resolve.specs.World.{ResolveView}
-use Rattle.wc_selection.specs.KeyNames.{count_unversioned, request_keys}
+use Rattle.wc_selection.specs.KeyNames.{count_unversioned, indexed_keys}
 use Rattle.wc_selection.specs.Keys.{AreKeysApart, NamedKey, export_keys, named_key, texts_of}
 use Rattle.wc_selection.specs.ModuleKeys.{AreKeysThere}
 use Rattle.wc_selection.specs.Requests.{RequestValue, given_keys}
+use Rattle.wc_selection.specs.Texts.{is_in}
 use Rattle.wc_selection.specs.declared.fault.RequestFault.{RequestFault}
 use Rattle.wc_selection.specs.declared.fault.RequestFault.TheVariants as request
 use Rattle.wc_json.specs.Messages.{AdapterMessageView, KeyMessageView}
-use Rattle.wc_calls.specs.AskedKeys.{gives_none, keys_in, main_keys, request_for, request_in}
+use Rattle.wc_calls.specs.AskedKeys.{gives_none, keys_in, main_keys, request_of}
 use Rattle.wc_calls.specs.MessageFaults.{IsAdaptersCause, IsAskedCause}
 use Rattle.wc_calls.specs.declared.asked_keys.AskedKeys.{AskedKeys}
 use Rattle.wc_calls.specs.declared.message_fault.MessageFault.{MessageFault}
@@ -24,30 +25,32 @@ pub record IsAsked (q : RequestValue) (none : Bool) (keys : List NamedKey) (a : 
   pub there : AreKeysThere (given_keys q) (texts_of keys)
   pub main : map key_view a.main.keys ≡ main_keys none q keys
 
--- what keys of a message ask of the exports of a world, whose keys have these texts; and why it is refused
-abbrev pub IsAskedFor : List NamedKey → Option (List KeyMessageView) → List AdapterMessageView → ResolveView → ℕ → AskedKeys → Type 0
-IsAskedFor named exports ms r world a =
-    IsAsked (request_for named exports ms) (gives_none exports) (request_keys (request_for named exports ms) r world) a
+-- what keys of a message ask of the exports of a world; and why it is refused
+abbrev pub IsAskedFor : Option (List KeyMessageView) → List AdapterMessageView → ResolveView → ℕ → AskedKeys → Type 0
+IsAskedFor exports ms r world a = IsAsked (request_of exports ms) (gives_none exports) (keys_in r world exports ms) a
 
-abbrev pub IsAskedCauseFor : List NamedKey → Option (List KeyMessageView) → List AdapterMessageView → ResolveView → ℕ → MessageFault → Type 0
-IsAskedCauseFor named exports ms r world f =
-    IsAskedCause (request_for named exports ms) (request_keys (request_for named exports ms) r world) f
+abbrev pub IsAskedCauseIn : RequestValue → ResolveView → ℕ → MessageFault → Type 0
+IsAskedCauseIn q r world f = IsAskedCause q (export_keys r world) (indexed_keys q r world) f
+
+abbrev pub IsAskedCauseFor : Option (List KeyMessageView) → List AdapterMessageView → ResolveView → ℕ → MessageFault → Type 0
+IsAskedCauseFor exports ms r world f = IsAskedCauseIn (request_of exports ms) r world f
 
 -- why there are no exporters of a message
 abbrev pub IsExportersCause : ResolveView → ℕ → Option (List KeyMessageView) → List AdapterMessageView → List ℕ → MessageFault → Type 0
-IsExportersCause r world exports ms bytes (UnknownKey key) = IsAskedCauseFor (export_keys r world) exports ms r world (UnknownKey key)
-IsExportersCause r world exports ms bytes (SeveralKeys key) = IsAskedCauseFor (export_keys r world) exports ms r world (SeveralKeys key)
-IsExportersCause r world exports ms bytes (RepeatedKey key) = IsAskedCauseFor (export_keys r world) exports ms r world (RepeatedKey key)
+IsExportersCause r world exports ms bytes (UnknownKey key) = IsAskedCauseFor exports ms r world (UnknownKey key)
+IsExportersCause r world exports ms bytes (SeveralKeys key) = IsAskedCauseFor exports ms r world (SeveralKeys key)
+IsExportersCause r world exports ms bytes (RepeatedKey key) = IsAskedCauseFor exports ms r world (RepeatedKey key)
 IsExportersCause r world exports ms bytes Memory = ⊤
-IsExportersCause r world exports ms bytes f = AreKeysThere (given_keys (request_in r world exports ms)) (texts_of (keys_in r world exports ms)) × IsAdaptersCause ms bytes f
+IsExportersCause r world exports ms bytes f =
+    AreKeysThere (given_keys (request_of exports ms)) (texts_of (keys_in r world exports ms)) × IsAdaptersCause ms bytes f
 
--- the fault of a key that no export has
+-- the fault of a key that no export is given by, of exports with these keys by their own texts
 abbrev pub IsUnknownKey : List NamedKey → List ℕ → MessageFault → Type 0
-IsUnknownKey keys key Memory = ⊤
-IsUnknownKey keys key (UnknownKey k) = (string_bytes k ≡ key) × (count_unversioned keys key ≡ 0)
-IsUnknownKey keys key (RepeatedKey k) = (string_bytes k ≡ key) × (count_unversioned keys key ≡ 1)
-IsUnknownKey keys key (SeveralKeys k) = (string_bytes k ≡ key) × (1 < count_unversioned keys key)
-IsUnknownKey keys key f = ⊥
+IsUnknownKey own key Memory = ⊤
+IsUnknownKey own key (UnknownKey k) = (string_bytes k ≡ key) × (count_unversioned own key ≡ 0)
+IsUnknownKey own key (RepeatedKey k) = (string_bytes k ≡ key) × ((is_in (texts_of own) key ≡ true) ⊎ (count_unversioned own key ≡ 1))
+IsUnknownKey own key (SeveralKeys k) = (string_bytes k ≡ key) × (is_in (texts_of own) key ≡ false) × (1 < count_unversioned own key)
+IsUnknownKey own key f = ⊥
 
 abbrev pub IsRepeatedKey : List ℕ → MessageFault → Type 0
 IsRepeatedKey key Memory = ⊤
@@ -56,6 +59,6 @@ IsRepeatedKey key f = ⊥
 
 -- the fault of a message for that of its keys as a request
 abbrev pub IsKeyFault : List NamedKey → RequestFault → MessageFault → Type 0
-IsKeyFault keys (request.UnknownKey key) g = IsUnknownKey keys key.now g
-IsKeyFault keys (request.RepeatedKey key) g = IsRepeatedKey key.now g
-IsKeyFault keys f g = g ≡ Memory
+IsKeyFault own (request.UnknownKey key) g = IsUnknownKey own key.now g
+IsKeyFault own (request.RepeatedKey key) g = IsRepeatedKey key.now g
+IsKeyFault own f g = g ≡ Memory

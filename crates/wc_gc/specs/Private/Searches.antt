@@ -1,5 +1,6 @@
 -- A search: a set, and the list of what is in it, in the order in which it was found.
-use Rattle.std.specs.Prelude.{◌≡◌, ◌≢◌, ℕ, List, ◌++◌, Bool, true, Option, IsTrue, Contains, AllPairs, ◌⊎◌}
+use Rattle.std.specs.Prelude.{◌≡◌, ◌≢◌, ℕ, List, ◌++◌, Bool, true, Option, IsTrue, Contains, AllPairs, ◌⊎◌, ◌<◌, ◌≤◌, length, slice_index_or}
+use Rattle.wc_gc.specs.ShortestChains.{IsBefore}
 use Rattle.wc_read.specs.Operators.{InstrValue}
 use Rattle.wc_read.specs.Passing.{run_and_left}
 use Rattle.wc_gc.specs.Decoded.{DecodedModule, ItemIndex}
@@ -20,6 +21,7 @@ pub record HasGrown {X : Type 0} (found : List X) (has' : X → Bool) (found' : 
   pub after : (more : List X) × (found' ≡ found ++ more)
   pub all : (x : X) → Contains xs x → Contains found' x
   pub only : (x : X) → Contains found' x → Contains found x ⊎ Contains xs x
+  pub ordered : (i j : ℕ) (d : X) → length found ≤ i → i < j → j < length found' → IsBefore xs (slice_index_or found' i d) (slice_index_or found' j d)
 
 abbrev pub IsGrown : {X : Type 0} → (X → Bool) → List X → (X → Bool) → List X → List X → Type 0
 IsGrown has found has' found' xs = IsTied has found → HasGrown found has' found' xs

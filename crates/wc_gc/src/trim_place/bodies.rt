@@ -27,7 +27,7 @@ fn search_from(alloc: Global, roots: &[(Space, u32)]) -> Result<Search<BitVec>, 
     Ok(search)
 }
 
-/// The first function that is taken up whose body is no code, or names what is not there.
+/// A function that roots reach whose body is no code, or names what is not there.
 pub fn refused_function(
     alloc: Global,
     adapter: &Module<'_>,

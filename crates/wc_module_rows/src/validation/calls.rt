@@ -1,6 +1,5 @@
 //! The calls of `wc_validate`.
 
-use crate::names::shown_imports::put_copy;
 use crate::validation::described_modules::{DescribedModule, described_of};
 use crate::validation::explained::{AdapterModule, MainModule, explain_adapter, explain_main};
 use crate::validation::export_calls::{classify_exports, put_found_reallocs, put_recorded};
@@ -14,9 +13,10 @@ use wc_fixtures::encoder_fixture::described_encoder;
 use wc_fixtures::resolve_calls::argument_words;
 use wc_fixtures::stop::{Stop, put_answered};
 use wc_fixtures::words::Words;
+use wc_lines::lines::Lines;
+use wc_lines::rows::Row;
+use wc_name_rows::shown_imports::put_copy;
 use wc_read::ReadFault;
-use wc_rows::lines::Lines;
-use wc_rows::rows::Row;
 use wc_validate::{ImportInstance, ValidateFault, ValidatedModule, validate_module};
 
 /// The calls on an encoder, and that for the texts of faults.

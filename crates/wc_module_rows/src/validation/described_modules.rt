@@ -1,6 +1,5 @@
 //! Modules that are described by their imports and exports, a line each.
 
-use crate::names::core_types::func_type;
 use crate::validation::written_modules::written;
 use std::alloc::{AllocError, Global};
 use std::mem;
@@ -9,11 +8,12 @@ use wc_fixtures::fixture::once;
 use wc_fixtures::shown_names::put_name;
 use wc_fixtures::stop::Stop;
 use wc_fixtures::words::Words;
+use wc_lines::imports::parse_import_type;
+use wc_lines::lines::Lines;
+use wc_lines::seeds::row_seed;
 use wc_maps::Map;
+use wc_name_rows::core_types::func_type;
 use wc_read::{FuncType, Import, ImportType};
-use wc_rows::imports::parse_import_type;
-use wc_rows::lines::Lines;
-use wc_rows::seeds::row_seed;
 
 /// An import's names and its type; that of a function by its index.
 #[derive(Drop)]

@@ -3,10 +3,10 @@
 use std::alloc::Global;
 use wc_dedupe::ModuleImportMap;
 use wc_encoder::{Adapter, ComponentEncoder};
+use wc_lines::lines::Lines;
+use wc_lines::values::put_place;
 use wc_maps::Map;
 use wc_read::FuncType;
-use wc_rows::lines::Lines;
-use wc_rows::values::put_place;
 use wc_validate::{
     ValidateFault, ValidatedModule, explain_adapter_module, explain_module,
     validate_adapter_module, validate_module,

@@ -10,9 +10,9 @@ use wc_fixtures::shown_names::put_name;
 use wc_fixtures::stop::Stop;
 use wc_fixtures::types::type_id;
 use wc_fixtures::words::Words;
-use wc_rows::lines::Lines;
-use wc_rows::rows::Row;
-use wc_rows::table::named;
+use wc_lines::lines::Lines;
+use wc_lines::rows::Row;
+use wc_lines::table::named;
 use wc_validate::{ExportMap, ValidateFault, ValidatedModule, validate_module};
 
 /// `NAME: EXPORT`, for each export that is recorded.

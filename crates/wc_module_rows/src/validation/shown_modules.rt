@@ -1,13 +1,13 @@
 //! What is recorded of a module's imports, as lines.
 
-use crate::names::shown_imports::put_copy;
 use std::alloc::{AllocError, Global};
 use wc_fixtures::encoder_fields::put_which;
 use wc_fixtures::shown_names::put_name;
+use wc_lines::lines::Lines;
+use wc_lines::values::put_func_type;
 use wc_maps::Map;
+use wc_name_rows::shown_imports::put_copy;
 use wc_names::Import;
-use wc_rows::lines::Lines;
-use wc_rows::values::put_func_type;
 use wc_validate::{ImportInstance, ImportMap};
 
 /// `MODULE NAME: IMPORT`.

@@ -1,9 +1,9 @@
--- Names of globals: what the readers of name sections do (7.4.1).
+-- Names of functions and of globals: what the readers of name sections do (7.4.1).
 use Rattle.std.specs.Prelude.{ℕ, List, Some, Bool, true, false, map, ◌≡◌}
-use Rattle.wc_read.specs.Names.{GlobalNameValue, SpellsGlobalName, PairsBeforeFault, NamesOf, global_names_of}
+use Rattle.wc_read.specs.Names.{GlobalNameValue, SpellsGlobalName, PairsBeforeFault, global_names_id, function_names_id, AllNamesUnder, global_names_of}
 use Rattle.wc_read.specs.Options.{◌>>=◌}
 use Rattle.wc_read.specs.Formats.{SpellsVector}
-use Rattle.wc_read.specs.Sections.{SectionValue}
+use Rattle.wc_read.specs.Sections.{SectionValue, SpellsFrames}
 use Rattle.wc_read.specs.Reading.Bytes.{Read, number_at, name_at}
 use Rattle.wc_read.specs.declared.names.GlobalName.{GlobalName}
 
@@ -27,6 +27,14 @@ PairsOf bytes false pairs = PairsBeforeFault bytes pairs
 abbrev pub named_pairs : List GlobalName → List GlobalNameValue
 named_pairs ns = map global_name_value ns
 
+-- the names that subsections of an id give
+abbrev pub AreNamesUnder : ℕ → List SectionValue → List GlobalNameValue → Type 0
+AreNamesUnder id sections names = (pairs : List GlobalNameValue) × AllNamesUnder id sections pairs × (names ≡ global_names_of pairs)
+
 -- the names of globals that sections give
 abbrev pub AreGlobalNames : List SectionValue → List GlobalNameValue → Type 0
-AreGlobalNames sections names = (pairs : List GlobalNameValue) × NamesOf sections pairs × (names ≡ global_names_of pairs)
+AreGlobalNames sections names = AreNamesUnder global_names_id sections names
+
+-- the names of functions that the sections of a module give, which its bytes spell
+abbrev pub AreFunctionNames : List ℕ → List GlobalNameValue → Type 0
+AreFunctionNames bytes names = (sections : List SectionValue) × SpellsFrames bytes sections × AreNamesUnder function_names_id sections names

@@ -7,7 +7,7 @@ use Rattle.std.specs.Str.{bytes_eq}
 use Rattle.wc_maps.specs.Names.{first_occurrences}
 use Rattle.wc_read.specs.declared.types.MemoryType.{MemoryType}
 use Rattle.wc_read.specs.Types.{FuncTypeValue}
-use Rattle.wc_encoder.specs.Adapters.{WhichView}
+use Rattle.wc_adapters.specs.Adapters.{WhichView}
 use Rattle.wc_names.specs.Views.{ImportView, adapter_export, main_module_memory}
 use Rattle.wc_validate.specs.Imports.AdapterTypes.{first_some, one_type}
 

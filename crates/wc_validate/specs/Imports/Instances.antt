@@ -3,7 +3,7 @@ use Rattle.std.specs.Prelude.{◌≡◌, ◌≢◌, ◌⊎◌, ℕ, List, [], �
 use Rattle.std.specs.Map.{lookup}
 use Rattle.std.specs.Str.{bytes_eq}
 use Rattle.std.specs.declared.alloc.Global.{Global}
-use Rattle.wc_encoder.specs.Adapters.{WhichView, which_view}
+use Rattle.wc_adapters.specs.Adapters.{WhichView, which_view}
 use Rattle.wc_names.specs.declared.imports.Import.{Import}
 use Rattle.wc_names.specs.Views.{ImportView, import_view}
 use Rattle.wc_validate.specs.declared.fault.ValidateFault.{ValidateFault}
@@ -11,7 +11,7 @@ use Rattle.wc_validate.specs.declared.fault.ValidateFault.TheVariants.{Memory, W
 use Rattle.wc_validate.specs.declared.imports.instances.ImportInstance.{ImportInstance}
 use Rattle.wc_validate.specs.declared.imports.instances.ImportInstance.TheVariants.{Whole, Names}
 use Rattle.wc_validate.specs.Imports.Entries.{Entry, by_modules, InstanceRecord, all_of, names_of, Records, IsAllRecorded, IsNameRecorded, single}
-use Rattle.wc_encoder.specs.declared.adapters.MainOrAdapter.{MainOrAdapter}
+use Rattle.wc_adapters.specs.declared.adapters.MainOrAdapter.{MainOrAdapter}
 
 abbrev pub import_entry : String Global × Import → List ℕ × ImportView
 import_entry e = (string_bytes e.0, import_view e.1)

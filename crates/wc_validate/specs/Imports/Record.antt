@@ -9,7 +9,7 @@ use Rattle.wc_read.specs.declared.types.ImportType.TheVariants as imported
 use Rattle.wc_read.specs.Imports.{ImportValue}
 use Rattle.wc_read.specs.Types.{FuncTypeValue}
 use Rattle.wc_dedupe.specs.Renaming.{RenameValue, original_in}
-use Rattle.wc_encoder.specs.Adapters.{WhichView, InstanceView, module_instance, item_instance, LibraryView, LibraryItemView}
+use Rattle.wc_adapters.specs.Adapters.{WhichView, InstanceView, module_instance, item_instance, LibraryView, LibraryItemView}
 use Rattle.wc_names.specs.First.{FirstOf}
 use Rattle.wc_names.specs.Imports.{NameScope, ExternType, func_type, table_type, memory_type, global_type, CoreImport, Classified}
 use Rattle.wc_names.specs.Meanings.{means}

@@ -16,13 +16,13 @@ use Rattle.wc_resolve.specs.declared.worlds.WorldItem.{WorldItem}
 use Rattle.wc_resolve.specs.declared.worlds.WorldKey.{WorldKey}
 use Rattle.wc_resolve.specs.Views.{FunctionView, KeyView, key_view, world_entry}
 use Rattle.wc_resolve.specs.World.{ResolveView}
-use Rattle.wc_encoder.specs.Entries.{Entries}
-use Rattle.wc_encoder.specs.Adapters.{LibraryView}
+use Rattle.wc_adapters.specs.Entries.{Entries}
+use Rattle.wc_adapters.specs.Adapters.{LibraryView}
 use Rattle.wc_names.specs.declared.exports.Export.{Export}
 use Rattle.wc_names.specs.Exports.{ClassifiedExport, CoreExport, is_export}
 use Rattle.wc_names.specs.ExportViews.{ExportView}
 use Rattle.wc_names.specs.Imports.{NameScope, func_type}
-use Rattle.wc_names.specs.Views.{adapter_export}
+use Rattle.wc_names.specs.Views.{ImportView, adapter_export}
 use Rattle.wc_validate.specs.declared.explain.keys.LackingKey.{LackingKey}
 use Rattle.wc_validate.specs.declared.explain.functions.LackingFunction.{LackingFunction}
 use Rattle.wc_validate.specs.declared.explain.missing.RecordedModule.{RecordedModule}
@@ -47,11 +47,12 @@ use Rattle.wc_validate.specs.Imports.Entries.{Entry, Records, single}
 use Rattle.wc_validate.specs.Imports.Record.{AreEntries, ImportScope, IsEntry}
 use Rattle.wc_validate.specs.NameScopes.{name_scope_of}
 use Rattle.wc_validate.specs.Places.{AreTypesOfImport, IsTypedAt, difference_view, IsExportPlace, IsFirstFailing, IsFirstLacking, IsFirstMismatched, IsFirstRefused, IsFirstUnexported, IsFunctionLack, IsFunctionPlace, IsImportPlace, IsKeyPlace, IsLack, IsMissingPlace, IsModulePlace, IsNoPlace, IsOtherMismatch, IsOtherRefused, IsSecondMemory, an_export, missing_export, place_view, subject_view}
-use Rattle.wc_validate.specs.Requirements.{AreMet, IsFirstUnmet, IsMet, IsShortfall, Requirement, callback_name, callbacks, exported_type, function_names, functions_of, is_called_back, key_requirement, key_requirements, one_memory, type_requirement}
+use Rattle.wc_validate.specs.Requirements.{AreMet, IsFirstUnmet, IsMet, IsShortfall, Requirement, callback_name, callbacks, function_names, functions_of, is_called_back, key_requirement, key_requirements, one_memory, type_requirement}
 use Rattle.wc_validate.specs.Private.ExportedFunctions.{AreNamesOf, HasFunctionsOf, IsExportIndexOf}
 use Rattle.wc_validate.specs.Private.Requirements.{required_of}
 use Rattle.wc_validate.specs.Texts.{name_not_exported}
-use Rattle.wc_validate.specs.Private.Imports.Contexts.{HasLibrary, import_scope}
+use Rattle.wc_validate.specs.declared.imports.recorder.Recorder.{Recorder}
+use Rattle.wc_validate.specs.Private.Imports.Contexts.{AreRecordedIn, HasLibrary, import_scope}
 use Rattle.wc_validate.specs.Validated.{ValidationInput, IsRecordOfImports}
 
 -- why validation stops at the import at an index; and the same by a context, by whichever library the module is
@@ -76,16 +77,25 @@ AreMismatchedTypes c i d =
     (library : Option LibraryView) (before : List Entry)
     → AreTypesOfImport (import_scope c library) before (import_value i) SignatureMismatch (difference_view d)
 
+-- a function of an adapter, as an import: by the adapter, its name and its type
+abbrev pub function_view : (String Global × String Global) × FuncType → ImportView
+function_view f = adapter_export (string_bytes f.0.0) (string_bytes f.0.1) (func_type_value f.1)
+
 abbrev pub IsAdapterFunction : ImportContext → Import → (String Global × String Global) × FuncType → Type 0
 IsAdapterFunction c i f =
     (library : Option LibraryView) → HasLibrary c library
     → IsEntry (import_scope c library) (import_value i)
-    (single i.module.now i.name.now (adapter_export (string_bytes f.0.0) (string_bytes f.0.1) (func_type_value f.1)))
+    (single i.module.now i.name.now (function_view f))
 
 abbrev pub AreDifferingTypes : ImportContext → List Import → Import → TypeDifference → Type 0
 AreDifferingTypes c is i d =
     (library : Option LibraryView) (before : List Entry) → HasLibrary c library → AreEntries (import_scope c library) [] (import_values is) before
     → AreTypesOfImport (import_scope c library) before (import_value i) AdapterTypesDiffer (difference_view d)
+
+-- the same of whichever imports were recorded
+abbrev pub AreDifferingAfter : {F : Type 0} → ImportContext → Recorder → Import → Result TypeDifference F → Type 0
+AreDifferingAfter c r i result =
+    (is : List Import) → ((library : Option LibraryView) → HasLibrary c library → AreRecordedIn c library is r) → IfOk result (AreDifferingTypes c is i)
 
 abbrev pub AreTypesIn : ImportContext → List Import → Import → ValidateFault → Option TypeDifference → Type 0
 AreTypesIn c is i f types =
@@ -215,12 +225,10 @@ IsFunctionExplained index x f result =
     → IfOk result (λ answer. MatchOption answer (¬ IsFirstUnmet r xs recorded (map type_requirement functions) f)
     (λ (p : Place). IsFunctionPlace r xs recorded functions f (place_view p)))
 
--- a function that is exported with another type, as it is required; nothing only where none is exported
-abbrev pub IsRetyped : List (Bor (List ℕ) × Bor FuncType) → List ℕ → FuncType → Option Place → Type 0
-IsRetyped index name ty answer =
-    (xs : List CoreExport) → IsExportIndexOf index xs
-    → MatchOption answer (exported_type xs name ≡ None)
-    (λ (p : Place). IsFunctionLack xs (name, func_type_value ty) AdapterExportType (place_view p))
+-- a function that is not exported as it is required, as a place
+abbrev pub IsUnexported : List (Bor (List ℕ) × Bor FuncType) → List ℕ → FuncType → Place → Type 0
+IsUnexported index name ty p =
+    (xs : List CoreExport) → IsExportIndexOf index xs → IsFunctionLack xs (name, func_type_value ty) (place_view p)
 
 abbrev pub IsFunctionLackIn : List (Bor (List ℕ) × Bor FuncType) → List (String Global × FuncType) → LackingFunction → Type 0
 IsFunctionLackIn index functions x =
@@ -248,6 +256,15 @@ IsMissingOf n q x f answer = IsMissingExplained n q (exports_in x.«module».now
 abbrev pub AreAlone : Names → RecordedModule → Type 0
 AreAlone n x =
     AreMet n.resolve.now (exports_in x.«module».now x.«module».now.exports.items) (map export_entry x.recorded.now.entries) (one_memory ∷ callbacks ∷ [])
+
+-- the first of these functions that a module does not export as it is required, as the place of a fault
+abbrev pub IsUnexportedExplained : ResolveView → RecordedModule → List (String Global × FuncType) → ValidateFault → Option Place → Type 0
+IsUnexportedExplained r x functions f answer =
+    MatchOption answer
+    (¬ IsFirstUnmet r (exports_in x.«module».now x.«module».now.exports.items) (map export_entry x.recorded.now.entries)
+    (map type_requirement (map required_entry functions)) f)
+    (λ (p : Place). IsFunctionPlace r (exports_in x.«module».now x.«module».now.exports.items) (map export_entry x.recorded.now.entries)
+    (map required_entry functions) f (place_view p))
 
 -- what is missing, as the place of a fault, or nothing, where the exports of the module are recorded by a context
 abbrev pub IsMissingFrom : ExportContext → RequiredExports → Module → ValidateFault → Option Place → Type 0

@@ -1,7 +1,7 @@
 //! Functions that other modules import, and that are not exported as they are required.
 
 ghost use Rattle.std.specs.Prelude.{◌≡◌, ◌≢◌, ◌↔◌, IfErr, IfOk, IsTrue, false};
-ghost use Rattle.wc_validate.specs.Private.Explained.{AreMetByIndex, IsFunctionExplained, IsFunctionLackIn, IsNotExported, IsRetyped, IsSaidApart, IsSaidAs};
+ghost use Rattle.wc_validate.specs.Private.Explained.{AreMetByIndex, IsFunctionExplained, IsFunctionLackIn, IsNotExported, IsSaidApart, IsSaidAs, IsUnexported};
 
 use crate::ValidateFault;
 use crate::explain::is_memory;
@@ -67,31 +67,29 @@ fn is_said_too(fault: &ValidateFault, found: &ValidateFault) -> bool
     }
 }
 
-/// Whether a fault is that of an exported function's type.
-fn is_retyped(fault: &ValidateFault) -> bool
-    ensures { IsTrue result ↔ (fault.now ≡ ValidateFault.AdapterExportType) }
-{
-    matches!(fault, ValidateFault::AdapterExportType)
-}
-
-/// A function that is exported with another type than the one that is required.
-fn retyped_place(
+/// A function that is not exported as it is required: the export of its name, with the required type and its own; or
+/// that it is missing, where no function of its name is exported.
+fn unexported_function(
     alloc: Global,
     index: &Map<&str, &FuncType>,
     name: &str,
     ty: &FuncType,
-) -> Result<Option<Place>, AllocError>
-    ensures { IfOk result (IsRetyped index.now.entries name.now ty.now) }
+) -> Result<Place, AllocError>
+    ensures { IfOk result (IsUnexported index.now.entries name.now ty.now) }
 {
     let Some(own) = index.get(name) else {
-        return Ok(None);
+        let missing = String::from_str(alloc, name)?;
+        return Ok(Place {
+            subject: Subject::MissingExport(missing),
+            types: None,
+        });
     };
     let wanted = ty.clone(alloc)?;
     let found = (*own).clone(alloc)?;
-    Ok(Some(Place {
+    Ok(Place {
         subject: Subject::Export(String::from_str(alloc, name)?),
         types: Some(TypeDifference { wanted, found }),
-    }))
+    })
 }
 
 /// A required function that is refused, as the place of a fault: if it is refused with this fault.
@@ -109,12 +107,6 @@ pub(crate) fn function_place(
     if !is_said_too(fault, &lacking.fault) {
         return Ok(None);
     }
-    if is_retyped(fault) {
-        return retyped_place(alloc, index, lacking.name, lacking.ty);
-    }
-    let name = String::from_str(alloc, lacking.name)?;
-    Ok(Some(Place {
-        subject: Subject::MissingExport(name),
-        types: None,
-    }))
+    let place = unexported_function(alloc, index, lacking.name, lacking.ty)?;
+    Ok(Some(place))
 }

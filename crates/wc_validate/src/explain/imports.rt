@@ -1,9 +1,12 @@
 //! The import at which validation stops.
 
-ghost use Rattle.std.specs.Prelude.{◌≡◌, ◌≢◌, ◌↔◌, ◌<◌, All, Err, IfErr, IfOk, IfSome, IsTrue, false, length};
+ghost use Rattle.std.specs.Prelude.{◌≡◌, ◌≢◌, ◌↔◌, ◌<◌, All, Err, IfErr, IfOk, IfSome, IsOkAnd, IsTrue, false, length};
+ghost use Rattle.wc_read.specs.Types.{func_type_value};
+ghost use Rattle.wc_names.specs.declared.imports.Import.{Import as named_import};
+ghost use Rattle.wc_names.specs.Views.{adapter_export, import_view};
 ghost use Rattle.wc_validate.specs.NameScopes.{AreInterfacesOf, HasItsWorld, name_scope_of};
 ghost use Rattle.wc_validate.specs.Places.{IsOfImport, an_import, subject_view};
-ghost use Rattle.wc_validate.specs.Private.Explained.{AreDifferingTypes, AreMismatchedTypes, AreTypesIn, IsAdapterFunction, IsImportExplained, IsStopIn};
+ghost use Rattle.wc_validate.specs.Private.Explained.{AreDifferingAfter, AreDifferingTypes, AreMismatchedTypes, AreTypesIn, IsAdapterFunction, IsImportExplained, IsStopIn, function_view};
 ghost use Rattle.wc_validate.specs.Private.Imports.Contexts.{AreAllRecorded, IsTypeIn};
 
 use crate::ValidateFault;
@@ -125,6 +128,57 @@ fn mismatched_types(
     Ok(TypeDifference { wanted, found })
 }
 
+/// What may be a function of an adapter. What reads it is generic over it, and so sees none of its variants.
+trait AdapterFunction: Drop {
+    // What it is, as an import.
+    ghost import: { Self → named_import };
+
+    /// The adapter, the name and the type of the function. Anything else is answered as an allocation that failed.
+    fn function(&self, alloc: Global) -> Result<((String, String), FuncType), AllocError>
+        ensures { IfOk result (λ f. function_view f ≡ import_view (import self.now)) };
+}
+
+/// A function of an adapter: the adapter, its name and its type.
+fn own_function(
+    alloc: Global,
+    adapter: &str,
+    function: &str,
+    ty: &FuncType,
+) -> Result<((String, String), FuncType), AllocError>
+    ensures { IfOk result (λ f. function_view f
+        ≡ adapter_export adapter.now function.now (func_type_value ty.now)) }
+{
+    let own_adapter = String::from_str(alloc, adapter)?;
+    let own_name = String::from_str(alloc, function)?;
+    let own_type = ty.clone(alloc)?;
+    Ok(((own_adapter, own_name), own_type))
+}
+
+impl AdapterFunction for Import {
+    ghost import = { λ import. import };
+
+    fn function(&self, alloc: Global) -> Result<((String, String), FuncType), AllocError> {
+        match self {
+            Import::AdapterExport { adapter, func, ty } => own_function(alloc, adapter, func, ty),
+            _ => Err(AllocError),
+        }
+    }
+}
+
+/// The function of an adapter that a name is of.
+fn named_function<T: AdapterFunction>(
+    alloc: Global,
+    answer: Result<T, NameFault>,
+) -> Result<((String, String), FuncType), AllocError>
+    ensures { IfOk result (λ f. IsOkAnd answer
+        (λ item. function_view f ≡ import_view (T.import item))) }
+{
+    match answer {
+        Ok(item) => item.function(alloc),
+        Err(_) => Err(AllocError),
+    }
+}
+
 /// The function of an adapter that an import is: the adapter, its name and its type.
 fn adapter_function(
     alloc: Global,
@@ -142,11 +196,34 @@ fn adapter_function(
         .passed_argument(import.module, import.name)
     {
         Some(_) => Err(AllocError),
-        None => match classify_import(alloc, context, import) {
-            Ok(Import::AdapterExport { adapter, func, ty }) => Ok(((adapter, func), ty)),
-            _ => Err(AllocError),
-        },
+        None => named_function(alloc, classify_import(alloc, context, import)),
     }
+}
+
+/// The types that differ of an import of a function of an adapter, after those that are recorded: the type with which
+/// that was imported first, and its own.
+fn types_after(
+    alloc: Global,
+    context: &ImportContext<'_>,
+    recorder: &Recorder,
+    import: &wc_read::Import<'_>,
+) -> Result<TypeDifference, AllocError>
+    requires world { HasItsWorld (name_scope_of context.now.names) }
+    requires interfaces { AreInterfacesOf (name_scope_of context.now.names) context.now.interfaces }
+    requires typed { IsTypeIn (length context.now.types.now) import.now.ty }
+    ensures { AreDifferingAfter context.now recorder.now import.now result }
+{
+    meanings_unique(context.names.resolve);
+    // The types differ, or an allocation failed.
+    let (key, found) = adapter_function(alloc, context, import)?;
+    let Some(first) = recorder.first_type(&key) else {
+        return Err(AllocError);
+    };
+    if has_type(&found, first.params(), first.results()) {
+        return Err(AllocError);
+    }
+    let wanted = first.clone(alloc)?;
+    Ok(TypeDifference { wanted, found })
 }
 
 /// The types that differ of an import of a function of an adapter, after those before it: the type with which that is
@@ -163,20 +240,11 @@ fn differing_types(
     requires typed { IsTypeIn (length context.now.types.now) import.now.ty }
     ensures { IfOk result (AreDifferingTypes context.now before.now import.now) }
 {
-    meanings_unique(context.names.resolve);
-    // The imports before are recorded and the types differ, or an allocation failed.
-    let Ok(recorder) = record_imports(alloc, context, before) else {
-        return Err(AllocError);
-    };
-    let (key, found) = adapter_function(alloc, context, import)?;
-    let Some(first) = recorder.first_type(&key) else {
-        return Err(AllocError);
-    };
-    if has_type(&found, first.params(), first.results()) {
-        return Err(AllocError);
+    // The imports before are recorded, or an allocation failed.
+    match record_imports(alloc, context, before) {
+        Ok(recorder) => types_after(alloc, context, &recorder, import),
+        Err(_) => Err(AllocError),
     }
-    let wanted = first.clone(alloc)?;
-    Ok(TypeDifference { wanted, found })
 }
 
 /// The types that the fault of an import compares, after those before it.

@@ -2,10 +2,11 @@
 
 ghost use Rattle.std.specs.Prelude.{◌≡◌, ◌↔◌, ◌≤◌, IfOk, IsTrue, MatchOption, map};
 ghost use Rattle.wc_read.specs.Modules.{HaveTypes, module_value};
+ghost use Rattle.wc_resolve.specs.World.{ResolveView};
 ghost use Rattle.wc_validate.specs.Exports.Map.{export_entry};
 ghost use Rattle.wc_validate.specs.Exports.Record.{AreExportsIn};
 ghost use Rattle.wc_validate.specs.NameScopes.{name_scope_of};
-ghost use Rattle.wc_validate.specs.Private.Explained.{AreAlone, IsCallbackExplained, IsMemoryExplained, IsMissingOf, IsSecondNamed, IsUncalled};
+ghost use Rattle.wc_validate.specs.Private.Explained.{AreAlone, IsCallbackExplained, IsMemoryExplained, IsMissingOf, IsSecondNamed, IsUncalled, IsUnexportedExplained};
 ghost use Rattle.wc_validate.specs.Private.Requirements.{AreCalledBack, HasItemsInRange, HasKeysNamed};
 ghost use Rattle.wc_validate.specs.Requirements.{memory_count};
 
@@ -19,7 +20,7 @@ use crate::requirements::{RequiredExports, is_called_back, is_memory};
 use std::alloc::{AllocError, Global};
 use wc_maps::Map;
 use wc_names::Export;
-use wc_read::Module;
+use wc_read::{FuncType, Module};
 
 /// A module, and what is recorded of its exports.
 #[derive(Clone, Copy)]
@@ -112,6 +113,26 @@ fn callback_place(
     }))
 }
 
+/// The first function that is not exported as it is required, as the place of a fault: if that is its fault.
+fn unexported_place(
+    alloc: Global,
+    exports: RecordedModule<'_>,
+    functions: &Map<String, FuncType>,
+    fault: &ValidateFault,
+) -> Result<Option<Place>, AllocError>
+    requires items { AreExportsIn exports.«module».now exports.«module».now.exports.items }
+    requires typed { HaveTypes (module_value exports.«module».now) }
+    ensures { (resolve : ResolveView) → IfOk result (IsUnexportedExplained resolve exports.entry
+        functions.now.entries fault.now) }
+{
+    let seed = *functions.hasher();
+    let index = typed_functions(alloc, seed, exports.module, &exports.module.exports)?;
+    match first_unexported(alloc, &index, functions) {
+        Ok(()) => Ok(None),
+        Err(lacking) => function_place(alloc, &index, lacking, fault),
+    }
+}
+
 /// What is missing for a key or of the required functions, where memories and callbacks are as required.
 fn unmet_place(
     alloc: Global,
@@ -132,12 +153,7 @@ fn unmet_place(
     if let Err(lacking) = first_lacking(alloc, &functions, names.resolve, items, required.keys) {
         return key_place(alloc, &functions, names, lacking, fault);
     }
-    let seed = *required.functions.hasher();
-    let index = typed_functions(alloc, seed, exports.module, &exports.module.exports)?;
-    match first_unexported(alloc, &index, required.functions) {
-        Ok(()) => Ok(None),
-        Err(lacking) => function_place(alloc, &index, lacking, fault),
-    }
+    unexported_place(alloc, exports, required.functions, fault)
 }
 
 /// What is missing, as the place of a fault: if this fault is the first of what is missing.

@@ -2,7 +2,7 @@
 
 ghost use Rattle.std.specs.Prelude.{◌≡◌, IfOk, map};
 ghost use Rattle.std.specs.Option.{option_map};
-ghost use Rattle.wc_encoder.specs.Adapters.{argument_view, instance_view, library_item_view, library_view};
+ghost use Rattle.wc_adapters.specs.Adapters.{argument_view, instance_view, library_item_view, library_view};
 ghost use Rattle.wc_validate.specs.Private.Imports.Arguments.{AreMatched, HasArgumentsOf, IsArgumentOf, IsItemIndexOf, passed_entry, module_entry, IsItemAdded, IsModuleAdded, alias_entries, passed_by, item_among};
 
 use std::alloc::{AllocError, Global};

@@ -1,7 +1,7 @@
 //! What the imports of a core module are recorded as.
 
 ghost use Rattle.std.specs.Prelude.{◌≡◌, IfErr, IfOk, OnOk, map};
-ghost use Rattle.wc_encoder.specs.Adapters.{which_view};
+ghost use Rattle.wc_adapters.specs.Adapters.{which_view};
 ghost use Rattle.wc_validate.specs.Imports.Entries.{all_of};
 ghost use Rattle.wc_validate.specs.Imports.Instances.{IsFree, IsInstanceFault, IsPutFault, instance_entry, instance_view, IsPutAs, IsPutWhole, IsRecordedAs, IsRefusedWhole};
 ghost use Rattle.wc_validate.specs.Private.Imports.AdapterFunctions.{IsOneEntry};

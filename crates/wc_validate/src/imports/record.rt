@@ -2,7 +2,7 @@
 
 ghost use Rattle.std.specs.Prelude.{◌≡◌, All, Option, Some, length, map, option_copied};
 ghost use Rattle.wc_read.specs.Types.{func_type_value};
-ghost use Rattle.wc_encoder.specs.Adapters.{LibraryView};
+ghost use Rattle.wc_adapters.specs.Adapters.{LibraryView};
 ghost use Rattle.wc_validate.specs.Private.Imports.Contexts.{IsClassifiedIn, IsTypeIn, AreAllRecorded, AreAllRefused, IsOneRecorded, IsOneRefused};
 ghost use Rattle.wc_validate.specs.Private.Externs.{extern_view};
 ghost use Rattle.wc_validate.specs.Imports.Record.{extern_type, original_name};

@@ -3,10 +3,12 @@
 ghost use Rattle.std.specs.Prelude.{◌≡◌, ◌↔◌, [], IfErr, IfOk, IsTrue, OnOk, false, map, option_copied, string_bytes};
 ghost use Rattle.std.specs.Option.{option_map};
 ghost use Rattle.wc_read.specs.Types.{func_type_value};
-ghost use Rattle.wc_encoder.specs.Adapters.{which_view};
+ghost use Rattle.wc_adapters.specs.Adapters.{which_view};
+ghost use Rattle.wc_names.specs.declared.imports.Import.{Import as named_import};
 ghost use Rattle.wc_names.specs.Views.{import_view};
 ghost use Rattle.wc_validate.specs.Imports.AdapterTypes.{IsNotedAfter, first_some, noted_type, type_entry};
 ghost use Rattle.wc_validate.specs.Imports.Entries.{adapter_type_in, memory_type_of, single, whole};
+ghost use Rattle.wc_validate.specs.Imports.Instances.{IsFree, IsPutFault, IsRecordedAs, instance_entry};
 ghost use Rattle.wc_validate.specs.Private.Imports.Recorder.{AgreesIn, IsNoteFault, IsOneMemory, IsRecorderOf, IsSecondMemory, types_in, AreTypesNoted, IsEntryRecorded, IsEntryRefused};
 
 use crate::ValidateFault;
@@ -73,6 +75,60 @@ fn note_adapter_type(
     }
 }
 
+/// What is recorded as a single import. What records it is generic over it, and so sees none of its variants.
+pub(crate) trait SingleImport: Drop {
+    // The import.
+    ghost import: { Self → named_import };
+
+    /// Whether it has the type with which that function of an adapter was imported first, if it is one. The type and
+    /// the memory are noted.
+    fn note_in(&self, alloc: Global, recorder: &mut Recorder) -> Result<bool, ValidateFault>
+        ensures instances { recorder.new.instances ≡ recorder.old.instances }
+        ensures memory { OnOk result (recorder.new.memory ≡ first_some recorder.old.memory
+            (memory_type_of (import_view (import self.now)))) }
+        ensures one { OnOk result (IsOneMemory recorder.old.memory
+            (import_view (import self.now))) }
+        ensures agrees { IfOk result (λ b. IsTrue b
+            ↔ AgreesIn (types_in recorder.old) (import_view (import self.now))) }
+        ensures types { OnOk result (AreTypesNoted recorder.old recorder.new
+            (import_view (import self.now))) }
+        ensures fault { IfErr result (IsNoteFault recorder.old.memory
+            (import_view (import self.now))) };
+
+    /// Records it under its name, after the others of its module.
+    fn put_in(
+        self,
+        alloc: Global,
+        instances: &mut Map<String, ImportInstance>,
+        module_name: &str,
+        name: &str,
+    ) -> Result<(), ValidateFault>
+        ensures recorded { IsRecordedAs instances.old.entries instances.new.entries module_name.now
+            name.now (import self) result }
+        ensures free { OnOk result (IsFree (map instance_entry instances.old.entries)
+            module_name.now name.now) }
+        ensures fault { IfErr result (IsPutFault (map instance_entry instances.old.entries)
+            module_name.now name.now) };
+}
+
+impl SingleImport for Import {
+    ghost import = { λ import. import };
+
+    fn note_in(&self, alloc: Global, recorder: &mut Recorder) -> Result<bool, ValidateFault> {
+        recorder.note(alloc, self)
+    }
+
+    fn put_in(
+        self,
+        alloc: Global,
+        instances: &mut Map<String, ImportInstance>,
+        module_name: &str,
+        name: &str,
+    ) -> Result<(), ValidateFault> {
+        record_import(alloc, instances, module_name, name, self)
+    }
+}
+
 impl Recorder {
     /// A recorder of no imports.
     pub(crate) fn new(alloc: Global, seed: Seed) -> Recorder
@@ -121,20 +177,20 @@ impl Recorder {
     /// - `DuplicateImport`: its name is recorded already.
     /// - `AdapterTypesDiffer`: it is a function of an adapter that was imported with another type.
     /// - `Memory`: an allocation failed.
-    pub(crate) fn record_single(
+    pub(crate) fn record_single<I: SingleImport>(
         &mut self,
         alloc: Global,
         module_name: &str,
         name: &str,
-        import: Import,
+        import: I,
     ) -> Result<(), ValidateFault>
         ensures recorded { IsEntryRecorded self.old self.new
-            (single module_name.now name.now (import_view import)) result }
+            (single module_name.now name.now (import_view (I.import import))) result }
         ensures fault { IsEntryRefused self.old (single module_name.now name.now
-            (import_view import)) result }
+            (import_view (I.import import))) result }
     {
-        let agrees = self.note(alloc, &import)?;
-        record_import(alloc, &mut self.instances, module_name, name, import)?;
+        let agrees = import.note_in(alloc, self)?;
+        import.put_in(alloc, &mut self.instances, module_name, name)?;
         if agrees {
             Ok(())
         } else {

@@ -1,7 +1,7 @@
 -- An adapter or a library as an encoder has it, and the main module for which it is trimmed.
 use Rattle.std.specs.Prelude.{◌≡◌, ◌⊎◌, ℕ, List, true}
 use Rattle.wc_read.specs.Types.{FuncTypeValue}
-use Rattle.wc_encoder.specs.Adapters.{adapter_view}
+use Rattle.wc_adapters.specs.Adapters.{adapter_view}
 use Rattle.wc_validate.specs.Imports.Map.{required_in}
 use Rattle.wc_validate.specs.Validated.{IsRecordOf, ModuleRecord, module_record}
 use Rattle.wc_world.specs.Adapters.{NamedAdapter, is_adapter_needed, validation_input_of}

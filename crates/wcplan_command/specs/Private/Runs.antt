@@ -1,5 +1,5 @@
 -- What parts of a run of a command do.
-use Rattle.std.specs.Prelude.{◌≡◌, ◌≢◌, ℕ, List, map, Option, Some, IfSome, String, string_bytes, ◌⊎◌, ◌++◌}
+use Rattle.std.specs.Prelude.{◌≡◌, ◌≢◌, ℕ, List, [], map, Option, Some, IfOk, IfSome, String, string_bytes, ◌⊎◌, ◌++◌}
 use Rattle.std.specs.Borrow.{Bor}
 use Rattle.std.specs.declared.alloc.Global.{Global}
 use Rattle.json.specs.Json.{Json, document}
@@ -11,15 +11,15 @@ use Rattle.wc_resolve.specs.World.{ResolveView}
 use Rattle.wc_resolve.specs.declared.fault.ResolveFault.{ResolveFault}
 use Rattle.wc_resolve.specs.declared.fault.ResolveFault.TheVariants.{Memory as resolve_memory}
 use Rattle.wc_selection.specs.Worlds.{IsSelected}
-use Rattle.wc_program.specs.Files.{Held}
+use Rattle.wc_program.specs.Files.{Held, StoreChange}
 use Rattle.wc_program.specs.Program.{Prints, failure}
 use Rattle.wc_world.specs.Options.{plain_options}
 use Rattle.wc_world.specs.Views.{ComponentWorldView}
 use Rattle.wc_world.specs.World.{IsWorldOf}
 use Rattle.wcplan_command.specs.Arguments.{CommandValue, help, version, wrong, wrong_value}
-use Rattle.wcplan_command.specs.Details.{IsAbout}
-use Rattle.wcplan_command.specs.Program.{ArePrintedUnder, EndsWithoutMemory, IsDocumentOf, IsEncoderOf, IsTextCause, IsUnwrittenFile, StopEnds, WritesAll, file_view}
-use Rattle.wcplan_command.specs.Parts.{IsAboutPart, IsPartExplanation}
+use Rattle.wcplan_command.specs.Details.{IsExplanation, fault_lines, unplaced_line}
+use Rattle.wcplan_command.specs.Program.{EndsWithoutMemory, IsDocumentOf, IsEncoderOf, IsTextCause, IsUnwrittenFile, StopEnds, WritesAll, file_view}
+use Rattle.wcplan_command.specs.Parts.{IsPartExplanation}
 use Rattle.wcplan_command.specs.ModuleKeys.{IsSelectionCause}
 use Rattle.wc_program.specs.Screen.{Printing, nothing, failed}
 use Rattle.wcplan_command.specs.declared.explained_part.ExplainedPart.{ExplainedPart}
@@ -38,17 +38,20 @@ pub record IsMadeFor (c : CommandValue) (before : Option Held) (w : ComponentWor
   pub world : IsWorldOf plain_options encoder w
 
 -- a directory could not be made
-abbrev pub IsMakingFault : Option (List ℕ) → ProgramFault → Type 0
-IsMakingFault directory (CannotMake path) = directory ≡ Some path.now
-IsMakingFault directory f = ⊥
+abbrev pub IsMakingFault : Option (List ℕ) → (List ℕ → Type 0) → ProgramFault → Type 0
+IsMakingFault directory fails (CannotMake path) = (directory ≡ Some path.now) × fails path.now
+IsMakingFault directory fails f = ⊥
 
 -- why a directory could not be made, or a file in it not written; or why nothing could be printed after that
-abbrev pub IsWritingFault : Option (List ℕ) → Option Held → Option Held → (List ℕ → Type 0) → List (String Global × Bor (List ℕ)) → (Printing → Type 0) → ProgramFault → Type 0
-IsWritingFault directory before after makes files out (CannotMake path) = (directory ≡ Some path.now) × (after ≡ before) × out nothing
-IsWritingFault directory before after makes files out (CannotWrite path) =
-    IfSome directory makes × IsUnwrittenFile before after (map file_view files) (string_bytes path) × out nothing
-IsWritingFault directory before after makes files out Output = IfSome directory makes × WritesAll before after (map file_view files) × out failed
-IsWritingFault directory before after makes files out f = ⊥
+abbrev pub IsWritingFault : Option (List ℕ) → StoreChange → List (String Global × Bor (List ℕ)) → (Printing → Type 0) → ProgramFault → Type 0
+IsWritingFault directory change files out (CannotMake path) =
+    (directory ≡ Some path.now) × change.IsFailedMake path.now × (change.after ≡ change.before) × out nothing
+IsWritingFault directory change files out (CannotWrite path) =
+    IfSome directory change.Makes
+    × IsUnwrittenFile change.before change.after change.IsFailedWrite (map file_view files) (string_bytes path) × out nothing
+IsWritingFault directory change files out Output =
+    IfSome directory change.Makes × WritesAll change.before change.after (map file_view files) × out failed
+IsWritingFault directory change files out f = ⊥
 
 -- what is printed where there is no command; there may have been no memory for it
 abbrev pub AnswersStop : NoCommand → (Printing → Type 0) → (Printing → Type 0) → ℕ → Type 0
@@ -60,7 +63,7 @@ AnswersStop (Wrong w) out err status = StopEnds (wrong (wrong_value w)) out err 
 -- the fault of the program for one of the component's world
 abbrev pub IsOfWorld : EncoderView → WorldFault → ProgramFault → Type 0
 IsOfWorld e world_memory g = g ≡ no_memory
-IsOfWorld e f (World g x) = (g ≡ f) × IfSome x (IsAbout e f)
+IsOfWorld e f (World g x) = (g ≡ f) × IfOk x (IsExplanation e f)
 IsOfWorld e f g = ⊥
 
 -- what is answered of a fault of the worlds in a text
@@ -70,7 +73,7 @@ IsPartIn read f answer = (d : DocumentView) × IsDocumentOf read d × IsPartExpl
 -- the fault of the program for one of the worlds in a text
 abbrev pub IsOfResolve : Option Json → ResolveFault → ProgramFault → Type 0
 IsOfResolve read resolve_memory g = g ≡ no_memory
-IsOfResolve read f (Resolve g x) = (g ≡ f) × IfSome x (λ part. (d : DocumentView) × IsDocumentOf read d × IsAboutPart d.parts f part)
+IsOfResolve read f (Resolve g x) = (g ≡ f) × IfOk x (IsPartIn read f)
 IsOfResolve read f g = ⊥
 
 -- the worlds in a text, which are well-formed, and the one that a command names
@@ -83,9 +86,11 @@ IsWorldsCause c text no_memory = Unit {0}
 IsWorldsCause c text (Selection f) = (d : DocumentView) × IsDocumentOf (document text) d × IsSelectionCause d c.world f
 IsWorldsCause c text (Resolve f x) =
     (d : DocumentView) × (world : ℕ) × IsDocumentOf (document text) d × IsSelected d c.world world
-    × (f ≢ resolve_memory) × IsResolveCause d.parts f × IfSome x (IsAboutPart d.parts f)
+    × (f ≢ resolve_memory) × IsResolveCause d.parts f × IfOk x (IsPartExplanation d.parts f)
 IsWorldsCause c text f = IsTextCause text f
 
--- a text is printed in a line, and under it lines of the fault
+-- the text of a fault is printed in a line, and under it its lines, or that there was no memory for them
 abbrev pub IsReportedWith : ProgramFault → List ℕ → (Printing → Type 0) → ℕ → Type 0
-IsReportedWith fault text err status = (lines : List ℕ) × ArePrintedUnder fault lines × Prints (fault_line (text ++ lines)) failure err status
+IsReportedWith fault text err status =
+    (lines : List ℕ) × ((lines ≡ fault_lines fault) ⊎ ((fault_lines fault ≢ []) × (lines ≡ unplaced_line)))
+    × Prints (fault_line (text ++ lines)) failure err status

@@ -1,5 +1,5 @@
 use Rattle.std.proofs.Common.{◌∙◌, Bool, List, ap, map, subst}
-use Rattle.wc_selection.specs.KeyNames.{request_keys}
+use Rattle.wc_selection.specs.KeyNames.{indexed_keys}
 use Rattle.wc_selection.specs.Keys.{AreKeysApart, NamedKey, named_key, texts_of}
 use Rattle.wc_selection.specs.ModuleKeys.{AreKeysThere}
 use Rattle.wc_selection.specs.Requests.{given_keys, request_value}
@@ -12,7 +12,7 @@ returns-clause-asked c =
     let listed = c.in_ok-keys.ensures.keys in
     let first = ap (map named_key) c.deref.ensures.value ∙ listed in
     let second = ap (map named_key) c.deref-2.ensures.value ∙ listed in
-    let keys = request_keys q c.args.world.resolve.now c.args.world.world.0 in
+    let keys = indexed_keys q c.args.world.resolve.now c.args.world.world.0 in
     record {
       listed = listed;
       differ = subst AreKeysApart listed c.in_ok-keys.ensures.differ;

@@ -1,5 +1,4 @@
 use Rattle.std.proofs.Common.{◌≡◌, flat_map, map, take}
-use Rattle.wc_selection.specs.Keys.{named_key}
 use Rattle.wc_selection.specs.Texts.{text_pair}
 use Rattle.wc_json.specs.Messages.{adapter_message_view}
 use Rattle.wc_calls.specs.AskedKeys.{adapter_texts}
@@ -7,4 +6,4 @@ use Rattle.wc_calls.proofs.asked_keys.texts_of_adapters.Given as goal
 
 abbrev pub invariant-loop-adapter : goal.invariant-loop-adapter
 invariant-loop-adapter l =
-    map text_pair l.texts.items ≡ flat_map (adapter_texts (map named_key l.named)) (map adapter_message_view (take l.adapter-index l.adapters))
+    map text_pair l.texts.items ≡ flat_map adapter_texts (map adapter_message_view (take l.adapter-index l.adapters))

@@ -16,12 +16,12 @@ returns-then-contains_key-clause-fault c =
     c.next.ensures.steps in
     let front = YieldsList-so_far all passed c.loop-message.message-iterator c.loop-message.yielded_by in
     let there = subst (λ (t : List ℕ). is_some (named t entries) ≡ true) c.as_str.ensures.value (sym c.contains_key.ensures ∙ c.if-contains_key.true) in
-    named_twice (map named_key c.args.keys.named.now) (map named_key c.args.keys.given.now) (map adapter_message_view ms) (map adapter_message_view passed) _ (adapter_message_view c.in-Some.message) c.args.bytes.now c.loop-message.rest.now
+    named_twice (map named_key c.args.keys.now) (map adapter_message_view ms) (map adapter_message_view passed) _ (adapter_message_view c.in-Some.message) c.args.bytes.now c.loop-message.rest.now
     entries (cut_at adapter_message_view ms passed c.in-Some.message at front) c.loop-message.invariant there
 
 pub loop-message-preserved : goal.loop-message-preserved
 loop-message-preserved c =
-    message_added (map named_key c.args.keys.named.now) (map named_key c.args.keys.given.now) c.loop-message.yielded c.args.bytes.now c.loop-message.rest.now c.in-Some-split.wasm.now c.in-Some-split.others.now
+    message_added (map named_key c.args.keys.now) c.loop-message.yielded c.args.bytes.now c.loop-message.rest.now c.in-Some-split.wasm.now c.in-Some-split.others.now
     c.loop-message.adapters.entries c.insert.new.self.entries c.in-Some.message c.in_ok-adapter.adapter c.as_str.result.now c.contains_key.result
     c.loop-message.invariant c.in-Some-split.ensures.cut c.in-Some-split.ensures.size c.in_ok-adapter.ensures.wasm (c.in_ok-adapter.ensures.required ∙ c.in_ok-required.ensures)
     c.in_ok-adapter.ensures.library c.as_str.ensures.value c.contains_key.ensures c.if-contains_key.false c.in_ok-insert.ensures.entries

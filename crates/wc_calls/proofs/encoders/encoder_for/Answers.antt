@@ -1,6 +1,6 @@
 use Rattle.std.proofs.Common.{map, subst, sym}
 use Rattle.std.proofs.lemmas.Result.{err_from_is_err_and}
-use Rattle.wc_encoder.specs.Adapters.{adapter_entry}
+use Rattle.wc_adapters.specs.Adapters.{adapter_entry}
 use Rattle.wc_resolve.specs.Views.{key_view}
 use Rattle.wc_json.specs.Messages.{message_view}
 use Rattle.wc_calls.specs.Encoders.{IsPartsOf}
@@ -26,6 +26,11 @@ returns-in_err-main-clause-fault c = λ modules chosen.
     c.in_ok-resolve.ensures.ok c.in_ok-resolve.ensures.formed (map key_view c.in_ok-exporters.exporters.main.keys)
     (map adapter_entry c.in_ok-exporters.exporters.adapters.entries) c.in_err-main.field-0.0 c.in_ok-exporters.ensures.exporters c.in_err-main.ensures.refused)
 
+pub returns-in_err-hook-clause-fault : goal.returns-in_err-hook-clause-fault
+returns-in_err-hook-clause-fault c = λ modules chosen.
+    let p = err_from_is_err_and c.from_residual-in_err-hook.result c.from_residual-in_err-hook.ensures.1 in
+    rw (p.1, p.2) tt
+
 pub returns-in_err-build-clause-fault : goal.returns-in_err-build-clause-fault
 returns-in_err-build-clause-fault c = λ modules chosen.
     let p = err_from_is_err_and c.from_residual-in_err-build.result c.from_residual-in_err-build.ensures.1 in
@@ -34,7 +39,7 @@ returns-in_err-build-clause-fault c = λ modules chosen.
     (parts_of (message_view c.args.message) modules c.args.bytes.main.now c.args.bytes.others.now c.args.world.0 c.in_ok-main.main.wasm.items c.in_ok-main.main.import_map
     c.in_ok-resolve.resolve (map key_view c.in_ok-exporters.exporters.main.keys) (map adapter_entry c.in_ok-exporters.exporters.adapters.entries)
     c.unwrap_or-rejects.result c.unwrap_or-grows.result _ chosen c.in_ok-main.ensures.dedupe c.in_ok-resolve.ensures.ok c.in_ok-exporters.ensures.exporters
-    c.unwrap_or-rejects.ensures c.unwrap_or-grows.ensures c.text_or_empty-hook.ensures)
+    c.unwrap_or-rejects.ensures c.unwrap_or-grows.ensures c.in_ok-hook.ensures)
     c.in_err-build.ensures.fault)
 
 pub returns-clause-parts : goal.returns-clause-parts
@@ -43,4 +48,4 @@ returns-clause-parts c = λ modules chosen.
     (parts_of (message_view c.args.message) modules c.args.bytes.main.now c.args.bytes.others.now c.args.world.0 c.in_ok-main.main.wasm.items c.in_ok-main.main.import_map
     c.in_ok-resolve.resolve (map key_view c.in_ok-exporters.exporters.main.keys) (map adapter_entry c.in_ok-exporters.exporters.adapters.entries)
     c.unwrap_or-rejects.result c.unwrap_or-grows.result _ chosen c.in_ok-main.ensures.dedupe c.in_ok-resolve.ensures.ok c.in_ok-exporters.ensures.exporters
-    c.unwrap_or-rejects.ensures c.unwrap_or-grows.ensures c.text_or_empty-hook.ensures)
+    c.unwrap_or-rejects.ensures c.unwrap_or-grows.ensures c.in_ok-hook.ensures)

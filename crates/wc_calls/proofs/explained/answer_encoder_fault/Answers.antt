@@ -6,7 +6,7 @@ pub returns-in-Ok-clause-fault : goal.returns-in-Ok-clause-fault
 returns-in-Ok-clause-fault c = λ is. (
   c.args.fault.now,
   refl,
-  (λ same. c.answer_fault.ensures.memory same is),
+  c.answer_fault.ensures.memory is,
   c.deref.result.now,
   subst (IsPlaceFor c.args.encoder.now c.args.fault.now) (sym c.deref.ensures.value) c.in-Ok.ensures,
   c.answer_fault.ensures.fault is,

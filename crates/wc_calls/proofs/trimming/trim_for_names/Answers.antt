@@ -1,8 +1,10 @@
 use Rattle.wc_gc.specs.Liveness.{names_of, trim_input_for_names}
 use Rattle.wc_gc.specs.Parts.{settings}
+use Rattle.wc_gc.specs.Trimming.{IsTrimFault}
 use Rattle.wc_gc.specs.TrimmedText.{IsTrimmed}
 use Rattle.wc_calls.specs.ExportNames.{texts}
 use Rattle.wc_calls.proofs.ExportNameLemmas.{some_texts}
+use Rattle.wc_calls.proofs.MissingLemmas.{named_position}
 use Rattle.wc_calls.proofs.TrimmingLemmas.{for_names, put_of, statuses_of, too_long_of, fault_of}
 use Rattle.wc_calls.proofs.trimming.trim_for_names.Goals as goal
 
@@ -26,8 +28,11 @@ returns-clause-too_small c =
 pub returns-clause-fault : goal.returns-clause-fault
 returns-clause-fault c =
     let p = c.put_trimmed in
-    fault_of (settings c.args.passed.realloc c.args.passed.page_size_log2) c.args.passed.wasm.now (names_of c.in-Ok.names.keys) (texts c.args.passed.required.now) c.run-trimmed.result p.result
-    c.args.out.now p.new.out c.in-Ok.ensures c.run-trimmed.ensures.fault p.ensures.ok p.ensures.memory p.ensures.fault
+    let s = settings c.args.passed.realloc c.args.passed.page_size_log2 in
+    let wasm = c.args.passed.wasm.now in
+    let names = texts c.args.passed.required.now in
+    fault_of (IsTrimFault s) wasm (names_of c.in-Ok.names.keys) names c.run-trimmed.result p.result c.args.out.now p.new.out (named_position s wasm names)
+    c.in-Ok.ensures c.run-trimmed.ensures.fault p.ensures.ok p.ensures.memory p.ensures.fault
 
 pub returns-clause-statuses : goal.returns-clause-statuses
 returns-clause-statuses c = statuses_of c.run-trimmed.result c.put_trimmed.result.status c.put_trimmed.ensures.ok c.put_trimmed.ensures.fault_or_memory

@@ -7,7 +7,7 @@ pub returns-in-Ok-clause-fault : goal.returns-in-Ok-clause-fault
 returns-in-Ok-clause-fault c = λ is. (
   _,
   refl,
-  (λ same. let bad : ⊥ = cc same in bad),
+  c.answer_fault.ensures.memory is,
   c.deref.result.now,
   subst (IsWorldPlaceText c.args.encoder.now (Main c.args.fault)) (sym c.deref.ensures.value) c.in-Ok.ensures,
   c.answer_fault.ensures.fault is,

@@ -9,7 +9,7 @@ returns-in-Ok-clause-fault c = λ is. record {
   answered = (
     _,
     refl,
-    (λ same. let bad : ⊥ = cc same in bad),
+    c.answer_fault.ensures.memory is,
     c.deref.result.now,
     subst (IsInputPlaceText c.args.input c.args.fault) (sym c.deref.ensures.value) c.in-Ok.ensures,
     c.answer_fault.ensures.fault is,

@@ -1,7 +1,7 @@
 use Rattle.std.specs.Borrow.{Bor}
 use Rattle.std.specs.Option.{option_map}
-use Rattle.wc_encoder.specs.Adapters.{library_view}
-use Rattle.wc_encoder.specs.declared.adapters.LibraryInfo.{LibraryInfo}
+use Rattle.wc_adapters.specs.Adapters.{library_view}
+use Rattle.wc_adapters.specs.declared.adapters.LibraryInfo.{LibraryInfo}
 use Rattle.wc_world.proofs.FaultLemmas.{seen_library}
 use Rattle.wc_calls.proofs.ModuleLemmas.{input_explained, input_place_text}
 use Rattle.wc_calls.proofs.validation.input_place.Goals as goal

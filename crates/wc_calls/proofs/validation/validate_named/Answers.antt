@@ -21,4 +21,4 @@ returns-in-Ok-clause-fault c =
     c.validate_under.result c.args.out.now c.validate_under.new.out) c.in-Ok.ensures.cases.0 c.validate_under.ensures.fault
 
 pub returns-in-Err-clause-bad_argument : goal.returns-in-Err-clause-bad_argument
-returns-in-Err-clause-bad_argument c = λ is. ((module_record c.args.main.record.now, c.requires), inl c.in-Err.ensures.cases.0)
+returns-in-Err-clause-bad_argument c = λ is. ((module_record c.args.main.validated.now, c.requires), inl c.in-Err.ensures.cases.0)

@@ -11,7 +11,7 @@ validate_adapter-requires-clause-there c =
 
 pub returns-in-None-clause-bad_argument : goal.returns-in-None-clause-bad_argument
 returns-in-None-clause-bad_argument c = λ is. (
-  (module_record c.args.main.record.now, c.requires),
+  (module_record c.args.main.validated.now, c.requires),
   inr (adapter_found c.args.main.encoder.now c.adapters.result.now.entries c.args.name.now None c.adapters.ensures
       (sym (ap option_copied c.in-None.is) ∙ c.get.ensures.value)),
 )

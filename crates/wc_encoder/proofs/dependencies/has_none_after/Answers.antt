@@ -2,7 +2,7 @@ use Rattle.std.proofs.Common.{◌↔◌, ℕ, List, All, IsTrue, subst, rules}
 use Rattle.wc_resolve.specs.Dependencies.{id_of_interface}
 use Rattle.wc_resolve.specs.Views.{interface_key}
 use Rattle.wc_resolve.proofs.ViewedLemmas.{viewed}
-use Rattle.wc_encoder.specs.Entries.{entries_after}
+use Rattle.wc_adapters.specs.Entries.{entries_after}
 use Rattle.wc_encoder.specs.Exported.{IsExported}
 use Rattle.wc_encoder.proofs.dependencies.has_none_after.Goals as goal
 

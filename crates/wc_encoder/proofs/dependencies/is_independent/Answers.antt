@@ -1,7 +1,7 @@
 use Rattle.std.proofs.Common.{string_bytes}
 use Rattle.std.specs.Option.{option_map}
 use Rattle.wc_resolve.proofs.ViewedLemmas.{iff_ok}
-use Rattle.wc_encoder.specs.Entries.{entries_after}
+use Rattle.wc_adapters.specs.Entries.{entries_after}
 use Rattle.wc_encoder.proofs.EntriesAfterLemmas.{none_depended, none_exported}
 use Rattle.wc_encoder.proofs.dependencies.is_independent.Goals as goal
 

@@ -1,7 +1,7 @@
 use Rattle.std.proofs.Common.{List, ℕ, rules}
 use Rattle.wc_resolve.proofs.ViewedLemmas.{viewed}
-use Rattle.wc_encoder.specs.Adapters.{AdapterView, adapter_entry}
-use Rattle.wc_encoder.specs.Entries.{entries_of}
+use Rattle.wc_adapters.specs.Adapters.{AdapterView, adapter_entry}
+use Rattle.wc_adapters.specs.Entries.{entries_of}
 use Rattle.wc_encoder.specs.Exported.{AreRequiredExported}
 use Rattle.wc_encoder.proofs.exported.are_all_required_exported.Goals as goal
 

@@ -4,7 +4,7 @@ use Rattle.wc_resolve.proofs.WellFormedLemmas.{export_items_in, import_keys_have
 use Rattle.wc_encoder.specs.EncoderParts.{parts_view}
 use Rattle.wc_encoder.specs.Dependencies.{AreDependenciesBefore}
 use Rattle.wc_encoder.specs.Distinct.{AreInterfacesOnce, AreNamesDistinct}
-use Rattle.wc_encoder.specs.Entries.{Entries}
+use Rattle.wc_adapters.specs.Entries.{Entries}
 use Rattle.wc_encoder.specs.Exported.{AreKeysExported, AreNoTypes}
 use Rattle.wc_encoder.proofs.WorldLemmas.{fails, has_world, holds, imports_fail, imports_hold}
 use Rattle.wc_encoder.proofs.well_formed.check.Goals as goal

@@ -1,23 +1,5 @@
-use Rattle.std.proofs.Common.{codes, map, subst}
-use Rattle.wc_dedupe.specs.Dedupe.{renames_in}
-use Rattle.wc_json.specs.Shapes.{array_of}
-use Rattle.wc_record.specs.Shapes.{PutsField}
-use Rattle.wc_record.specs.Worlds.{rename_json, used_interface_json}
-use Rattle.wc_record.proofs.ShapeLemmas.{no_fields, field_then, object_written}
+use Rattle.wc_record.proofs.ShapeLemmas.{object_written}
 use Rattle.wc_record.proofs.worlds.put_world.Goals as goal
 
 pub returns : goal.returns
-returns c =
-    let renames = subst (λ o. PutsField c.put_member.new.out c.put_renames.new.out (codes "renames") (array_of (map rename_json (renames_in o))))
-    c.module_import_map.ensures
-    c.in_ok-put_renames.ensures in
-    let used = subst (λ us. PutsField c.put_member-4.new.out c.put_member-5.new.out (codes "exports_used") (array_of (map used_interface_json us)))
-    c.in_ok-used.ensures
-    c.in_ok-put_member-5.ensures in
-    object_written _ _ c.in_ok-begin_object.ensures
-    (field_then c.in_ok-put_member.ensures
-    (field_then renames
-    (field_then c.in_ok-put_member-2.ensures
-    (field_then c.in_ok-put_member-3.ensures
-    (field_then c.in_ok-put_member-4.ensures
-    (field_then used no_fields)))))) c.end_object.ensures
+returns c = object_written _ _ c.in_ok-begin_object.ensures c.in_ok-put_members.ensures c.end_object.ensures

@@ -8,7 +8,7 @@ pub returns-in-Some-2-clause-fault : goal.returns-in-Some-2-clause-fault
 returns-in-Some-2-clause-fault c =
     let there = texts_of (map named_key c.args.keys.now) in
     let given : map text_of c.in_ok-given.given.items ≡ given_keys (request_value c.args.request.now) = c.in_ok-given.ensures in
-    let all = subst (All (Contains there)) given (subst (λ xs. All (Contains there) (map text_of xs)) c.deref.ensures.value c.in_default.ensures.none) in
+    let all = subst (All (Contains there)) given (subst (λ xs. All (Contains there) (map text_of xs)) c.deref.ensures.value (rw c.in_default.is at c.in_ok-unknown.ensures.none)) in
     let again = rw c.in-Some-2.is at c.in_ok-key.ensures.repeated in (
       all,
       subst (λ l. IsFirstRepeated l c.in-Some-2.key.now) given
@@ -19,6 +19,6 @@ pub returns-clause-there : goal.returns-clause-there
 returns-clause-there c =
     let there = texts_of (map named_key c.args.keys.now) in
     let given : map text_of c.in_ok-given.given.items ≡ given_keys (request_value c.args.request.now) = c.in_ok-given.ensures in
-    let all = subst (All (Contains there)) given (subst (λ xs. All (Contains there) (map text_of xs)) c.deref.ensures.value c.in_default.ensures.none) in
+    let all = subst (All (Contains there)) given (subst (λ xs. All (Contains there) (map text_of xs)) c.deref.ensures.value (rw c.in_default.is at c.in_ok-unknown.ensures.none)) in
     let once = rw c.in-None.is at c.in_ok-key.ensures.none in
     (all, subst AreDistinct given (subst (λ xs. AreDistinct (map text_of xs)) c.deref-2.ensures.value once))

@@ -1,25 +1,15 @@
-use Rattle.std.proofs.Common.{◌∙◌, map, sym, ap, rules}
+use Rattle.std.proofs.Common.{◌≡◌, ◌∙◌, IfOk, ap, map, subst}
 use Rattle.wc_resolve.specs.Views.{key_view}
-use Rattle.wc_selection.proofs.KeyListLemmas.{pick_no, pick_yes}
+use Rattle.wc_selection.proofs.RequiredLemmas.{required_found}
 use Rattle.wc_selection.proofs.module_keys.required_keys.Goals as goal
-use Rattle.wc_selection.proofs.module_keys.required_keys.Goals.{then-is_required+in_ok-clone+in_ok-insert, else-is_required}
-use Rattle.wc_selection.specs.Keys.{NamedKey}
+use Rattle.wc_selection.specs.Keys.{named_key}
 use Rattle.wc_selection.specs.Requests.{exporter_name, request_value}
-use Rattle.wc_selection.specs.ModuleKeys.{is_required}
+use Rattle.wc_selection.specs.Texts.{HasTexts, text_of}
 
-pub loop-key-preserved : goal.loop-key-preserved
-loop-key-preserved c =
-    let request = request_value c.args.request.now in
-    let exporter = exporter_name c.args.exporter in
-    let is_chosen = (λ (k : NamedKey). is_required request exporter k.1) in
-    let test = sym (c.is_required.ensures ∙ ap (is_required request exporter) c.deref.ensures) in
-    elim c.if-is_required.branch [
-      | then-is_required+in_ok-clone+in_ok-insert w ↦
-          ap (λ s. map key_view s.keys) w.required-is
-          ∙ pick_yes is_chosen c.args.keys.now c.loop-key.key-index c.loop-key-item.result w.in_ok-clone.field-0 c.loop-key.required.keys w.insert.new.self.keys
-          (search rules) c.loop-key-item.is c.requires (test ∙ w.if-is_required.true) w.in_ok-clone.ensures w.in_ok-insert.ensures.keys c.loop-key.invariant
-      | else-is_required w ↦
-          ap (λ s. map key_view s.keys) w.required-is
-          ∙ pick_no is_chosen c.args.keys.now c.loop-key.key-index c.loop-key-item.result c.loop-key.required.keys (search rules) c.loop-key-item.is
-          (test ∙ w.if-is_required.false) c.loop-key.invariant
-    ]
+pub returns : goal.returns
+returns c =
+    let set = map text_of c.in_ok-set.set.keys in
+    let has = subst (λ l. HasTexts l set) (ap (map text_of) c.deref.ensures.value ∙ c.in_ok-texts.ensures) c.in_ok-set.ensures in
+    subst (λ keys. IfOk c.required_in.result (λ s. map key_view s.keys ≡ keys))
+    (required_found (request_value c.args.request.now) (exporter_name c.args.exporter) set c.gives_keys.result c.gives_keys.ensures has
+    (map named_key c.args.keys.now)) c.required_in.ensures

@@ -4,8 +4,8 @@ use Rattle.std.specs.Borrow.{Bor}
 use Rattle.std.specs.Map.{lookup}
 use Rattle.std.specs.Option.{option_and_then, option_map}
 use Rattle.std.specs.Str.{bytes_eq}
-use Rattle.wc_encoder.specs.declared.adapters.Item.{Item}
-use Rattle.wc_encoder.specs.Adapters.{InstanceView, LibraryView, LibraryItemView, which_view, library_item_view, instance_view}
+use Rattle.wc_adapters.specs.declared.adapters.Item.{Item}
+use Rattle.wc_adapters.specs.Adapters.{InstanceView, LibraryView, LibraryItemView, which_view, library_item_view, instance_view}
 use Rattle.wc_validate.specs.declared.imports.arguments.Argument.{Argument}
 use Rattle.wc_validate.specs.declared.imports.arguments.Argument.TheVariants.{Whole, Items}
 use Rattle.wc_validate.specs.declared.imports.arguments.Arguments.{Arguments}
@@ -13,7 +13,7 @@ use Rattle.wc_validate.specs.declared.imports.arguments.PassedArgument.{PassedAr
 use Rattle.wc_validate.specs.declared.imports.arguments.PassedArgument.TheVariants as passed_argument
 use Rattle.wc_validate.specs.Imports.Entries.{Entry, whole}
 use Rattle.wc_validate.specs.Imports.Record.{item_entry, argument_entry, library_entry, alias_entry}
-use Rattle.wc_encoder.specs.declared.adapters.Instance.{Instance}
+use Rattle.wc_adapters.specs.declared.adapters.Instance.{Instance}
 
 -- texts are found among these entries as among those
 abbrev pub IsIndexOf : {X : Type 0} → List (List ℕ × X) → List (List ℕ × X) → Type 0

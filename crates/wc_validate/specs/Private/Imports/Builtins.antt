@@ -50,10 +50,16 @@ async_value_type i = None
 abbrev pub IsMismatch : FuncTypeValue → NameFault → Type 0
 IsMismatch wanted f = fault_kind f ≡ wrong_signature (Some wanted)
 
-abbrev pub IsMismatchBy : (ImportView → Option FuncTypeValue) → Import → NameFault → Type 0
-IsMismatchBy type_of i f = IfSome (type_of (import_view i)) (λ wanted. IsMismatch wanted f)
+abbrev pub IsTypeMismatch : Option FuncTypeValue → NameFault → Type 0
+IsTypeMismatch required f = IfSome required (λ wanted. IsMismatch wanted f)
 
--- an import's type was compared with the one that it has to have
+abbrev pub IsMismatchBy : (ImportView → Option FuncTypeValue) → Import → NameFault → Type 0
+IsMismatchBy type_of i f = IsTypeMismatch (type_of (import_view i)) f
+
+-- a value's type was compared with the one that it has to have; and an import's
+abbrev pub IsCheckedAs : {V : Type 0} → (V → Option FuncTypeValue) → V → FuncType → Result (Option V) NameFault → Type 0
+IsCheckedAs type_of v ty result =
+    (required_type : FuncTypeValue) → type_of v ≡ Some required_type → IsTypeChecked fault_kind result v (func_type_value ty) required_type
+
 abbrev pub IsCheckedBy : (ImportView → Option FuncTypeValue) → Import → FuncType → Result (Option Import) NameFault → Type 0
-IsCheckedBy type_of i ty result =
-    (required_type : FuncTypeValue) → type_of (import_view i) ≡ Some required_type → IsTypeChecked fault_kind result i (func_type_value ty) required_type
+IsCheckedBy type_of i ty result = IsCheckedAs (λ (v : Import). type_of (import_view v)) i ty result

@@ -7,7 +7,7 @@ use Rattle.wc_read.specs.declared.types.ImportType.{ImportType}
 use Rattle.wc_read.specs.Imports.{ImportValue, import_value, import_values}
 use Rattle.wc_read.specs.Spaces.{func_of}
 use Rattle.wc_read.specs.Types.{func_type_value}
-use Rattle.wc_encoder.specs.Adapters.{LibraryView}
+use Rattle.wc_adapters.specs.Adapters.{LibraryView}
 use Rattle.wc_names.specs.declared.imports.Import.{Import as ClassifiedImport}
 use Rattle.wc_names.specs.Imports.{CoreImport}
 use Rattle.wc_validate.specs.declared.fault.ValidateFault.{ValidateFault}

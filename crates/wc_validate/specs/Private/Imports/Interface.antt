@@ -1,7 +1,7 @@
 -- Interfaces that texts are looked up among, as the code has them.
 use Rattle.std.specs.Prelude.{ℕ, List, map, Option, Result}
 use Rattle.wc_resolve.specs.Views.{key_view, world_entry}
-use Rattle.wc_encoder.specs.Entries.{Entries}
+use Rattle.wc_adapters.specs.Entries.{Entries}
 use Rattle.wc_names.specs.Interfaces.{FoundInterface, InterfaceTexts, NamesInterface}
 use Rattle.wc_names.specs.Schemes.{Scheme}
 use Rattle.wc_validate.specs.declared.imports.interface.FoundInterface.{FoundInterface as CodeInterface}

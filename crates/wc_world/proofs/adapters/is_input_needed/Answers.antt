@@ -1,7 +1,7 @@
 use Rattle.std.proofs.Common.{◌∙◌, map, sym}
 use Rattle.wc_resolve.specs.Views.{world_view}
-use Rattle.wc_encoder.specs.Adapters.{adapter_view as input_view}
-use Rattle.wc_encoder.specs.Entries.{entries_of}
+use Rattle.wc_adapters.specs.Adapters.{adapter_view as input_view}
+use Rattle.wc_adapters.specs.Entries.{entries_of}
 use Rattle.wc_validate.specs.Imports.Map.{required_entry}
 use Rattle.wc_validate.specs.Validated.{module_record}
 use Rattle.wc_world.proofs.AdapterLemmas.{needed_by}

@@ -1,8 +1,8 @@
 use Rattle.std.proofs.Common.{◌≡◌, IfOk, None, Some, ap, refl, subst, sym, true}
 use Rattle.std.specs.Borrow.{Bor}
 use Rattle.std.specs.Option.{option_map}
-use Rattle.wc_encoder.specs.declared.adapters.LibraryInfo.{LibraryInfo}
-use Rattle.wc_encoder.specs.Adapters.{library_view}
+use Rattle.wc_adapters.specs.declared.adapters.LibraryInfo.{LibraryInfo}
+use Rattle.wc_adapters.specs.Adapters.{library_view}
 use Rattle.wc_validate.specs.Validated.{module_record}
 use Rattle.wc_world.specs.Private.AdapterInput.{IsInputFault, main_of, named_adapter}
 use Rattle.wc_world.specs.Views.{WorldAdapterView}

@@ -1,6 +1,6 @@
 use Rattle.std.proofs.Common.{ap, subst}
 use Rattle.std.specs.Option.{option_map}
-use Rattle.wc_encoder.specs.Adapters.{library_view}
+use Rattle.wc_adapters.specs.Adapters.{library_view}
 use Rattle.wc_validate.specs.Validated.{module_record}
 use Rattle.wc_world.specs.Private.Explained.{IsTrimAnswer}
 use Rattle.wc_world.specs.declared.places.ModulePlace.TheVariants as place

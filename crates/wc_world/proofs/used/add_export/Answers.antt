@@ -2,7 +2,7 @@ use Rattle.std.proofs.Common.{◌++◌, ◌∷◌, [], ap, sym, subst, string_by
 use Rattle.std.specs.Option.{option_map}
 use Rattle.wc_resolve.specs.Views.{item_view}
 use Rattle.wc_encoder.specs.Distinct.{item_interface}
-use Rattle.wc_encoder.specs.Entries.{entries_of}
+use Rattle.wc_adapters.specs.Entries.{entries_of}
 use Rattle.wc_world.specs.Used.{HasUsedSets, IsReady, has_interface, used_view}
 use Rattle.wc_world.proofs.UsedLemmas.{set_put}
 use Rattle.wc_world.proofs.UsedWalkLemmas.{sets_same, sets_with}

@@ -2,7 +2,7 @@ use Rattle.std.proofs.Common.{sym, subst, IfOk}
 use Rattle.wc_resolve.specs.Views.{world_view}
 use Rattle.wc_encoder.specs.Dependencies.{AreDependenciesBefore}
 use Rattle.wc_encoder.specs.EncoderParts.{world_exports}
-use Rattle.wc_encoder.specs.Entries.{entries_of}
+use Rattle.wc_adapters.specs.Entries.{entries_of}
 use Rattle.wc_world.specs.Used.{AreUsed, used_view}
 use Rattle.wc_world.proofs.UsedWalkLemmas.{exports_are, exports_keyed, exports_there}
 use Rattle.wc_world.proofs.used.exports_used.Goals as goal

@@ -1,6 +1,6 @@
 use Rattle.std.proofs.Common.{◌++◌, ◌∷◌, [], sym, subst, take, filter, get_or}
 use Rattle.wc_resolve.specs.Dependencies.{interface_ids}
-use Rattle.wc_encoder.specs.Entries.{entries_of}
+use Rattle.wc_adapters.specs.Entries.{entries_of}
 use Rattle.wc_world.specs.Used.{IsUsedPart, has_interface, is_exported_itself}
 use Rattle.wc_world.proofs.UsedLemmas.{used_part_all, used_part_end, used_part_has, used_part_none, used_part_skip, dependency_there, none_among}
 use Rattle.wc_world.proofs.used.used_by.Goals as goal

@@ -1,6 +1,6 @@
 use Rattle.std.proofs.Common.{take, filter}
 use Rattle.wc_resolve.specs.Dependencies.{interface_ids}
-use Rattle.wc_encoder.specs.Entries.{entries_of}
+use Rattle.wc_adapters.specs.Entries.{entries_of}
 use Rattle.wc_world.specs.Used.{IsUsedPart, has_interface, is_exported_itself}
 use Rattle.wc_world.proofs.used.used_by.Given as goal
 

@@ -1,6 +1,6 @@
 use Rattle.std.proofs.Common.{◌∙◌, subst, sym}
 use Rattle.std.proofs.lemmas.Result.{err_from_is_err_and}
-use Rattle.wc_program.specs.Files.{Holds}
+use Rattle.wc_program.specs.Files.{FailsToRead, Holds}
 use Rattle.wcplan_command.specs.Arguments.{command_value}
 use Rattle.wcplan_command.proofs.WorldsLemmas.{all_there, some_cause, unread}
 use Rattle.wcplan_command.proofs.documents.read_worlds.Goals as goal
@@ -8,7 +8,7 @@ use Rattle.wcplan_command.proofs.documents.read_worlds.Goals as goal
 pub returns-in_err-bytes-clause-fault : goal.returns-in_err-bytes-clause-fault
 returns-in_err-bytes-clause-fault g c =
     let p = err_from_is_err_and c.from_residual.result c.from_residual.ensures.1 in
-    rw (p.1, p.2) (unread (command_value c.args.command.now) (g.F.FileStore.held c.args.files.now) c.in_err-bytes.field-0.0 c.in_err-bytes.ensures.fault)
+    rw (p.1, p.2) (unread (command_value c.args.command.now) (g.F.FileStore.held c.args.files.now) (FailsToRead g.F.FileStore.read_fails c.args.files.now) c.in_err-bytes.field-0.0 c.in_err-bytes.ensures.fault)
 
 pub returns-in-Ok-clause-worlds : goal.returns-in-Ok-clause-worlds
 returns-in-Ok-clause-worlds g c =
@@ -22,4 +22,4 @@ returns-in-Ok-clause-fault g c =
     let command = command_value c.args.command.now in
     let before = g.F.FileStore.held c.args.files.now in
     let held = subst (Holds before command.worlds) (sym (c.in-Ok.ensures.cases.0 ∙ c.deref.ensures.value)) c.in_ok-bytes.ensures.read in
-    some_cause command before c.in-Ok.text.now c.worlds_in.result held c.worlds_in.ensures.fault
+    some_cause command before (FailsToRead g.F.FileStore.read_fails c.args.files.now) c.in-Ok.text.now c.worlds_in.result held c.worlds_in.ensures.fault

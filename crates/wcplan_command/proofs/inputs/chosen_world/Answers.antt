@@ -2,6 +2,7 @@ use Rattle.std.proofs.Common.{◌∙◌, ◌<◌, length, map, ap, sym, subst}
 use Rattle.std.proofs.lemmas.Result.{err_from_is_err_and}
 use Rattle.wc_selection.proofs.WorldLemmas.{selected_there}
 use Rattle.wc_selection.specs.Keys.{named_key}
+use Rattle.wc_program.specs.Files.{FailsToRead}
 use Rattle.wcplan_command.specs.Arguments.{command_value}
 use Rattle.wcplan_command.proofs.ProgramLemmas.{listed_worlds}
 use Rattle.wcplan_command.proofs.inputs.chosen_world.Goals as goal
@@ -20,4 +21,4 @@ returns-in_err-check_listed-clause-fault g c =
     let keyed = ap (map named_key) c.deref.ensures.value ∙ c.in_ok-keys.ensures.keys in
     let p = err_from_is_err_and c.from_residual-in_err-check_listed.result c.from_residual-in_err-check_listed.ensures.1 in
     rw (p.1, p.2) (listed_worlds command before metadata.resolve metadata.world.0 c.in_ok-metadata.ensures.worlds
-    _ c.in_err-check_listed.field-0.0 keyed c.in_err-check_listed.ensures.fault)
+    (FailsToRead g.F.FileStore.read_fails c.args.files.now) _ c.in_err-check_listed.field-0.0 keyed c.in_err-check_listed.ensures.fault)

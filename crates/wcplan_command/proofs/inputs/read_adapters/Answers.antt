@@ -2,6 +2,7 @@ use Rattle.std.proofs.Common.{None, map, ap, sym, subst, refl, rules}
 use Rattle.std.proofs.lemmas.Result.{err_from_is_err_and}
 use Rattle.wc_selection.specs.Keys.{named_key}
 use Rattle.wc_selection.specs.Texts.{AreDistinct, first_parts, text_pair}
+use Rattle.wc_program.specs.Files.{FailsToRead}
 use Rattle.wcplan_command.specs.Arguments.{command_value}
 use Rattle.wcplan_command.proofs.ProgramLemmas.{adapters_more, path_cause}
 use Rattle.wcplan_command.proofs.inputs.read_adapters.Goals as goal
@@ -9,7 +10,7 @@ use Rattle.wcplan_command.proofs.inputs.read_adapters.Goals as goal
 pub returns-in_err-read_file-clause-fault : goal.returns-in_err-read_file-clause-fault
 returns-in_err-read_file-clause-fault g c =
     let p = err_from_is_err_and c.from_residual.result c.from_residual.ensures.1 in
-    rw (p.1, p.2) (path_cause (command_value c.args.command.now) c.deref-name-items.result.now c.loop-name.name-index _ (search rules)
+    rw (p.1, p.2) (path_cause (command_value c.args.command.now) (FailsToRead g.F.FileStore.read_fails c.args.files.now) c.deref-name-items.result.now c.loop-name.name-index _ (search rules)
     (ap (map text_pair) c.deref-name-items.ensures.value) c.in_err-read_file.field-0.0 c.in_err-read_file.ensures.fault)
 
 pub loop-name-preserved : goal.loop-name-preserved

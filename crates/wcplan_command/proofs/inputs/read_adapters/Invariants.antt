@@ -1,5 +1,5 @@
 use Rattle.std.proofs.Common.{map, take}
-use Rattle.wc_encoder.specs.Adapters.{adapter_entry}
+use Rattle.wc_adapters.specs.Adapters.{adapter_entry}
 use Rattle.wc_selection.specs.Keys.{named_key}
 use Rattle.wc_selection.specs.Texts.{text_pair}
 use Rattle.wcplan_command.specs.Arguments.{command_value}

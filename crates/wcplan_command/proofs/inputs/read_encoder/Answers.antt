@@ -1,6 +1,7 @@
 use Rattle.std.proofs.Common.{ap, sym, subst}
 use Rattle.std.proofs.lemmas.Result.{err_from_is_err_and}
 use Rattle.wc_encoder.specs.EncoderParts.{parts_view}
+use Rattle.wc_program.specs.Files.{FailsToRead}
 use Rattle.wcplan_command.specs.Arguments.{command_value}
 use Rattle.wcplan_command.specs.Program.{IsPartsOf}
 use Rattle.wcplan_command.proofs.ProgramLemmas.{chosen_worlds, encoder_cause, modules_cause, parts_with}
@@ -14,7 +15,7 @@ returns-in_err-parts-clause-fault g c =
     let is = c.in_ok-chosen.ensures in
     let chosen = chosen_worlds command before metadata.resolve metadata.world.0 is.worlds _ is.keys is.there in
     let p = err_from_is_err_and c.from_residual-in_err-parts.result c.from_residual-in_err-parts.ensures.1 in
-    rw (p.1, p.2) (modules_cause command before is.worlds.0 metadata.world.0 c.in_err-parts.field-0.0 chosen c.in_err-parts.ensures.fault)
+    rw (p.1, p.2) (modules_cause command before (FailsToRead g.F.FileStore.read_fails c.args.files.now) is.worlds.0 metadata.world.0 c.in_err-parts.field-0.0 chosen c.in_err-parts.ensures.fault)
 
 pub returns-in_err-build-clause-fault : goal.returns-in_err-build-clause-fault
 returns-in_err-build-clause-fault g c =
@@ -26,7 +27,7 @@ returns-in_err-build-clause-fault g c =
     let parts = parts_with command before metadata.resolve metadata.world.0 is.worlds _ (parts_view c.in_ok-parts.parts) chosen is.keys
     (ap (λ m. m.world.0) c.in_ok-parts.ensures.metadata) (ap (λ m. m.resolve) c.in_ok-parts.ensures.metadata) c.in_ok-parts.ensures.parts in
     let p = err_from_is_err_and c.from_residual-in_err-build.result c.from_residual-in_err-build.ensures.1 in
-    rw (p.1, p.2) (encoder_cause command before (parts_view c.in_ok-parts.parts) c.in_err-build.field-0.0 parts c.in_err-build.ensures.fault)
+    rw (p.1, p.2) (encoder_cause command before (FailsToRead g.F.FileStore.read_fails c.args.files.now) (parts_view c.in_ok-parts.parts) c.in_err-build.field-0.0 parts c.in_err-build.ensures.fault)
 
 pub returns-clause-encoder : goal.returns-clause-encoder
 returns-clause-encoder g c =

@@ -1,5 +1,5 @@
 use Rattle.std.proofs.Common.{◌≡◌, map, string_bytes, take}
-use Rattle.wc_plan.specs.PlanViews.{use_view}
+use Rattle.wc_uses.specs.PlanViews.{use_view}
 use Rattle.wcplan_command.specs.Lines.{lines_text}
 use Rattle.wcplan_command.proofs.lines.lines_of.Given as goal
 

@@ -16,7 +16,7 @@ returns-in-Some-file_fault-clause-fault c =
     c.in_ok-exporters.ensures ∙ ap (λ xs. first_parts (map text_pair xs)) c.deref-3.ensures.value in
     let distinct = subst (λ xs. AreDistinct (map text_of xs)) c.deref-2.ensures.value (rw c.in_default.is at c.in_ok-name.ensures.none) in
     let raw =
-    subst (λ xs. All (Contains (map text_of xs)) (map text_of c.deref-4.result.now)) c.deref-5.ensures.value c.in_default-first_missing.ensures.none in
+    subst (λ xs. All (Contains (map text_of xs)) (map text_of c.deref-4.result.now)) c.deref-5.ensures.value (rw c.in_default-2.is at c.in_ok-name-2.ensures.none) in
     let there = subst (λ xs. All (Contains (map text_of c.in_ok-adapters.adapters.items)) (map text_of xs)) c.deref-4.ensures.value raw in
     let all = adapters_there command c.in_ok-adapters.adapters.items c.in_ok-exporters.exporters.items names others distinct there in
     files_failed command (map named_key c.args.keys.now) c.in_ok-adapters.adapters.items c.in-Some-file_fault.fault names all
@@ -31,7 +31,7 @@ returns-clause-there c =
     c.in_ok-exporters.ensures ∙ ap (λ xs. first_parts (map text_pair xs)) c.deref-3.ensures.value in
     let distinct = subst (λ xs. AreDistinct (map text_of xs)) c.deref-2.ensures.value (rw c.in_default.is at c.in_ok-name.ensures.none) in
     let raw =
-    subst (λ xs. All (Contains (map text_of xs)) (map text_of c.deref-4.result.now)) c.deref-5.ensures.value c.in_default-first_missing.ensures.none in
+    subst (λ xs. All (Contains (map text_of xs)) (map text_of c.deref-4.result.now)) c.deref-5.ensures.value (rw c.in_default-2.is at c.in_ok-name-2.ensures.none) in
     let there = subst (λ xs. All (Contains (map text_of c.in_ok-adapters.adapters.items)) (map text_of xs)) c.deref-4.ensures.value raw in
     let all = adapters_there command c.in_ok-adapters.adapters.items c.in_ok-exporters.exporters.items names others distinct there in
     let fit = subst (AreFilesNamed command.out) names (subst (λ xs. AreFilesNamed command.out (map text_of xs)) c.deref-6.ensures.value
@@ -47,7 +47,7 @@ returns-clause-fault c =
     c.in_ok-exporters.ensures ∙ ap (λ xs. first_parts (map text_pair xs)) c.deref-3.ensures.value in
     let distinct = subst (λ xs. AreDistinct (map text_of xs)) c.deref-2.ensures.value (rw c.in_default.is at c.in_ok-name.ensures.none) in
     let raw =
-    subst (λ xs. All (Contains (map text_of xs)) (map text_of c.deref-4.result.now)) c.deref-5.ensures.value c.in_default-first_missing.ensures.none in
+    subst (λ xs. All (Contains (map text_of xs)) (map text_of c.deref-4.result.now)) c.deref-5.ensures.value (rw c.in_default-2.is at c.in_ok-name-2.ensures.none) in
     let there = subst (λ xs. All (Contains (map text_of c.in_ok-adapters.adapters.items)) (map text_of xs)) c.deref-4.ensures.value raw in
     let all = adapters_there command c.in_ok-adapters.adapters.items c.in_ok-exporters.exporters.items names others distinct there in
     let fit = subst (AreFilesNamed command.out) names (subst (λ xs. AreFilesNamed command.out (map text_of xs)) c.deref-6.ensures.value

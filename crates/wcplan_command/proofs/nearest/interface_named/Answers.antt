@@ -28,7 +28,7 @@ name_world_key-requires-clause-named c =
 pub returns-then-eq-clause-named : goal.returns-then-eq-clause-named
 returns-then-eq-clause-named c =
     c.interface_in.ensures ∙ named_found c.args.resolve.now c.loop-key.key-iterator c.next.new.self c.in-Some.key.now c.in-Some.item.now
-    (string_bytes c.in_ok-key_text.key_text) c.in-Some.ensures.steps c.in_ok-key_text.ensures c.args.text.now _
+    (string_bytes c.in_ok-key_text.key_text) c.in-Some.ensures.steps c.in_ok-key_text.ensures (λ (t : List ℕ). bytes_eq t c.args.text.now) _
     (ap (λ (t : List ℕ). bytes_eq t c.args.text.now) (sym c.as_str.ensures.value) ∙ sym c.eq.ensures ∙ c.if-eq.true) c.loop-key.invariant
 
 pub returns-then-eq-clause-there : goal.returns-then-eq-clause-there
@@ -42,8 +42,8 @@ returns-then-eq-clause-there c =
 pub loop-key-preserved : goal.loop-key-preserved
 loop-key-preserved c =
     named_passed c.args.resolve.now c.loop-key.key-iterator c.next.new.self c.in-Some.key.now c.in-Some.item.now
-    (string_bytes c.in_ok-key_text.key_text) c.in-Some.ensures.steps c.in_ok-key_text.ensures c.args.text.now _
+    (string_bytes c.in_ok-key_text.key_text) c.in-Some.ensures.steps c.in_ok-key_text.ensures (λ (t : List ℕ). bytes_eq t c.args.text.now) _
     (ap (λ (t : List ℕ). bytes_eq t c.args.text.now) (sym c.as_str.ensures.value) ∙ sym c.eq.ensures ∙ c.if-eq.false) c.loop-key.invariant
 
 pub returns-clause-named : goal.returns-clause-named
-returns-clause-named c = named_none c.args.resolve.now c.loop-key.key-iterator c.args.text.now _ c.in-None.ensures.steps.0 c.loop-key.invariant
+returns-clause-named c = named_none c.args.resolve.now c.loop-key.key-iterator (λ (t : List ℕ). bytes_eq t c.args.text.now) _ c.in-None.ensures.steps.0 c.loop-key.invariant

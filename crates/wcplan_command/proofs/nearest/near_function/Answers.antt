@@ -9,17 +9,17 @@ world-requires c =
     world_there c.args.encoder.now c.metadata-metadata.result.now.resolve c.metadata-metadata.result.now.world.0 c.metadata-metadata.ensures.resolve
     c.metadata-metadata.ensures.world c.well_formedness.ensures.has_world
 
-pub interface_named-requires-clause-there : goal.interface_named-requires-clause-there
-interface_named-requires-clause-there c =
+pub interface_for-requires-clause-there : goal.interface_for-requires-clause-there
+interface_for-requires-clause-there c =
     import_keys_in c.metadata-metadata.result.now.resolve c.well_formedness-2.ensures c.metadata-metadata.result.now.world.0 (world_view c.world.result.now)
     c.world.ensures
 
-pub interface_named-requires-clause-named : goal.interface_named-requires-clause-named
-interface_named-requires-clause-named c =
+pub interface_for-requires-clause-named : goal.interface_for-requires-clause-named
+interface_for-requires-clause-named c =
     import_keys_have_texts c.metadata-metadata.result.now.resolve c.well_formedness-2.ensures c.metadata-metadata.result.now.world.0
     (world_view c.world.result.now) c.world.ensures parts_text
 
-pub interface_named-requires-clause-items : goal.interface_named-requires-clause-items
-interface_named-requires-clause-items c =
+pub interface_for-requires-clause-items : goal.interface_for-requires-clause-items
+interface_for-requires-clause-items c =
     import_items_in c.metadata-metadata.result.now.resolve c.well_formedness-2.ensures c.metadata-metadata.result.now.world.0 (world_view c.world.result.now)
     c.world.ensures

@@ -1,8 +1,9 @@
-use Rattle.std.proofs.Common.{subst}
+use Rattle.std.proofs.Common.{Option, map, string_bytes, subst, sym}
 use Rattle.std.proofs.lemmas.Iterator.Adapters.{YieldsList-from_vec}
 use Rattle.std.proofs.lemmas.Iterator.Consumers.{YieldsList-so_far, YieldsList-turn}
-use Rattle.wc_program.specs.Files.{KeepsOthers, Writes}
-use Rattle.wcplan_command.proofs.RunLemmas.{unwritten_at, writes_more}
+use Rattle.wc_program.specs.Files.{FailsFrom, Held, Writes}
+use Rattle.wcplan_command.specs.Program.{WritesAll, file_view}
+use Rattle.wcplan_command.proofs.RunLemmas.{failed_from, unwritten_at, writes_more}
 use Rattle.wcplan_command.proofs.outputs.write_files.Goals as goal
 
 pub returns-in_default-clause-fault : goal.returns-in_default-clause-fault
@@ -12,13 +13,17 @@ returns-in_default-clause-fault g c =
     let at = YieldsList-turn all c.loop-path.yielded c.loop-path.path-iterator c.loop-path.yielded_by c.next.result c.next.new.self
     (c.in-Some.path, c.in-Some.bytes) c.in-Some.is c.next.ensures.steps in
     let passed = YieldsList-so_far all c.loop-path.yielded c.loop-path.path-iterator c.loop-path.yielded_by in
-    unwritten_at (held c.args.files.now) (held c.loop-path.files) (held c.write.new.self) c.args.outputs.items c.loop-path.yielded
-    (c.in-Some.path, c.in-Some.bytes) at passed c.loop-path.invariant
-    (subst (λ path. KeepsOthers (held c.loop-path.files) (held c.write.new.self) path) c.deref.ensures c.in_default.ensures.others)
+    let fails = g.F.FileStore.write_fails in
+    let kept = c.in_default.ensures.kept in
+    let written = subst (λ (m : Option Held). WritesAll (held c.args.files.now) m (map file_view c.loop-path.yielded)) (sym kept) c.loop-path.invariant in
+    unwritten_at (held c.args.files.now) (held c.replace.new.self) (FailsFrom held fails c.replace.new.self) c.args.outputs.items c.loop-path.yielded
+    (c.in-Some.path, c.in-Some.bytes) at passed written
+    (failed_from held fails c.loop-path.files c.replace.new.self (string_bytes c.in-Some.path) c.in-Some.bytes.now kept
+    (subst (λ path. fails c.loop-path.files c.replace.new.self path c.in-Some.bytes.now) c.deref.ensures c.in_default.ensures.cause))
 
 pub loop-path-preserved : goal.loop-path-preserved
 loop-path-preserved g c =
     let held = g.F.FileStore.held in
-    writes_more (held c.args.files.now) (held c.loop-path.files) (held c.write.new.self) c.loop-path.yielded (c.in-Some.path, c.in-Some.bytes)
-    c.loop-path.invariant (subst (λ path. Writes (held c.loop-path.files) (held c.write.new.self) path c.in-Some.bytes.now) c.deref.ensures
+    writes_more (held c.args.files.now) (held c.loop-path.files) (held c.replace.new.self) c.loop-path.yielded (c.in-Some.path, c.in-Some.bytes)
+    c.loop-path.invariant (subst (λ path. Writes (held c.loop-path.files) (held c.replace.new.self) path c.in-Some.bytes.now) c.deref.ensures
     c.in-Ok.ensures.written)

@@ -1,6 +1,7 @@
 use Rattle.std.proofs.Common.{refl}
 use Rattle.std.proofs.lemmas.Result.{err_from_is_err_and}
 use Rattle.wcplan_command.specs.Arguments.{command_value}
+use Rattle.wc_program.specs.Files.{store_change}
 use Rattle.wc_program.specs.Screen.{Becomes}
 use Rattle.wcplan_command.proofs.RunLemmas.{quiet}
 use Rattle.wcplan_command.proofs.program.run_command.Goals as goal
@@ -8,8 +9,9 @@ use Rattle.wcplan_command.proofs.program.run_command.Goals as goal
 pub returns-in_err-encoder-clause-fault : goal.returns-in_err-encoder-clause-fault
 returns-in_err-encoder-clause-fault g c =
     let command = command_value c.args.command.now in
-    let before = g.F.FileStore.held c.args.files.now in
-    let makes = g.F.DirectoryStore.makes c.args.files.now in
+    let store = g.F.FileStore in
+    let directories = g.F.DirectoryStore in
+    let files = store_change store.held directories.makes store.read_fails directories.make_fails store.write_fails c.args.files.now c.args.files.now in
     let out = Becomes g.O.Screen.ends c.args.out.now c.args.out.now in
     let p = err_from_is_err_and c.from_residual.result c.from_residual.ensures.1 in
-    rw (p.1, p.2) (quiet command before makes out c.in_err-encoder.field-0.0 refl c.in_err-encoder.ensures.fault)
+    rw (p.1, p.2) (quiet command files out c.in_err-encoder.field-0.0 refl refl c.in_err-encoder.ensures.fault)

@@ -2,6 +2,7 @@ use Rattle.std.proofs.Common.{refl}
 use Rattle.wc_world.specs.Options.{plain_options}
 use Rattle.wc_world.specs.WorldViews.{world_view}
 use Rattle.wcplan_command.specs.Arguments.{command_value}
+use Rattle.wc_program.specs.Files.{store_change}
 use Rattle.wc_program.specs.Screen.{Becomes}
 use Rattle.wcplan_command.proofs.RunLemmas.{quiet, world_cause}
 use Rattle.wcplan_command.proofs.program.run_encoder.Goals as goal
@@ -15,9 +16,10 @@ run_world-requires-clause-nameable g c = c.worlds_nameable.ensures plain_options
 pub returns-in-Err-clause-fault : goal.returns-in-Err-clause-fault
 returns-in-Err-clause-fault g c =
     let command = command_value c.args.command.now in
-    let before = g.F.FileStore.held c.args.files.now in
-    let makes = g.F.DirectoryStore.makes c.args.files.now in
+    let store = g.F.FileStore in
+    let directories = g.F.DirectoryStore in
+    let files = store_change store.held directories.makes store.read_fails directories.make_fails store.write_fails c.args.files.now c.args.files.now in
     let out = Becomes g.O.Screen.ends c.args.out.now c.args.out.now in
-    let cause = world_cause command before c.args.encoder.now c.in-Err.fault c.world_fault.result c.requires c.in-Err.ensures.fault
+    let cause = world_cause command files.before files.IsFailedRead c.args.encoder.now c.in-Err.fault c.world_fault.result c.requires c.in-Err.ensures.fault
     c.world_fault.ensures in
-    quiet command before makes out c.world_fault.result refl cause
+    quiet command files out c.world_fault.result refl refl cause

@@ -2,6 +2,7 @@ use Rattle.std.proofs.Common.{◌∙◌, OnOk, Some, refl, subst}
 use Rattle.std.proofs.lemmas.Result.{err_from_is_err_and}
 use Rattle.wc_world.specs.WorldViews.{world_view}
 use Rattle.wcplan_command.specs.Arguments.{command_value}
+use Rattle.wc_program.specs.Files.{store_change}
 use Rattle.wc_program.specs.Screen.{Becomes}
 use Rattle.wcplan_command.specs.declared.faults.ProgramFault.TheVariants.{Memory}
 use Rattle.wcplan_command.proofs.RunLemmas.{all_written, quiet, some_unwritten}
@@ -10,39 +11,43 @@ use Rattle.wcplan_command.proofs.program.run_plan.Goals as goal
 pub returns-in_err-outputs-clause-fault : goal.returns-in_err-outputs-clause-fault
 returns-in_err-outputs-clause-fault g c =
     let command = command_value c.args.command.now in
-    let before = g.F.FileStore.held c.args.files.now in
-    let makes = g.F.DirectoryStore.makes c.args.files.now in
+    let store = g.F.FileStore in
+    let directories = g.F.DirectoryStore in
+    let files = store_change store.held directories.makes store.read_fails directories.make_fails store.write_fails c.args.files.now c.args.files.now in
     let out = Becomes g.O.Screen.ends c.args.out.now c.args.out.now in
     let p = err_from_is_err_and c.from_residual.result c.from_residual.ensures.1 in
-    rw (p.1, p.2) (quiet command before makes out Memory refl tt)
+    rw (p.1, p.2) (quiet command files out Memory refl refl tt)
 
 pub returns-in_err-description-clause-fault : goal.returns-in_err-description-clause-fault
 returns-in_err-description-clause-fault g c =
     let command = command_value c.args.command.now in
-    let before = g.F.FileStore.held c.args.files.now in
-    let makes = g.F.DirectoryStore.makes c.args.files.now in
+    let store = g.F.FileStore in
+    let directories = g.F.DirectoryStore in
+    let files = store_change store.held directories.makes store.read_fails directories.make_fails store.write_fails c.args.files.now c.args.files.now in
     let out = Becomes g.O.Screen.ends c.args.out.now c.args.out.now in
     let p = err_from_is_err_and c.from_residual-in_err-description.result c.from_residual-in_err-description.ensures.1 in
-    rw (p.1, p.2) (quiet command before makes out Memory refl tt)
+    rw (p.1, p.2) (quiet command files out Memory refl refl tt)
 
 pub returns-clause-done : goal.returns-clause-done
 returns-clause-done g c =
     let command = command_value c.args.command.now in
-    let held = g.F.FileStore.held in
-    let ends = g.O.Screen.ends c.args.out.now c.write_and_print.new.out in
+    let store = g.F.FileStore in
+    let directories = g.F.DirectoryStore in
+    let files = store_change store.held directories.makes store.read_fails directories.make_fails store.write_fails c.args.files.now c.write_and_print.new.files in
     let out = Becomes g.O.Screen.ends c.args.out.now c.write_and_print.new.out in
+    let ends = g.O.Screen.ends c.args.out.now c.write_and_print.new.out in
     let made = c.write_and_print.ensures in
     let text = c.deref.ensures.value ∙ c.in_ok-description.ensures in
     let printed = subst (λ t. OnOk c.write_and_print.result (ends (Some t))) text made.printed in
-    all_written command (held c.args.files.now) (held c.write_and_print.new.files) (g.F.DirectoryStore.makes c.args.files.now) out
-    (world_view c.args.planned.world.now) c.requires.planned c.in_ok-outputs.outputs.items c.in_ok-outputs.ensures c.write_and_print.result made.made
+    all_written command files out (world_view c.args.planned.world.now) c.requires.planned c.in_ok-outputs.outputs.items c.in_ok-outputs.ensures c.write_and_print.result made.made
     made.written printed
 
 pub returns-clause-fault : goal.returns-clause-fault
 returns-clause-fault g c =
     let command = command_value c.args.command.now in
-    let held = g.F.FileStore.held in
+    let store = g.F.FileStore in
+    let directories = g.F.DirectoryStore in
+    let files = store_change store.held directories.makes store.read_fails directories.make_fails store.write_fails c.args.files.now c.write_and_print.new.files in
     let out = Becomes g.O.Screen.ends c.args.out.now c.write_and_print.new.out in
-    some_unwritten command (held c.args.files.now) (held c.write_and_print.new.files) (g.F.DirectoryStore.makes c.args.files.now) out
-    (world_view c.args.planned.world.now) c.requires.planned c.in_ok-outputs.outputs.items c.in_ok-outputs.ensures c.write_and_print.result
+    some_unwritten command files out (world_view c.args.planned.world.now) c.requires.planned c.in_ok-outputs.outputs.items c.in_ok-outputs.ensures c.write_and_print.result
     c.write_and_print.ensures.fault

@@ -2,6 +2,7 @@ use Rattle.std.proofs.Common.{refl}
 use Rattle.wc_world.specs.WorldViews.{world_view}
 use Rattle.wcplan_command.specs.Arguments.{command_value}
 use Rattle.wcplan_command.specs.Faults.{of_plan}
+use Rattle.wc_program.specs.Files.{store_change}
 use Rattle.wc_program.specs.Screen.{Becomes}
 use Rattle.wcplan_command.proofs.RunLemmas.{plan_cause, quiet}
 use Rattle.wcplan_command.proofs.program.run_world.Goals as goal
@@ -14,9 +15,10 @@ run_plan-requires-clause-planned g c =
 pub returns-in-Err-clause-fault : goal.returns-in-Err-clause-fault
 returns-in-Err-clause-fault g c =
     let command = command_value c.args.command.now in
-    let before = g.F.FileStore.held c.args.files.now in
-    let makes = g.F.DirectoryStore.makes c.args.files.now in
+    let store = g.F.FileStore in
+    let directories = g.F.DirectoryStore in
+    let files = store_change store.held directories.makes store.read_fails directories.make_fails store.write_fails c.args.files.now c.args.files.now in
     let out = Becomes g.O.Screen.ends c.args.out.now c.args.out.now in
     let made = c.requires.made in
-    let cause = plan_cause command before made.encoder (world_view c.args.world.now) c.in-Err.fault made.encodes made.world c.in-Err.ensures.fault in
-    rw c.from.ensures (quiet command before makes out (of_plan c.in-Err.fault) refl cause)
+    let cause = plan_cause command files.before files.IsFailedRead made.encoder (world_view c.args.world.now) c.in-Err.fault made.encodes made.world c.in-Err.ensures.fault in
+    rw c.from.ensures (quiet command files out (of_plan c.in-Err.fault) refl refl cause)

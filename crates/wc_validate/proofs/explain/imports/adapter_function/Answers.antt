@@ -1,13 +1,7 @@
-use Rattle.std.proofs.Common.{Ok, subst}
-use Rattle.wc_read.specs.Imports.{import_value}
-use Rattle.wc_names.specs.declared.imports.Import.TheVariants as named
-use Rattle.wc_validate.specs.Private.Imports.Contexts.{IsClassifiedIn, import_scope}
-use Rattle.wc_validate.proofs.ImportRecordLemmas.{by_name}
+use Rattle.wc_validate.proofs.PlaceLemmas.{named_entry}
 use Rattle.wc_validate.proofs.explain.imports.adapter_function.Goals as goal
 
-pub returns-in-Ok-AdapterExport : goal.returns-in-Ok-AdapterExport
-returns-in-Ok-AdapterExport c = λ library has.
-    let h = subst (λ z. IsClassifiedIn c.args.context.now library c.args.import.now (Ok z)) c.in-Ok-AdapterExport.field-0-is
-    (subst (IsClassifiedIn c.args.context.now library c.args.import.now) c.in-Ok-AdapterExport.is (c.classify_import.ensures library)) in
-    by_name (import_scope c.args.context.now library) (import_value c.args.import.now)
-    (named.AdapterExport c.in-Ok-AdapterExport.adapter c.in-Ok-AdapterExport.func c.in-Ok-AdapterExport.ty) _ c.in-None.ensures (has _ _) h.0 h.1 h.2
+pub returns-in-None : goal.returns-in-None
+returns-in-None c =
+    named_entry c.args.context.now c.args.import.now _ c.classify_import.result c.named_function.result c.in-None.ensures (λ library has. has _ _)
+    c.classify_import.ensures c.named_function.ensures

@@ -1,4 +1,4 @@
-use Rattle.wc_encoder.specs.Adapters.{instance_view}
+use Rattle.wc_adapters.specs.Adapters.{instance_view}
 use Rattle.wc_validate.proofs.ArgumentLemmas.{argument_added, argument_passed}
 use Rattle.wc_validate.proofs.imports.arguments.add_argument.Goals as goal
 

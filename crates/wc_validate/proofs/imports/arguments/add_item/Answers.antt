@@ -1,4 +1,4 @@
-use Rattle.wc_encoder.specs.Adapters.{library_item_view}
+use Rattle.wc_adapters.specs.Adapters.{library_item_view}
 use Rattle.wc_validate.proofs.ArgumentLemmas.{item_added, item_passed}
 use Rattle.wc_validate.proofs.imports.arguments.add_item.Goals as goal
 

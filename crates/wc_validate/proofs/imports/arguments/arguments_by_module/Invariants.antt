@@ -1,5 +1,5 @@
 use Rattle.std.proofs.Common.{map, take}
-use Rattle.wc_encoder.specs.Adapters.{argument_view}
+use Rattle.wc_adapters.specs.Adapters.{argument_view}
 use Rattle.wc_validate.specs.Private.Imports.Arguments.{AreMatched, module_entry}
 use Rattle.wc_validate.proofs.imports.arguments.arguments_by_module.Given as goal
 

@@ -1,5 +1,5 @@
 use Rattle.std.proofs.Common.{map, sym, ap}
-use Rattle.wc_encoder.specs.Adapters.{which_view}
+use Rattle.wc_adapters.specs.Adapters.{which_view}
 use Rattle.wc_validate.specs.Imports.Entries.{all_of}
 use Rattle.wc_validate.specs.Imports.Instances.{instance_entry, instance_view}
 use Rattle.wc_validate.specs.declared.imports.instances.ImportInstance.TheVariants.{Whole}

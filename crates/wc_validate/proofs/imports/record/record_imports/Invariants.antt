@@ -1,6 +1,6 @@
 use Rattle.std.proofs.Common.{Option, drop}
 use Rattle.wc_read.specs.Imports.{import_values}
-use Rattle.wc_encoder.specs.Adapters.{LibraryView}
+use Rattle.wc_adapters.specs.Adapters.{LibraryView}
 use Rattle.wc_validate.specs.Private.Imports.Arguments.{HasArgumentsOf}
 use Rattle.wc_validate.specs.Private.Imports.Contexts.{import_scope}
 use Rattle.wc_validate.proofs.ImportRecordLemmas.{Progress}

@@ -1,4 +1,5 @@
-use Rattle.std.proofs.Common.{map, string_bytes}
+use Rattle.std.proofs.Common.{map, refl, string_bytes}
+use Rattle.wc_program.specs.Files.{store_change}
 use Rattle.wcplan_command.specs.Arguments.{command_value}
 use Rattle.wcplan_command.proofs.RunLemmas.{ends_by_command, ends_by_stop}
 use Rattle.wcplan_command.proofs.program.WcplanProgram.run_with.Goals as goal
@@ -6,9 +7,17 @@ use Rattle.wcplan_command.proofs.program.WcplanProgram.run_with.Goals as goal
 pub returns-in-Ok : goal.returns-in-Ok
 returns-in-Ok g c =
     let arguments = map string_bytes c.args.arguments.now in
-    ends_by_command arguments (command_value c.in-Ok.command) _ _ _ _ _ _ c.in-Ok.ensures c.run_and_report.ensures
+    let store = g.F.FileStore in
+    let directories = g.F.DirectoryStore in
+    let files = store_change store.held directories.makes store.read_fails directories.make_fails store.write_fails c.args.shell.now.files
+    c.run_and_report.new.shell.files in
+    ends_by_command arguments (command_value c.in-Ok.command) files _ _ _ c.in-Ok.ensures c.run_and_report.ensures
 
 pub returns-in-Err : goal.returns-in-Err
 returns-in-Err g c =
     let arguments = map string_bytes c.args.arguments.now in
-    ends_by_stop arguments c.in-Err.stop _ _ _ _ _ c.in-Err.ensures c.answer_stop.ensures
+    let store = g.F.FileStore in
+    let directories = g.F.DirectoryStore in
+    let files = store_change store.held directories.makes store.read_fails directories.make_fails store.write_fails c.args.shell.now.files
+    c.args.shell.now.files in
+    ends_by_stop arguments c.in-Err.stop files _ _ _ refl c.in-Err.ensures c.answer_stop.ensures

@@ -1,5 +1,5 @@
 use Rattle.std.proofs.Common.{refl}
-use Rattle.wc_encoder.specs.Adapters.{which_view}
+use Rattle.wc_adapters.specs.Adapters.{which_view}
 use Rattle.wc_validate.proofs.RecorderLemmas.{recorded_whole, refused_all}
 use Rattle.wc_validate.proofs.imports.recorder.Recorder.record_whole.Goals as goal
 

@@ -1,0 +1,130 @@
+//! The call that says why an adapter imports what it does.
+
+ghost use Rattle.std.specs.Prelude.{◌≡◌, ◌≢◌, ◌<◌, ◌≤◌, ◌⊎◌, IfErr, IfOk, false, length};
+ghost use Rattle.std.specs.List.{All};
+ghost use Rattle.std.specs.Str.{IsUtf8};
+ghost use Rattle.wc_gc.specs.Liveness.{IsFault, trim_input, trim_input_for_names};
+ghost use Rattle.wc_calls.specs.Answers.{AreOthersOfTextZero, IsBytesStatus, IsFront, IsPut, IsTooLong, bad_argument, done, failed, out_of_memory, same, too_small};
+ghost use Rattle.wc_calls.specs.ExportNames.{texts};
+ghost use Rattle.wc_calls.specs.ImportChains.{IsWhyFault, IsWhyText};
+ghost use Rattle.wc_calls.specs.MemoryFaults.{gc_is_memory};
+ghost use Rattle.wc_calls.specs.Private.TrimArguments.{IsRefusedFor};
+
+use crate::answers::{Answer, BAD_ARGUMENT, MEMORY, answer_without_bytes, put};
+use crate::export_names::{are_texts, name_set};
+use crate::trimming::{Arguments, answer_trim_fault};
+use std::alloc::Global;
+use wc_gc::{GcFault, why_imports};
+use wc_maps::{Seed, Set};
+use wc_record::import_chains_to_json;
+
+/// Says why an adapter imports what it does, where its exports of the names `required` are: the shortest chain to each
+/// import that they reach, as `wc_gc::why_imports` does. A repeated name counts once, and no name is one. `seed`: the
+/// seed of the maps that are made.
+///
+/// - `DONE`: the front of `out` has the chains as JSON, as `wc_record::import_chains_to_json` writes them; `length` is how
+///   many bytes that has. It is a tree, and linear in the adapter.
+/// - `TOO_SMALL`: the same would have `length` bytes, and `out` has fewer.
+/// - `BAD_ARGUMENT`: exactly where a name is no text (UTF-8).
+/// - `FAULT`: the fault of `why_imports`, as that of `trim`.
+/// - `MEMORY`: an allocation failed.
+///
+/// It is never `SAME`. `out` is as it was but for `DONE` and `FAULT`, and then after the first `length` bytes. Numbers of
+/// the answer that nothing is said of are 0.
+pub fn why(alloc: Global, seed: Seed, wasm: &[u8], required: &[&[u8]], out: &mut [u8]) -> Answer
+    ensures done { result.status ≡ done
+        → IsPut (IsWhyText (trim_input_for_names wasm.now (texts required.now)))
+        result.length out.old out.new }
+    ensures too_small { result.status ≡ too_small
+        → IsTooLong (IsWhyText (trim_input_for_names wasm.now (texts required.now)))
+        result.length out.old }
+    ensures fault { result.status ≡ failed
+        → IsWhyFault wasm.now (texts required.now) result out.old out.new }
+    ensures module_length { result.module_length ≡ 0 }
+    ensures bad_argument { result.status ≡ bad_argument → ¬ (All IsUtf8 (texts required.now)) }
+    ensures arguments { result.status ≢ bad_argument → All IsUtf8 (texts required.now) }
+    ensures unchanged { result.status ≢ done → result.status ≢ failed → out.new ≡ out.old }
+    ensures statuses { (result.status ≤ 5) × (result.status ≢ same) }
+    ensures others { AreOthersOfTextZero result }
+{
+    if !are_texts(required) {
+        return answer_without_bytes(BAD_ARGUMENT);
+    }
+    why_for_names(alloc, seed, wasm, required, out)
+}
+
+/// The same for names that are texts.
+fn why_for_names<'a>(
+    alloc: Global,
+    seed: Seed,
+    wasm: &'a [u8],
+    required: &'a [&'a [u8]],
+    out: &mut [u8],
+) -> Answer
+    requires { All IsUtf8 (texts required.now) }
+    ensures done { result.status ≡ done
+        → IsPut (IsWhyText (trim_input_for_names wasm.now (texts required.now)))
+        result.length out.old out.new }
+    ensures too_small { result.status ≡ too_small
+        → IsTooLong (IsWhyText (trim_input_for_names wasm.now (texts required.now)))
+        result.length out.old }
+    ensures fault { result.status ≡ failed
+        → IsWhyFault wasm.now (texts required.now) result out.old out.new }
+    ensures module_length { result.module_length ≡ 0 }
+    ensures unchanged { result.status ≢ done → result.status ≢ failed → out.new ≡ out.old }
+    ensures statuses { (result.status ≤ 5) × (result.status ≢ same)
+        × (result.status ≢ bad_argument) }
+    ensures others { AreOthersOfTextZero result }
+{
+    let Ok(names) = name_set(alloc, seed, required) else {
+        return answer_without_bytes(MEMORY);
+    };
+    let text = why_text(alloc, wasm, &names);
+    let passed = Arguments {
+        wasm,
+        required,
+        realloc: None,
+        page_size_log2: 16,
+    };
+    put_why(alloc, passed, &names, &text, out)
+}
+
+/// The chains to imports of an adapter, as JSON.
+fn why_text(alloc: Global, wasm: &[u8], names: &Set<String>) -> Result<Vec<u8>, GcFault>
+    ensures text { IfOk result (λ v. IsWhyText (trim_input wasm.now names.now.keys) v.items) }
+    ensures fault { IfErr result (IsFault (trim_input wasm.now names.now.keys)) }
+{
+    let chains = why_imports(alloc, wasm, names)?;
+    let text = import_chains_to_json(alloc, &chains)?;
+    Ok(text)
+}
+
+/// Writes the chains to imports of an adapter; of a fault what it is about.
+fn put_why(
+    alloc: Global,
+    passed: Arguments<'_>,
+    names: &Set<String>,
+    text: &Result<Vec<u8>, GcFault>,
+    out: &mut [u8],
+) -> Answer
+    ensures module_length { result.module_length ≡ 0 }
+    ensures length { IfOk text.now (λ v. result.length ≡ length v.items) }
+    ensures done { IfOk text.now (λ v. result.status ≡ done → IsFront v.items out.old out.new) }
+    ensures too_small { IfOk text.now (λ v. result.status ≡ too_small
+        → length out.old < result.length) }
+    ensures ok { IfOk text.now (λ v. IsBytesStatus result.status) }
+    ensures refused { IfErr text.now (λ _. (result.status ≢ done)
+        × (result.status ≢ too_small)) }
+    ensures fault_or_memory { IfErr text.now (λ _. (result.status ≡ failed)
+        ⊎ (result.status ≡ out_of_memory)) }
+    ensures memory { IfErr text.now (λ f. result.status ≡ failed → gc_is_memory f ≡ false) }
+    ensures fault { IfErr text.now (λ f. IsRefusedFor passed.entry names.now.keys f
+        result out.old out.new) }
+    ensures unchanged { result.status ≢ done → result.status ≢ failed → out.new ≡ out.old }
+    ensures others { AreOthersOfTextZero result }
+{
+    match text {
+        Ok(bytes) => put(&[], bytes.as_slice(), out),
+        Err(fault) => answer_trim_fault(alloc, passed, names, fault, out),
+    }
+}

@@ -1,0 +1,220 @@
+//! The calls of `wc_plan`.
+
+use crate::calls::described_encoder;
+use std::alloc::{AllocError, Global};
+use std::str;
+use wc_encoder::ComponentEncoder;
+use wc_fixtures::resolve_calls::argument_words;
+use wc_fixtures::stop::{Stop, put_answered};
+use wc_lines::lines::Lines;
+use wc_lines::rows::Row;
+use wc_lines::seeds::row_seed;
+use wc_maps::Map;
+use wc_plan::laws::worlds_nameable;
+use wc_plan::{Plan, PlanFault, plan, plan_encoder, write_plan};
+use wc_record::plan_to_json;
+use wc_validate::ValidateFault;
+use wc_world::{ComponentWorld, PlainOptions, WorldFault};
+use wc_write::{PutFailed, Sink};
+
+/// What the lines of a plan are printed to. It takes some puts, and fails at the next.
+#[derive(Drop)]
+struct Printed {
+    lines: Lines,
+    puts: u32,
+    failed: bool,
+}
+
+impl Sink for Printed {
+    ghost use Rattle.std.specs.Prelude.{None};
+
+    ghost written = { λ _. None };
+
+    ghost is_failed = { λ s. s.failed };
+
+    fn put(&mut self, bytes: &[u8]) -> Result<(), PutFailed> {
+        if self.failed || self.puts == 0 {
+            self.failed = true;
+            return Err(PutFailed);
+        }
+        let Ok(text) = str::from_utf8(bytes) else {
+            self.failed = true;
+            return Err(PutFailed);
+        };
+        self.puts -= 1;
+        self.lines.push_str(text);
+        Ok(())
+    }
+
+    fn failed(&self) -> bool {
+        self.failed
+    }
+}
+
+/// A fault; and after that of a function the function's name.
+fn put_fault(fault: &PlanFault, out: &mut Lines) {
+    writeln!(out, "fault {fault}");
+    match fault {
+        PlanFault::NoMemory(name) => writeln!(out, "of {name}"),
+        PlanFault::NoRealloc(name) => writeln!(out, "of {name}"),
+        PlanFault::NoLowering(name) => writeln!(out, "of {name}"),
+        _ => {}
+    }
+}
+
+/// The lines of a plan, over a sink that fails after so many puts; or why there is no plan.
+fn put_plan(alloc: Global, plan: &Result<Plan, PlanFault>, puts: u32, out: &mut Lines) {
+    match plan {
+        Ok(plan) => put_lines(alloc, plan, puts, out),
+        Err(fault) => put_fault(fault, out),
+    }
+}
+
+fn put_lines(alloc: Global, plan: &Plan, puts: u32, out: &mut Lines) {
+    let mut printed = Printed {
+        lines: Lines::new(alloc),
+        puts,
+        failed: false,
+    };
+    match write_plan(plan, &mut printed) {
+        Ok(()) => out.push_lines(&printed.lines),
+        Err(fault) => put_fault(&fault, out),
+    }
+}
+
+/// A plan as JSON; or why there is none.
+fn put_record(alloc: Global, plan: &Result<Plan, PlanFault>, out: &mut Lines) {
+    match plan {
+        Ok(plan) => put_json(alloc, plan, out),
+        Err(fault) => put_fault(fault, out),
+    }
+}
+
+fn put_json(alloc: Global, plan: &Plan, out: &mut Lines) {
+    match plan_to_json(alloc, plan) {
+        Ok(bytes) => put_text(&bytes, out),
+        Err(_) => out.lack_memory(),
+    }
+}
+
+fn put_text(bytes: &[u8], out: &mut Lines) {
+    if let Ok(text) = str::from_utf8(bytes) {
+        writeln!(out, "{text}");
+    }
+}
+
+/// The plan of the encoder's world, all of whose lowerings are taken away.
+fn plan_without_lowerings(alloc: Global, encoder: &ComponentEncoder) -> Result<Plan, PlanFault> {
+    let mut world = ComponentWorld::new(alloc, encoder, &PlainOptions)?;
+    // So what is imported can be named.
+    worlds_nameable(encoder);
+    world.import_map = Map::with_hasher(alloc, row_seed());
+    plan(alloc, &world)
+}
+
+/// A fault of the function `f`, by its number.
+fn function_fault(alloc: Global, number: u32) -> Result<PlanFault, AllocError> {
+    let name = String::from_str(alloc, "f")?;
+    Ok(match number {
+        0 => PlanFault::NoMemory(name),
+        1 => PlanFault::NoRealloc(name),
+        _ => PlanFault::NoLowering(name),
+    })
+}
+
+/// The text of each fault, in the order of `PlanFault`.
+fn put_faults(alloc: Global, out: &mut Lines) -> Result<(), AllocError> {
+    let memory = PlanFault::Memory;
+    writeln!(out, "{memory}");
+    for number in 0..3 {
+        let fault = function_fault(alloc, number)?;
+        writeln!(out, "{fault}");
+    }
+    for fault in &[
+        PlanFault::World(WorldFault::Main(ValidateFault::NotAModule)),
+        PlanFault::Output,
+    ] {
+        writeln!(out, "{fault}");
+    }
+    Ok(())
+}
+
+/// The calls of `wc_plan`.
+#[derive(Clone, Copy)]
+pub enum Call {
+    Plan,
+    /// The plan as JSON.
+    Json,
+    /// `plan_failing PUTS`: the lines, over a sink that fails after so many puts.
+    Failing,
+    /// The plan of the world, all of whose lowerings are taken away.
+    WithoutLowerings,
+    Faults,
+}
+
+fn answer_faults<'a>(alloc: Global, out: &mut Lines) -> Result<(), Stop<'a>> {
+    put_faults(alloc, out)?;
+    Ok(())
+}
+
+/// The calls on the encoder that the input describes.
+fn answer_planned<'a>(
+    alloc: Global,
+    call: Call,
+    row: &'a Row<'a>,
+    out: &mut Lines,
+) -> Result<(), Stop<'a>> {
+    let puts = puts_of(alloc, call, row)?;
+    match described_encoder(alloc, &row.input) {
+        Ok(encoder) => {
+            put_planned(alloc, call, &encoder, puts, out);
+            Ok(())
+        }
+        Err(stop) => Err(stop),
+    }
+}
+
+/// After how many puts the sink fails: as the argument of `plan_failing` says.
+fn puts_of<'a>(alloc: Global, call: Call, row: &'a Row<'a>) -> Result<u32, Stop<'a>> {
+    let mut words = argument_words(alloc, row)?;
+    let puts = if matches!(call, Call::Failing) {
+        words.number()?
+    } else {
+        u32::MAX
+    };
+    words.end()?;
+    Ok(puts)
+}
+
+/// What a call says of the plan of an encoder's world.
+fn put_planned(alloc: Global, call: Call, encoder: &ComponentEncoder, puts: u32, out: &mut Lines) {
+    let plan = if matches!(call, Call::WithoutLowerings) {
+        plan_without_lowerings(alloc, encoder)
+    } else {
+        plan_encoder(alloc, encoder, &PlainOptions)
+    };
+    if matches!(call, Call::Json) {
+        put_record(alloc, &plan, out);
+    } else {
+        put_plan(alloc, &plan, puts, out);
+    }
+}
+
+fn answered<'a>(
+    alloc: Global,
+    call: Call,
+    row: &'a Row<'a>,
+    out: &mut Lines,
+) -> Result<(), Stop<'a>> {
+    match call {
+        Call::Faults => answer_faults(alloc, out),
+        _ => answer_planned(alloc, call, row, out),
+    }
+}
+
+/// Appends the answer of a call of `wc_plan`.
+pub fn answer(alloc: Global, call: Call, row: &Row<'_>, out: &mut Lines) {
+    let mut lines = Lines::new(alloc);
+    let answered = answered(alloc, call, row, &mut lines);
+    put_answered(out, answered, &lines);
+}

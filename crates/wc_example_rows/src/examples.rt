@@ -1,0 +1,423 @@
+//! Examples of calling each library, and the rows' call of them: `example NAME ARGUMENT..`.
+
+mod dedupe;
+mod demo;
+mod encoder;
+mod gc;
+mod names;
+mod plan;
+mod read;
+mod resolve;
+mod tool;
+mod validate;
+mod world;
+mod write;
+
+use crate::examples::world::Summary;
+use std::alloc::Global;
+use std::str;
+use wc_encoder::{ComponentEncoder, EncoderFault};
+use wc_gc::GcFault;
+use wc_lines::imports::imports_of;
+use wc_lines::input::{Stop, bad_row, bytes_of, end_answer};
+use wc_lines::lines::Lines;
+use wc_lines::names::names_from;
+use wc_lines::rows::Row;
+use wc_lines::seeds::row_seed;
+use wc_lines::table::named;
+use wc_lines::values::{put_bytes_lines, put_fault};
+use wc_maps::Map;
+use wc_plan::PlanFault;
+use wc_resolve::{Parts, Resolve, ResolveFault, World, WorldId};
+use wctrim_command::ToolFault;
+
+/// Appends the answer of an example.
+pub fn answer(alloc: Global, row: &Row<'_>, out: &mut Lines) {
+    let answered = answer_call(alloc, row, out);
+    end_answer(answered, out);
+}
+
+/// The examples by their names.
+#[derive(Clone, Copy)]
+enum Example {
+    ExportsMemory,
+    ImportSection,
+    OriginalName,
+    InterfaceId,
+    DroppedResource,
+    EncoderFor,
+    PrintedLines,
+    ReachesMemory,
+    TrimBoth,
+    TrimUnedited,
+    Summary,
+    PrintedPlan,
+    ImportedMemory,
+    CanUseSlot1,
+}
+
+const EXAMPLES: [(&str, Example); 14] = [
+    ("exports_memory", Example::ExportsMemory),
+    ("import_section", Example::ImportSection),
+    ("original_name", Example::OriginalName),
+    ("interface_id", Example::InterfaceId),
+    ("dropped_resource", Example::DroppedResource),
+    ("encoder_for", Example::EncoderFor),
+    ("printed_lines", Example::PrintedLines),
+    ("reaches_memory", Example::ReachesMemory),
+    ("trim_both", Example::TrimBoth),
+    ("trim_unedited", Example::TrimUnedited),
+    ("summary", Example::Summary),
+    ("printed_plan", Example::PrintedPlan),
+    ("imported_memory", Example::ImportedMemory),
+    ("can_use_slot_1", Example::CanUseSlot1),
+];
+
+fn answer_call(alloc: Global, row: &Row<'_>, out: &mut Lines) -> Result<(), Stop> {
+    match named(&EXAMPLES, argument(row, 0)) {
+        Some(example) => answer_example(alloc, example, row, out),
+        None => Err(bad_row(out, "no example", argument(row, 0))),
+    }
+}
+
+fn answer_example(
+    alloc: Global,
+    example: Example,
+    row: &Row<'_>,
+    out: &mut Lines,
+) -> Result<(), Stop> {
+    match example {
+        Example::ExportsMemory => answer_exports_memory(alloc, row, out),
+        Example::ImportSection => answer_import_section(alloc, row, out),
+        Example::OriginalName => answer_original_name(alloc, row, out),
+        Example::InterfaceId => answer_interface_id(alloc, row, out),
+        Example::DroppedResource => answer_dropped_resource(row, out),
+        Example::EncoderFor => answer_encoder_for(alloc, row, out),
+        Example::PrintedLines => answer_printed_lines(alloc, row, out),
+        Example::ReachesMemory => answer_reaches_memory(alloc, row, out),
+        Example::TrimBoth => answer_trim_both(alloc, row, out),
+        Example::TrimUnedited => answer_trim_unedited(alloc, row, out),
+        Example::Summary => answer_summary(alloc, row, out),
+        Example::PrintedPlan => answer_printed_plan(alloc, row, out),
+        Example::ImportedMemory => answer_imported_memory(alloc, row, out),
+        Example::CanUseSlot1 => answer_can_use_slot_1(alloc, row, out),
+    }
+}
+
+/// An argument of a row that has so many or less; it is empty where there are fewer.
+fn argument<'a>(row: &Row<'a>, index: usize) -> &'a str {
+    match row.arguments.get(index) {
+        Some(argument) => *argument,
+        None => "",
+    }
+}
+
+/// An argument that is a number.
+fn number(row: &Row<'_>, index: usize, out: &mut Lines) -> Result<u32, Stop> {
+    match argument(row, index).parse::<u32>() {
+        Ok(number) => Ok(number),
+        Err(_) => Err(bad_row(out, "no number", argument(row, index))),
+    }
+}
+
+/// A name in quotes, or `none`.
+fn put_name(out: &mut Lines, name: &Option<String>) {
+    match name {
+        Some(name) => writeln!(out, "{name:?}"),
+        None => out.push_str("none\n"),
+    }
+}
+
+fn answer_exports_memory(alloc: Global, row: &Row<'_>, out: &mut Lines) -> Result<(), Stop> {
+    let bytes = bytes_of(alloc, &row.input, out)?;
+    match read::exports_memory(alloc, &bytes) {
+        Ok(answer) => writeln!(out, "{answer}"),
+        Err(fault) => put_fault(out, fault),
+    }
+    Ok(())
+}
+
+fn answer_import_section(alloc: Global, row: &Row<'_>, out: &mut Lines) -> Result<(), Stop> {
+    let bytes = bytes_of(alloc, &row.input, out)?;
+    match write::import_section(alloc, &bytes) {
+        Ok(section) => put_bytes_lines(out, "bytes", &section),
+        Err(fault) => put_fault(out, fault),
+    }
+    Ok(())
+}
+
+/// The last line of input describes the import; those before it are the module.
+fn answer_original_name(alloc: Global, row: &Row<'_>, out: &mut Lines) -> Result<(), Stop> {
+    let Some((last, lines)) = row.input.as_slice().split_last() else {
+        return Err(bad_row(out, "no import", ""));
+    };
+    let bytes = bytes_of(alloc, lines, out)?;
+    let imports = imports_of(alloc, &[*last], out)?;
+    let Some(import) = imports.first() else {
+        return Err(bad_row(out, "no import", last));
+    };
+    match dedupe::original_name(alloc, &bytes, import) {
+        Ok(name) => put_name(out, &name),
+        Err(fault) => put_fault(out, fault),
+    }
+    Ok(())
+}
+
+/// `example interface_id NAMESPACE NAME INTERFACE`.
+fn answer_interface_id(alloc: Global, row: &Row<'_>, out: &mut Lines) -> Result<(), Stop> {
+    let (namespace, name) = (argument(row, 1), argument(row, 2));
+    match resolve::interface_id(alloc, row_seed(), namespace, name, argument(row, 3)) {
+        Ok(id) => put_name(out, &id),
+        Err(fault) => put_fault(out, fault),
+    }
+    Ok(())
+}
+
+/// A `Resolve` of one world, which imports and exports nothing.
+fn empty_world(alloc: Global) -> Result<Resolve, ResolveFault> {
+    let world = World {
+        name: String::from_str(alloc, "empty")?,
+        imports: Map::with_hasher(alloc, row_seed()),
+        exports: Map::with_hasher(alloc, row_seed()),
+    };
+    let parts = Parts {
+        worlds: vec![in alloc; world]?,
+        interfaces: Vec::new(alloc),
+        types: Vec::new(alloc),
+        packages: Vec::new(alloc),
+    };
+    Resolve::build(alloc, parts)
+}
+
+/// `example dropped_resource NAME`.
+fn answer_dropped_resource(row: &Row<'_>, out: &mut Lines) -> Result<(), Stop> {
+    match names::dropped_resource(argument(row, 1)) {
+        Some(resource) => writeln!(out, "{resource:?}"),
+        None => out.push_str("none\n"),
+    }
+    Ok(())
+}
+
+/// `example encoder_for WORLD`: the encoder's module, and its world.
+fn answer_encoder_for(alloc: Global, row: &Row<'_>, out: &mut Lines) -> Result<(), Stop> {
+    let world = WorldId(number(row, 1, out)?);
+    let module = bytes_of(alloc, &row.input, out)?;
+    let resolve = match empty_world(alloc) {
+        Ok(resolve) => resolve,
+        Err(fault) => {
+            put_fault(out, fault);
+            return Ok(());
+        }
+    };
+    match encoder::encoder_for(alloc, row_seed(), module, resolve, world) {
+        Ok(encoder) => {
+            put_bytes_lines(out, "module", encoder.module());
+            let id = encoder.metadata().world.0;
+            writeln!(out, "world {id}");
+        }
+        Err(fault) => put_fault(out, fault),
+    }
+    Ok(())
+}
+
+/// `example printed_lines ARGUMENT..`.
+fn answer_printed_lines(alloc: Global, row: &Row<'_>, out: &mut Lines) -> Result<(), Stop> {
+    let mut arguments = Vec::new(alloc);
+    for argument in row.arguments.iter().skip(1) {
+        arguments.push(String::from_str(alloc, argument)?)?;
+    }
+    let input = bytes_of(alloc, &row.input, out)?;
+    match tool::printed_lines(alloc, row_seed(), &arguments, &input) {
+        Ok(Some(lines)) => put_lines(out, &lines),
+        Ok(None) => out.push_str("usage\n"),
+        // The lines are put into memory, which ran out.
+        Err(ToolFault::Output) => return Err(Stop::Memory),
+        Err(fault) => put_fault(out, fault),
+    }
+    Ok(())
+}
+
+/// `example reaches_memory NAME..`.
+fn answer_reaches_memory(alloc: Global, row: &Row<'_>, out: &mut Lines) -> Result<(), Stop> {
+    let bytes = bytes_of(alloc, &row.input, out)?;
+    let required = names_from(alloc, row, 1)?;
+    match gc::reaches_memory(alloc, &bytes, &required) {
+        Ok(answer) => writeln!(out, "{answer}"),
+        Err(fault) => writeln!(out, "fault {fault}"),
+    }
+    Ok(())
+}
+
+/// `example trim_both NAME..`, with a line `and` between two modules.
+fn answer_trim_both(alloc: Global, row: &Row<'_>, out: &mut Lines) -> Result<(), Stop> {
+    let first = bytes_beside(alloc, row, "and", false, out)?;
+    let second = bytes_beside(alloc, row, "and", true, out)?;
+    let required = names_from(alloc, row, 1)?;
+    if required.is_empty() {
+        return Err(bad_row(out, "no names", row.call));
+    }
+    put_both(gc::trim_both(alloc, &first, &second, &required), out);
+    Ok(())
+}
+
+fn put_both(trimmed: Result<(Vec<u8>, Vec<u8>), GcFault>, out: &mut Lines) {
+    match trimmed {
+        Ok((first, second)) => {
+            out.push_str("first\n");
+            put_bytes_lines(out, "bytes", &first);
+            out.push_str("second\n");
+            put_bytes_lines(out, "bytes", &second);
+        }
+        Err(fault) => writeln!(out, "fault {fault}"),
+    }
+}
+
+/// `example trim_unedited NAME..`.
+fn answer_trim_unedited(alloc: Global, row: &Row<'_>, out: &mut Lines) -> Result<(), Stop> {
+    let bytes = bytes_of(alloc, &row.input, out)?;
+    let required = names_from(alloc, row, 1)?;
+    if required.is_empty() {
+        return Err(bad_row(out, "no names", row.call));
+    }
+    match gc::trim_unedited(alloc, &bytes, &required) {
+        Ok(trimmed) => put_bytes_lines(out, "bytes", &trimmed),
+        Err(fault) => writeln!(out, "fault {fault}"),
+    }
+    Ok(())
+}
+
+/// `example imported_memory`: of the module, as the main module of a world that imports and exports nothing.
+fn answer_imported_memory(alloc: Global, row: &Row<'_>, out: &mut Lines) -> Result<(), Stop> {
+    let module = bytes_of(alloc, &row.input, out)?;
+    match empty_encoder(alloc, module) {
+        Ok(encoder) => put_imported_memory(alloc, &encoder, out),
+        Err(fault) => writeln!(out, "fault {fault}"),
+    }
+    Ok(())
+}
+
+/// `example can_use_slot_1`: of the same.
+fn answer_can_use_slot_1(alloc: Global, row: &Row<'_>, out: &mut Lines) -> Result<(), Stop> {
+    let module = bytes_of(alloc, &row.input, out)?;
+    match empty_encoder(alloc, module) {
+        Ok(encoder) => put_can_use_slot_1(alloc, &encoder, out),
+        Err(fault) => writeln!(out, "fault {fault}"),
+    }
+    Ok(())
+}
+
+/// An encoder of a main module without adapters, for a world that imports and exports nothing.
+fn empty_encoder(alloc: Global, module: Vec<u8>) -> Result<ComponentEncoder, EncoderFault> {
+    match empty_world(alloc) {
+        Ok(resolve) => encoder::encoder_for(alloc, row_seed(), module, resolve, WorldId(0)),
+        Err(_) => Err(EncoderFault::Memory),
+    }
+}
+
+fn put_imported_memory(alloc: Global, encoder: &ComponentEncoder, out: &mut Lines) {
+    match validate::imported_memory(alloc, encoder, encoder.module()) {
+        Ok(memory) => writeln!(out, "{memory:?}"),
+        Err(fault) => writeln!(out, "fault {fault}"),
+    }
+}
+
+fn put_can_use_slot_1(alloc: Global, encoder: &ComponentEncoder, out: &mut Lines) {
+    match world::can_use_slot_1(alloc, encoder) {
+        Ok(answer) => writeln!(out, "{answer}"),
+        Err(fault) => writeln!(out, "fault {fault}"),
+    }
+}
+
+/// `example summary`: of the component of a main module and an adapter. A line `adapter` is between their bytes.
+fn answer_summary(alloc: Global, row: &Row<'_>, out: &mut Lines) -> Result<(), Stop> {
+    let main = bytes_beside(alloc, row, "adapter", false, out)?;
+    let adapter = bytes_beside(alloc, row, "adapter", true, out)?;
+    match demo::demo_encoder(alloc, row_seed(), &main, &adapter) {
+        Ok(encoder) => put_summary(alloc, &encoder, out),
+        Err(fault) => put_fault(out, fault),
+    }
+    Ok(())
+}
+
+/// `example printed_plan`: of the component of a main module and an adapter, as for `summary`.
+fn answer_printed_plan(alloc: Global, row: &Row<'_>, out: &mut Lines) -> Result<(), Stop> {
+    let main = bytes_beside(alloc, row, "adapter", false, out)?;
+    let adapter = bytes_beside(alloc, row, "adapter", true, out)?;
+    match demo::demo_encoder(alloc, row_seed(), &main, &adapter) {
+        Ok(encoder) => put_printed_plan(alloc, &encoder, out),
+        Err(fault) => {
+            put_fault(out, fault);
+            Ok(())
+        }
+    }
+}
+
+fn put_printed_plan(
+    alloc: Global,
+    encoder: &ComponentEncoder,
+    out: &mut Lines,
+) -> Result<(), Stop> {
+    match plan::printed_plan(alloc, encoder) {
+        Ok(lines) => put_lines(out, &lines),
+        // The lines are put into memory, which ran out.
+        Err(PlanFault::Output) => return Err(Stop::Memory),
+        Err(fault) => put_fault(out, fault),
+    }
+    Ok(())
+}
+
+/// The bytes of the lines before the line that separates two modules, or of those after it.
+fn bytes_beside(
+    alloc: Global,
+    row: &Row<'_>,
+    separator: &str,
+    is_after: bool,
+    out: &mut Lines,
+) -> Result<Vec<u8>, Stop> {
+    let mut bytes = Vec::new(alloc);
+    let mut is_past = false;
+    for line in &row.input {
+        if *line == separator {
+            is_past = true;
+        } else if is_past == is_after {
+            let part = bytes_of(alloc, &[*line], out)?;
+            bytes.extend_from_slice(&part)?;
+        }
+    }
+    Ok(bytes)
+}
+
+fn put_summary(alloc: Global, encoder: &ComponentEncoder, out: &mut Lines) {
+    match world::read_world(alloc, encoder) {
+        Ok(summary) => put_parts(&summary, out),
+        Err(fault) => writeln!(out, "fault {fault}"),
+    }
+}
+
+fn put_parts(summary: &Summary, out: &mut Lines) {
+    put_bytes_lines(out, "trimmed", &summary.trimmed);
+    for lowered in &summary.lowered {
+        let name = lowered.name.as_str();
+        let when = if lowered.is_direct {
+            "direct"
+        } else {
+            "indirect"
+        };
+        let options = lowered.options;
+        writeln!(out, "lowered {name:?} {when} {options}");
+    }
+    for id in &summary.live {
+        let index = id.0;
+        writeln!(out, "live {index}");
+    }
+}
+
+/// A line for each line that was printed.
+fn put_lines(out: &mut Lines, bytes: &[u8]) {
+    let Ok(text) = str::from_utf8(bytes) else {
+        return put_bytes_lines(out, "printed", bytes);
+    };
+    for line in text.lines() {
+        writeln!(out, "line {line:?}");
+    }
+}

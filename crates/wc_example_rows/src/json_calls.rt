@@ -1,0 +1,117 @@
+//! Calls of `wc_json`: texts read as resolved worlds.
+
+use std::alloc::Global;
+use wc_fixtures::shown_names::{put_id, put_name};
+use wc_fixtures::shown_worlds::{put_interface, put_package, put_type_def, put_world};
+use wc_json::{Document, JsonFault, document_from_json};
+use wc_lines::input::{Stop, end_answer};
+use wc_lines::lines::Lines;
+use wc_lines::rows::Row;
+use wc_lines::seeds::row_seed;
+use wc_lines::values::put_fault;
+use wc_maps::Map;
+use wc_resolve::{PackageId, Parts, WorldId};
+
+/// Appends the answer of the call of `wc_json`.
+pub fn answer(alloc: Global, row: &Row<'_>, out: &mut Lines) {
+    let answered = answer_document(alloc, &row.input, out);
+    end_answer(answered, out);
+}
+
+/// `document`: the text that the lines of input are, with a line feed after each; its types, interfaces, packages and
+/// worlds as fixtures write them, and then which package each world is of, and which worlds each package lists.
+fn answer_document(alloc: Global, input: &[&str], out: &mut Lines) -> Result<(), Stop> {
+    let mut text = String::new(alloc);
+    for line in input {
+        text.push_str(line)?;
+        text.push('\n')?;
+    }
+    put_document(document_from_json(alloc, row_seed(), &text), out)
+}
+
+/// The lines of a document, or of a fault.
+fn put_document(read: Result<Document, JsonFault>, out: &mut Lines) -> Result<(), Stop> {
+    match read {
+        Ok(document) => {
+            put_parts(out, &document.parts);
+            put_world_packages(out, &document.world_packages);
+            put_package_worlds(out, &document.package_worlds);
+            Ok(())
+        }
+        Err(fault) => {
+            put_fault(out, fault);
+            Ok(())
+        }
+    }
+}
+
+fn put_parts(out: &mut Lines, parts: &Parts) {
+    let mut index = 0u32;
+    for def in &parts.types {
+        put_type_def(out, index, def);
+        index = index.saturating_add(1);
+    }
+    put_interfaces(out, parts);
+    put_packages(out, parts);
+    put_worlds(out, parts);
+}
+
+fn put_interfaces(out: &mut Lines, parts: &Parts) {
+    let mut index = 0u32;
+    for interface in &parts.interfaces {
+        put_interface(out, index, interface);
+        index = index.saturating_add(1);
+    }
+}
+
+fn put_packages(out: &mut Lines, parts: &Parts) {
+    let mut index = 0u32;
+    for package in &parts.packages {
+        put_package(out, index, package);
+        index = index.saturating_add(1);
+    }
+}
+
+fn put_worlds(out: &mut Lines, parts: &Parts) {
+    let mut index = 0u32;
+    for world in &parts.worlds {
+        put_world(out, index, world);
+        index = index.saturating_add(1);
+    }
+}
+
+/// `of`, a world and its package, for each world that names one.
+fn put_world_packages(out: &mut Lines, packages: &[Option<PackageId>]) {
+    let mut index = 0u32;
+    for package in packages {
+        if let Some(id) = package {
+            out.push_str("of ");
+            put_id(out, 'w', index);
+            out.push(' ');
+            put_id(out, 'p', id.0);
+            out.push('\n');
+        }
+        index = index.saturating_add(1);
+    }
+}
+
+/// `lists`, a package, a world's name and its id, for each world of each package.
+fn put_package_worlds(out: &mut Lines, packages: &[Map<String, WorldId>]) {
+    let mut index = 0u32;
+    for worlds in packages {
+        put_listed(out, index, worlds);
+        index = index.saturating_add(1);
+    }
+}
+
+fn put_listed(out: &mut Lines, package: u32, worlds: &Map<String, WorldId>) {
+    for (name, id) in worlds.iter() {
+        out.push_str("lists ");
+        put_id(out, 'p', package);
+        out.push(' ');
+        put_name(out, name);
+        out.push(' ');
+        put_id(out, 'w', id.0);
+        out.push('\n');
+    }
+}

@@ -1,0 +1,48 @@
+use Rattle.std.proofs.Common.{◌≡◌, List, ap, subst, sym, ◌∙◌, refl, map, None}
+use Rattle.std.proofs.lemmas.Bool.{false≢true}
+use Rattle.std.proofs.lemmas.Result.{err_from_is_err_and}
+use Rattle.wc_read.specs.Exports.{ExportValue, export_value}
+use Rattle.wc_read.specs.Modules.{module_value}
+use Rattle.wc_gc.specs.KeptExports.{AreNamed, export_entries, missing_name}
+use Rattle.wc_gc.specs.LiveChains.{items_named}
+use Rattle.wc_gc.specs.Liveness.{names_of}
+use Rattle.wc_gc.specs.Private.Explained.{HasFound}
+use Rattle.wc_gc.specs.Private.Roots.{AreNamedRoots}
+use Rattle.wc_gc.proofs.ExportLemmas.{named_by_name, entries_by_name}
+use Rattle.wc_gc.proofs.LivenessLemmas.{missing_fault}
+use Rattle.wc_gc.proofs.live_chains.supported_roots.Goals as goal
+
+pub check_named-requires : goal.check_named-requires
+check_named-requires c = subst AreNamed (sym c.in_ok-named.ensures) (named_by_name c.deref.result.now)
+
+pub returns-in_err-check_named-clause-fault : goal.returns-in_err-check_named-clause-fault
+returns-in_err-check_named-clause-fault c =
+    let p = err_from_is_err_and c.from_residual-in_err-check_named.result c.from_residual-in_err-check_named.ensures.1 in
+    let same = ap export_entries c.in_ok-named.ensures ∙ (entries_by_name c.deref.result.now ∙ ap (map export_value) c.deref.ensures.value) in
+    rw (p.1, p.2) (missing_fault (names_of c.args.required.now.keys) (module_value c.args.adapter.now) _ _ same c.in_err-check_named.ensures.fault)
+
+pub returns-then-has_unsupported-clause-fault : goal.returns-then-has_unsupported-clause-fault
+returns-then-has_unsupported-clause-fault c =
+    let same = ap export_entries c.in_ok-named.ensures ∙ (entries_by_name c.deref.result.now ∙ ap (map export_value) c.deref.ensures.value) in
+    (subst (λ (z : List ExportValue). missing_name z (names_of c.args.required.now.keys) ≡ None) same (c.in_ok-check_named.ensures.none refl), c.if-has_unsupported.ensures.0 refl)
+
+pub find_roots-requires : goal.find_roots-requires
+find_roots-requires c = subst AreNamed (sym c.in_ok-named.ensures) (named_by_name c.deref.result.now)
+
+pub returns-clause-found : goal.returns-clause-found
+returns-clause-found c =
+    let same = ap export_entries c.in_ok-named.ensures ∙ (entries_by_name c.deref.result.now ∙ ap (map export_value) c.deref.ensures.value) in
+    subst (λ (z : List ExportValue). HasFound (items_named z (names_of c.args.required.now.keys)) c.in_ok-roots.roots.search) same c.in_ok-roots.ensures.found
+
+pub returns-clause-named : goal.returns-clause-named
+returns-clause-named c =
+    let same = ap export_entries c.in_ok-named.ensures ∙ (entries_by_name c.deref.result.now ∙ ap (map export_value) c.deref.ensures.value) in
+    subst (λ (z : List ExportValue). AreNamedRoots (names_of c.args.required.now.keys) z c.in_ok-roots.roots) same c.in_ok-roots.ensures.named
+
+pub returns-clause-supported : goal.returns-clause-supported
+returns-clause-supported c =
+    let same = ap export_entries c.in_ok-named.ensures ∙ (entries_by_name c.deref.result.now ∙ ap (map export_value) c.deref.ensures.value) in
+    λ _. (
+      subst (λ (z : List ExportValue). missing_name z (names_of c.args.required.now.keys) ≡ None) same (c.in_ok-check_named.ensures.none refl),
+      (λ u. absurd (false≢true (c.if-has_unsupported.ensures.1 u))),
+    )

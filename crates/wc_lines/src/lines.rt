@@ -1,0 +1,132 @@
+//! The text of an answer.
+
+use std::alloc::{AllocError, Global};
+use std::fmt::Display;
+
+/// Lines that are appended to. Where memory runs out, a part is left out, and the whole is no longer handed out. The answer
+/// of a row that can't be read is one line that says so; what is appended before and after it is left out.
+#[derive(Drop)]
+pub struct Lines {
+    text: String,
+    is_short: bool,
+    is_ended: bool,
+}
+
+impl Lines {
+    pub fn new(alloc: Global) -> Lines {
+        Lines {
+            text: String::new(alloc),
+            is_short: false,
+            is_ended: false,
+        }
+    }
+
+    pub fn push_str(&mut self, text: &str) {
+        if self.is_ended {
+            return;
+        }
+        let pushed = self.text.push_str(text);
+        let _ = self.keep(pushed);
+    }
+
+    pub fn push(&mut self, character: char) {
+        if self.is_ended {
+            return;
+        }
+        let pushed = self.text.push(character);
+        let _ = self.keep(pushed);
+    }
+
+    /// What `write!` and `writeln!` call.
+    pub fn write_fmt<D: Display + Drop>(&mut self, value: D) {
+        if self.is_ended {
+            return;
+        }
+        let written = self.text.write_fmt(value);
+        let _ = self.keep(written);
+    }
+
+    /// A word, and a number after it.
+    pub fn number(&mut self, word: &str, number: u64) {
+        self.push_str(word);
+        write!(self, "{number}");
+    }
+
+    /// A word, and a text in quotes after it.
+    pub fn quoted(&mut self, word: &str, text: &str) {
+        self.push_str(word);
+        write!(self, "{text:?}");
+    }
+
+    /// A word, and `true` or `false` after it.
+    pub fn flag(&mut self, word: &str, is_set: bool) {
+        self.push_str(word);
+        self.push_str(if is_set { "true" } else { "false" });
+    }
+
+    /// A word, and a byte in two hex digits after it.
+    pub fn hex(&mut self, word: &str, byte: u8) {
+        self.push_str(word);
+        write!(self, "{byte:02x}");
+    }
+
+    /// The end of a line.
+    pub fn end(&mut self) {
+        self.push('\n');
+    }
+
+    /// Makes the answer one line: that the row can't be read, and why. The first such line stays.
+    pub fn bad_row<D: Display + Drop>(&mut self, why: D) {
+        if !self.is_ended {
+            self.text.clear();
+            self.push_str("bad row: ");
+            self.write_fmt(why);
+            self.end();
+            self.is_ended = true;
+        }
+    }
+
+    /// Whether something was done. Where it was not, memory ran out for it, and so for a part of the answer.
+    pub fn keep(&mut self, done: Result<(), AllocError>) -> bool {
+        let is_done = done.is_ok();
+        if !is_done {
+            self.is_short = true;
+        }
+        is_done
+    }
+
+    /// Appends the text of other lines. Where these are that a row can't be read, they alone are left.
+    pub fn push_lines(&mut self, lines: &Lines) {
+        if lines.is_ended && !self.is_ended {
+            self.text.clear();
+        }
+        match lines.text() {
+            Ok(text) => self.push_str(text),
+            Err(_) => self.lack_memory(),
+        }
+        self.is_ended |= lines.is_ended;
+    }
+
+    /// Whether nothing was appended.
+    pub fn is_empty(&self) -> bool {
+        self.text.is_empty()
+    }
+
+    /// Leaves a part out, for which memory ran out.
+    pub fn lack_memory(&mut self) {
+        self.is_short = true;
+    }
+
+    /// Whether memory ran out for a part.
+    pub fn is_short(&self) -> bool {
+        self.is_short
+    }
+
+    /// The whole text; Err where memory ran out.
+    pub fn text(&self) -> Result<&str, AllocError> {
+        if self.is_short {
+            return Err(AllocError);
+        }
+        Ok(self.text.as_str())
+    }
+}

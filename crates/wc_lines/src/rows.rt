@@ -1,0 +1,214 @@
+//! Rows of tests, read out of the text of a file.
+//!
+//! A file is lines. Those that begin with `#` are comments. Its paragraphs are rows and fixtures: one ends at a blank line,
+//! and before a line that begins another. Each line of a paragraph begins with a word that says what the rest of it is:
+//!
+//! - `row NAME`: a row begins, which shows what its name says;
+//! - `fixture NAME`: lines of input begin that rows after it take up;
+//! - `call NAME ARGUMENT..`: the call;
+//! - `in TEXT`: a line of input;
+//! - `with NAME`: all lines of input of a fixture, in this line's place;
+//! - `out TEXT`: a line of the answer.
+
+use crate::table::named;
+use std::alloc::{AllocError, Global};
+use std::mem;
+
+/// A row: a call, what it is asked with, and the answer that is wanted.
+#[derive(Drop)]
+pub struct Row<'a> {
+    /// What the row shows.
+    pub name: &'a str,
+    /// The name of the call.
+    pub call: &'a str,
+    /// The words after the call's name on its line.
+    pub arguments: Vec<&'a str>,
+    /// The lines of input, those of fixtures among them.
+    pub input: Vec<&'a str>,
+    /// The lines of the answer that is wanted.
+    pub answer: Vec<&'a str>,
+}
+
+impl<'a> Row<'a> {
+    fn new(alloc: Global) -> Row<'a> {
+        Row {
+            name: "",
+            call: "",
+            arguments: Vec::new(alloc),
+            input: Vec::new(alloc),
+            answer: Vec::new(alloc),
+        }
+    }
+}
+
+/// What is wrong with a paragraph.
+#[derive(Clone, Copy)]
+pub enum Flaw<'a> {
+    /// A line begins with no word of the format.
+    Line(&'a str),
+    /// No fixture of that name comes before.
+    Fixture(&'a str),
+}
+
+/// A paragraph. In a fixture all but the name and the lines of input is left as it was.
+#[derive(Drop)]
+pub struct Paragraph<'a> {
+    pub row: Row<'a>,
+    /// The first thing that is wrong with it.
+    pub flaw: Option<Flaw<'a>>,
+    is_fixture: bool,
+}
+
+/// What a line of a paragraph says.
+#[derive(Clone, Copy)]
+enum Part {
+    Row,
+    Fixture,
+    Call,
+    Input,
+    Answer,
+    With,
+}
+
+const PARTS: [(&str, Part); 6] = [
+    ("row", Part::Row),
+    ("fixture", Part::Fixture),
+    ("call", Part::Call),
+    ("in", Part::Input),
+    ("out", Part::Answer),
+    ("with", Part::With),
+];
+
+impl<'a> Paragraph<'a> {
+    fn new(alloc: Global) -> Paragraph<'a> {
+        Paragraph {
+            row: Row::new(alloc),
+            flaw: None,
+            is_fixture: false,
+        }
+    }
+
+    /// Takes up a line that is no comment and not blank. `fixtures` are those that came before.
+    fn add(&mut self, line: &'a str, fixtures: &[Paragraph<'a>]) -> Result<(), AllocError> {
+        let (word, rest) = line.split_once(' ').unwrap_or((line, ""));
+        match named(&PARTS, word) {
+            Some(Part::Row) => self.set_name(rest, false),
+            Some(Part::Fixture) => self.set_name(rest, true),
+            Some(Part::Call) => self.set_call(rest),
+            Some(Part::Input) => push_line(&mut self.row.input, rest),
+            Some(Part::Answer) => push_line(&mut self.row.answer, rest),
+            Some(Part::With) => self.add_fixture(rest, fixtures),
+            None => self.find(Flaw::Line(line)),
+        }
+    }
+
+    fn set_name(&mut self, name: &'a str, is_fixture: bool) -> Result<(), AllocError> {
+        self.row.name = name;
+        self.is_fixture = is_fixture;
+        Ok(())
+    }
+
+    fn set_call(&mut self, line: &'a str) -> Result<(), AllocError> {
+        let (call, rest) = line.split_once(' ').unwrap_or((line, ""));
+        self.row.call = call;
+        push_words(&mut self.row.arguments, rest)
+    }
+
+    fn add_fixture(&mut self, name: &'a str, fixtures: &[Paragraph<'a>]) -> Result<(), AllocError> {
+        for fixture in fixtures {
+            if fixture.row.name == name {
+                return self.row.input.extend_from_slice(&fixture.row.input);
+            }
+        }
+        self.find(Flaw::Fixture(name))
+    }
+
+    fn find(&mut self, flaw: Flaw<'a>) -> Result<(), AllocError> {
+        if self.flaw.is_none() {
+            self.flaw = Some(flaw);
+        }
+        Ok(())
+    }
+}
+
+/// Whether a line begins a row or a fixture.
+fn begins_paragraph(line: &str) -> bool {
+    let (word, _) = line.split_once(' ').unwrap_or((line, ""));
+    word == "row" || word == "fixture"
+}
+
+fn push_line<'a>(lines: &mut Vec<&'a str>, line: &'a str) -> Result<(), AllocError> {
+    lines.push(line)?;
+    Ok(())
+}
+
+fn push_words<'a>(words: &mut Vec<&'a str>, line: &'a str) -> Result<(), AllocError> {
+    for word in line.split_whitespace() {
+        words.push(word)?;
+    }
+    Ok(())
+}
+
+/// The rows of a file, and the fixtures that it defines.
+#[derive(Drop)]
+pub struct Rows<'a> {
+    pub rows: Vec<Paragraph<'a>>,
+    fixtures: Vec<Paragraph<'a>>,
+    /// The paragraph that the lines so far leave open.
+    open: Paragraph<'a>,
+    is_open: bool,
+}
+
+impl<'a> Rows<'a> {
+    /// Reads the text of a file.
+    pub fn read(alloc: Global, text: &'a str) -> Result<Rows<'a>, AllocError> {
+        let mut rows = Rows {
+            rows: Vec::new(alloc),
+            fixtures: Vec::new(alloc),
+            open: Paragraph::new(alloc),
+            is_open: false,
+        };
+        rows.add_lines(alloc, text)?;
+        Ok(rows)
+    }
+
+    fn add_lines(&mut self, alloc: Global, text: &'a str) -> Result<(), AllocError> {
+        for line in text.lines() {
+            self.add(alloc, line.trim_end())?;
+        }
+        self.end(alloc)
+    }
+
+    fn add(&mut self, alloc: Global, line: &'a str) -> Result<(), AllocError> {
+        if line.is_empty() {
+            self.end(alloc)
+        } else if line.starts_with('#') {
+            Ok(())
+        } else {
+            if begins_paragraph(line) {
+                self.end(alloc)?;
+            }
+            self.is_open = true;
+            self.open.add(line, &self.fixtures)
+        }
+    }
+
+    /// Keeps the paragraph that is open.
+    fn end(&mut self, alloc: Global) -> Result<(), AllocError> {
+        if self.is_open {
+            self.is_open = false;
+            let ended = mem::replace(&mut self.open, Paragraph::new(alloc));
+            self.keep(ended)?;
+        }
+        Ok(())
+    }
+
+    fn keep(&mut self, ended: Paragraph<'a>) -> Result<(), AllocError> {
+        if ended.is_fixture && ended.flaw.is_none() {
+            self.fixtures.push(ended)?;
+        } else {
+            self.rows.push(ended)?;
+        }
+        Ok(())
+    }
+}

@@ -1,0 +1,124 @@
+//! Scripts on names in a world: of futures, streams and resources, of interfaces, and of exports.
+
+ghost use Rattle.std.specs.Prelude.{All, map};
+ghost use Rattle.wc_resolve.specs.Ranges.{IsKeyIn};
+ghost use Rattle.wc_resolve.specs.Views.{world_entry};
+
+use crate::contexts::{context_line, first_world, is_imported};
+use crate::exports_in_worlds::export_line;
+use crate::values::payload_line;
+use std::alloc::{AllocError, Global};
+use wc_fixtures::bad::Bad;
+use wc_fixtures::shown_names::{put_id, put_key, put_name};
+use wc_fixtures::words::Words;
+use wc_lines::lines::Lines;
+use wc_maps::Map;
+use wc_names::NameIndexes;
+use wc_resolve::{InterfaceId, Resolve, WorldItem, WorldKey};
+
+/// The calls on names in a world.
+#[derive(Clone, Copy)]
+pub enum InWorld {
+    PayloadIntrinsic,
+    PayloadLookup,
+    Payload,
+    ModuleToInterface,
+    InterfaceNames,
+    MatchWitExport,
+    MatchWitResourceDtor,
+}
+
+fn put_found(out: &mut Lines, found: &Option<(WorldKey, InterfaceId)>) {
+    match found {
+        Some((key, id)) => {
+            out.push_str(": key ");
+            put_key(out, key);
+            out.push_str(" interface ");
+            put_id(out, 'i', id.0);
+            out.push('\n');
+        }
+        None => out.push_str(": none\n"),
+    }
+}
+
+/// A text, and the call that asks which interface it is about.
+#[derive(Clone, Copy)]
+struct Question<'a> {
+    call: InWorld,
+    text: &'a str,
+}
+
+/// The interface that a text is about, by one look-up among items, or by an index of them.
+fn find_interface<N: NameIndexes>(
+    alloc: Global,
+    scheme: &N,
+    question: &Question<'_>,
+    resolve: &Resolve,
+    items: &Map<WorldKey, WorldItem>,
+) -> Result<Option<(WorldKey, InterfaceId)>, AllocError>
+    requires { All (λ x. IsKeyIn resolve.now x.0) (map world_entry items.now.entries) }
+{
+    if matches!(question.call, InWorld::ModuleToInterface) {
+        return scheme.module_to_interface(alloc, question.text, resolve, items);
+    }
+    scheme
+        .interface_names(alloc, resolve, items)?
+        .interface(alloc, question.text)
+}
+
+/// `imports TEXT` or `exports TEXT`.
+fn interface_line<N: NameIndexes>(
+    scheme: &N,
+    call: InWorld,
+    resolve: &Resolve,
+    words: &mut Words,
+    out: &mut Lines,
+) -> Result<(), Bad> {
+    let imported = is_imported(words)?;
+    let text = words.name()?;
+    let Some(world) = first_world(resolve) else {
+        return Err(Bad::Line("no world"));
+    };
+    put_name(out, &text);
+    let question = Question { call, text: &text };
+    let found = if imported {
+        find_interface(words.alloc, scheme, &question, resolve, &world.imports)?
+    } else {
+        find_interface(words.alloc, scheme, &question, resolve, &world.exports)?
+    };
+    put_found(out, &found);
+    Ok(())
+}
+
+/// The answer to a line of a script.
+pub(crate) fn put_world_line<N: NameIndexes>(
+    scheme: &N,
+    call: InWorld,
+    resolve: &Resolve,
+    words: &mut Words,
+    out: &mut Lines,
+) -> Result<(), Bad> {
+    put_answer(scheme, call, resolve, words, out)?;
+    words.end()
+}
+
+fn put_answer<N: NameIndexes>(
+    scheme: &N,
+    call: InWorld,
+    resolve: &Resolve,
+    words: &mut Words,
+    out: &mut Lines,
+) -> Result<(), Bad> {
+    match call {
+        InWorld::ModuleToInterface | InWorld::InterfaceNames => {
+            interface_line(scheme, call, resolve, words, out)
+        }
+        InWorld::Payload => payload_line(resolve, words, out),
+        InWorld::MatchWitExport | InWorld::MatchWitResourceDtor => {
+            export_line(scheme, call, resolve, words, out)
+        }
+        InWorld::PayloadIntrinsic | InWorld::PayloadLookup => {
+            context_line(scheme, call, resolve, words, out)
+        }
+    }
+}

@@ -1,0 +1,172 @@
+//! What the functions of a scheme say of a name.
+
+use crate::core_types::func_type;
+use crate::shown_imports::{put_if_found, put_shown};
+use std::alloc::Global;
+use std::fmt::Debug;
+use wc_fixtures::bad::Bad;
+use wc_fixtures::shown_names::put_name;
+use wc_fixtures::words::Words;
+use wc_lines::lines::Lines;
+use wc_names::NameMangling;
+use wc_resolve::AbiVariant;
+
+/// The calls on names alone.
+#[derive(Clone, Copy)]
+pub enum OnName {
+    /// What each function of a scheme says of a name.
+    Meanings,
+    /// The functions that a name is of.
+    Functions,
+    /// What a name means in the module `env`.
+    Environment,
+}
+
+/// A word, and what was found, if something was.
+fn put_found<T: Debug + Drop>(out: &mut Lines, word: &str, found: Option<T>) {
+    match found {
+        Some(found) => write!(out, "{word} {found:?}"),
+        None => {}
+    }
+}
+
+/// The built-ins that have one name.
+fn put_plain<N: NameMangling>(scheme: &N, name: &str, out: &mut Lines) {
+    let flags = [
+        (" task_cancel", scheme.task_cancel(name)),
+        (" backpressure_inc", scheme.backpressure_inc(name)),
+        (" backpressure_dec", scheme.backpressure_dec(name)),
+        (" waitable_set_new", scheme.waitable_set_new(name)),
+        (" waitable_set_drop", scheme.waitable_set_drop(name)),
+        (" waitable_join", scheme.waitable_join(name)),
+        (" subtask_drop", scheme.subtask_drop(name)),
+        (" error_context_drop", scheme.error_context_drop(name)),
+    ];
+    for (word, holds) in flags {
+        if holds {
+            out.push_str(word);
+        }
+    }
+}
+
+/// The built-ins whose names say more.
+fn put_others<N: NameMangling>(scheme: &N, name: &str, out: &mut Lines) {
+    put_found(out, " waitable_set_wait", scheme.waitable_set_wait(name));
+    put_found(out, " waitable_set_poll", scheme.waitable_set_poll(name));
+    put_found(out, " context_get", scheme.context_get(name));
+    put_found(out, " context_set", scheme.context_set(name));
+    put_found(out, " error_context_new", scheme.error_context_new(name));
+    put_found(
+        out,
+        " error_context_debug_message",
+        scheme.error_context_debug_message(name),
+    );
+}
+
+/// The built-in for threads.
+fn put_thread<N: NameMangling>(alloc: Global, scheme: &N, name: &str, out: &mut Lines) {
+    let found = scheme.thread_intrinsic(name);
+    put_if_found(alloc, " thread_intrinsic ", found, out);
+}
+
+/// `subtask.cancel`, and whether it is lowered asynchronously.
+fn put_lowered<N: NameMangling>(scheme: &N, name: &str, out: &mut Lines) {
+    match scheme.subtask_cancel(name) {
+        Some(cancel) => {
+            let lowered = cancel.async_lowered;
+            write!(out, " subtask_cancel async_lowered {lowered}");
+        }
+        None => {}
+    }
+}
+
+/// The resource or function in the name of a built-in.
+fn put_subjects<N: NameMangling>(scheme: &N, name: &str, out: &mut Lines) {
+    put_found(out, " resource_drop_name", scheme.resource_drop_name(name));
+    put_found(out, " resource_new_name", scheme.resource_new_name(name));
+    put_found(out, " resource_rep_name", scheme.resource_rep_name(name));
+    put_found(out, " task_return_name", scheme.task_return_name(name));
+}
+
+/// The export in the name of another one.
+fn put_exported<N: NameMangling>(scheme: &N, name: &str, out: &mut Lines) {
+    put_found(
+        out,
+        " async_lift_callback_name",
+        scheme.async_lift_callback_name(name),
+    );
+    put_found(out, " async_lift_name", scheme.async_lift_name(name));
+    put_found(
+        out,
+        " async_lift_stackful_name",
+        scheme.async_lift_stackful_name(name),
+    );
+    put_found(out, " strip_post_return", scheme.strip_post_return(name));
+}
+
+/// Each function of the scheme that has an answer for the name, and its answer.
+fn put_meanings<N: NameMangling>(alloc: Global, scheme: &N, name: &str, out: &mut Lines) {
+    put_plain(scheme, name, out);
+    put_others(scheme, name, out);
+    put_thread(alloc, scheme, name, out);
+    put_lowered(scheme, name, out);
+    put_subjects(scheme, name, out);
+    put_exported(scheme, name, out);
+}
+
+/// What a name means, or ` none`.
+fn meanings<N: NameMangling>(alloc: Global, scheme: &N, name: &str, out: &mut Lines) {
+    let mut found = Lines::new(alloc);
+    put_meanings(alloc, scheme, name, &mut found);
+    if found.is_empty() {
+        out.push_str(" none");
+    }
+    out.push_lines(&found);
+}
+
+fn put_function(out: &mut Lines, word: &str, name: &str, abi: AbiVariant) {
+    out.push_str(word);
+    put_name(out, name);
+    write!(out, " {abi:?}");
+}
+
+/// The function of the world, and of an interface, that a name is of.
+fn functions<N: NameMangling>(scheme: &N, name: &str, out: &mut Lines) {
+    let (own, abi) = scheme.world_key_name_and_abi(name);
+    put_function(out, " world ", own, abi);
+    let (own, abi) = scheme.interface_function_name_and_abi(name);
+    put_function(out, " interface ", own, abi);
+}
+
+/// What a name means in the module `env`, with the type after it.
+fn environment<N: NameMangling>(
+    scheme: &N,
+    words: &mut Words,
+    name: &str,
+    out: &mut Lines,
+) -> Result<(), Bad> {
+    let ty = func_type(words)?;
+    out.push(' ');
+    put_shown(words.alloc, scheme.env_import(name, &ty), out);
+    Ok(())
+}
+
+/// A name, and what a call says of it: a line.
+pub(crate) fn put_name_line<N: NameMangling>(
+    scheme: &N,
+    call: OnName,
+    words: &mut Words,
+    out: &mut Lines,
+) -> Result<(), Bad> {
+    let name = words.name()?;
+    put_name(out, &name);
+    out.push(':');
+    match call {
+        OnName::Meanings => meanings(words.alloc, scheme, &name, out),
+        OnName::Functions => functions(scheme, &name, out),
+        OnName::Environment => environment(scheme, words, &name, out)?,
+    }
+    words.end()?;
+    out.push('\n');
+    Ok(())
+}

@@ -1,0 +1,9 @@
+mod TextsLemmas
+mod JoinedLemmas
+mod ItemLemmas
+mod LineLemmas
+mod ExecutionLemmas
+mod RunLemmas
+mod MarkLemmas
+mod PatternLemmas
+mod GraphLemmas

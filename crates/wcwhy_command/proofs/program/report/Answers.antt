@@ -1,0 +1,6 @@
+use Rattle.std.proofs.Common.{inr, refl}
+use Rattle.wc_program.specs.FaultTexts.{memory_text}
+use Rattle.wcwhy_command.proofs.program.report.Goals as goal
+
+pub returns-in-Err : goal.returns-in-Err
+returns-in-Err g c = (memory_text, inr refl, c.print_fault-in-Err.ensures)

@@ -1,0 +1,11 @@
+pub mod Arguments
+pub mod Reading
+pub mod Usage
+pub mod Texts
+pub mod Patterns
+pub mod Joined
+pub mod Lines
+pub mod Graph
+pub mod Faults
+pub mod Program
+pub mod Private

@@ -1,0 +1,42 @@
+-- The texts that say how the program is called, and what is wrong with a call.
+use Rattle.std.specs.Prelude.{ℕ, List, ◌++◌, codes}
+use Rattle.wcwhy_command.specs.Arguments.{WrongValue, unknown_option, missing_value, repeated_option, missing}
+
+-- the usage text
+abbrev pub usage_text : List ℕ
+usage_text = codes "usage: wcwhy IN [--import MODULE[=NAME]]... [--dot] EXPORT...\n" ++ codes "       wcwhy --help | --version\n"
+
+-- what each argument is
+abbrev pub options_text : List ℕ
+options_text =
+    codes "  IN                      an adapter, as a core module\n"
+    ++ (codes "  EXPORT                  an export that is required of it\n"
+    ++ (codes "  --import MODULE[=NAME]  an import that is asked for; else all that stay\n"
+    ++ (codes "  --dot                   print a graph, in the language of Graphviz\n"
+    ++ (codes "  -h, --help              print this text\n"
+    ++ codes "  --version               print the version\n"))))
+
+abbrev pub help_text : List ℕ
+help_text = usage_text ++ options_text
+
+abbrev pub version_text : List ℕ
+version_text = codes "wcwhy 0.262.0\n"
+
+-- what is wrong with an argument
+abbrev pub wrong_text : WrongValue → List ℕ
+wrong_text (unknown_option argument) = codes "unknown option " ++ argument
+wrong_text (missing_value option) = codes "missing value of " ++ option
+wrong_text (repeated_option option) = option ++ codes " twice"
+wrong_text (missing name) = codes "missing " ++ name
+
+-- what is wrong where an argument is no text
+abbrev pub no_text : List ℕ
+no_text = codes "argument that is not UTF-8"
+
+-- the line that says why the program failed, or what is wrong with a call
+abbrev pub fault_line : List ℕ → List ℕ
+fault_line text = codes "wcwhy: " ++ (text ++ codes "\n")
+
+-- that line, and the usage text
+abbrev pub fault_and_usage : List ℕ → List ℕ
+fault_and_usage text = codes "wcwhy: " ++ (text ++ (codes "\n" ++ usage_text))

@@ -1,0 +1,178 @@
+//! What is printed of the bytes of an adapter.
+
+ghost use Rattle.std.specs.Prelude.{◌≡◌, IfErr, IfOk, IsErrOf, OnOk, map, true};
+ghost use Rattle.wc_gc.specs.Liveness.{names_of};
+ghost use Rattle.wc_maps.specs.Names.{first_occurrences};
+ghost use Rattle.wc_program.specs.Screen.{Becomes, output_ends};
+ghost use Rattle.wcwhy_command.specs.Arguments.{command_value, text_of};
+ghost use Rattle.wcwhy_command.specs.Program.{IsPrintCause, IsPrintedOf};
+ghost use Rattle.wcwhy_command.specs.Private.Reasons.{AreReasons, IsSearched, IsTextOfReasons, PutsSome, adapter_in, names_in, required_in};
+ghost use Rattle.wcwhy_command.specs.Private.Runs.{ArePrinted, IsReasonsCause, PrintsSome};
+
+use crate::arguments::Command;
+use crate::faults::{PrintFault, WhyFault};
+use crate::graph::put_graph;
+use crate::lines::put_lines;
+use crate::patterns::first_unknown;
+use crate::reasons::{Found, Reasons};
+use std::alloc::{AllocError, Global};
+use wc_gc::why_imports;
+use wc_maps::{Seed, Set};
+use wc_program::Output;
+use wc_read::laws::modules_unique;
+use wc_read::{function_names, read_module};
+use wc_write::Sink;
+
+/// Prints why imports of the adapter with these bytes stay.
+pub(crate) fn print_reasons<'a, O: Output>(
+    alloc: Global,
+    seed: Seed,
+    command: &Command<'a>,
+    bytes: &[u8],
+    out: &mut O,
+) -> Result<(), WhyFault<'a>>
+    ensures done { OnOk result (PrintsSome (IsPrintedOf (command_value command.now) bytes.now)
+        (Becomes (output_ends O.written O.sent O.is_failed) out.old out.new)) }
+    ensures fault { IfErr result (IsPrintCause (command_value command.now) bytes.now
+        (Becomes (output_ends O.written O.sent O.is_failed) out.old out.new)) }
+{
+    match required_exports(alloc, seed, &command.exports) {
+        Ok(required) => print_required(alloc, command, bytes, &required, out),
+        Err(AllocError) => Err(WhyFault::Memory),
+    }
+}
+
+/// The names as a set, in order of their first occurrences.
+fn required_exports(alloc: Global, seed: Seed, exports: &[&str]) -> Result<Set<String>, AllocError>
+    ensures { IfOk result (λ names. names_of names.keys
+        ≡ first_occurrences (map text_of exports.now)) }
+{
+    let mut names = Set::with_hasher(alloc, seed);
+    for export in exports {
+        names.insert(String::from_str(alloc, export)?)?;
+    }
+    Ok(names)
+}
+
+/// Prints why imports of an adapter stay, of which these exports are required.
+fn print_required<'a, O: Output>(
+    alloc: Global,
+    command: &Command<'a>,
+    bytes: &[u8],
+    required: &Set<String>,
+    out: &mut O,
+) -> Result<(), WhyFault<'a>>
+    requires { names_of required.now.keys
+        ≡ first_occurrences (map text_of command.now.exports.items) }
+    ensures done { OnOk result (PrintsSome (IsPrintedOf (command_value command.now) bytes.now)
+        (Becomes (output_ends O.written O.sent O.is_failed) out.old out.new)) }
+    ensures fault { IfErr result (IsPrintCause (command_value command.now) bytes.now
+        (Becomes (output_ends O.written O.sent O.is_failed) out.old out.new)) }
+{
+    match why_imports(alloc, bytes, required) {
+        Ok(chains) => {
+            let found = Found {
+                required,
+                chains: &chains,
+            };
+            print_found(alloc, command, bytes, &found, out)
+        }
+        Err(fault) => Err(WhyFault::from(fault)),
+    }
+}
+
+/// Prints why imports of an adapter stay, whose live items have these chains.
+fn print_found<'a, O: Output>(
+    alloc: Global,
+    command: &Command<'a>,
+    bytes: &[u8],
+    found: &Found<'_, '_>,
+    out: &mut O,
+) -> Result<(), WhyFault<'a>>
+    requires { IsSearched (command_value command.now) bytes.now found.now }
+    ensures done { OnOk result (PrintsSome (IsPrintedOf (command_value command.now) bytes.now)
+        (Becomes (output_ends O.written O.sent O.is_failed) out.old out.new)) }
+    ensures fault { IfErr result (IsPrintCause (command_value command.now) bytes.now
+        (Becomes (output_ends O.written O.sent O.is_failed) out.old out.new)) }
+{
+    // The bytes are those of a module: there is no fault but that memory runs out.
+    modules_unique();
+    let Ok(adapter) = read_module(alloc, bytes) else {
+        return Err(WhyFault::Memory);
+    };
+    let Ok(names) = function_names(alloc, bytes) else {
+        return Err(WhyFault::Memory);
+    };
+    let reasons = Reasons {
+        required: found.required,
+        chains: found.chains,
+        adapter: &adapter,
+        names: &names,
+    };
+    print_adapter(alloc, command, &reasons, out)
+}
+
+/// Prints why imports of an adapter stay, if it has some that each option asks for.
+fn print_adapter<'a, O: Output>(
+    alloc: Global,
+    command: &Command<'a>,
+    reasons: &Reasons<'_, '_>,
+    out: &mut O,
+) -> Result<(), WhyFault<'a>>
+    requires chains { AreReasons reasons.now }
+    requires required { required_in reasons.now
+        ≡ first_occurrences (map text_of command.now.exports.items) }
+    ensures done { OnOk result (ArePrinted (command_value command.now)
+        (adapter_in reasons.now) (names_in reasons.now)
+        (Becomes (output_ends O.written O.sent O.is_failed) out.old out.new)) }
+    ensures fault { IfErr result (IsReasonsCause (command_value command.now)
+        (adapter_in reasons.now)
+        (Becomes (output_ends O.written O.sent O.is_failed) out.old out.new)) }
+{
+    match first_unknown(&command.imports, &reasons.adapter.imports) {
+        Some(pattern) => Err(WhyFault::NoImport(pattern)),
+        None => match put_and_flush(alloc, command, reasons, out) {
+            Ok(()) => Ok(()),
+            Err(PrintFault::Memory) => Err(WhyFault::Memory),
+            Err(PrintFault::Output) => Err(WhyFault::Output),
+        },
+    }
+}
+
+/// Puts why imports of an adapter stay, and flushes it.
+fn put_and_flush<O: Output>(
+    alloc: Global,
+    command: &Command<'_>,
+    reasons: &Reasons<'_, '_>,
+    out: &mut O,
+) -> Result<(), PrintFault>
+    requires { AreReasons reasons.now }
+    ensures done { OnOk result (PrintsSome (IsTextOfReasons reasons.now command.now.dot
+        (command_value command.now).imports)
+        (Becomes (output_ends O.written O.sent O.is_failed) out.old out.new)) }
+    ensures output { IsErrOf result PrintFault.Output → O.is_failed out.new ≡ true }
+{
+    put_reasons(alloc, command, reasons, out)?;
+    out.flush()?;
+    Ok(())
+}
+
+/// Puts why imports of an adapter stay: as a graph, if it is asked for, or else in lines.
+fn put_reasons<S: Sink>(
+    alloc: Global,
+    command: &Command<'_>,
+    reasons: &Reasons<'_, '_>,
+    out: &mut S,
+) -> Result<(), PrintFault>
+    requires { AreReasons reasons.now }
+    ensures done { OnOk result (PutsSome (IsTextOfReasons reasons.now command.now.dot
+        (command_value command.now).imports) (S.written out.old) (S.written out.new)) }
+    ensures works { OnOk result (S.is_failed out.new ≡ S.is_failed out.old) }
+    ensures output { IsErrOf result PrintFault.Output → S.is_failed out.new ≡ true }
+{
+    if command.dot {
+        put_graph(alloc, &command.imports, reasons, out)
+    } else {
+        put_lines(alloc, &command.imports, reasons, out)
+    }
+}

@@ -1,0 +1,213 @@
+//! The program: its arguments, its file, what it prints, and its exit status.
+
+ghost use Rattle.std.specs.Prelude.{◌≡◌, IfErr, IfOk, IsErr, OnOk};
+ghost use Rattle.std.specs.IoError.{error_kind};
+ghost use Rattle.wc_program.specs.Screen.{Becomes, output_ends};
+ghost use Rattle.wc_program.specs.Program.{Prints, failure, success, wrong_arguments};
+ghost use Rattle.wcwhy_command.specs.Arguments.{command_value};
+ghost use Rattle.wcwhy_command.specs.Program.{CommandEnds, EndsWell, EndsWith, EndsWithout, EndsWithoutArguments, IsReported, IsRunCause, ProgramEnds};
+ghost use Rattle.wcwhy_command.specs.Private.Runs.{AnswersStop};
+ghost use Rattle.wcwhy_command.specs.Usage.{fault_and_usage, fault_line, help_text};
+
+use crate::arguments::{Command, NoCommand, parse};
+use crate::execution::print_reasons;
+use crate::faults::WhyFault;
+use crate::usage::{AND_USAGE, NO_TEXT, OPTIONS, USAGE, VERSION};
+use std::alloc::{AllocError, Global};
+use std::io::{self, ErrorKind};
+use wc_maps::Seed;
+use wc_program::{
+    FAILURE, FileStore, Message, NoArguments, OUT_OF_MEMORY, Output, Program, SUCCESS, Screen,
+    Shell, WRONG_ARGUMENTS, print,
+};
+
+/// Runs the program with these arguments, the first of them the one after the program's name. No file is written. What is
+/// done is the same for every seed of the shell. The answer is its exit status:
+///
+/// | Status | Where | Printed |
+/// |---|---|---|
+/// | 0 | there are no arguments | the usage text, to `out` |
+/// | 0 | `parse` answers `Help` or `Version` | the help text or the version, to `out` |
+/// | 0 | the command was run | the lines of imports, or with `--dot` the graph, to `out` |
+/// | 1 | the command could not be run | the line `wcwhy: TEXT`, to `err` |
+/// | 1 | there was no memory for the arguments | the line `wcwhy: out of memory`, to `err` |
+/// | 2 | an argument is wrong, or no text | the line `wcwhy: TEXT` and the usage text, to `err` |
+/// | 1 | `out` or `err` failed | not known there |
+///
+/// TEXT is the text of `run_command`'s fault (`WhyFault::text`) or of the wrong argument (`WrongArgument::text`), or
+/// `out of memory` where there was no memory for it; then the status is 1. All that is printed is flushed, but what was
+/// printed before memory ran out. Nothing is printed to the other output, unless `out` failed or memory ran out before.
+pub fn run<F: FileStore, O: Output, E: Screen>(
+    arguments: &io::Result<Vec<String>>,
+    shell: &mut Shell<F, O, E>,
+) -> u8
+    ensures known { IfOk arguments.now (λ v. ProgramEnds v.items
+        (F.held shell.old.files) (F.held shell.new.files)
+        (Becomes (output_ends O.written O.sent O.is_failed) shell.old.out shell.new.out)
+        (Becomes E.ends shell.old.err shell.new.err) result) }
+    ensures unknown { IfErr arguments.now (λ e. EndsWithoutArguments
+        (error_kind e ≡ ErrorKind.OutOfMemory)
+        (Becomes (output_ends O.written O.sent O.is_failed) shell.old.out shell.new.out)
+        (Becomes E.ends shell.old.err shell.new.err) result) }
+    ensures kept { IsErr arguments.now → F.held shell.new.files ≡ F.held shell.old.files }
+{
+    wc_program::run(&Wcwhy, arguments, shell)
+}
+
+/// The program, by what it does with its arguments.
+struct Wcwhy;
+
+impl<F: FileStore, O: Output, E: Screen> Program<F, O, E> for Wcwhy {
+    ghost ends_with = { λ texts before after status. EndsWith texts
+        (F.held before.files) (F.held after.files)
+        (Becomes (output_ends O.written O.sent O.is_failed) before.out after.out)
+        (Becomes E.ends before.err after.err) status };
+
+    ghost ends_without = { λ why before after status. EndsWithout why
+        (F.held before.files) (F.held after.files)
+        (Becomes (output_ends O.written O.sent O.is_failed) before.out after.out)
+        (Becomes E.ends before.err after.err) status };
+
+    fn run_with(&self, arguments: &[String], shell: &mut Shell<F, O, E>) -> u8 {
+        match parse(shell.alloc, arguments) {
+            Ok(command) => run_and_report(&command, shell),
+            Err(stop) => answer_stop(shell.alloc, &stop, &mut shell.out, &mut shell.err),
+        }
+    }
+
+    fn run_without(&self, why: NoArguments, shell: &mut Shell<F, O, E>) -> u8 {
+        match why {
+            NoArguments::Empty => print(&mut shell.out, &USAGE, SUCCESS),
+            NoArguments::NoMemory => print_fault(&mut shell.err, OUT_OF_MEMORY),
+            NoArguments::NoText => print_usage_fault(&mut shell.err, NO_TEXT),
+        }
+    }
+}
+
+/// Prints what is asked for in place of a command, or what is wrong with the arguments. The answer is the exit status.
+fn answer_stop<O: Output, E: Screen>(
+    alloc: Global,
+    stop: &NoCommand<'_>,
+    out: &mut O,
+    err: &mut E,
+) -> u8
+    ensures { AnswersStop stop.now
+        (Becomes (output_ends O.written O.sent O.is_failed) out.old out.new)
+        (Becomes E.ends err.old err.new) result }
+{
+    match stop {
+        NoCommand::Memory => print_fault(err, OUT_OF_MEMORY),
+        NoCommand::Help => print_help(out),
+        NoCommand::Version => print(out, &VERSION, SUCCESS),
+        NoCommand::Wrong(wrong) => match wrong.text(alloc) {
+            Ok(text) => print_usage_fault(err, text.as_bytes()),
+            Err(AllocError) => print_fault(err, OUT_OF_MEMORY),
+        },
+    }
+}
+
+/// Runs a command on its file, and prints why it could not be run. The answer is the exit status.
+fn run_and_report<F: FileStore, O: Output, E: Screen>(
+    command: &Command<'_>,
+    shell: &mut Shell<F, O, E>,
+) -> u8
+    ensures ends { CommandEnds (command_value command.now) (F.held shell.old.files)
+        (Becomes (output_ends O.written O.sent O.is_failed) shell.old.out shell.new.out)
+        (Becomes E.ends shell.old.err shell.new.err) result }
+    ensures files { F.held shell.new.files ≡ F.held shell.old.files }
+{
+    match run_command(
+        shell.alloc,
+        shell.seed,
+        command,
+        &shell.files,
+        &mut shell.out,
+    ) {
+        Ok(()) => SUCCESS,
+        Err(fault) => report(shell.alloc, &mut shell.err, &fault),
+    }
+}
+
+/// Reads the adapter of a command, and prints why its imports stay: for each import that is asked for, in the order of
+/// the file, the lines `MODULE NAME` and `  export NAME`, and then a line for each item of the chain that `wc_gc::why`
+/// answers for it, as `  func 33 write_all`; or, if it isn't live, the line `MODULE NAME: not reached` where imports are
+/// asked for, and no line where all are shown. With `--dot` it prints the chains as a graph instead. All lines are flushed.
+/// A repeated export counts once. `seed`: the seed of the maps that are made.
+///
+/// It takes time and memory linear in the adapter, and time linear in what is printed.
+///
+/// # Errors
+///
+/// Of several causes the first in this order is named; `Memory` may come in place of any.
+///
+/// - `CannotRead`: the adapter could not be read.
+/// - `Adapter`: the fault of `wc_gc::why_imports`.
+/// - `NoImport`: the adapter has none of the imports that an option asks for. It carries the first such.
+/// - `Output`: a put or the flush failed; `out` is failed, and how much was printed is left open.
+/// - `Memory`: an allocation failed. How much was printed is left open.
+///
+/// After each fault but `Output` and `Memory` nothing was printed.
+pub fn run_command<'a, F: FileStore, O: Output>(
+    alloc: Global,
+    seed: Seed,
+    command: &Command<'a>,
+    files: &F,
+    out: &mut O,
+) -> Result<(), WhyFault<'a>>
+    ensures done { OnOk result (EndsWell (command_value command.now) (F.held files.now)
+        (Becomes (output_ends O.written O.sent O.is_failed) out.old out.new)) }
+    ensures fault { IfErr result (IsRunCause (command_value command.now) (F.held files.now)
+        (Becomes (output_ends O.written O.sent O.is_failed) out.old out.new)) }
+{
+    match files.read(command.source) {
+        Ok(bytes) => print_reasons(alloc, seed, command, &bytes, out),
+        Err(_) => Err(WhyFault::CannotRead(command.source)),
+    }
+}
+
+/// Prints why the program failed. The answer is the status of a failure.
+fn report<E: Screen>(alloc: Global, err: &mut E, fault: &WhyFault<'_>) -> u8
+    ensures { IsReported fault.now (Becomes E.ends err.old err.new) result }
+{
+    match fault.text(alloc) {
+        Ok(text) => print_fault(err, text.as_bytes()),
+        Err(AllocError) => print_fault(err, OUT_OF_MEMORY),
+    }
+}
+
+/// Prints the help text. The answer is the exit status.
+fn print_help<O: Screen>(out: &mut O) -> u8
+    ensures { Prints help_text success (Becomes O.ends out.old out.new) result }
+{
+    let text = Message {
+        before: USAGE,
+        text: &OPTIONS,
+        after: b"",
+    };
+    print(out, &text, SUCCESS)
+}
+
+/// Prints the text of a fault in a line. The answer is the status of a failure.
+fn print_fault<E: Screen>(err: &mut E, text: &[u8]) -> u8
+    ensures { Prints (fault_line text.now) failure (Becomes E.ends err.old err.new) result }
+{
+    let line = Message {
+        before: b"wcwhy: ",
+        text: &text,
+        after: b"\n",
+    };
+    print(err, &line, FAILURE)
+}
+
+/// Prints what is wrong with the arguments in a line, and the usage text. The answer is the exit status.
+fn print_usage_fault<E: Screen>(err: &mut E, text: &[u8]) -> u8
+    ensures { Prints (fault_and_usage text.now) wrong_arguments
+        (Becomes E.ends err.old err.new) result }
+{
+    let lines = Message {
+        before: b"wcwhy: ",
+        text: &text,
+        after: AND_USAGE,
+    };
+    print(err, &lines, WRONG_ARGUMENTS)
+}

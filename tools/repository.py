@@ -1,0 +1,161 @@
+"""What the scripts read of the repository: its crates and what each uses, their files, and the kit."""
+import os
+import pathlib
+import re
+import shutil
+import sys
+
+TOP = pathlib.Path(__file__).resolve().parent.parent
+KIT = "/opt/rattle"
+# the crates of the tests, whose functions promise nothing to others
+TESTS = re.compile(r"wc_(lines|fixtures|tests|\w*rows)$")
+
+
+def read(*parts):
+    """The text of a file of the repository."""
+    return TOP.joinpath(*parts).read_text(encoding="utf-8")
+
+
+def lines_of_crates(top=TOP):
+    """Of each line of crates.txt the crate, its kinds, as `staticlib`, and the libraries that it uses."""
+    for line in (pathlib.Path(top) / "crates.txt").read_text(encoding="utf-8").splitlines():
+        head, found, libraries = line.partition("#")[0].partition(":")
+        if found:
+            name, *kinds = head.split()
+            yield name, kinds, libraries.split()
+
+
+def used_by_crates(top=TOP):
+    """The libraries that each crate uses, by crates.txt: the repository's own, and the kit's."""
+    return {name: libraries for name, _, libraries in lines_of_crates(top)}
+
+
+def product_crates():
+    """The crates but those of the tests, in the order of crates.txt."""
+    return [name for name, _, _ in lines_of_crates() if not TESTS.match(name)]
+
+
+def is_program(crate):
+    return (TOP / "crates" / crate / "src" / "main.rt").is_file()
+
+
+def libraries():
+    """The crates that others call: neither tests nor programs nor static libraries."""
+    static = {name for name, kinds, _ in lines_of_crates() if "staticlib" in kinds}
+    return [name for name in product_crates() if name not in static and not is_program(name)]
+
+
+def crates_below(crate, used=None):
+    """The crates that a crate uses, each after those that it uses itself; the crate comes last."""
+    used, order = used or used_by_crates(), []
+
+    def visit(name):
+        for library in used[name]:
+            if library in used and library not in order:
+                visit(library)
+        order.append(name)
+
+    visit(crate)
+    return order
+
+
+def files_of(crate, part, ending):
+    """The files of a folder of a crate, and of the folders in it."""
+    return sorted((TOP / "crates" / crate / part).rglob("*" + ending))
+
+
+def code_of(path):
+    """A source of Rattle without the lines that are comments."""
+    return re.sub(r"^\s*//.*\n", "", pathlib.Path(path).read_text(encoding="utf-8"), flags=re.M)
+
+
+def row_files():
+    """The files of rows of the tests."""
+    return sorted((TOP / "crates" / "wc_tests" / "data").glob("*.rows"))
+
+
+def put_between(page, begin, end, text):
+    """A page with a text between two marks, and the text that it has there."""
+    front, found, rest = page.partition(begin)
+    old, ended, back = rest.partition(end)
+    if not (found and ended):
+        sys.exit("a page has no place for a table, between the lines\n" + begin + end)
+    return front + begin + text + end + back, old
+
+
+def kit_folder():
+    """The folder of the kit that has the rt on PATH; None where there is no rt."""
+    rt = shutil.which("rt")
+    return None if rt is None else os.path.dirname(os.path.dirname(os.path.realpath(rt)))
+
+
+def uses_of_kit(kit, library):
+    """The libraries of the kit that a library of the kit uses."""
+    with open(os.path.join(kit, "rlibs", library + ".rlib", "format"), encoding="utf-8") as file:
+        return re.findall(r"^dep (\w+)$", file.read(), re.M)
+
+
+def rlib_of(crate, top=TOP):
+    """Where `rt ci` leaves the statements and the code of a crate."""
+    return os.path.join(top, "crates", crate, "out", "rlib")
+
+
+def kit_command(what, crate, flags, top=TOP, folder_of=rlib_of):
+    """The command that checks or builds a crate in its folder, as rt does, over what is proved of the crates below it:
+    `folder_of` says in which folder each has its statements."""
+    kit, used = kit_folder() or KIT, used_by_crates(top)
+    if crate not in used:
+        sys.exit(f"crates.txt lists no crate {crate}")
+    below = crates_below(crate, used)[:-1]
+    for name in below:
+        if not os.path.isdir(os.path.join(folder_of(name), name + ".rlib")):
+            sys.exit(f"no statements of {name} in {folder_of(name)}: run `rt ci` first")
+    root = next(it for it in ("src/main.rt", "src/lib.rt") if os.path.exists(os.path.join(top, "crates", crate, it)))
+    words = [f"{kit}/bin/rattle", what, "--crate-name", crate, root, "--extern", f"std={kit}/rlibs/std.rlib"]
+    for name in used[crate]:
+        words += ["--extern", f"{name}={folder_of(name) if name in used else kit + '/rlibs'}/{name}.rlib"]
+    for folder in dict.fromkeys([f"{kit}/rlibs", *map(folder_of, below)]):
+        words += ["-L", f"dependency={folder}"]
+    kinds = next(kinds for name, kinds, _ in lines_of_crates(top) if name == crate)
+    words += ["--crate-type", "staticlib"] if "staticlib" in kinds else []
+    words += ["--antt-project", f"{kit}/rattle/logic/antt-project.json", "--logic-built", f"{kit}/logic_built"]
+    return [*words, "--links", f"{crate}=", *flags]
+
+
+def edits_of(crate):
+    """The edits of a crate, which the prover has to refuse: their names, and their files."""
+    for folder in (TOP / "edits" / crate, TOP / "crates" / crate / "must-fail"):
+        for path in sorted(folder.rglob("*.edit")):
+            yield path.stem, path
+
+
+def changes_of(edit):
+    """The changes that the text of an edit makes: each a file, what is there, and what comes in its place."""
+    file, old = "", ""
+    for line in edit.split("\n"):
+        if line.startswith("file: "):
+            file = line[len("file: ") :].strip()
+        elif line.startswith("old: "):
+            old = line[len("old: ") :]
+        elif line.startswith("new:"):
+            yield file, old, line[len("new:") :].removeprefix(" ")
+
+
+def applied(edit, texts):
+    """The texts that an edit changes, as it makes them of these; or why it cannot be applied."""
+    made = {}
+    for file, old, new in changes_of(edit):
+        text = made.get(file, texts.get(file))
+        if text is None:
+            return {}, f"there is no file {file}"
+        if text.count(old) != 1:
+            return {}, f"an 'old:' text is in {file} {text.count(old)} times: {old[:60]}"
+        made[file] = text.replace(old, new)
+    return made, "" if made else "it changes nothing"
+
+
+def texts_of(crate, top=TOP):
+    """The texts of a crate's files, by their paths in the crate."""
+    folder = pathlib.Path(top) / "crates" / crate
+    paths = [path for part in ("src", "specs", "proofs") for path in (folder / part).rglob("*") if path.is_file()]
+    return {str(path.relative_to(folder)): path.read_text(encoding="utf-8") for path in sorted(paths)}
