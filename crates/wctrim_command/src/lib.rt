@@ -33,7 +33,7 @@
 //! }
 //! ```
 //!
-//! This function is proved in `wc_tests`, as `examples::tool::printed_lines`.
+//! This function is proved in `wc_example_rows`, as `examples::tool::printed_lines`.
 #![tactic(auto)]
 
 mod command;
