@@ -355,7 +355,7 @@ def check_wcplan(folder):
         ("--out", *words): "missing MAIN.wasm",
         (*words, "more"): "unexpected argument more",
         (*words, "--adapt"): "missing value of --adapt",
-        (*words, "--adapt", "more"): "no = in more of --adapt",
+        (*words, "--adapter-export", "more"): "no = in more of --adapter-export",
         (*words, "--out"): "missing value of --out",
         (*words, "--json", "--json"): "--json twice",
         (*words, "--nothing"): "unknown option --nothing",
