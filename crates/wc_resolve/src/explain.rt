@@ -107,7 +107,7 @@ fn first_clash(alloc: Global, parts: &Parts) -> Result<Option<Part>, AllocError>
 /// - `Cycle`: a type that refers to itself, directly or through others;
 /// - `NameClash`: the first package that has the name and version of an earlier one.
 ///
-/// `None` for `Memory`, and where the parts don't have this fault. Nothing is changed.
+/// `None` for `Memory`, and else only where the parts don't have this fault; earlier rules may be broken too.
 ///
 /// # Errors
 ///
