@@ -156,7 +156,8 @@ fn unknown_key(alloc: Global, key: &str, named: &[(WorldKey, String)]) -> Messag
 
 /// The same for the exports of a world.
 fn unknown_in(alloc: Global, key: &str, world: AskedWorld<'_>) -> MessageFault
-    ensures { IsUnknownKey (export_keys world.entry.resolve.now world.entry.world.0) key.now result }
+    ensures { IsUnknownKey (export_keys world.entry.resolve.now world.entry.world.0)
+        key.now result }
 {
     match named_exports(alloc, world.resolve, world.world) {
         Ok(named) => unknown_key(alloc, key, &named),
