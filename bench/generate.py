@@ -1,5 +1,7 @@
 #!/usr/bin/env python3
-"""Writes the modules that bench/dedupe.sh runs on into a folder.
+"""Writes the modules that bench/dedupe.py runs on into a folder, bench/data if none is given, where they are not there.
+
+    bench/generate.py [FOLDER]
 
     no-repeats.wasm       a valid module of 50 MB: 5,000 imports of distinct names, 40,000 functions, a data section of 18 MB,
                           200 custom sections of 14 MB in all
@@ -9,7 +11,6 @@
 """
 
 import argparse
-import os
 import pathlib
 import random
 import sys
@@ -54,23 +55,28 @@ def repeated(count):
     return HEADER + types() + section(2, vector([function_import("a", "f")] * count))
 
 
+FILES = {
+    "no-repeats.wasm": lambda: large(0),
+    "one-repeat.wasm": lambda: large(1),
+    "repeats-10000.wasm": lambda: repeated(10_000),
+    "repeats-100000.wasm": lambda: repeated(100_000),
+}
+
+
+def make(folder):
+    """Writes those that are not there."""
+    folder.mkdir(parents=True, exist_ok=True)
+    for file, module in FILES.items():
+        if not (folder / file).exists():
+            part = folder / (file + ".part")
+            print(f"{file}: {part.write_bytes(module()) / MEGABYTE:.2f} MB")
+            part.rename(folder / file)
+
+
 def main():
     parser = argparse.ArgumentParser(description=__doc__, formatter_class=argparse.RawDescriptionHelpFormatter)
-    parser.add_argument("folder", nargs="?", default=str(TOP / "bench" / "data"), help="bench/data, if none is given")
-    folder = parser.parse_args().folder
-    os.makedirs(folder, exist_ok=True)
-    for file, make, count in (
-        ("no-repeats.wasm", large, 0),
-        ("one-repeat.wasm", large, 1),
-        ("repeats-10000.wasm", repeated, 10_000),
-        ("repeats-100000.wasm", repeated, 100_000),
-    ):
-        made = make(count)
-        path = os.path.join(folder, file)
-        with open(f"{path}.part", "wb") as it:
-            it.write(made)
-        os.replace(f"{path}.part", path)
-        print(f"{file}: {len(made) / MEGABYTE:.2f} MB")
+    parser.add_argument("folder", nargs="?", type=pathlib.Path, default=TOP / "bench" / "data")
+    make(parser.parse_args().folder)
 
 
 if __name__ == "__main__":

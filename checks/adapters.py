@@ -52,7 +52,7 @@ def module_at(data, start):
                 break
             else:
                 last = ORDER[id]
-        except (IndexError, UnicodeDecodeError):
+        except (IndexError, ValueError):
             break
         if begin + size > len(data):
             break

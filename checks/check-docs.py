@@ -6,15 +6,16 @@
 It prints a line for each thing that is wrong, and ends with status 1 where there is one. Checked are:
 
 - links: the file of each relative link is there, and has a heading for the anchor;
+- tables: each row has as many cells as the head;
 - sentences: none has more than 40 words. A text in backquotes is one word. Code, headings and quotations (lines that
   begin with `>`) are left out; cells of tables, and items of lists, are texts of their own;
 - names in backquotes: paths of files are there. The words of a name, of a path of names (`a::b`) and of a call
   (`a.b(c)`) occur in the sources, comments aside; so do names of two words and more with hyphens, as those of edits;
 - README.md: its lines have at most 120 columns, and KIT is one line;
-- docs/MAP.md and docs/LIBRARIES.md: each has a row for each crate, but that LIBRARIES has none for programs and tests;
+- docs/MAP.md has a row for each crate;
 - a crate's README: under "Clauses" each function is one of the crate, and has the clauses of its rows, and each public
   function of a library has a row; under "What functions require" is each function with a `requires`, and no other; under
-  "Files" each file that a row names is there, and each file of src/ has a row.
+  "Files" each file that a row names is there; a file of src/ that has no row says at its head what is in it.
 """
 
 import argparse
@@ -25,18 +26,18 @@ import re
 import sys
 
 sys.path.append(os.path.join(os.path.dirname(os.path.dirname(os.path.abspath(__file__))), "tools"))
-from repository import TESTS, TOP, libraries, used_by_crates
+from repository import TOP, exports_of_crate, functions_of, libraries, used_by_crates
 
 TOP = str(TOP)
 MOST_WORDS = 40
 # parts of paths of files that are made, and may be missing
 MADE = ("out/", "bench/data", "checks/data", "lang/antt/", "target/", "rust/unproved")
 # files that programs and scripts write
-WRITTEN = {"out.wasm", "main.wasm", "adapter.wasm", "no-repeats.wasm", "one-repeat.wasm", "repeats-10000.wasm",
+WRITTEN = {"out.wasm", "main.wasm", "adapter.wasm", "hello.wasm", "no-repeats.wasm", "one-repeat.wasm", "repeats-10000.wasm",
            "repeats-100000.wasm"}
 # names of other crates, of the kit and of other tools, which no source of the repository has
 FOREIGN = {"TypeRef", "Default", "Dec", "ValidatedAdapter", "wasm-component-ld", "wasm-encoder", "wasmparser", "wit-parser",
-           "anyhow", "BUILD", "bazel", "serde", "serde_json", "escape_debug", "deps", "Cargo", "toml", "_start", "fd_close", "unfold", "nice"}
+           "anyhow", "serde", "serde_json", "escape_debug", "deps", "Cargo", "toml", "_start", "fd_close", "unfold", "nice"}
 
 faults = []
 
@@ -140,6 +141,17 @@ def check_links(document):
                 fault(document, number, f"no heading for the link {target}")
 
 
+def check_tables(document):
+    """Each row of a table has as many cells as its head."""
+    wanted, last = 0, 0
+    for number, cells in rows_of(document):
+        # the line of dashes is between the head and the first row
+        wanted = wanted if number - last <= 2 and last else len(cells)
+        if len(cells) != wanted:
+            fault(document, number, f"a row of {len(cells)} cells, not {wanted}")
+        last = number
+
+
 def check_sentences(document):
     for number, kind, text in texts_of(document):
         if kind in ("heading", "quotation"):
@@ -185,13 +197,13 @@ def names_in_crates():
 
 @functools.cache
 def folders_of_crates():
-    return [TOP, *files("crates"), *files("crates", "*"), *files("crates", "*", "*")]
+    return [TOP, *files("include"), *files("crates"), *files("crates", "*"), *files("crates", "*", "*")]
 
 
 def is_file(document, name):
     """Whether a path is that of a file: from the top, from the document's folder, or in a crate."""
     is_pattern = "*" in name or any(part.isupper() for part in name.split("/"))
-    if name.startswith("/") or is_pattern or name in WRITTEN or any(made in name for made in MADE):
+    if name.startswith("/") or not re.search(r"\w", name) or is_pattern or name in WRITTEN or any(made in name for made in MADE):
         return True
     folders = [os.path.dirname(document), *folders_of_crates()]
     for ending in ("", ".rt", ".antt"):
@@ -230,6 +242,9 @@ def check_names(document, words):
                 for word in names_in(name):
                     # `R_drop`, `NAME_drop`, `tN`: the capitals are no part of a name; `8b9dc47`: a commit
                     is_pattern = re.match(r"[A-Z]+_|[a-z][A-Z]$|[0-9a-f]{7}$", word)
+                    # `adapter0_item5`: words that programs number
+                    is_numbered = re.fullmatch(r"[a-z]+\d+(_[a-z]+\d+)*", word) and set(re.findall("[a-z]+", word)) <= words
+                    is_pattern = is_pattern or is_numbered
                     if word not in words and word not in FOREIGN and not is_pattern:
                         fault(document, number, f"no {word} in the sources")
 
@@ -245,8 +260,7 @@ class Crate:
         self.name = os.path.basename(folder)
         self.source = os.path.join(folder, "src")
         self.files = files(self.source, "**", "*.rt")
-        exports = re.findall(r"pub use [\w:]+::(\{[^}]*\}|\w+)", self.text("lib"))
-        self.exported = {word for names in exports for word in re.findall(r"\w+", names)}
+        self.exported = exports_of_crate(self.name)
         self.heads, self.types, self.members = {}, set(), set()
         self.public, self.required = set(), set()
         for file in self.files:
@@ -268,34 +282,22 @@ class Crate:
         return "::".join(parts)
 
     def add_file(self, file):
-        lines = read(file).split("\n")
-        module = self.public_module(file)
-        owner, is_open, is_of_trait = None, False, False
-        for number, line in enumerate(lines):
-            self.types.update(re.findall(r"^pub (?:struct|enum|trait|type|const) (\w+)", line))
-            block = re.match(r"impl(?:<.*?>)? (\w+(?:<.*?>)? for )?&?(\w+)", line)
-            trait = re.match(r"pub trait (\w+)", line)
-            if block:
-                owner, is_open, is_of_trait = block.group(2), False, block.group(1) is not None
-            elif trait:
-                owner, is_open, is_of_trait = trait.group(1), True, False
-            function = re.match(r"( *)(pub )?fn (\w+)", line)
-            if function:
-                head = head_at(lines, number)
-                indent, is_marked, name = function.groups()
-                self.heads.setdefault(name, []).append(head)
-                if indent:
-                    # what an `impl` of a trait promises is said at the trait
-                    is_public = owner in self.exported and (is_marked or is_open) and not is_of_trait
-                    path = f"{owner}::{name}"
-                    self.members.add(path)
-                else:
-                    is_public = is_marked and (module or name in self.exported)
-                    path = f"{module}::{name}" if module else name
-                if is_public:
-                    self.public.add(path)
-                    if re.search(r"^\s*requires\b", head, re.M):
-                        self.required.add(path)
+        text, module = read(file), self.public_module(file)
+        self.types.update(re.findall(r"^pub (?:struct|enum|trait|type|const) (\w+)", text, re.M))
+        for it in functions_of(file, text):
+            self.heads.setdefault(it.name, []).append(it.text)
+            if it.owner:
+                # what an `impl` of a trait promises is said at the trait
+                is_public = it.owner in self.exported and (it.is_public or it.in_trait == "pub trait") and not it.trait
+                path = f"{it.owner}::{it.name}"
+                self.members.add(path)
+            else:
+                is_public = it.is_public and (module or it.name in self.exported)
+                path = f"{module}::{it.name}" if module else it.name
+            if is_public:
+                self.public.add(path)
+                if re.search(r"^\s*requires\b", it.text, re.M):
+                    self.required.add(path)
 
     def has(self, parts):
         """Whether the crate has a function, a type, or a public module of this path."""
@@ -309,17 +311,6 @@ class Crate:
         heads = [head for name in functions for head in self.heads.get(name, [])]
         return (clause in self.heads or any(re.search(rf"\b(ensures|requires) {clause}\b", head) for head in heads)
                 or any(re.search(rf"\bghost {clause}\b", read(file)) for file in self.files))
-
-
-def head_at(lines, number):
-    """The head of the function that begins at this line, with its clauses."""
-    head = []
-    for line in lines[number:]:
-        head.append(line)
-        is_clause = "ensures" in line or "requires" in line
-        if line.strip() == "{" or line.endswith(";") or (not is_clause and line.endswith(("{", "{}"))):
-            break
-    return "\n".join(head)
 
 
 # The pages of the crates.
@@ -391,10 +382,9 @@ def check_files(document, crate):
             is_there = os.path.exists(os.path.join(TOP, "crates", name + ".antt"))
             if folder and name and not is_there and not files("crates", crate.name, folder, name + ".antt"):
                 fault(document, number, f"no {folder}/{name}")
-    for path in map(crate.path_of, crate.files):
-        # of a crate of the tests a row of a folder is enough
-        if path not in named and not (TESTS.match(crate.name) and path.split("/")[0] in named):
-            fault(document, 1, f"no row for src/{path}")
+    for file in crate.files:
+        if crate.path_of(file) not in named and not read(file).startswith("//! "):
+            fault(document, 1, f"no row for src/{crate.path_of(file)}, which doesn't say what is in it")
 
 
 def check_crate(crate, is_library):
@@ -407,14 +397,13 @@ def check_crate(crate, is_library):
     check_files(document, crate)
 
 
-def check_lists():
-    """The lists of crates: each crate has a row in MAP, and each library and static library one in LIBRARIES."""
-    for page, crates in ("MAP.md", used_by_crates()), ("LIBRARIES.md", libraries()):
-        document = os.path.join(TOP, "docs", page)
-        rows = [cells[0] for _, cells in rows_of(document)]
-        for crate in crates:
-            if not any(f"[{crate}](" in cell for cell in rows):
-                fault(document, 1, f"no row for {crate}")
+def check_list():
+    """The list of crates in MAP: each crate is in a row."""
+    document = os.path.join(TOP, "docs", "MAP.md")
+    rows = [cells[0] for _, cells in rows_of(document)]
+    for crate in used_by_crates():
+        if not any(f"[{crate}](" in cell for cell in rows):
+            fault(document, 1, f"no row for {crate}")
 
 
 def check_top():
@@ -432,10 +421,11 @@ def main():
     words = words_of_sources()
     for document in documents():
         check_links(document)
+        check_tables(document)
         check_sentences(document)
         check_names(document, words)
     check_top()
-    check_lists()
+    check_list()
     for crate in crates:
         check_crate(crate, crate.name in public)
     for line in faults:

@@ -21,7 +21,7 @@ import re
 import sys
 
 sys.path.append(str(pathlib.Path(__file__).resolve().parent.parent / "tools"))
-from repository import TOP, files_of, product_crates
+from repository import TOP, files_of, parts_of, product_crates
 
 LEAST_LINES, LEAST_DIFFERENT = 10, 5
 # the words of a body that has the types of another one in another crate, and of one that has not
@@ -128,18 +128,11 @@ WORD = re.compile(r"\"[^\"]*\"|[\w'◌]+|[^\w\s'◌]")
 HEAD = re.compile(r"((?:pub |abbrev |unfoldable |ruleset )*(?:record |data )?)(\S+)")
 
 
-def parts_of(text):
+def plain_parts(text):
     """The top-level parts of a file, without comments."""
-    lines = [re.sub(r"(^|\s)--(\s.*|$)", "", line).rstrip() for line in text.split("\n")]
-    part = []
-    for line in lines:
-        if line and not line.startswith(" ") and part:
-            yield part
-            part = []
-        if line:
-            part.append(line)
-    if part:
-        yield part
+    for _, lines in parts_of(text):
+        plain = (re.sub(r"(^|\s)--(\s.*|$)", "", line).rstrip() for line in lines)
+        yield [line for line in plain if line]
 
 
 def imported(text):
@@ -181,7 +174,7 @@ class Definition:
 def definitions(crate):
     for path in files_of(crate, "specs", ".antt"):
         text = path.read_text(encoding="utf-8")
-        names, parts = imported(text), list(parts_of(text))
+        names, parts = imported(text), list(plain_parts(text))
         known = {HEAD.match(part[0])[2] for part in parts if not part[0].startswith(("use ", "mod ", "pub mod "))}
         at = 0
         while at < len(parts):

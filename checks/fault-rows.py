@@ -23,62 +23,64 @@ PAGE = TOP / "docs" / "ROWS.md"
 MARKS = {name: ("<!-- fault-rows.py: %s begin -->\n" % name, "<!-- fault-rows.py: %s end -->\n" % name)
          for name in ("faults", "places")}
 
-# The enum of the faults that a call answers.
-CALLS = {
-    "frames": "ReadFault", "read_imports": "ReadFault", "read_module": "ReadFault", "read_body": "ReadFault",
-    "read_init": "ReadFault", "example exports_memory": "ReadFault",
-    "dedupe": "DedupeFault", "dedupe_owned": "DedupeFault", "example original_name": "DedupeFault",
-    "resolve_build": "ResolveFault", "document": "JsonFault", "encoder_build": "EncoderFault", "example encoder_for": "EncoderFault",
-    "classify": "ValidateFault", "classify_export": "ValidateFault", "validate_module": "ValidateFault",
-    "validate_adapter_module": "ValidateFault", "validated_exports": "ValidateFault",
-    "example imported_memory": "ValidateFault",
-    "explain_trim": "GcFault", "liveness_counted": "GcFault", "trim": "GcFault", "trim_for": "GcFault", "unfolding_trimmed": "GcFault",
-    "why": "GcFault", "why_imports": "GcFault", "function_names_of": "ReadFault", "call_chain": "GcFault", "example reaches_memory": "GcFault", "example trim_both": "GcFault",
-    "component_world": "WorldFault", "example can_use_slot_1": "WorldFault", "example summary": "WorldFault",
-    "plan": "PlanFault", "plan_failing": "PlanFault", "plan_without_lowerings": "PlanFault",
-    "example printed_plan": "PlanFault",
-    "execute": "ToolFault", "execute_failing": "ToolFault", "each_put_failing": "ToolFault",
-    "writer_sink": "PutFailed", "run_program": "RunFault", "parse": "Usage",
-    "wcwhy": "WhyFault", "wcwhy_failing": "WhyFault",
-    "wcplan": "ProgramFault", "wcplan_failing": "ProgramFault", "parse_wcplan": "NoCommand", "plan_into": "MessageFault",
-    "world_into": "MessageFault", "validate_into": "MessageFault",
+# The enums of faults, and the calls that answer them.
+ANSWERED = {
+    "ReadFault": "frames, read_imports, read_module, read_body, read_init, example exports_memory, function_names_of",
+    "DedupeFault": "dedupe, dedupe_owned, example original_name",
+    "ResolveFault": "resolve_build",
+    "JsonFault": "document",
+    "EncoderFault": "encoder_build, example encoder_for",
+    "ValidateFault":
+        "classify, classify_export, validate_module, validate_adapter_module, validated_exports, example "
+        "imported_memory",
+    "GcFault":
+        "explain_trim, liveness_counted, trim, trim_for, unfolding_trimmed, why, why_imports, call_chain, example "
+        "reaches_memory, example trim_both",
+    "WorldFault": "component_world, example can_use_slot_1, example summary",
+    "PlanFault": "plan, plan_failing, plan_without_lowerings, example printed_plan",
+    "ToolFault": "execute, execute_failing, each_put_failing",
+    "PutFailed": "writer_sink",
+    "RunFault": "run_program",
+    "Usage": "parse",
+    "WhyFault": "wcwhy, wcwhy_failing",
+    "ProgramFault": "wcplan, wcplan_failing",
+    "NoCommand": "parse_wcplan",
+    "MessageFault": "plan_into, world_into, validate_into",
 }
+CALLS = {call: enum for enum, calls in ANSWERED.items() for call in calls.split(", ")}
+
+
+def listed(reasons):
+    """The reason of each variant of an enum, of a table that has the variants by their reasons."""
+    return {tuple(it.split("::")): why for why, names in reasons.items() for it in names.split()}
+
+
 # What no row of any input can reach, and why.
-BARRED = {
-    ("WriteFault", "TooLarge"): "a section, or a body, of 2^32 bytes",
-    ("DedupeFault", "TooLarge"): "a section of 2^32 bytes",
-    ("GcFault", "TooLarge"): "a section of 2^32 bytes",
-    ("ValidateFault", "WholeDiffers"): "of the arguments of a name the first counts",
-    ("ValidateFault", "Mixed"): "of the arguments of a name the first counts",
-    ("MessageFault", "NotText"): "a row is text",
-}
+BARRED = listed({
+    "a section, or a body, of 2^32 bytes": "WriteFault::TooLarge",
+    "a section of 2^32 bytes": "DedupeFault::TooLarge GcFault::TooLarge",
+    "of the arguments of a name the first counts": "ValidateFault::WholeDiffers ValidateFault::Mixed",
+    "a row is text": "MessageFault::NotText",
+    "none but memory is known to come of an adapter that was trimmed": "ProgramFault::Ways",
+})
 FAILED = "where an allocation fails"
 # The enums whose faults have places.
 PLACED = ("ResolveFault", "ValidateFault", "GcFault", "WorldFault", "PlanFault")
 # Which of their faults have none, and why.
-UNPLACED = {
-    ("ResolveFault", "Memory"): "an allocation failed",
-    ("ValidateFault", "Memory"): "an allocation failed",
-    ("ValidateFault", "Read"): "it is about the module as a whole",
-    ("ValidateFault", "NotAModule"): "it is about the module as a whole",
-    ("ValidateFault", "WholeDiffers"): "it is answered for no module",
-    ("ValidateFault", "Mixed"): "it is answered for no module",
-    ("GcFault", "Memory"): "an allocation failed",
-    ("GcFault", "Read"): "it is about the adapter as a whole",
-    ("GcFault", "MissingExport"): "it has the export's name",
-    ("GcFault", "SeveralNamed"): "it is about all that is live",
-    ("GcFault", "LiveTable"): "it is about all that is live",
-    ("GcFault", "SeveralMemories"): "it is about all that is live",
-    ("GcFault", "LocalMemory"): "it is about all that is live",
-    ("GcFault", "ReallocType"): "it is about all that is live",
-    ("GcFault", "ReallocMemory"): "it is about all that is live",
-    ("GcFault", "TooLarge"): "it is about the adapter as a whole",
-    ("WorldFault", "Memory"): "an allocation failed",
-    ("WorldFault", "PageSize"): "it has the adapter's name and both sizes",
-    ("PlanFault", "Memory"): "an allocation failed",
-    ("PlanFault", "World"): "it has that of the world's fault",
-    ("PlanFault", "Output"): "it is about the sink",
-}
+UNPLACED = listed({
+    "an allocation failed":
+        "ResolveFault::Memory ValidateFault::Memory GcFault::Memory WorldFault::Memory PlanFault::Memory",
+    "it is about the module as a whole": "ValidateFault::Read ValidateFault::NotAModule",
+    "it is answered for no module": "ValidateFault::WholeDiffers ValidateFault::Mixed",
+    "it is about the adapter as a whole": "GcFault::Read GcFault::TooLarge",
+    "it has the export's name": "GcFault::MissingExport",
+    "it is about all that is live":
+        "GcFault::SeveralNamed GcFault::LiveTable GcFault::SeveralMemories GcFault::LocalMemory GcFault::ReallocType "
+        "GcFault::ReallocMemory",
+    "it has the adapter's name and both sizes": "WorldFault::PageSize",
+    "it has that of the world's fault": "PlanFault::World",
+    "it is about the sink": "PlanFault::Output",
+})
 
 
 def sources():

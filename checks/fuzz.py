@@ -31,7 +31,7 @@ import tempfile
 import time
 
 from adapter_shapes import SHAPES
-from module_bytes import HEADER
+from module_bytes import HEADER, exported_names, number_at, spans
 
 TOP = pathlib.Path(__file__).resolve().parent.parent
 PROGRAM = TOP / "crates" / "wctrim" / "out" / "wctrim"
@@ -48,49 +48,9 @@ PART = b"__stack_pointer"
 given = None
 
 
-def number_at(content, at):
-    """A number of up to five bytes, and the index after it."""
-    value = 0
-    for position in range(5):
-        if at + position >= len(content):
-            raise ValueError
-        byte = content[at + position]
-        value |= (byte & 0x7F) << (7 * position)
-        if byte < 0x80:
-            return value, at + position + 1
-    raise ValueError
-
-
-def sections(content):
-    """Of each section that can be framed its id, the index of its size, and where its content begins and ends."""
-    at, found = len(HEADER), []
-    while at < len(content):
-        try:
-            size, begin = number_at(content, at + 1)
-        except ValueError:
-            break
-        if begin + size > len(content):
-            break
-        found.append((content[at], at + 1, begin, begin + size))
-        at = begin + size
-    return found
-
-
-def export_names(content):
-    """The names of the exports, as far as they can be read."""
-    names = []
-    for kind, _, begin, end in sections(content):
-        if kind != 7:
-            continue
-        try:
-            count, at = number_at(content, begin)
-            for _ in range(min(count, 1000)):
-                size, at = number_at(content, at)
-                names.append(content[at : at + size].decode())
-                _, at = number_at(content, at + size + 1)
-        except (ValueError, UnicodeDecodeError):
-            pass
-    return [name for name in names if name and not name.startswith("--") and "\0" not in name]
+def names_of(content):
+    """The names of up to a thousand exports that can be arguments."""
+    return [it for it in exported_names(content)[:1000] if it and not it.startswith("--") and "\0" not in it]
 
 
 def five_bytes(value):
@@ -100,11 +60,11 @@ def five_bytes(value):
 
 def with_another_number(dice, content):
     """A size or a count becomes another number."""
-    found = sections(content)
+    found = list(spans(content))
     if not found:
         return content
-    kind, size_at, begin, _ = dice.choice(found)
-    at = begin if kind in COUNTED and dice.random() < 0.6 else size_at
+    kind, start, begin, _ = dice.choice(found)
+    at = begin if kind in COUNTED and dice.random() < 0.6 else start + 1
     try:
         value, after = number_at(content, at)
     except ValueError:
@@ -115,7 +75,7 @@ def with_another_number(dice, content):
 
 def with_other_code(dice, content):
     """Bytes of bodies are changed, and all sizes stay."""
-    code = [(begin, end) for kind, _, begin, end in sections(content) if kind == 10 and end - begin > 8]
+    code = [(begin, end) for kind, _, begin, end in spans(content) if kind == 10 and end - begin > 8]
     if not code:
         return content
     begin, end = code[0]
@@ -272,7 +232,7 @@ def modules_of(paths):
         files += sorted(it for it in path.rglob("*") if it.suffix in (".wasm", ".o")) if path.is_dir() else [path]
     contents = [it.read_bytes() for it in files if 0 < it.stat().st_size <= 1 << 18]
     contents += [make(count)[0] for make, _ in SHAPES.values() for count in (1, 3, 10)]
-    return [(content, export_names(content)) for content in contents]
+    return [(content, names_of(content)) for content in contents]
 
 
 def main():

@@ -1,4 +1,4 @@
-"""Parts of core modules as bytes: written, and read of modules that are well formed."""
+"""Parts of core modules as bytes, written and read."""
 
 HEADER = b"\0asm\1\0\0\0"
 
@@ -40,25 +40,33 @@ def types():
 
 
 def number_at(data, at):
-    """An unsigned number, and the index after it."""
-    value = shift = 0
-    while True:
-        byte = data[at]
-        at += 1
-        value |= (byte & 127) << shift
-        shift += 7
+    """An unsigned number of up to five bytes, and the index after it; a ValueError where there is none."""
+    value = 0
+    for position in range(min(5, len(data) - at)):
+        byte = data[at + position]
+        value |= (byte & 127) << 7 * position
         if byte < 128:
-            return value, at
+            return value, at + position + 1
+    raise ValueError
+
+
+def spans(data, at=8):
+    """Of each section that can be framed its id, and where its id, its content and its end are."""
+    while at < len(data):
+        try:
+            size, start = number_at(data, at + 1)
+        except ValueError:
+            return
+        if start + size > len(data):
+            return
+        yield data[at], at, start, start + size
+        at = start + size
 
 
 def sections(data, at=8):
     """The sections of a module or a component: ids and contents."""
-    while at < len(data):
-        size, start = number_at(data, at + 1)
-        if start + size > len(data):
-            return
-        yield data[at], data[start:start + size]
-        at = start + size
+    for id, _, start, end in spans(data, at):
+        yield id, data[start:end]
 
 
 def content(module, id):
@@ -67,18 +75,32 @@ def content(module, id):
 
 
 def name_at(data, at):
-    """A name, and the index after it."""
+    """A name, and the index after it; a ValueError where there is none."""
     length, at = number_at(data, at)
     return data[at:at + length].decode(), at + length
 
 
 def exported_names(module):
-    """The names of a module's exports."""
-    data = content(module, 7)
+    """The names of a module's exports, as far as they can be read."""
+    names = []
+    for data in (content for id, content in sections(module) if id == 7):
+        try:
+            count, at = number_at(data, 0)
+            for _ in range(count):
+                text, at = name_at(data, at)
+                _, at = number_at(data, at + 1)
+                names.append(text)
+        except ValueError:
+            pass
+    return names
+
+
+def import_names(module):
+    """The module and the name of each imported function, of a module that imports no more than functions."""
+    data = content(module, 2)
     count, at = number_at(data, 0)
-    found = []
     for _ in range(count):
-        text, at = name_at(data, at)
+        field, at = name_at(data, at)
+        name, at = name_at(data, at)
         _, at = number_at(data, at + 1)
-        found.append(text)
-    return found
+        yield field, name

@@ -4,8 +4,6 @@
     checks/trust.py            prints the tables
     checks/trust.py --write    writes them into docs/TRUST.md
     checks/trust.py --check    compares them with those of docs/TRUST.md; status 1 where they differ
-    checks/trust.py --names    prints each definition with its file and its lines, in the order to read them
-    checks/trust.py --first    prints how many lines a first reading has: what each of its cuts leaves out, and what is left
 
 It begins with the names in the clauses of `new`, and follows what each definition cites: names of its own file, and
 those that its file takes from another one by `use`. Definitions of the kit are not followed. A file counts with the
@@ -18,7 +16,7 @@ import re
 import sys
 
 sys.path.append(str(pathlib.Path(__file__).resolve().parent.parent / "tools"))
-from repository import TOP, put_between, used_by_crates
+from repository import TOP, parts_of, put_between, used_by_crates
 
 CRATES = TOP / "crates"
 PAGE = TOP / "docs" / "TRUST.md"
@@ -26,21 +24,6 @@ BEGIN, END = "<!-- trust.py: begin -->\n", "<!-- trust.py: end -->\n"
 SOURCE, HEAD = CRATES / "wc_world" / "src" / "world.rt", "    pub fn new<"
 USE = re.compile(r"(?:ghost |pub )?use Rattle\.(\w+)\.specs\.([\w.]*\w)(?:\.\{(.*)\})?(?: as (\w+))?")
 DECLARED = re.compile(r"(?:(?:abbrev|unfoldable|pub|data|record|infixl|infixr|infix) )*([^\s:({]+)")
-
-
-def pieces(text):
-    """What begins in the first column, with the lines that belong to it and the comments before it."""
-    comments = []
-    found = []
-    for line in text.splitlines():
-        if line.startswith("--"):
-            comments.append(line)
-        elif line[:1] in (" ", "}"):
-            found[-1].append(line)
-        elif line:
-            found.append([*comments, line])
-            comments = []
-    return found
 
 
 def citations(piece):
@@ -67,7 +50,7 @@ class Specs:
         head = [line.removeprefix("-- ") for line in re.match(r"(?:--.*\n)*", text).group().splitlines()]
         self.subject = " ".join(head).rstrip(".").replace("|", "\\|")
         last = None
-        for piece in pieces(text):
+        for piece in (comments + lines for comments, lines in parts_of(text)):
             first = next(line for line in piece if not line.startswith("--"))
             if re.match(r"(pub )?use ", first):
                 scope, modules = citations(piece)
@@ -160,7 +143,7 @@ def first_reading():
     """The lines that each cut by itself leaves out, and how many all of them leave."""
     whole = walked().lines()
     cuts = {words: whole - walked(cut).lines() for words, cut in CUTS.items()}
-    return cuts, walked(lambda *it: any(cut(*it) for cut in CUTS.values())).lines(), whole
+    return cuts, walked(lambda *it: any(cut(*it) for cut in CUTS.values())).lines()
 
 
 def walked(*left_out):
@@ -194,7 +177,7 @@ def tables(walk):
     counts = {}
     for crate, file, name in walk.order:
         counts[crate, file] = counts.get((crate, file), 0) + len(walk.specs[crate, file].lines[name])
-    cuts, left, _ = first_reading()
+    cuts, left = first_reading()
     *firsts, last = [f"{words} ({lines})" for words, lines in cuts.items()]
     parts = [f"{sum(counts.values()):,} lines in {len(counts)} files. A first reading has {left:,}, without "
              f"{', '.join(firsts)} and {last}.\n"]
@@ -214,20 +197,10 @@ def tables(walk):
 def main():
     parser = argparse.ArgumentParser(description=__doc__, formatter_class=argparse.RawDescriptionHelpFormatter)
     how = parser.add_mutually_exclusive_group()
-    for name in "write", "check", "names", "first":
+    for name in "write", "check":
         how.add_argument("--" + name, action="store_true")
     given = parser.parse_args()
-    walk = walked()
-    if given.names:
-        for crate, file, name in walk.order:
-            print(f"{crate} {file} {name} {len(walk.specs[crate, file].lines[name])}")
-        return 0
-    if given.first:
-        cuts, left, whole = first_reading()
-        print("\n".join(f"{words}: {lines} lines" for words, lines in cuts.items()))
-        print(f"left: {left:,} of {whole:,} lines")
-        return 0
-    text = tables(walk)
+    text = tables(walked())
     page, old = put_between(PAGE.read_text(), BEGIN, END, text)
     if given.write:
         PAGE.write_text(page)

@@ -2,8 +2,8 @@
 """Tries many edits of a crate in one check: those that turn different functions.
 
     edits/batches.py [--sources DIR] [--over DIR] [--work DIR] [--edit NAME].. [--most N] [--jobs N] [--again] [--plan]
-                     [--unchanged] [--table FILE] CRATE..
-    edits/batches.py --gate [--since COMMIT] [--table FILE] [CRATE..]
+                     [--record] CRATE..
+    edits/batches.py --gate [--table FILE] [CRATE..]
 
 An edit changes the body of one function, and a caller sees only that function's contract. So edits of different functions
 don't hide one another, and are tried together, in a copy of the crate. In the copy every function that none of them
@@ -27,14 +27,15 @@ The crate's sources are those of this checkout, or of DIR/crates/CRATE by --sour
 read from DIR/NAME.rlib by --over; without it, from crates/NAME/out/rlib of the sources, where `rt ci` leaves them. The crate
 itself has to be proved: what is refused here is taken to be refused for the edit. --work keeps what was checked and
 found (without it /tmp/edits-in-batches): what was found over the same sources isn't tried again, but with --again.
-Printed is a line for each edit, with the first message, and the processor seconds; --table writes a table of all that
-is known of the crates. The status is 0 where each edit is refused for more than a name. --plan prints the batches alone.
---unchanged applies no edit: then each function has to come out as `none`, which shows that the stubs change no proof.
+Printed is a line for each edit, with the first message, and the processor seconds. The status is 0 where each edit is
+refused for more than a name. --plan prints the batches alone. With --record what refused each is put into edits/refused.txt,
+under a key of the edit and of the text that it turns; of an edit of which either changes it is not known any more.
+`checks/edits.py --write` makes the table of it in docs/TRIED.md.
 
 With --gate each edit is tried by itself, over the whole crate, by `rt ci CRATE` on a copy in which they are in must-fail/:
-those of all crates, of the crates that are named, or by --since of those that differ from a commit's, with those in
-must-fail/ too. That decides, and takes ten times as long. It may be stopped at any time: what was tried over the same
-files on this machine isn't tried again. A line is printed for each edit; --table writes what refused each.
+those of all crates, or of those that are named. That decides, and takes ten times as long. It may be stopped at any time:
+what was tried over the same files on this machine isn't tried again. A line is printed for each edit; --table writes what
+refused each.
 """
 
 import argparse
@@ -51,94 +52,15 @@ import sys
 import tempfile
 
 sys.path.append(os.path.join(os.path.dirname(os.path.dirname(os.path.abspath(__file__))), "tools"))
-from repository import TOP, applied, changes_of, edits_of, kit_command, rlib_of, texts_of, used_by_crates
+from repository import TOP, applied, changes_of, edits_of, functions_of, kit_command, parts_of, rlib_of, texts_of, used_by_crates
 
-HEAD = re.compile(r'^( *)(?:pub(?:\([^)]*\))? )?((?:const |unsafe |extern "C" )*)fn (\w+)')
-IMPL = re.compile(r"^ *(?:unsafe )?impl\b")
 KINDS = ("clause", "loop", "lemma", "step", "name", "none", "unread", "untried")
+RECORD = TOP / "edits" / "refused.txt"
 
 
-class Function:
-    """A function of a source file: its path below the crate, and the lines of its head and of its body."""
-
-    def __init__(self, file, name, owner, trait, lines, places, whole):
-        self.file, self.name, self.owner, self.trait = file, name, owner, trait
-        # the lines of the head, of the body's opening and of its end, and their places in the text
-        self.head, self.first, self.last = lines
-        self.begins, self.opens, self.ends = places
-        # of no other use than as it is: a const function, a default method, a function of a cycle
-        self.whole = whole
-        module = file[len("src/") : -len(".rt")].replace("/", "::")
-        self.module = "" if module in ("lib", "main") else re.sub(r"::mod$", "", module)
-        self.key = (file, owner, trait, name)
-
-    def path(self):
-        return "::".join(it for it in (self.module, self.owner + self.trait, self.name) if it)
-
-
-def type_name(text):
-    """The last word of a type's or a trait's path, without references, lifetimes and arguments."""
-    text = re.sub(r"<.*", "", text.strip())
-    text = re.sub(r"^&(?:'\w+ )?(?:mut )?", "", text)
-    return re.sub(r"\W", "", text.split("::")[-1])
-
-
-def arguments_end(text, at):
-    """The end of the generic arguments that begin at a place."""
-    depth = 0
-    for i in range(at, len(text)):
-        depth += {"<": 1, ">": -1}.get(text[i], 0) if text[i - 1 : i + 1] != "->" else 0
-        if not depth:
-            return i + 1
-    return at
-
-
-def owner_of(line):
-    """The type and the trait of an `impl` line."""
-    text = line.strip().split("impl", 1)[1]
-    text = text[arguments_end(text, 0) :] if text.startswith("<") else text
-    text = re.sub(r"\s+where\b.*", "", text).rstrip(" {}")
-    trait, has_trait, owner = text.partition(" for ")
-    return (type_name(owner), type_name(trait)) if has_trait else (type_name(text), "")
-
-
-@functools.lru_cache(maxsize=None)
-def functions_of(file, text):
-    """The functions of a file in the layout of `rt fmt` that have a body."""
-    lines, found, owner, starts = text.split("\n"), [], ("", "", ""), [0]
-    for line in lines:
-        starts.append(starts[-1] + len(line) + 1)
-    for n, line in enumerate(lines):
-        if IMPL.match(line) and not line.startswith(" "):
-            owner = (*owner_of(line), "")
-        elif re.match(r"(?:pub(?:\([^)]*\))? )?(?:unsafe )?trait (\w+)", line):
-            owner = (re.search(r"trait (\w+)", line)[1], "", "trait")
-        elif line.startswith("}"):
-            owner = ("", "", "")
-        head = HEAD.match(line)
-        if not head:
-            continue
-        indent, at = head[1], n
-        while at < len(lines):
-            it = lines[at]
-            mine = it.startswith(indent) and not it[len(indent) :].startswith((" ", "//"))
-            if mine and (it == indent + "{" or it.endswith((" {", "{}"))) or it.endswith(";"):
-                break
-            at += 1
-        if at == len(lines) or lines[at].endswith(";"):
-            continue
-        end = at
-        while not lines[at].endswith("{}") and end < len(lines) and lines[end] != indent + "}":
-            end += 1
-        attributes, up = "", n - 1
-        while up >= 0 and re.match(r" *(#\[|///)", lines[up]):
-            attributes += lines[up]
-            up -= 1
-        whole = "const" in head[2] or "#[cycle" in attributes or owner[2] == "trait"
-        in_type = owner if indent else ("", "", "")
-        places = starts[n], starts[at + 1] - 1, starts[min(end + 1, len(lines))] - 1
-        found.append(Function(file, head[3], in_type[0], in_type[1], (n, at, end), places, whole))
-    return found
+def bodies_of(file, text):
+    """The functions of a file that have a body."""
+    return [it for it in functions_of(file, text) if it.has_body]
 
 
 class Edit:
@@ -154,13 +76,33 @@ class Edit:
                 self.items.append((file, place))
                 continue
             place += len(os.path.commonprefix([old, new]))
-            it = next((it for it in functions_of(file, sources[file]) if it.begins <= place <= it.ends), None)
+            it = next((it for it in bodies_of(file, sources[file]) if it.begins <= place <= it.ends), None)
             if it:
                 group = self.functions if place >= it.opens else self.heads
                 if it.key not in [x.key for x in group]:
                     group.append(it)
             elif not re.search(r"(^| )fn \w+[(<]", new) or re.match(r"(pub )?impl", old):
                 self.items.append((file, place))
+        turned = [sources[it.file][it.begins : it.ends] for it in self.functions + self.heads]
+        turned += [re.split(r"\n(?=\S)", sources[file][: place + 1])[-1] + re.split(r"\n(?=\S)", sources[file][place + 1 :])[0]
+                   for file, place in self.items if file in sources]
+        self.key = hashlib.sha256("\0".join([text, *turned]).encode()).hexdigest()[:12]
+
+
+def known():
+    """What refused each edit that is recorded, by its key."""
+    return dict(line.split()[:2] for line in RECORD.read_text().splitlines()) if RECORD.exists() else {}
+
+
+def record(found):
+    """Records what refused edits, by their keys, beside what is known; edits that there are not any more go."""
+    found, lines = {**known(), **found}, []
+    for name in used_by_crates():
+        texts = texts_of(name)
+        for it, path in edits_of(name):
+            key = Edit(it, path.read_text(encoding="utf-8"), texts).key
+            lines += [f"{key} {found[key]} {name}/{it}\n"] if key in found else []
+    RECORD.write_text("".join(lines), encoding="utf-8")
 
 
 class Crate:
@@ -169,15 +111,15 @@ class Crate:
         self.folder = f"{sources}/crates/{name}"
         self.texts = texts_of(name, sources)
         self.src = {path: it for path, it in self.texts.items() if path.startswith("src/")}
-        self.functions = [it for path in sorted(self.src) for it in functions_of(path, self.src[path])]
+        self.functions = [it for path in sorted(self.src) for it in bodies_of(path, self.src[path])]
         every = sorted((path, hashlib.sha256(it.encode()).hexdigest()) for path, it in self.texts.items())
         self.sum = hashlib.sha256(repr(every).encode()).hexdigest()[:16]
 
     @functools.lru_cache(maxsize=None)
     def definitions(self):
         """The definitions in `specs/`, each with the words in it."""
-        parts = [part for path, text in self.texts.items() if path.startswith("specs/") for part in re.split(r"\n(?=\S)", text)]
-        parts = [part for part in parts if DEFINED.match(part) and not re.match(r"(pub )?(use|mod) |--", part)]
+        parts = ["\n".join(part) for path, text in self.texts.items() if path.startswith("specs/") for _, part in parts_of(text)]
+        parts = [part for part in parts if DEFINED.match(part) and not re.match(r"(pub )?(use|mod) ", part)]
         return [(DEFINED.match(part)[1], words_of(part)) for part in parts]
 
     def command(self, flags):
@@ -203,7 +145,7 @@ class Crate:
 def stubbed(text, keep):
     """A file in which every function but those to keep has the body `unreachable!()`."""
     lines = text.split("\n")
-    for it in reversed(functions_of(keep[0], text)):
+    for it in reversed(bodies_of(keep[0], text)):
         if not it.whole and it.key not in keep[1]:
             if it.first == it.last:
                 lines[it.first] = lines[it.first].removesuffix("{}") + "{ unreachable!() }"
@@ -324,24 +266,27 @@ class Tries:
         os.makedirs(f"{self.room}/copy", exist_ok=True)
         self.kept, self.found, self.longer = f"{self.room}/found.json", {}, {}
         self.runs = sum(it.startswith("log-") for it in os.listdir(self.room))
-        if os.path.exists(self.kept) and not given.unchanged:
+        if os.path.exists(self.kept):
             with open(self.kept, encoding="utf-8") as file:
                 self.found = json.load(file)
 
     def key(self, edit):
         return hashlib.sha256((self.crate.sum + edit.text).encode()).hexdigest()[:16]
 
+    def is_of(self, edit):
+        """Whether what was found of an edit was found over these sources."""
+        return self.found[edit.name]["key"] == self.key(edit)
+
     def tell(self, edit, kind, said, how):
         where = ", ".join(it.path() for it in edit.asked[:4])
         self.found[edit.name] = {"key": self.key(edit), "kind": kind, "said": said, "how": how, "at": where}
-        with open(os.devnull if self.given.unchanged else self.kept, "w", encoding="utf-8") as file:
+        with open(self.kept, "w", encoding="utf-8") as file:
             json.dump(self.found, file, indent=1, sort_keys=True)
         print(f"{self.crate.name}/{edit.name}: {kind} ({how}; {where}): {said}", flush=True)
 
     def check(self, edits, keep, asked):
         """The edits that a copy has, and the lines of its check."""
-        used = copied(self.crate, [] if self.given.unchanged else edits, keep, f"{self.room}/copy")
-        used = edits if self.given.unchanged else used
+        used = copied(self.crate, edits, keep, f"{self.room}/copy")
         for _ in range(60):
             names = {it.key: self.crate.only(it, self.longer.get(it.key, 0)) for it in asked}
             flags = [x for it in sorted(set(names.values())) for x in ("--only", it)]
@@ -439,7 +384,7 @@ class Tries:
 
     def run(self, edits):
         known = [it["key"] for it in self.found.values() if it["kind"] != "untried"]
-        todo = [it for it in edits if self.given.again or self.given.unchanged or self.key(it) not in known]
+        todo = [it for it in edits if self.given.again or self.key(it) not in known]
         for edit in todo:
             edit.asked = [*edit.functions, *[it for it in edit.heads if it.key not in [x.key for x in edit.functions]]]
             if edit.items and not edit.fault:
@@ -456,7 +401,7 @@ class Tries:
         for edits in plans if not self.given.plan else []:
             self.batch(edits)
             for edit in edits if len(edits) > 1 else []:
-                if self.found[edit.name]["kind"] in ("lemma", "none", "untried") and not self.given.unchanged:
+                if self.found[edit.name]["kind"] in ("lemma", "none", "untried"):
                     self.batch([edit])
 
 
@@ -477,21 +422,6 @@ def batches(edits, most, texts):
         group["keys"] |= keys
         group["texts"].update(now)
     return [it["edits"] for it in made]
-
-
-def row(found, crate, names):
-    """A line of the table: how many edits were refused at what."""
-    kinds = [found.get(it, {"kind": "untried"})["kind"] for it in names]
-    return f"| `{crate}` | {len(names)} | " + " | ".join(str(kinds.count(it)) for it in KINDS) + " |"
-
-
-def named(found, crate, names):
-    """A line for each kind but clauses: the names of its edits."""
-    lines = []
-    for kind in KINDS[1:]:
-        its = [f"`{it}`" for it in names if it in found and found[it]["kind"] == kind]
-        lines += [f"- `{crate}`, {kind}: {', '.join(its)}"] if its else []
-    return lines
 
 
 def gate_line(line):
@@ -516,7 +446,7 @@ def by_gate(given, chosen):
             folder = f"{copy}/crates/{crate}/must-fail"
             os.mkdir(folder)
             for _, path in edits_of(crate):
-                if given.since or "must-fail" not in path.parts:
+                if "must-fail" not in path.parts:
                     shutil.copy(path, folder)
             # over the statements of the crates below, which are proved first where no earlier run did
             how = {"stdin": subprocess.DEVNULL, "stdout": subprocess.PIPE, "stderr": subprocess.STDOUT}
@@ -532,12 +462,8 @@ def by_gate(given, chosen):
 
 
 def chosen_crates(given):
-    """The crates whose edits are tried by the gate: those that are named, or all, or those that changed since a commit."""
+    """The crates whose edits are tried by the gate: those that are named, or all."""
     having = [crate for crate in used_by_crates() if any(True for _ in edits_of(crate))]
-    if given.since:
-        command = ["git", "-C", TOP, "diff", "--name-only", given.since, "--", "crates"]
-        changed = subprocess.run(command, stdout=subprocess.PIPE, text=True, check=True).stdout.splitlines()
-        return [crate for crate in having if any(path.startswith(f"crates/{crate}/") for path in changed)]
     unknown = [crate for crate in given.crates if crate not in having]
     if unknown:
         sys.exit(f"batches.py: no edits of a crate {unknown[0]}")
@@ -555,32 +481,28 @@ def main():
     parser.add_argument("--jobs", type=int, default=1)
     parser.add_argument("--again", action="store_true")
     parser.add_argument("--plan", action="store_true")
-    parser.add_argument("--unchanged", action="store_true")
+    parser.add_argument("--record", action="store_true")
     parser.add_argument("--table")
     parser.add_argument("--gate", action="store_true")
-    parser.add_argument("--since", metavar="COMMIT")
     parser.add_argument("crates", nargs="*")
     given = parser.parse_args()
-    if given.gate or given.since:
+    if given.gate:
         sys.exit(0 if by_gate(given, chosen_crates(given)) else 1)
     if not given.crates:
         parser.error("no crate is named")
-    rows, lists, is_well = [], [], True
+    is_well = True
     for name in given.crates:
         crate = Crate(os.path.abspath(given.sources), given.over and os.path.abspath(given.over), name)
         edits = [Edit(it, path.read_text(encoding="utf-8"), crate.texts) for it, path in edits_of(name)]
-        names, start = [it.name for it in edits], spent()
-        tries = Tries(crate, given)
-        tries.run([it for it in edits if not given.edit or it.name in given.edit])
-        rows.append(row(tries.found, name, names))
-        lists += named(tries.found, name, names)
-        wanted = ("none",) if given.unchanged else KINDS[:4]
-        is_well &= all(tries.found.get(it, {"kind": "untried"})["kind"] in wanted for it in names)
-        print(f"{name}: {spent() - start:.0f} processor seconds\n{rows[-1]}", flush=True)
-        if given.table:
-            head = ["| Crate | Edits | " + " | ".join(KINDS) + " |", "|---" * (len(KINDS) + 2) + "|"]
-            with open(given.table, "w", encoding="utf-8") as file:
-                file.write("\n".join([*head, *rows, "", *lists]) + "\n")
+        edits = [it for it in edits if not given.edit or it.name in given.edit]
+        start, tries = spent(), Tries(crate, given)
+        tries.run(edits)
+        kinds = {it: tries.found.get(it.name, {"kind": "untried"})["kind"] for it in edits}
+        is_well &= all(it in KINDS[:4] for it in kinds.values())
+        counts = ", ".join(f"{list(kinds.values()).count(it)} {it}" for it in KINDS if it in kinds.values())
+        print(f"{name}: {len(edits)} edits: {counts}; {spent() - start:.0f} processor seconds", flush=True)
+        if given.record:
+            record({it.key: kind for it, kind in kinds.items() if kind != "untried" and tries.is_of(it)})
     sys.exit(0 if is_well else 1)
 
 

@@ -1,6 +1,6 @@
 #!/usr/bin/env python3
 """Proves and builds the static library of crates/nuigatre over what `rt ci` proved of the crates below it in this
-checkout: crates/nuigatre/out/libnuigatre.a.
+checkout: crates/nuigatre/out/libnuigatre.a, and nuigatre.pc for it.
 
     rust/build-proved.py
 
@@ -15,6 +15,7 @@ import subprocess
 import sys
 
 sys.path.append(os.path.join(os.path.dirname(os.path.dirname(os.path.abspath(__file__))), "tools"))
+import pkgconfig
 from repository import TOP, files_of, kit_command, kit_folder, rlib_of, used_by_crates
 
 CRATE = "nuigatre"
@@ -46,7 +47,10 @@ def main():
     os.makedirs(os.path.join(folder, "out"), exist_ok=True)
     flags = ["--jobs", "2", "--toolchain", os.path.join(kit_folder(), "toolchain"), "--backend", "llvm"]
     command = kit_command("build", CRATE, [*flags, "-o", os.path.join("out", "lib%s.a" % CRATE)])
-    return 1 if subprocess.run(command, cwd=folder, check=False).returncode else 0
+    if subprocess.run(command, cwd=folder, check=False).returncode:
+        return 1
+    pkgconfig.write(os.path.join(folder, "out"))
+    return 0
 
 
 if __name__ == "__main__":

@@ -1,4 +1,5 @@
 """What the scripts read of the repository: its crates and what each uses, their files, and the kit."""
+import functools
 import os
 import pathlib
 import re
@@ -9,6 +10,8 @@ TOP = pathlib.Path(__file__).resolve().parent.parent
 KIT = "/opt/rattle"
 # the crates of the tests, whose functions promise nothing to others
 TESTS = re.compile(r"wc_(lines|fixtures|tests|\w*rows)$")
+HEAD = re.compile(r'^( *)(?:pub(?:\([^)]*\))? )?((?:const |unsafe |extern "C" )*)fn (\w+)')
+IMPL = re.compile(r"^ *(?:unsafe )?impl\b")
 
 
 def read(*parts):
@@ -69,9 +72,126 @@ def code_of(path):
     return re.sub(r"^\s*//.*\n", "", pathlib.Path(path).read_text(encoding="utf-8"), flags=re.M)
 
 
+class Function:
+    """A function of a source file: its path below the crate, and the lines of its head and of its body. Its `text` is the
+    head, with its clauses. Of a method `owner` is the type, or the trait that declares it (`in_trait` is then what is before
+    the word), and `trait` the trait that the type has it of."""
+
+    def __init__(self, file, name, owner, trait, lines, places, whole):
+        self.file, self.name, self.owner, self.trait = file, name, owner, trait
+        self.has_body, self.is_public, self.in_trait, self.text = True, False, "", ""
+        # the lines of the head, of the body's opening and of its end, and their places in the text
+        self.head, self.first, self.last = lines
+        self.begins, self.opens, self.ends = places
+        # of no other use than as it is: a const function, a default method, a function of a cycle
+        self.whole = whole
+        module = file[len("src/") : -len(".rt")].replace("/", "::")
+        self.module = "" if module in ("lib", "main") else re.sub(r"::mod$", "", module)
+        self.key = (file, owner, trait, name)
+
+    def path(self):
+        return "::".join(it for it in (self.module, self.owner + self.trait, self.name) if it)
+
+
+def type_name(text):
+    """The last word of a type's or a trait's path, without references, lifetimes and arguments."""
+    text = re.sub(r"<.*", "", text.strip())
+    text = re.sub(r"^&(?:'\w+ )?(?:mut )?", "", text)
+    return re.sub(r"\W", "", text.split("::")[-1])
+
+
+def arguments_end(text, at):
+    """The end of the generic arguments that begin at a place."""
+    depth = 0
+    for i in range(at, len(text)):
+        depth += {"<": 1, ">": -1}.get(text[i], 0) if text[i - 1 : i + 1] != "->" else 0
+        if not depth:
+            return i + 1
+    return at
+
+
+def owner_of(line):
+    """The type and the trait of an `impl` line."""
+    text = line.strip().split("impl", 1)[1]
+    text = text[arguments_end(text, 0) :] if text.startswith("<") else text
+    text = re.sub(r"\s+where\b.*", "", text).rstrip(" {}")
+    trait, has_trait, owner = text.partition(" for ")
+    return (type_name(owner), type_name(trait)) if has_trait else (type_name(text), "")
+
+
+@functools.lru_cache(maxsize=None)
+def functions_of(file, text):
+    """The functions of a file in the layout of `rt fmt`."""
+    lines, found, owner, starts = text.split("\n"), [], ("", "", ""), [0]
+    for line in lines:
+        starts.append(starts[-1] + len(line) + 1)
+    for n, line in enumerate(lines):
+        if IMPL.match(line) and not line.startswith(" "):
+            owner = (*owner_of(line), "")
+        elif re.match(r"(?:pub(?:\([^)]*\))? )?(?:unsafe )?trait (\w+)", line):
+            owner = (re.search(r"trait (\w+)", line)[1], "", line[: line.index("trait")] + "trait")
+        elif line.startswith("}"):
+            owner = ("", "", "")
+        head = HEAD.match(line)
+        if not head:
+            continue
+        indent, at = head[1], n
+        while at < len(lines):
+            it = lines[at]
+            mine = it.startswith(indent) and not it[len(indent) :].startswith((" ", "//"))
+            if mine and (it == indent + "{" or it.endswith((" {", "{}"))) or it.endswith(";"):
+                break
+            at += 1
+        if at == len(lines):
+            continue
+        end, has_body = at, not lines[at].endswith(";")
+        while has_body and not lines[at].endswith("{}") and end < len(lines) and lines[end] != indent + "}":
+            end += 1
+        attributes, up = "", n - 1
+        while up >= 0 and re.match(r" *(#\[|///)", lines[up]):
+            attributes += lines[up]
+            up -= 1
+        whole = "const" in head[2] or "#[cycle" in attributes or bool(owner[2])
+        in_type = owner if indent else ("", "", "")
+        places = starts[n], starts[at + 1] - 1, starts[min(end + 1, len(lines))] - 1
+        it = Function(file, head[3], in_type[0], in_type[1], (n, at, end), places, whole)
+        it.has_body, it.is_public, it.in_trait = has_body, line.lstrip().startswith("pub fn"), in_type[2]
+        it.text = "\n".join(lines[n : at + 1])
+        found.append(it)
+    return found
+
+
+def parts_of(text):
+    """What begins in the first column of a file of specs or proofs, in its order: the comments before it, and its lines."""
+    found, comments = [], []
+    for line in text.splitlines():
+        if line.startswith("--"):
+            comments.append(line)
+        elif line[:1] in (" ", "}"):
+            found[-1][1].append(line)
+        elif line:
+            found.append((comments, [line]))
+            comments = []
+    return found
+
+
+def exports_of_crate(crate):
+    """The names that a library's root file exports; none of a program."""
+    path = TOP / "crates" / crate / "src" / "lib.rt"
+    exports = re.findall(r"pub use [\w:]+::(\{[^}]*\}|\w+)", code_of(path) if path.is_file() else "")
+    return {word for names in exports for word in re.findall(r"\w+", names)}
+
+
 def row_files():
     """The files of rows of the tests."""
     return sorted((TOP / "crates" / "wc_tests" / "data").glob("*.rows"))
+
+
+def need(*wanted):
+    """Ends the script where a command or a file is not there: texts of it, and of the package of Debian that has it."""
+    for name, package in map(str.split, wanted):
+        if not (os.path.exists(name) or shutil.which(name)):
+            sys.exit(f"{sys.argv[0]}: there is no {name}: apt-get install {package}")
 
 
 def put_between(page, begin, end, text):

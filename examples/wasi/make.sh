@@ -1,9 +1,28 @@
 #!/bin/sh
 # Makes two files in the folder out beside this script: hello.wasm of hello.c, by Debian's clang, lld and wasi-libc;
 # and adapter.wasm, the adapter of WASI commands, cut out of the linker for components that Rust's toolchain has.
+#
+#     examples/wasi/make.sh [--picture]
+#
+# With --picture it makes docs/why.svg besides, by `wcwhy --dot` and Graphviz: why the component imports some interfaces.
 set -e
 here=$(CDPATH='' cd -P -- "$(dirname -- "$0")" && pwd -P)
-. "$here/../../checks/need.sh"
+case ${1-} in
+    '' | --picture) ;;
+    *)
+        sed -n '2,/^[^#]/s/^# \{0,1\}//p' "$0"
+        exit
+        ;;
+esac
+
+# need FILE-OR-COMMAND PACKAGE ends the script where the first is not there
+need() {
+    [ -e "$1" ] || command -v "$1" >/dev/null || {
+        echo "$0: there is no $1: apt-get install $2" >&2
+        exit 1
+    }
+}
+
 need clang clang
 need wasm-ld lld
 need /usr/lib/wasm32-wasi/libc.a wasi-libc
@@ -14,3 +33,15 @@ mkdir -p "$here/out"
 clang --target=wasm32-wasi -O2 -c "$here/hello.c" -o "$here/out/hello.o"
 clang --target=wasm32-wasi -s "$here/out/hello.o" -o "$here/out/hello.wasm"
 "$here/../../checks/adapters.py" --cut 'wasi:cli/run@0.2.6#run' "$here/out/adapter.wasm"
+[ $# -gt 0 ] || exit 0
+need dot graphviz
+need c++filt binutils
+asked='--import=wasi:filesystem/preopens@0.2.6 --import=wasi:cli/terminal-stdout@0.2.6 --import=wasi:cli/exit@0.2.6
+    --import=wasi:io/streams@0.2.6=[method]output-stream.check-write
+    --import=wasi:io/streams@0.2.6=[method]output-stream.blocking-flush'
+used='fd_close fd_fdstat_get fd_seek fd_write proc_exit wasi:cli/run@0.2.6#run cabi_import_realloc'
+# names as they were before they were mangled, without their hashes, in two lines
+# shellcheck disable=SC2086
+"$here/../../wcwhy" "$here/out/adapter.wasm" --dot $asked $used | c++filt |
+    sed -E 's/::h[0-9a-f]{16}"/"/; s/(func [0-9]+) wasi_snapshot_preview1::/\1 /; /label="func/s/::([^:]+::[^:"]+")/::\\n\1/' |
+    dot -Grankdir=LR -Nfontsize=11 -Nheight=0.3 -Granksep=0.3 -Gnodesep=0.15 -Tsvg >"$here/../../docs/why.svg"

@@ -1,6 +1,6 @@
 //! Links `libnuigatre.a`: that of the folder `NUIGATRE_LIB_DIR`; else the one that `rt lib` makes in `crates/nuigatre`;
-//! else the one that `rust/check --unproved` makes. Nothing fails here where there is none, since `cargo check` and
-//! `cargo doc` need none: a warning says what makes it, and the linker fails.
+//! else the one that `rust/check --unproved` makes. Nothing fails here where there is none, since `cargo check`, `cargo doc`
+//! and `cargo package` need none: a warning says what makes it, and the linker fails.
 
 use std::path::{Path, PathBuf};
 use std::{env, fs};
@@ -25,16 +25,36 @@ fn main() {
     let Some(folder) = folder() else { return };
     let archive = folder.join(ARCHIVE);
     println!("cargo::rerun-if-changed={}", archive.display());
+    // one that is missing is looked for only where a program is linked
+    let mut kind = "static";
     match fs::read(&archive) {
         Ok(bytes) => warn_of(&archive, &bytes),
-        Err(_) => println!(
-            "cargo::warning={} is missing, so nothing can be linked: `rust/check --unproved` makes it in some \
-             minutes without its proof, `rt lib` in crates/nuigatre with it",
-            archive.display()
-        ),
+        Err(_) => {
+            kind = "static:-bundle";
+            warn_of_missing(&archive);
+        }
     }
     println!("cargo::rustc-link-search=native={}", folder.display());
-    println!("cargo::rustc-link-lib=static=nuigatre");
+    println!("cargo::rustc-link-lib={kind}=nuigatre");
+}
+
+/// Says what makes the library: the script of the checkout that this is in, or of any.
+fn warn_of_missing(archive: &Path) {
+    let script = Path::new("rust/build-unproved.py");
+    let own = checkout().map(|folder| folder.join(script));
+    let own = own.filter(|script| script.is_file());
+    let script = own.as_deref().unwrap_or(script).display();
+    let archive = archive.display();
+    println!(
+        "cargo::warning={archive} is missing, so nothing can be linked: `{script}` makes it in some minutes without its \
+         proof (rust/unproved/{ARCHIVE}), and `rust/check` proves it"
+    );
+}
+
+/// The checkout of the repository, if this is in one.
+fn checkout() -> Option<PathBuf> {
+    let package = PathBuf::from(env::var_os("CARGO_MANIFEST_DIR")?);
+    Some(package.parent()?.parent()?.to_owned())
 }
 
 /// Says what is to be known of this library.
@@ -76,10 +96,9 @@ fn folder() -> Option<PathBuf> {
         );
         return None;
     }
-    let package = PathBuf::from(env::var_os("CARGO_MANIFEST_DIR")?);
-    let rust = package.parent()?;
-    let unproved = rust.join("unproved");
-    let proved = rust.parent()?.join("crates/nuigatre/out");
+    let checkout = checkout()?;
+    let unproved = checkout.join("rust/unproved");
+    let proved = checkout.join("crates/nuigatre/out");
     let is_there = |folder: &Path| folder.join(ARCHIVE).is_file();
     Some(if is_there(&unproved) && !is_there(&proved) {
         unproved

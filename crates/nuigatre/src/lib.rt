@@ -26,12 +26,13 @@ ghost use Rattle.wc_calls.specs.ComponentWorlds.{IsFaultOf, IsWorldAnswer};
 ghost use Rattle.wc_calls.specs.Renaming.{IsRenamed, IsRenamingFault};
 ghost use Rattle.wc_calls.specs.ExportNames.{texts};
 ghost use Rattle.wc_calls.specs.ImportChains.{IsWhyFault, IsWhyText};
+ghost use Rattle.wc_calls.specs.PlannedWorlds.{IsPlannedWorldAnswer};
 ghost use Rattle.wc_calls.specs.Trimming.{AreArguments, IsTrimmingFault};
 ghost use Rattle.wc_calls.specs.Validation.{IsNoModuleOf, IsValidOf, IsValidationFaultOf};
 ghost use Rattle.nuigatre.specs.Arguments.{optional_name, settings_of};
 
 use std::alloc::Global;
-use wc_calls::{Answer, dedupe, plan, trim, validate, why, world};
+use wc_calls::{Answer, dedupe, plan, planned_world, trim, validate, why, world};
 use wc_maps::Seed;
 
 /// Renames the imports of a module so that no two share a module and a name: `wc_calls::dedupe`.
@@ -171,6 +172,32 @@ pub extern "C" fn nuigatre_plan(
     plan(alloc, seed, message, modules, out)
 }
 
+/// Makes the world of a component and its plan, which the message describes in JSON, once: `wc_calls::planned_world`.
+#[unsafe(no_mangle)]
+pub extern "C" fn nuigatre_planned_world(
+    alloc: Global,
+    seed0: u64,
+    seed1: u64,
+    message: &[u8],
+    modules: &[u8],
+    out: &mut [u8],
+) -> Answer
+    ensures done { result.status ≡ done → IsPut (IsPlannedWorldAnswer message.now modules.now
+        result.module_length) result.length out.old out.new }
+    ensures too_small { result.status ≡ too_small → IsTooLong
+        (IsPlannedWorldAnswer message.now modules.now result.module_length)
+        result.length out.old }
+    ensures fault { result.status ≡ failed → IsFaultOf message.now modules.now
+        result out.old out.new }
+    ensures unchanged { result.status ≢ done → result.status ≢ failed → out.new ≡ out.old }
+    ensures statuses { (result.status ≤ 5) × (result.status ≢ same)
+        × (result.status ≢ bad_argument) }
+    ensures others { AreOthersOfTextZero result }
+{
+    let seed = Seed::new(seed0, seed1);
+    planned_world(alloc, seed, message, modules, out)
+}
+
 /// Validates one module of a component, which the message describes in JSON: `wc_calls::validate`. It is the adapter or the
 /// library of the name `adapter`, where `has_adapter`; else the main module, and `adapter` is not looked at.
 #[unsafe(no_mangle)]
@@ -201,12 +228,12 @@ pub extern "C" fn nuigatre_validate(
 }
 
 /// The form of the calls, messages and answers.
-const ABI: u32 = 4;
+const ABI: u32 = 5;
 
 /// The number of the form of these calls, their messages and answers. It goes up with each change that a caller can see.
 #[unsafe(no_mangle)]
 pub extern "C" fn nuigatre_abi() -> u32
-    ensures { result ≡ 4 }
+    ensures { result ≡ 5 }
 {
     ABI
 }

@@ -10,3 +10,4 @@ mod FaultAnswerLemmas
 mod ModuleLemmas
 mod OptionTableLemmas
 mod PlaceLemmas
+mod PlannedWorldLemmas

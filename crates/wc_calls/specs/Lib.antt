@@ -12,6 +12,7 @@ pub mod ImportOptions
 pub mod MemoryFaults
 pub mod MessageFaults
 pub mod Places
+pub mod PlannedWorlds
 pub mod Private
 pub mod Renames
 pub mod Renaming

@@ -3,4 +3,5 @@ pub mod EncoderAnswers
 pub mod AskedKeys
 pub mod ModuleAnswers
 pub mod OptionTables
+pub mod PlannedAnswers
 pub mod TrimArguments

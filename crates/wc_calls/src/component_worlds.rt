@@ -20,13 +20,13 @@ use wc_world::ComponentWorld;
 
 /// The bytes of a component's modules, and its world as JSON.
 #[derive(Drop)]
-struct WorldAnswer {
-    modules: Vec<u8>,
-    json: Vec<u8>,
+pub(crate) struct WorldAnswer {
+    pub modules: Vec<u8>,
+    pub json: Vec<u8>,
 }
 
 /// The bytes of the main module and of the adapters, one after another.
-fn modules_of(alloc: Global, world: &ComponentWorld<'_>) -> Result<Vec<u8>, AllocError>
+pub(crate) fn modules_of(alloc: Global, world: &ComponentWorld<'_>) -> Result<Vec<u8>, AllocError>
     ensures { IfOk result (λ bytes. bytes.items ≡ modules_text (world_view world.now)) }
 {
     let mut modules = Vec::from_slice(alloc, world.encoder.module())?;

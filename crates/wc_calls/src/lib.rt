@@ -1,7 +1,7 @@
 //! The calls on modules as calls on slices, for a caller that shares no other types: `dedupe` renames the repeated
 //! imports of a module, `trim` cuts an adapter to what its exports reach, `why` says why it imports what it does, and `world`
-//! makes the world of a component, which is described in JSON; `plan` makes its plan, and `validate` validates one of its
-//! modules. Each writes its answer to the front of a buffer of the caller's, and returns an `Answer`, which is numbers alone.
+//! makes the world of a component, which is described in JSON; `plan` makes its plan, `planned_world` both, and `validate`
+//! validates one of its modules. Each writes its answer to the front of a buffer of the caller's, and returns an `Answer`, which is numbers alone.
 //! No call requires anything of its arguments. The maps of all but `dedupe` hash under a seed that is passed: whoever
 //! chooses names shouldn't know it.
 //!
@@ -39,6 +39,7 @@ mod import_options;
 mod memory_faults;
 mod message_fault;
 mod places;
+mod planned_worlds;
 mod renames;
 mod renaming;
 mod trimming;
@@ -54,6 +55,7 @@ pub use fault_numbers::{
 };
 pub use import_chains::why;
 pub use message_fault::MessageFault;
+pub use planned_worlds::planned_world;
 pub use renaming::dedupe;
 pub use trimming::trim;
 pub use validation::validate;

@@ -135,7 +135,7 @@ pick_no is_chosen pairs k x keys lt at other before =
     before ∙ sym (picked_more is_chosen pairs k x lt at ∙ ap (λ b. picked is_chosen (take k pairs) ++ map first_key (cond b (named_key x ∷ []) [])) other
     ∙ append-nil (picked is_chosen (take k pairs)))
 
-unheld : (keys : List WorldKey) (copy : WorldKey) → (Contains (map key_view keys) (key_view copy) → ⊥) → list_any (key_eq.it copy) keys ≡ false
+pub unheld : (keys : List WorldKey) (copy : WorldKey) → (Contains (map key_view keys) (key_view copy) → ⊥) → list_any (key_eq.it copy) keys ≡ false
 unheld keys copy none = elim (cases_Bool (list_any (key_eq.it copy) keys)) [
   | inl held ↦ absurd (none (any_held key_view (key_eq.it copy) (key_view copy) (keys_law copy) keys held))
   | inr free ↦ free

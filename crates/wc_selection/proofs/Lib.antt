@@ -7,4 +7,7 @@ pub mod FirstLemmas
 pub mod SetLemmas
 pub mod KeyTextLemmas
 pub mod RequiredLemmas
+pub mod TextListLemmas
+pub mod PositionLemmas
+pub mod KeyIndexLemmas
 pub mod TaskHookLemmas

@@ -18,7 +18,7 @@ abbrev pub Pair : Type 0
 Pair = Bor (List ℕ) × Bor (List ℕ)
 
 -- a pair more, which has the first text or not
-under_more : (first : List ℕ) (pairs : List Pair) (k : ℕ) (d : Pair) → k < length pairs
+pub under_more : (first : List ℕ) (pairs : List Pair) (k : ℕ) (d : Pair) → k < length pairs
     → texts_under first (map text_pair (take (k + 1) pairs))
     ≡ texts_under first (map text_pair (take k pairs))
     ++ second_parts (cond (bytes_eq (get_or pairs k d).0.now first) (text_pair (get_or pairs k d) ∷ []) [])
@@ -54,7 +54,7 @@ copied items (Ok v) texts all is h = ap (map text_of) h ∙ is
 copied items (Err e) texts all is h = tt
 
 -- a text is under a name where a pair has both
-under_in : (name text : List ℕ) (pairs : List (List ℕ × List ℕ)) → is_in (texts_under name pairs) text ≡ list_any (is_pair name text) pairs
+pub under_in : (name text : List ℕ) (pairs : List (List ℕ × List ℕ)) → is_in (texts_under name pairs) text ≡ list_any (is_pair name text) pairs
 under_in name text [] = refl
 under_in name text (p ∷ pairs) =
     step (bytes_eq p.0 name) (filter (λ (q : List ℕ × List ℕ). bytes_eq q.0 name) pairs) (list_any (is_pair name text) pairs) (under_in name text pairs)
@@ -95,7 +95,7 @@ required_same : (q : RequestValue) (exporter : Option (List ℕ)) (set : List (L
 required_same q None set has text = main_same q q.exports set has text
 required_same q (Some name) set has text = has text ∙ under_in name text q.adapter_exports
 
-filter_same : (f g : NamedKey → Bool) → ((k : NamedKey) → f k ≡ g k) → (keys : List NamedKey) → filter f keys ≡ filter g keys
+pub filter_same : (f g : NamedKey → Bool) → ((k : NamedKey) → f k ≡ g k) → (keys : List NamedKey) → filter f keys ≡ filter g keys
 filter_same f g same [] = refl
 filter_same f g same (k ∷ keys) = λ i. cond (same k i) (k ∷ filter_same f g same keys i) (filter_same f g same keys i)
 

@@ -7,4 +7,7 @@ pub mod KeyNames
 pub mod KeyTexts
 pub mod ModuleKeys
 pub mod RequiredTexts
+pub mod TextLists
+pub mod KeyIndex
+pub mod AdapterKeys
 pub mod TaskHook

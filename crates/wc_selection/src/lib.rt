@@ -8,6 +8,7 @@
 #![tactic(auto)]
 
 mod fault;
+mod key_index;
 mod key_names;
 mod keys;
 mod main_module;
@@ -18,6 +19,7 @@ mod texts;
 mod worlds;
 
 pub use fault::RequestFault;
+pub use key_index::{AdapterKeys, KeyIndex};
 pub use key_names::{count_unversioned, indexed_keys, request_keys};
 pub use keys::{export_keys, is_export};
 pub use main_module::MainModule;

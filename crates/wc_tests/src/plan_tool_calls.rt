@@ -64,6 +64,8 @@ fn put_command(out: &mut Lines, command: &Command<'_>) {
     );
     put_value(out, "task-hook", command.task_hook);
     put_flag(out, "json", command.json);
+    put_value(out, "why", command.why);
+    put_flag(out, "dot", command.dot);
     put_value(out, "out", command.out);
 }
 

@@ -1,4 +1,5 @@
 mod TextsLemmas
+mod ArgumentLemmas
 mod FileNameLemmas
 mod NamesLemmas
 mod WorldsLemmas

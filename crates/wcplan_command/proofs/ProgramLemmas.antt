@@ -34,14 +34,14 @@ use Rattle.wc_resolve.proofs.KeyLemmas.{texts_law}
 use Rattle.wc_resolve.proofs.SearchLemmas.{contains_cons, contains_head, contains_none, contains_tail}
 use Rattle.wcplan_command.specs.Faults.{of_dedupe, of_encoder}
 use Rattle.wcplan_command.specs.ModuleKeys.{AreNamesThere, IsNamesCause, request_of}
-use Rattle.wc_program.specs.Files.{Held, Holds}
+use Rattle.wc_program.specs.Files.{Held}
 use Rattle.wcplan_command.specs.Arguments.{CommandValue}
-use Rattle.wcplan_command.specs.Program.{AreWorldsIn, IsAdapterIn, IsAdaptersCause, IsChosen, IsDocumentIn, IsListed, IsListedCause, IsListedSelection, IsMainCause, IsModulesCause, IsPartsOf, IsPartsWith, IsPlanCause, IsReadFault, IsUnknownKey, Reads}
+use Rattle.wcplan_command.specs.Program.{AreWorldsIn, HoldsInput, IsAdapterIn, IsAdaptersCause, IsChosen, IsDocumentIn, IsListed, IsListedCause, IsListedSelection, IsMainCause, IsModulesCause, IsPartsOf, IsPartsWith, IsPlanCause, IsReadFault, IsUnknownKey, Reads}
 use Rattle.wcplan_command.specs.declared.faults.ProgramFault.{ProgramFault}
 use Rattle.wcplan_command.specs.declared.faults.ProgramFault.TheVariants.{Memory, CannotRead, Selection, NoExport, Dedupe}
 
 -- a fault of renaming is the cause of a fault of the main module
-pub main_cause : (before : Option Held) (fails : Reads) (path bytes : List ℕ) (f : DedupeFault) → Holds before path bytes → IsDedupeCause bytes f
+pub main_cause : (before : Option Held) (fails : Reads) (path bytes : List ℕ) (f : DedupeFault) → HoldsInput before path bytes → IsDedupeCause bytes f
     → IsMainCause before fails path (of_dedupe f)
 main_cause before fails path bytes dedupe_memory read cause = tt
 main_cause before fails path bytes f read cause = (bytes, read, (λ e. cc), cause)
@@ -130,7 +130,7 @@ zip_push R (a ∷ xs) (b ∷ ys) x y h r = (h.0, zip_push R xs ys x y h.1 r)
 pub adapters_more : (before : Option Held) (c : CommandValue) (keys : List NamedKey) (pairs : Pairs) (k : ℕ) (d : Bor (List ℕ) × Bor (List ℕ))
     (entries after : List (String Global × Adapter)) (name : String Global) (adapter : Adapter)
     → k < length pairs → AllPairs NotEqual (first_parts (map text_pair pairs)) → string_bytes name ≡ (get_or pairs k d).0.now
-    → Holds before (get_or pairs k d).1.now adapter.wasm.items
+    → HoldsInput before (get_or pairs k d).1.now adapter.wasm.items
     → map key_view adapter.required_exports.keys ≡ required_keys (request_of c) (Some (get_or pairs k d).0.now) keys → adapter.library_info ≡ None
     → after ≡ insert_entry string_eq entries name adapter
     → AllZip (IsAdapterIn before c keys) (map text_pair (take k pairs)) (map adapter_entry entries)

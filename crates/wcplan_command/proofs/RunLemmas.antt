@@ -19,11 +19,14 @@ use Rattle.wc_program.specs.Screen.{Printing, nothing, printed}
 use Rattle.wcplan_command.specs.declared.arguments.NoCommand.{NoCommand}
 use Rattle.wcplan_command.specs.declared.arguments.NoCommand.TheVariants.{Memory, Help, Version, Wrong}
 use Rattle.wcplan_command.specs.Details.{fault_lines}
-use Rattle.wcplan_command.specs.Faults.{of_plan, program_fault_text}
-use Rattle.wcplan_command.specs.Program.{CommandEnds, EndsWell, EndsWith, IsEncoderOf, IsPlanCause, IsPlanned, IsReported, IsRunCause, IsUnwrittenFile, ReadingEnds, Reads, WritesAll, file_view, files_of, printed_text}
-use Rattle.wcplan_command.specs.Private.Runs.{AnswersStop, IsOfWorld, IsReportedWith, IsWritingFault}
+use Rattle.wc_gc.specs.declared.fault.GcFault.{GcFault}
+use Rattle.wc_gc.specs.declared.fault.GcFault.TheVariants.{Memory as gc_memory}
+use Rattle.wc_ways.specs.WaysFaults.{IsWaysFault}
+use Rattle.wcplan_command.specs.Faults.{of_gc, of_plan, program_fault_text}
+use Rattle.wcplan_command.specs.Program.{CommandEnds, EndsWell, EndsWith, IsEncoderOf, IsPlanCause, IsPlanned, IsPrintedText, IsReported, IsRunCause, IsUnwrittenFile, ReadingEnds, Reads, WritesAll, file_view, files_of}
+use Rattle.wcplan_command.specs.Private.Runs.{AnswersStop, IsDescriptionFault, IsOfWorld, IsReportedWith, IsWritingFault}
 use Rattle.wcplan_command.specs.declared.faults.ProgramFault.{ProgramFault}
-use Rattle.wcplan_command.specs.declared.faults.ProgramFault.TheVariants.{CannotMake, CannotWrite, Output, World}
+use Rattle.wcplan_command.specs.declared.faults.ProgramFault.TheVariants.{CannotMake, CannotWrite, Output, Ways, World, Memory as program_memory}
 
 -- paths with the bytes of their files
 abbrev Files : Type 0
@@ -63,16 +66,32 @@ module _ (c : CommandValue) (before : Option Held) (fails : Reads) where
   plan_cause e w f encodes world (inl is) = subst (λ g. IsPlanCause c before fails (of_plan g)) (sym is) tt
   plan_cause e w f encodes world (inr h) = first_cause e w f encodes world h
 
+-- a fault of ways, and of what is printed
+pub ways_fault : (w : ComponentWorldView) (f : GcFault) → IsWaysFault w f → IsDescriptionFault w (of_gc f)
+ways_fault w gc_memory h = tt
+ways_fault w f h = ((λ e. cc), h)
+
+pub description_cause : (c : CommandValue) (before : Option Held) (fails : Reads) (w : ComponentWorldView) (f : ProgramFault) → IsPlanned c before w
+    → IsDescriptionFault w f → IsPlanCause c before fails f
+description_cause c before fails w program_memory planned h = tt
+description_cause c before fails w (Ways f) planned h = (w, planned, h.0, h.1)
+description_cause c before fails w f planned h = absurd h
+
 module _ (c : CommandValue) (change : StoreChange) (out : Printing → Type 0) (w : ComponentWorldView) (planned : IsPlanned c change.before w)
     (files : Files) (outputs : map file_view files ≡ files_of c.out w)
   where
     -- all files were written, and the lines printed
-    pub all_written : {T : Type 0} (r : Result T ProgramFault)
+    pub all_written : {T : Type 0} (text : List ℕ) (r : Result T ProgramFault) → IsPrintedText c w text
         → OnOk r (IfSome c.out change.Makes) → OnOk r (WritesAll change.before change.after (map file_view files))
-        → OnOk r (out (printed (printed_text c.json w))) → OnOk r (EndsWell c change out)
-    all_written (Ok x) made written shown =
-        (w, record { planned = planned; made = made; written = subst (WritesAll change.before change.after) outputs written }, shown)
-    all_written (Err f) made written shown = tt
+        → OnOk r (out (printed text)) → OnOk r (EndsWell c change out)
+    all_written text (Ok x) is made written shown = (
+      w,
+      text,
+      record { planned = planned; made = made; written = subst (WritesAll change.before change.after) outputs written },
+      is,
+      shown,
+    )
+    all_written text (Err f) is made written shown = tt
 
     -- the directory could not be made, a file not be written, or the lines not be printed
     unwritten : (f : ProgramFault) → IsWritingFault c.out change files out f → IsRunCause c change out f

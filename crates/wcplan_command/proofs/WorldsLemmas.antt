@@ -9,15 +9,15 @@ use Rattle.wc_resolve.specs.declared.fault.ResolveFault.TheVariants.{Memory as r
 use Rattle.wc_selection.specs.Worlds.{IsSelected, IsWorldCause}
 use Rattle.wc_selection.specs.declared.fault.RequestFault.{RequestFault}
 use Rattle.wc_selection.specs.declared.fault.RequestFault.TheVariants.{Memory as request_memory}
-use Rattle.wc_program.specs.Files.{Held, Holds}
+use Rattle.wc_program.specs.Files.{Held}
 use Rattle.wcplan_command.specs.Arguments.{CommandValue}
 use Rattle.wcplan_command.specs.Faults.{of_request, of_selection}
 use Rattle.wcplan_command.specs.Parts.{IsPartExplanation}
 use Rattle.wcplan_command.specs.Private.Runs.{AreWorldsOf, IsOfResolve, IsPartIn, IsWorldsCause}
-use Rattle.wcplan_command.specs.Program.{AreWorldsIn, IsDocumentIn, IsDocumentOf, IsPlanCause, IsReadFault, IsTextCause, Reads}
+use Rattle.wcplan_command.specs.Program.{AreWorldsIn, HoldsInput, IsDocumentIn, IsDocumentOf, IsPlanCause, IsReadFault, IsTextCause, Reads}
 use Rattle.wcplan_command.specs.declared.explained_part.ExplainedPart.{ExplainedPart}
 use Rattle.wcplan_command.specs.declared.faults.ProgramFault.{ProgramFault}
-use Rattle.wcplan_command.specs.declared.faults.ProgramFault.TheVariants.{Memory, CannotRead, NotText, NotJson, RepeatedMember, Json as json_fault, Selection, NoExport, Resolve, Dedupe, Encoder, World, Plan, CannotMake, CannotWrite, Output}
+use Rattle.wcplan_command.specs.declared.faults.ProgramFault.TheVariants.{Memory, CannotRead, NotText, NotJson, RepeatedMember, Json as json_fault, Selection, NoExport, Resolve, Dedupe, Encoder, World, Plan, Ways, CannotMake, CannotWrite, Output}
 
 one_value : {A E : Type 0} (r : Result A E) (x y : A) → r ≡ Ok x → r ≡ Ok y → x ≡ y
 one_value r x y h k = let both : Ok x ≡ Ok y = sym h ∙ k in cc
@@ -67,14 +67,14 @@ resolve_cause c text d world f g read selected cause is = absurd is
 
 -- the worlds of a text, where this is that of the command's file
 
-in_file : (before : Option Held) (path text : List ℕ) (d : DocumentView) → Holds before path text → IsDocumentOf (document text) d → IsDocumentIn before path d
+in_file : (before : Option Held) (path text : List ℕ) (d : DocumentView) → HoldsInput before path text → IsDocumentOf (document text) d → IsDocumentIn before path d
 in_file before path text d held read = record { text = text; read = held; document = read }
 
-pub there : (c : CommandValue) (before : Option Held) (text : List ℕ) (r : ResolveView) (world : ℕ) → Holds before c.worlds text
+pub there : (c : CommandValue) (before : Option Held) (text : List ℕ) (r : ResolveView) (world : ℕ) → HoldsInput before c.worlds text
     → AreWorldsOf c (document text) r world → AreWorldsIn c before r world
 there c before text r world held (d, read, selected, formed, same) = (d, in_file before c.worlds text d held read, selected, formed, same)
 
-pub file_cause : (c : CommandValue) (before : Option Held) (fails : Reads) (text : List ℕ) (f : ProgramFault) → Holds before c.worlds text
+pub file_cause : (c : CommandValue) (before : Option Held) (fails : Reads) (text : List ℕ) (f : ProgramFault) → HoldsInput before c.worlds text
     → IsWorldsCause c text f → IsPlanCause c before fails f
 file_cause c before fails text Memory held h = tt
 file_cause c before fails text (CannotRead path p) held h = absurd h
@@ -90,6 +90,7 @@ file_cause c before fails text (Dedupe f) held h = absurd h
 file_cause c before fails text (Encoder f) held h = absurd h
 file_cause c before fails text (World f x) held h = absurd h
 file_cause c before fails text (Plan f) held h = absurd h
+file_cause c before fails text (Ways f) held h = absurd h
 file_cause c before fails text (CannotMake path) held h = absurd h
 file_cause c before fails text (CannotWrite path) held h = absurd h
 file_cause c before fails text Output held h = absurd h
@@ -97,11 +98,11 @@ file_cause c before fails text Output held h = absurd h
 -- the same of an answer
 
 pub all_there : {M E : Type 0} (c : CommandValue) (before : Option Held) (text : List ℕ) (resolve : M → ResolveView) (world : M → ℕ) (r : Result M E)
-    → Holds before c.worlds text → IfOk r (λ m. AreWorldsOf c (document text) (resolve m) (world m)) → IfOk r (λ m. AreWorldsIn c before (resolve m) (world m))
+    → HoldsInput before c.worlds text → IfOk r (λ m. AreWorldsOf c (document text) (resolve m) (world m)) → IfOk r (λ m. AreWorldsIn c before (resolve m) (world m))
 all_there c before text resolve world (Ok m) held h = there c before text (resolve m) (world m) held h
 all_there c before text resolve world (Err f) held h = tt
 
 pub some_cause : {M : Type 0} (c : CommandValue) (before : Option Held) (fails : Reads) (text : List ℕ) (r : Result M ProgramFault)
-    → Holds before c.worlds text → IfErr r (IsWorldsCause c text) → IfErr r (IsPlanCause c before fails)
+    → HoldsInput before c.worlds text → IfErr r (IsWorldsCause c text) → IfErr r (IsPlanCause c before fails)
 some_cause c before fails text (Ok m) held h = tt
 some_cause c before fails text (Err f) held h = file_cause c before fails text f held h

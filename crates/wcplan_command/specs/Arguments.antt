@@ -4,11 +4,11 @@ use Rattle.std.specs.Option.{option_map}
 use Rattle.wc_selection.specs.Texts.{text_of, text_pair}
 use Rattle.wcplan_command.specs.declared.arguments.Command.{Command}
 use Rattle.wcplan_command.specs.declared.arguments.CommandOption.{CommandOption}
-use Rattle.wcplan_command.specs.declared.arguments.CommandOption.TheVariants.{Adapt, Export, AdapterExport, RejectLegacyNames, ReallocViaMemoryGrow, TaskHook, Json, Out}
+use Rattle.wcplan_command.specs.declared.arguments.CommandOption.TheVariants.{Adapt, Export, AdapterExport, RejectLegacyNames, ReallocViaMemoryGrow, TaskHook, Json, Why, Dot, Out}
 use Rattle.wcplan_command.specs.declared.arguments.NoCommand.{NoCommand}
 use Rattle.wcplan_command.specs.declared.arguments.NoCommand.TheVariants.{Memory, Help, Version, Wrong}
 use Rattle.wcplan_command.specs.declared.arguments.WrongArgument.{WrongArgument}
-use Rattle.wcplan_command.specs.declared.arguments.WrongArgument.TheVariants.{UnknownOption, MissingValue, NotAPair, RepeatedOption, Unexpected, Missing}
+use Rattle.wcplan_command.specs.declared.arguments.WrongArgument.TheVariants.{UnknownOption, MissingValue, NotAPair, RepeatedOption, Unexpected, Missing, Together}
 
 -- a command, with its texts as bytes
 pub record CommandValue : Type 0 where
@@ -22,6 +22,8 @@ pub record CommandValue : Type 0 where
   pub realloc_via_memory_grow : Bool
   pub task_hook : Option (List ℕ)
   pub json : Bool
+  pub why : Option (List ℕ)
+  pub dot : Bool
   pub out : Option (List ℕ)
 
 abbrev pub command_value : Command → CommandValue
@@ -36,6 +38,8 @@ command_value c = record {
   realloc_via_memory_grow = c.realloc_via_memory_grow;
   task_hook = option_map text_of c.task_hook;
   json = c.json;
+  why = option_map text_of c.why;
+  dot = c.dot;
   out = option_map text_of c.out;
 }
 
@@ -48,6 +52,8 @@ pub data OptionValue : Type 0 where
   realloc_via_memory_grow : OptionValue
   task_hook : (name : List ℕ) → OptionValue
   json : OptionValue
+  why : (key : List ℕ) → OptionValue
+  dot : OptionValue
   out : (directory : List ℕ) → OptionValue
 
 abbrev pub option_value : CommandOption → OptionValue
@@ -58,6 +64,8 @@ option_value RejectLegacyNames = reject_legacy_names
 option_value ReallocViaMemoryGrow = realloc_via_memory_grow
 option_value (TaskHook name) = task_hook name.now
 option_value Json = json
+option_value (Why key) = why key.now
+option_value Dot = dot
 option_value (Out directory) = out directory.now
 
 -- what is wrong with arguments
@@ -68,6 +76,7 @@ pub data WrongValue : Type 0 where
   repeated_option : (option : List ℕ) → WrongValue
   unexpected : (argument : List ℕ) → WrongValue
   missing : (name : List ℕ) → WrongValue
+  together : (option other : List ℕ) → WrongValue
 
 abbrev pub wrong_value : WrongArgument → WrongValue
 wrong_value (UnknownOption argument) = unknown_option argument.now
@@ -76,6 +85,7 @@ wrong_value (NotAPair option value) = not_a_pair option.now value.now
 wrong_value (RepeatedOption option) = repeated_option option.now
 wrong_value (Unexpected argument) = unexpected argument.now
 wrong_value (Missing name) = missing name.now
+wrong_value (Together option other) = together option.now other.now
 
 -- why arguments are no command
 pub data Stop : Type 0 where

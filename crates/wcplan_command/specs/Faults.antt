@@ -1,6 +1,6 @@
 -- The fault for the fault of a call inside; and the texts of faults.
 use Rattle.std.specs.Prelude.{ℕ, List, ◌++◌, codes, decimal, string_bytes}
-use Rattle.wc_program.specs.FaultTexts.{carried_text, dedupe_fault_text, memory_text}
+use Rattle.wc_program.specs.FaultTexts.{carried_text, dedupe_fault_text, gc_fault_text, memory_text}
 use Rattle.wc_program.specs.Files.{problem_text}
 use Rattle.wc_json.specs.Escape.{escaped}
 use Rattle.wc_json.specs.Faults.{json_fault_text}
@@ -8,6 +8,8 @@ use Rattle.wc_dedupe.specs.declared.fault.DedupeFault.{DedupeFault}
 use Rattle.wc_dedupe.specs.declared.fault.DedupeFault.TheVariants.{Memory as dedupe_memory}
 use Rattle.wc_encoder.specs.declared.fault.EncoderFault.{EncoderFault}
 use Rattle.wc_encoder.specs.declared.fault.EncoderFault.TheVariants.{Memory as encoder_memory}
+use Rattle.wc_gc.specs.declared.fault.GcFault.{GcFault}
+use Rattle.wc_gc.specs.declared.fault.GcFault.TheVariants.{Memory as gc_memory}
 use Rattle.wc_json.specs.declared.fault.JsonFault.{JsonFault}
 use Rattle.wc_json.specs.declared.fault.JsonFault.TheVariants.{Memory as json_memory}
 use Rattle.wc_plan.specs.declared.fault.PlanFault.{PlanFault}
@@ -21,7 +23,7 @@ use Rattle.wcplan_command.specs.FaultTexts.{encoder_fault_text, plan_fault_text,
 use Rattle.wcplan_command.specs.declared.faults.SelectionFault.{SelectionFault}
 use Rattle.wcplan_command.specs.declared.faults.SelectionFault.TheVariants.{Memory as selection_memory, Request, RepeatedAdapter, UnknownAdapter, EmptyDirectory, FileName, MainFile}
 use Rattle.wcplan_command.specs.declared.faults.ProgramFault.{ProgramFault}
-use Rattle.wcplan_command.specs.declared.faults.ProgramFault.TheVariants.{Memory, CannotRead, NotText, NotJson, RepeatedMember, Json, Selection, NoExport, Resolve, Dedupe, Encoder, World, Plan, CannotMake, CannotWrite, Output}
+use Rattle.wcplan_command.specs.declared.faults.ProgramFault.TheVariants.{Memory, CannotRead, NotText, NotJson, RepeatedMember, Json, Selection, NoExport, Resolve, Dedupe, Encoder, World, Plan, Ways, CannotMake, CannotWrite, Output}
 
 abbrev pub of_json : JsonFault → ProgramFault
 of_json json_memory = Memory
@@ -47,6 +49,10 @@ abbrev pub of_plan : PlanFault → ProgramFault
 of_plan plan_memory = Memory
 of_plan plan_output = Output
 of_plan f = Plan f
+
+abbrev pub of_gc : GcFault → ProgramFault
+of_gc gc_memory = Memory
+of_gc f = Ways f
 
 abbrev pub selection_fault_text : SelectionFault → List ℕ
 selection_fault_text selection_memory = memory_text
@@ -93,6 +99,7 @@ program_fault_text (Dedupe f) = carried_text (codes "Dedupe") (escaped (dedupe_f
 program_fault_text (Encoder f) = carried_text (codes "Encoder") (escaped (encoder_fault_text f))
 program_fault_text (World f x) = world_text f
 program_fault_text (Plan f) = carried_text (codes "Plan") (escaped (plan_fault_text f))
+program_fault_text (Ways f) = carried_text (codes "Ways") (escaped (gc_fault_text f))
 program_fault_text (CannotMake path) = codes "cannot make directory " ++ escaped path.now
 program_fault_text (CannotWrite path) = codes "cannot write " ++ escaped (string_bytes path)
 program_fault_text Output = unprinted_text

@@ -10,5 +10,6 @@ pub mod FileNames
 pub mod Lines
 pub mod ModuleKeys
 pub mod Listing
+pub mod JsonFaults
 pub mod Program
 pub mod Private

@@ -1,5 +1,5 @@
 -- The program: what it prints, what becomes of files, and its exit status.
-use Rattle.std.specs.Prelude.{◌≡◌, ◌≢◌, ◌⊎◌, ◌<◌, ◌≤◌, length, ℕ, Bool, List, [], ◌∷◌, ◌++◌, map, codes, Option, Some, None, IfOk, IfSome, IsSomeAnd, if◌then◌else◌, Ok, Err, Contains, ⊤, String, string_bytes}
+use Rattle.std.specs.Prelude.{◌≡◌, ◌≢◌, ◌⊎◌, ◌<◌, ◌≤◌, length, ℕ, Bool, List, [], ◌∷◌, ◌++◌, map, codes, true, false, MatchOption, Option, Some, None, IfOk, IfSome, IsSomeAnd, cond, if◌then◌else◌, Ok, Err, Contains, ⊤, String, string_bytes}
 use Rattle.std.specs.declared.alloc.Global.{Global}
 use Rattle.std.specs.Borrow.{Bor}
 use Rattle.std.specs.List.{AllZip}
@@ -36,6 +36,10 @@ use Rattle.wc_world.specs.Options.{plain_options}
 use Rattle.wc_world.specs.Views.{ComponentWorldView, NamedWorldAdapter}
 use Rattle.wc_world.specs.World.{IsWorldOf}
 use Rattle.wc_world.specs.declared.fault.WorldFault.TheVariants.{Memory as world_memory}
+use Rattle.wc_gc.specs.declared.fault.GcFault.TheVariants.{Memory as gc_memory}
+use Rattle.wc_ways.specs.Ways.{IsWaysText}
+use Rattle.wc_ways.specs.WaysFaults.{IsWaysFault}
+use Rattle.wc_ways.specs.WaysGraph.{IsWaysGraph}
 use Rattle.wc_selection.specs.KeyNames.{count_unversioned, request_keys}
 use Rattle.wc_selection.specs.Keys.{NamedKey, texts_of}
 use Rattle.wc_selection.specs.ModuleKeys.{required_keys}
@@ -44,10 +48,11 @@ use Rattle.wc_selection.specs.Worlds.{IsSelected}
 use Rattle.wcplan_command.specs.Arguments.{CommandValue, Reading, Stop, WrongValue, help, version, wrong}
 use Rattle.wcplan_command.specs.Details.{IsExplanation, fault_lines, unplaced_line}
 use Rattle.wcplan_command.specs.Faults.{program_fault_text, unprinted_text}
+use Rattle.wcplan_command.specs.JsonFaults.{IsReportedJson}
 use Rattle.wcplan_command.specs.Lines.{lines_text}
 use Rattle.wcplan_command.specs.Listing.{listing_text}
 use Rattle.wcplan_command.specs.Parts.{IsPartExplanation}
-use Rattle.wcplan_command.specs.Reading.{AsksMemory, read_arguments}
+use Rattle.wcplan_command.specs.Reading.{AsksMemory, is_standard, read_arguments}
 use Rattle.wcplan_command.specs.ModuleKeys.{AreNamesThere, IsNamesCause, IsSelectionCause, hook_of, request_of}
 use Rattle.wc_program.specs.Screen.{Printing, nothing, printed, failed}
 use Rattle.wcplan_command.specs.Usage.{fault_and_usage, fault_line, help_text, no_text, usage_text, version_text, wrong_text}
@@ -55,7 +60,14 @@ use Rattle.wcplan_command.specs.declared.faults.SelectionFault.{SelectionFault}
 use Rattle.wcplan_command.specs.declared.faults.SelectionFault.TheVariants.{Request}
 use Rattle.wc_selection.specs.declared.fault.RequestFault.TheVariants.{UnknownKey, SeveralKeys, RepeatedKey}
 use Rattle.wcplan_command.specs.declared.faults.ProgramFault.{ProgramFault}
-use Rattle.wcplan_command.specs.declared.faults.ProgramFault.TheVariants.{Memory, CannotRead, NotText, NotJson, RepeatedMember, Json, Selection, NoExport, Resolve, Dedupe, Encoder, World, Plan, CannotMake, CannotWrite, Output}
+use Rattle.wcplan_command.specs.declared.faults.ProgramFault.TheVariants.{Memory, CannotRead, NotText, NotJson, RepeatedMember, Json, Selection, NoExport, Resolve, Dedupe, Encoder, World, Plan, Ways, CannotMake, CannotWrite, Output}
+
+-- the path of a file that is read: `-` stands for standard input
+abbrev pub input_path : List ℕ → List ℕ
+input_path path = cond (is_standard path) (codes "/dev/stdin") path
+
+abbrev pub HoldsInput : Option Held → List ℕ → List ℕ → Type 0
+HoldsInput before path bytes = Holds before (input_path path) bytes
 
 -- a text is JSON that is read as this document
 abbrev pub IsDocumentOf : Option JsonValue → DocumentView → Type 0
@@ -64,13 +76,13 @@ IsDocumentOf read d = IsSomeAnd read (λ j. HasUniqueKeys j × (document_of j �
 -- a file has a text that is read as this document
 pub record IsDocumentIn (before : Option Held) (path : List ℕ) (d : DocumentView) : Type 0 where
   pub text : List ℕ
-  pub read : Holds before path text
+  pub read : HoldsInput before path text
   pub document : IsDocumentOf (document text) d
 
 -- an adapter has its name, the bytes of its file, and the keys that it has to export; it is no library
 pub record IsAdapterIn (before : Option Held) (c : CommandValue) (keys : List NamedKey) (x : List ℕ × List ℕ) (y : List ℕ × AdapterView) : Type 0 where
   pub name : y.0 ≡ x.0
-  pub wasm : Holds before x.1 y.1.wasm
+  pub wasm : HoldsInput before x.1 y.1.wasm
   pub required : y.1.required_exports ≡ required_keys (request_of c) (Some x.0) keys
   pub library : y.1.library_info ≡ None
 
@@ -89,7 +101,7 @@ pub record IsChosen (c : CommandValue) (before : Option Held) (d : DocumentView)
 -- the main module in its file, with its repeated imports renamed
 pub record IsMainIn (before : Option Held) (path text : List ℕ) (renames : List RenameValue) : Type 0 where
   pub bytes : List ℕ
-  pub read : Holds before path bytes
+  pub read : HoldsInput before path bytes
   pub renamed : IsDeduped bytes text renames
 
 -- the adapters of a command, in order
@@ -134,6 +146,15 @@ record_line w = planned_world_text w (plan_of w) ++ codes "\n"
 -- what is printed of a component's world: its record, where that is asked for; else the lines of its plan
 abbrev pub printed_text : Bool → ComponentWorldView → List ℕ
 printed_text asks_json w = if asks_json then record_line w else plan_lines w
+
+-- why a key is imported, as it is printed: as a graph, if that is asked for, or in lines
+abbrev pub IsPrintedWays : Bool → ComponentWorldView → List ℕ → List ℕ → Type 0
+IsPrintedWays true w key text = IsWaysGraph w key text
+IsPrintedWays false w key text = IsWaysText w key text
+
+-- what a command prints of its component's world: why the key is imported that it asks about; without one the text above
+abbrev pub IsPrintedText : CommandValue → ComponentWorldView → List ℕ → Type 0
+IsPrintedText c w text = MatchOption c.why (text ≡ printed_text c.json w) (λ key. IsPrintedWays c.dot w key text)
 
 -- `DIRECTORY/NAME.wasm`
 abbrev pub path_in : List ℕ → List ℕ → List ℕ
@@ -196,11 +217,11 @@ Reads = List ℕ → ReadProblem → Type 0
 
 -- the file of a path could not be read, for a problem other than memory
 abbrev pub IsUnreadable : Reads → List ℕ → ReadProblem → Type 0
-IsUnreadable fails path p = fails path p × (p ≢ no_memory)
+IsUnreadable fails path p = fails (input_path path) p × (p ≢ no_memory)
 
 -- why a file, the worlds in it, or the main module in it, could not be read
 abbrev pub IsReadFault : List ℕ → Reads → ProgramFault → Type 0
-IsReadFault path fails Memory = fails path no_memory
+IsReadFault path fails Memory = fails (input_path path) no_memory
 IsReadFault path fails (CannotRead at p) = (at.now ≡ path) × IsUnreadable fails at.now p
 IsReadFault path fails f = ⊥
 
@@ -225,13 +246,13 @@ IsTextCause text f = ⊥
 
 abbrev pub IsDocumentCause : Option Held → List ℕ → ProgramFault → Type 0
 IsDocumentCause before path Memory = Unit {0}
-IsDocumentCause before path NotText = (text : List ℕ) × Holds before path text × ¬ IsUtf8 text
-IsDocumentCause before path f = (text : List ℕ) × Holds before path text × IsTextCause text f
+IsDocumentCause before path NotText = (text : List ℕ) × HoldsInput before path text × ¬ IsUtf8 text
+IsDocumentCause before path f = (text : List ℕ) × HoldsInput before path text × IsTextCause text f
 
 abbrev pub IsMainCause : Option Held → Reads → List ℕ → ProgramFault → Type 0
 IsMainCause before fails path Memory = Unit {0}
 IsMainCause before fails path (CannotRead at p) = IsReadFault path fails (CannotRead at p)
-IsMainCause before fails path (Dedupe f) = (bytes : List ℕ) × Holds before path bytes × (f ≢ dedupe_memory) × IsDedupeCause bytes f
+IsMainCause before fails path (Dedupe f) = (bytes : List ℕ) × HoldsInput before path bytes × (f ≢ dedupe_memory) × IsDedupeCause bytes f
 IsMainCause before fails path f = ⊥
 
 -- why adapters could not be
@@ -313,6 +334,7 @@ IsPlanCause c before fails (World f x) =
     × IfOk x (IsExplanation e f)
 IsPlanCause c before fails (Plan f) =
     (e : EncoderView) × (w : ComponentWorldView) × IsEncoderOf c before e × IsWorldOf plain_options e w × IsFirstFault w f
+IsPlanCause c before fails (Ways f) = (w : ComponentWorldView) × IsPlanned c before w × (f ≢ gc_memory) × IsWaysFault w f
 IsPlanCause c before fails (CannotMake path) = ⊥
 IsPlanCause c before fails (CannotWrite path) = ⊥
 IsPlanCause c before fails Output = ⊥
@@ -324,9 +346,10 @@ IsRunCause c files out (CannotWrite path) = IsUnwritten c files (string_bytes pa
 IsRunCause c files out Output = (world : ComponentWorldView) × IsWritten c files world × out failed
 IsRunCause c files out f = IsPlanCause c files.before files.IsFailedRead f × (files.after ≡ files.before) × out nothing
 
--- the command did its work: all its files are written, and then its lines are printed
+-- the command did its work: all its files are written, and then what it asks for is printed
 abbrev pub EndsWell : CommandValue → StoreChange → (Printing → Type 0) → Type 0
-EndsWell c files out = (world : ComponentWorldView) × IsWritten c files world × out (printed (printed_text c.json world))
+EndsWell c files out =
+    (world : ComponentWorldView) × (text : List ℕ) × IsWritten c files world × IsPrintedText c world text × out (printed text)
 
 -- memory is needed for the text of a fault, unless it is always the same
 abbrev pub NeedsText : ProgramFault → Type 0
@@ -347,6 +370,11 @@ IsPrintedOf fault text =
 abbrev pub IsReported : ProgramFault → (Printing → Type 0) → ℕ → Type 0
 IsReported fault err status = (text : List ℕ) × IsPrintedOf fault text × Prints (fault_line text) failure err status
 
+-- as JSON, if that is asked for
+abbrev pub IsReportedAs : Bool → ProgramFault → (Printing → Type 0) → ℕ → Type 0
+IsReportedAs true fault err status = IsReportedJson fault err status
+IsReportedAs false fault err status = IsReported fault err status
+
 -- there was no memory, which is printed
 abbrev pub EndsWithoutMemory : (Printing → Type 0) → (Printing → Type 0) → ℕ → Type 0
 EndsWithoutMemory out err status = out nothing × Prints (fault_line memory_text) failure err status
@@ -360,7 +388,7 @@ PrintsAsked text out err status =
 abbrev pub CommandEnds : CommandValue → StoreChange → (Printing → Type 0) → (Printing → Type 0) → ℕ → Type 0
 CommandEnds c files out err status =
     (EndsWell c files out × err nothing × (status ≡ success))
-    ⊎ ((fault : ProgramFault) × IsRunCause c files out fault × IsReported fault err status)
+    ⊎ ((fault : ProgramFault) × IsRunCause c files out fault × IsReportedAs c.json fault err status)
 
 -- there is no command: what is asked for is printed; or what is wrong, and the usage text, to the other output
 abbrev pub StopEnds : Stop → (Printing → Type 0) → (Printing → Type 0) → ℕ → Type 0

@@ -1,11 +1,11 @@
 -- What arguments are read as, one after another.
-use Rattle.std.specs.Prelude.{ℕ, ◌<◌, ◌⊎◌, ◌==◌, ◌&&◌, ◌||◌, Bool, true, false, not, nat_lt, length, cond, List, [], ◌∷◌, ◌++◌, codes, map, Option, Some, None, is_some, unwrap_or, Ok, Err}
+use Rattle.std.specs.Prelude.{ℕ, ◌<◌, ◌⊎◌, ◌==◌, ◌&&◌, ◌||◌, Bool, true, false, not, nat_lt, length, cond, filter, List, [], ◌∷◌, ◌++◌, codes, map, Option, Some, None, is_some, unwrap_or, Ok, Err}
 use Rattle.std.specs.List.{position_or_len, before_first, after_first}
 use Rattle.std.specs.Option.{option_map}
-use Rattle.std.specs.Path.{dot, path_file_name}
+use Rattle.std.specs.Path.{dot as full_stop, path_file_name}
 use Rattle.std.specs.Str.{bytes_eq}
-use Rattle.wc_selection.specs.Texts.{text_of}
-use Rattle.wcplan_command.specs.Arguments.{CommandValue, OptionValue, Reading, adapt, export, adapter_export, reject_legacy_names, realloc_via_memory_grow, task_hook, json, out, help, version, wrong, unknown_option, missing_value, not_a_pair, repeated_option, unexpected, missing}
+use Rattle.wc_selection.specs.Texts.{second_parts, text_of}
+use Rattle.wcplan_command.specs.Arguments.{CommandValue, OptionValue, Reading, adapt, export, adapter_export, reject_legacy_names, realloc_via_memory_grow, task_hook, json, why, dot, out, help, version, wrong, unknown_option, missing_value, not_a_pair, repeated_option, unexpected, missing, together}
 use Rattle.wcplan_command.specs.declared.arguments.Draft.{Draft}
 
 -- the code of `=`, and of `-`
@@ -26,7 +26,8 @@ abbrev pub flag_of : List ℕ → Option OptionValue
 flag_of argument =
     cond (bytes_eq argument (codes "--reject-legacy-names")) (Some reject_legacy_names)
     (cond (bytes_eq argument (codes "--realloc-via-memory-grow")) (Some realloc_via_memory_grow)
-    (cond (bytes_eq argument (codes "--json")) (Some json) None))
+    (cond (bytes_eq argument (codes "--json")) (Some json)
+    (cond (bytes_eq argument (codes "--dot")) (Some dot) None)))
 
 -- an option of this name has a value, and may come several times; and one of this name has a value
 abbrev pub takes_module_value : List ℕ → Bool
@@ -35,7 +36,7 @@ takes_module_value option =
 
 unfoldable pub takes_value : List ℕ → Bool
 takes_value option =
-    takes_module_value option || bytes_eq option (codes "--task-hook") || bytes_eq option (codes "--out")
+    takes_module_value option || bytes_eq option (codes "--task-hook") || bytes_eq option (codes "--why") || bytes_eq option (codes "--out")
 
 -- the name of a file: the last component of its path; the path itself, if that has none
 abbrev pub file_name : List ℕ → List ℕ
@@ -43,7 +44,7 @@ file_name path = unwrap_or (path_file_name path) path
 
 -- what is before the first `.`; without one all
 abbrev pub stem : List ℕ → List ℕ
-stem name = before_first (λ b. b == dot) name
+stem name = before_first (λ b. b == full_stop) name
 
 -- the name and the file of an adapter: the texts before and after the first `=`; or the file's own name, up to its first `.`
 abbrev pub adapter_file_of : List ℕ → List ℕ × List ℕ
@@ -59,7 +60,8 @@ module_valued_of option value =
 abbrev pub valued_of : List ℕ → List ℕ → Option OptionValue
 valued_of option value =
     cond (bytes_eq option (codes "--task-hook")) (Some (task_hook value))
-    (cond (bytes_eq option (codes "--out")) (Some (out value)) (module_valued_of option value))
+    (cond (bytes_eq option (codes "--why")) (Some (why value))
+    (cond (bytes_eq option (codes "--out")) (Some (out value)) (module_valued_of option value)))
 
 -- a command without options, whose paths and world are empty
 abbrev pub plain_command : CommandValue
@@ -74,6 +76,8 @@ plain_command = record {
   realloc_via_memory_grow = false;
   task_hook = None;
   json = false;
+  why = None;
+  dot = false;
   out = None;
 }
 
@@ -104,6 +108,8 @@ add_option c name reject_legacy_names = once c.reject_legacy_names name (record 
 add_option c name realloc_via_memory_grow = once c.realloc_via_memory_grow name (record c { realloc_via_memory_grow = true })
 add_option c name (task_hook hook) = once (is_some c.task_hook) name (record c { task_hook = Some hook })
 add_option c name json = once c.json name (record c { json = true })
+add_option c name (why key) = once (is_some c.why) name (record c { why = Some key })
+add_option c name dot = once c.dot name (record c { dot = true })
 add_option c name (out directory) = once (is_some c.out) name (record c { out = Some directory })
 
 -- a command with the option of this name with this value
@@ -188,12 +194,29 @@ take_pending c d argument (Some option) = with_draft (with_pending d None) (add_
 abbrev pub take_up : CommandValue → DraftValue → List ℕ → Reading (CommandValue × DraftValue)
 take_up c d argument = cond d.is_ended (with_command c (add_path d argument)) (take_pending c d argument d.pending)
 
--- the command, if no option lacks its value, and all paths are there
+-- a path that stands for standard input; at most one of the files of a command is that
+abbrev pub is_standard : List ℕ → Bool
+is_standard path = bytes_eq path (codes "-")
+
+abbrev pub standard_inputs : CommandValue → List (List ℕ)
+standard_inputs c = filter is_standard (c.worlds ∷ c.main ∷ second_parts c.adapters)
+
+abbrev pub are_inputs_apart : CommandValue → Bool
+are_inputs_apart c = nat_lt (length (standard_inputs c)) 2
+
+-- a command whose options and files fit together: a graph is one of ways, and ways are no JSON
+abbrev pub fitting : CommandValue → Reading CommandValue
+fitting c =
+    cond (c.dot && not (is_some c.why)) (Err (wrong (missing (codes "--why"))))
+    (cond (is_some c.why && c.json) (Err (wrong (together (codes "--why") (codes "--json"))))
+    (cond (not (are_inputs_apart c)) (Err (wrong (repeated_option (codes "-")))) (Ok c)))
+
+-- the command, if no option lacks its value, all paths are there, and they and the options fit together
 abbrev pub finish_with : CommandValue → List (List ℕ) → Reading CommandValue
 finish_with c [] = Err (wrong (missing (codes "WORLDS.json")))
 finish_with c (worlds ∷ []) = Err (wrong (missing (codes "WORLD")))
 finish_with c (worlds ∷ world ∷ []) = Err (wrong (missing (codes "MAIN.wasm")))
-finish_with c (worlds ∷ world ∷ main ∷ rest) = Ok (with_paths c worlds world main)
+finish_with c (worlds ∷ world ∷ main ∷ rest) = fitting (with_paths c worlds world main)
 
 abbrev pub finish_by : CommandValue → DraftValue → Option (List ℕ) → Reading CommandValue
 finish_by c d (Some option) = Err (wrong (missing_value option))

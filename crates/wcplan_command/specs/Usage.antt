@@ -1,12 +1,12 @@
 -- The texts that say how the program is called, and what is wrong with a call.
 use Rattle.std.specs.Prelude.{ℕ, List, ◌++◌, codes}
-use Rattle.wcplan_command.specs.Arguments.{WrongValue, unknown_option, missing_value, not_a_pair, repeated_option, unexpected, missing}
+use Rattle.wcplan_command.specs.Arguments.{WrongValue, unknown_option, missing_value, not_a_pair, repeated_option, unexpected, missing, together}
 
 -- the usage text
 abbrev pub usage_text : List ℕ
 usage_text =
     codes "usage: wcplan WORLDS.json WORLD MAIN.wasm [--adapt [NAME=]FILE]... [--export KEY]... [--adapter-export NAME=KEY]...\n"
-    ++ (codes "              [--reject-legacy-names] [--realloc-via-memory-grow] [--task-hook NAME] [--json] [--out DIR]\n"
+    ++ (codes "              [--reject-legacy-names] [--realloc-via-memory-grow] [--task-hook NAME] [--json | --why KEY [--dot]] [--out DIR]\n"
     ++ codes "       wcplan --help | --version\n")
 
 -- what each argument is
@@ -22,9 +22,12 @@ options_text =
     ++ (codes "  --realloc-via-memory-grow  let adapters grow memory for themselves\n"
     ++ (codes "  --task-hook NAME           the export of MAIN.wasm that is the hook of tasks\n"
     ++ (codes "  --json                     print the component's world and its plan as JSON\n"
+    ++ (codes "  --why KEY                  print why the interface KEY is imported; why each is, if KEY is `all`\n"
+    ++ (codes "  --dot                      print that as a graph, in the language of Graphviz\n"
     ++ (codes "  --out DIR                  write the modules to DIR, which is made if need be\n"
+    ++ (codes "  -                          standard input, as WORLDS.json, MAIN.wasm or FILE\n"
     ++ (codes "  -h, --help                 print this text\n"
-    ++ codes "  --version                  print the version\n")))))))))))
+    ++ codes "  --version                  print the version\n"))))))))))))))
 
 abbrev pub help_text : List ℕ
 help_text = usage_text ++ options_text
@@ -40,6 +43,7 @@ wrong_text (not_a_pair option value) = codes "no = in " ++ (value ++ (codes " of
 wrong_text (repeated_option option) = option ++ codes " twice"
 wrong_text (unexpected argument) = codes "unexpected argument " ++ argument
 wrong_text (missing name) = codes "missing " ++ name
+wrong_text (together option other) = option ++ (codes " with " ++ other)
 
 -- what is wrong where an argument is no text
 abbrev pub no_text : List ℕ

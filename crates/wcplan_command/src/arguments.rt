@@ -1,9 +1,9 @@
 //! The arguments of the program.
 
-ghost use Rattle.std.specs.Prelude.{◌≡◌, IfErr, IfOk, OnOk, None, Some, false, is_some, map, string_bytes, true};
+ghost use Rattle.std.specs.Prelude.{◌≡◌, IfErr, IfOk, OnOk, None, Some, false, filter, is_some, length, map, string_bytes, true};
 ghost use Rattle.std.specs.Option.{option_map};
 ghost use Rattle.wcplan_command.specs.Arguments.{IsRead, IsReadWithoutMemory, IsStopOf, command_value, option_value};
-ghost use Rattle.wcplan_command.specs.Reading.{AsksMemory, HasMoreOptions, HasMorePaths, KeepsMore, adapter_file_of, add_option, add_path, add_value, draft_value, file_name, finish, flag_of, module_valued_of, none_read, pair_of, plain_command, read_arguments, stem, take_option, take_up, takes_module_value, takes_value, valued_of};
+ghost use Rattle.wcplan_command.specs.Reading.{AsksMemory, HasMoreOptions, HasMorePaths, KeepsMore, adapter_file_of, add_option, add_path, add_value, are_inputs_apart, draft_value, file_name, finish, fitting, flag_of, is_standard, module_valued_of, none_read, pair_of, plain_command, read_arguments, stem, take_option, take_up, takes_module_value, takes_value, valued_of};
 ghost use Rattle.wcplan_command.specs.declared.arguments.NoCommand.TheVariants.{Memory};
 
 use std::alloc::{AllocFailed, Global};
@@ -32,6 +32,10 @@ pub struct Command<'a> {
     pub task_hook: Option<&'a str>,
     /// Whether the record of the component's world and its plan are printed as JSON, in place of the lines of the plan.
     pub json: bool,
+    /// The key of an interface, or `all`: why it is imported is printed, in place of the lines of the plan.
+    pub why: Option<&'a str>,
+    /// Whether this is printed as a graph, in place of lines.
+    pub dot: bool,
     /// The path of the directory that files are written to, if they are.
     pub out: Option<&'a str>,
 }
@@ -58,12 +62,14 @@ pub enum WrongArgument<'a> {
     MissingValue(&'a str),
     /// The value of this option has no `=`.
     NotAPair { option: &'a str, value: &'a str },
-    /// This option is given twice, and may be given once.
+    /// This option is given twice, and may be given once; or `-` is, which is standard input, as a file.
     RepeatedOption(&'a str),
     /// This argument comes after the third that is no option, and is none.
     Unexpected(&'a str),
     /// The argument that the usage text calls so is missing.
     Missing(&'a str),
+    /// These two options are given together.
+    Together { option: &'a str, other: &'a str },
 }
 
 impl<T: Drop> From<AllocFailed<T>> for NoCommand<'_> {
@@ -84,6 +90,8 @@ enum CommandOption<'a> {
     ReallocViaMemoryGrow,
     TaskHook { name: &'a str },
     Json,
+    Why { key: &'a str },
+    Dot,
     Out { directory: &'a str },
 }
 
@@ -101,18 +109,20 @@ struct Draft<'a> {
 /// The command of these arguments, the first of them the one after the program's name: `WORLDS.json`, `WORLD` and
 /// `MAIN.wasm` in this order, and options before, between and after them. `--adapt NAME=FILE`, `--export KEY` and
 /// `--adapter-export NAME=KEY` may come several times, `--reject-legacy-names`, `--realloc-via-memory-grow`,
-/// `--task-hook NAME`, `--json` and `--out DIR` once. What comes after the name of an option that has a value is its
-/// value, whatever it is; in one argument there is a `=` between them, as in `--out=DIR`. NAME of an adapter ends at the
-/// first `=`. Without a `=` the value of `--adapt` is FILE, and NAME is the name of this file up to its first `.`. `--` is
-/// not an argument, and says that those after it are no options. No option is `-` alone, nor what begins with another
-/// character.
+/// `--task-hook NAME`, `--json`, `--why KEY`, `--dot` and `--out DIR` once. What comes after the name of an option that has
+/// a value is its value, whatever it is; in one argument there is a `=` between them, as in `--out=DIR`. NAME of an adapter
+/// ends at the first `=`. Without a `=` the value of `--adapt` is FILE, and NAME is the name of this file up to its first
+/// `.`. `--` is not an argument, and says that those after it are no options. No option is `-` alone, nor what begins with
+/// another character. `--dot` comes with `--why`, and `--why` without `--json`. Of `WORLDS.json`, `MAIN.wasm` and the FILEs
+/// one is `-` at most, which is standard input.
 ///
 /// # Errors
 ///
 /// They are read in order, and the first of these is named:
 ///
 /// - `Help`, `Version`: an option is `--help` or `-h`, or `--version`.
-/// - `Wrong`: an argument is wrong; or, after the last, the value of an option or one of the three arguments is missing.
+/// - `Wrong`: an argument is wrong; or, after the last, the value of an option or one of the three arguments is missing, or
+///   options or files don't fit together.
 /// - `Memory`: an allocation failed. It may come in place of any other after an argument that is kept: one of the three,
 ///   or the value of `--adapt`, `--export` or `--adapter-export`. Without such an argument nothing is allocated.
 pub fn parse(alloc: Global, arguments: &[String]) -> Result<Command<'_>, NoCommand<'_>>
@@ -146,6 +156,8 @@ fn no_options<'a>(alloc: Global) -> Command<'a>
         realloc_via_memory_grow: false,
         task_hook: None,
         json: false,
+        why: None,
+        dot: false,
         out: None,
     }
 }
@@ -254,12 +266,61 @@ fn finish<'a>(command: Command<'a>, draft: &Draft<'a>) -> Result<Command<'a>, No
             command.worlds = worlds;
             command.world = world;
             command.main = main;
-            Ok(command)
+            fitting(command)
         }
         [_, _] => Err(NoCommand::Wrong(WrongArgument::Missing("MAIN.wasm"))),
         [_] => Err(NoCommand::Wrong(WrongArgument::Missing("WORLD"))),
         [] => Err(NoCommand::Wrong(WrongArgument::Missing("WORLDS.json"))),
     }
+}
+
+/// The command, if its options and files fit together.
+fn fitting<'a>(command: Command<'a>) -> Result<Command<'a>, NoCommand<'a>>
+    ensures { IsReadWithoutMemory result (fitting (command_value command.entry)) }
+{
+    if command.dot && command.why.is_none() {
+        return Err(NoCommand::Wrong(WrongArgument::Missing("--why")));
+    }
+    if command.why.is_some() && command.json {
+        return Err(NoCommand::Wrong(WrongArgument::Together {
+            option: "--why",
+            other: "--json",
+        }));
+    }
+    if !are_inputs_apart(&command) {
+        return Err(NoCommand::Wrong(WrongArgument::RepeatedOption("-")));
+    }
+    Ok(command)
+}
+
+/// Whether at most one of the files of a command is standard input.
+fn are_inputs_apart(command: &Command<'_>) -> bool
+    ensures { result ≡ are_inputs_apart (command_value command.now) }
+{
+    let adapters = count_standard(&command.adapters);
+    match (is_standard(command.worlds), is_standard(command.main)) {
+        (true, true) => false,
+        (true, false) => adapters == 0,
+        (false, true) => adapters == 0,
+        (false, false) => adapters < 2,
+    }
+}
+
+/// How many adapters are on standard input.
+fn count_standard(adapters: &[(&str, &str)]) -> usize
+    ensures { result ≡ length (filter (λ a. is_standard a.1.now) adapters.now) }
+{
+    adapters
+        .iter()
+        .filter(|adapter| is_standard(adapter.1))
+        .count()
+}
+
+/// Whether a path stands for standard input.
+pub(crate) fn is_standard(path: &str) -> bool
+    ensures { result ≡ is_standard path.now }
+{
+    path == "-"
 }
 
 /// The option that an argument is by itself.
@@ -272,6 +333,8 @@ fn flag(argument: &str) -> Option<CommandOption<'_>>
         Some(CommandOption::ReallocViaMemoryGrow)
     } else if argument == "--json" {
         Some(CommandOption::Json)
+    } else if argument == "--dot" {
+        Some(CommandOption::Dot)
     } else {
         None
     }
@@ -282,7 +345,7 @@ fn flag(argument: &str) -> Option<CommandOption<'_>>
 fn takes_value(option: &str) -> bool
     ensures { result ≡ takes_value option.now }
 {
-    takes_module_value(option) || option == "--task-hook" || option == "--out"
+    takes_module_value(option) || option == "--task-hook" || option == "--why" || option == "--out"
 }
 
 /// Whether an option of this name has a value, and may come several times.
@@ -298,6 +361,8 @@ fn valued<'a>(argument: &str, value: &'a str) -> Option<CommandOption<'a>>
 {
     if argument == "--task-hook" {
         Some(CommandOption::TaskHook { name: value })
+    } else if argument == "--why" {
+        Some(CommandOption::Why { key: value })
     } else if argument == "--out" {
         Some(CommandOption::Out { directory: value })
     } else {
@@ -378,6 +443,8 @@ fn add_option<'a>(
         CommandOption::RejectLegacyNames => set(&mut command.reject_legacy_names, name)?,
         CommandOption::ReallocViaMemoryGrow => set(&mut command.realloc_via_memory_grow, name)?,
         CommandOption::Json => set(&mut command.json, name)?,
+        CommandOption::Dot => set(&mut command.dot, name)?,
+        CommandOption::Why { key } => set_text(&mut command.why, name, key)?,
         CommandOption::TaskHook { name: hook } => set_text(&mut command.task_hook, name, hook)?,
         CommandOption::Out { directory } => set_text(&mut command.out, name, directory)?,
     }

@@ -1,14 +1,14 @@
 //! Files that are read: their bytes, and the worlds in one.
 
-ghost use Rattle.std.specs.Prelude.{IfErr, IfOk};
+ghost use Rattle.std.specs.Prelude.{◌≡◌, IfErr, IfOk};
 ghost use Rattle.json.specs.Json.{document};
 ghost use Rattle.wc_json.specs.Document.{IsDocument};
-ghost use Rattle.wc_program.specs.Files.{FailsToRead, Holds};
+ghost use Rattle.wc_program.specs.Files.{FailsToRead};
 ghost use Rattle.wcplan_command.specs.Arguments.{command_value};
-ghost use Rattle.wcplan_command.specs.Program.{AreWorldsIn, IsNotJson, IsPlanCause, IsReadFault, IsRepeatedMember, IsTextCause};
+ghost use Rattle.wcplan_command.specs.Program.{AreWorldsIn, HoldsInput, IsNotJson, IsPlanCause, IsReadFault, IsRepeatedMember, IsTextCause, input_path};
 ghost use Rattle.wcplan_command.specs.Private.Runs.{AreWorldsOf, IsWorldsCause};
 
-use crate::arguments::Command;
+use crate::arguments::{Command, is_standard};
 use crate::explained_part::resolve_fault;
 use crate::faults::ProgramFault;
 use crate::json_place::{json_end, repeated_member};
@@ -94,17 +94,28 @@ fn repeated<'a>(alloc: Global, text: &str) -> ProgramFault<'a>
     }
 }
 
-/// The bytes of the file of this path.
+/// The bytes of the file of this path; those of standard input, if the path is `-`.
 pub(crate) fn read_file<'a, F: FileStore>(
     path: &'a str,
     files: &F,
 ) -> Result<Vec<u8>, ProgramFault<'a>>
-    ensures read { IfOk result (λ v. Holds (F.held files.now) path.now v.items) }
+    ensures read { IfOk result (λ v. HoldsInput (F.held files.now) path.now v.items) }
     ensures fault { IfErr result (IsReadFault path.now (FailsToRead F.read_fails files.now)) }
 {
-    match wc_program::read_file(files, path) {
+    match wc_program::read_file(files, input_path(path)) {
         Ok(bytes) => Ok(bytes),
         Err(ReadProblem::Memory) => Err(ProgramFault::Memory),
         Err(problem) => Err(ProgramFault::CannotRead(path, problem)),
+    }
+}
+
+/// The path of the file that is read: `-` stands for standard input.
+fn input_path(path: &str) -> &str
+    ensures { result.now ≡ input_path path.now }
+{
+    if is_standard(path) {
+        "/dev/stdin"
+    } else {
+        path
     }
 }

@@ -16,6 +16,7 @@ use std::error::Error as StdError;
 use std::fmt;
 use wc_dedupe::DedupeFault;
 use wc_encoder::EncoderFault;
+use wc_gc::GcFault;
 use wc_json::{JsonFault, escaped};
 use wc_plan::PlanFault;
 use wc_program::{OUT_OF_MEMORY, ReadProblem, problem_text};
@@ -132,6 +133,8 @@ pub enum ProgramFault<'a> {
     World(WorldFault, Result<Option<Explained>, AllocError>),
     /// The component's world has no plan. It carries why, never `Memory`.
     Plan(PlanFault),
+    /// It can't be said why something is imported. It carries why, never `Memory`.
+    Ways(GcFault),
     /// The directory of this path could not be made.
     CannotMake(&'a str),
     /// The file of this path could not be written.
@@ -165,6 +168,7 @@ impl ProgramFault<'_> {
             ProgramFault::Encoder(fault) => carried_text(alloc, "Encoder", fault),
             ProgramFault::World(fault, _) => world_text(alloc, fault),
             ProgramFault::Plan(fault) => carried_text(alloc, "Plan", fault),
+            ProgramFault::Ways(fault) => carried_text(alloc, "Ways", fault),
             ProgramFault::CannotMake(path) => path_text(alloc, "cannot make directory ", path),
             ProgramFault::CannotWrite(path) => path_text(alloc, "cannot write ", path),
             ProgramFault::Output => String::from_str(alloc, "cannot print"),
@@ -192,6 +196,7 @@ impl ProgramFault<'_> {
             | ProgramFault::Encoder(_)
             | ProgramFault::World(_, _)
             | ProgramFault::Plan(_)
+            | ProgramFault::Ways(_)
             | ProgramFault::CannotMake(_)
             | ProgramFault::CannotWrite(_) => None,
         }
@@ -375,6 +380,19 @@ impl From<PlanFault> for ProgramFault<'_> {
             PlanFault::Memory => ProgramFault::Memory,
             PlanFault::Output => ProgramFault::Output,
             _ => ProgramFault::Plan(e),
+        }
+    }
+}
+
+impl From<GcFault> for ProgramFault<'_> {
+    ghost use Rattle.wcplan_command.specs.Faults.{of_gc};
+
+    ghost from_gives = { λ f e. e ≡ of_gc f };
+
+    fn from(e: GcFault) -> Self {
+        match e {
+            GcFault::Memory => ProgramFault::Memory,
+            _ => ProgramFault::Ways(e),
         }
     }
 }

@@ -13,6 +13,7 @@ mod fault_texts;
 mod faults;
 mod file_names;
 mod inputs;
+mod json_faults;
 mod json_place;
 mod lines;
 mod listing;

@@ -3,39 +3,81 @@
 ghost use Rattle.std.specs.Prelude.{◌≡◌, IfErr, IfOk, IfSome, OnOk, Some, map, string_bytes};
 ghost use Rattle.std.specs.Option.{option_map};
 ghost use Rattle.wc_uses.specs.PlanViews.{plan_view};
+ghost use Rattle.wc_plan.specs.Faults.{AreNameable};
 ghost use Rattle.wc_plan.specs.Plans.{plan_of};
 ghost use Rattle.wc_world.specs.WorldViews.{world_view};
 ghost use Rattle.wc_selection.specs.Texts.{text_of};
 ghost use Rattle.wc_program.specs.Files.{FailsFrom, store_change};
 ghost use Rattle.wc_program.specs.Screen.{Becomes};
-ghost use Rattle.wcplan_command.specs.Program.{IsFileFault, WritesAll, file_view, files_of, path_in, printed_text, record_line};
-ghost use Rattle.wcplan_command.specs.Private.Runs.{IsMakingFault, IsWritingFault};
+ghost use Rattle.wc_ways.specs.WaysFaults.{IsWaysFault};
+ghost use Rattle.wcplan_command.specs.Arguments.{command_value};
+ghost use Rattle.wcplan_command.specs.Program.{IsFileFault, IsPrintedText, IsPrintedWays, WritesAll, file_view, files_of, path_in, printed_text, record_line};
+ghost use Rattle.wcplan_command.specs.Private.Runs.{IsDescriptionFault, IsMakingFault, IsWritingFault};
 
 use crate::arguments::Command;
 use crate::faults::ProgramFault;
 use crate::lines::plan_lines;
 use std::alloc::{AllocError, Global};
+use wc_gc::GcFault;
 use wc_plan::Plan;
 use wc_program::{DirectoryStore, Screen};
 use wc_record::planned_world_to_json;
+use wc_ways::{ways_graph, ways_text};
 use wc_world::ComponentWorld;
 use wc_write::PutFailed;
 
 /// What a command prints of its component's world, which has this plan.
-pub(crate) fn description_of(
+pub(crate) fn description_of<'a>(
     alloc: Global,
-    command: &Command<'_>,
+    command: &Command<'a>,
+    world: &ComponentWorld<'_>,
+    plan: &Plan,
+) -> Result<Vec<u8>, ProgramFault<'a>>
+    requires nameable { AreNameable (world_view world.now) }
+    requires plan { plan_view plan.now ≡ plan_of (world_view world.now) }
+    ensures text { IfOk result (λ text. IsPrintedText (command_value command.now)
+        (world_view world.now) text.items) }
+    ensures fault { IfErr result (IsDescriptionFault (world_view world.now)) }
+{
+    match command.why {
+        Some(key) => Ok(ways_of(alloc, command.dot, world, key)?),
+        None => Ok(plan_text(alloc, command.json, world, plan)?),
+    }
+}
+
+/// The lines of the plan of a component's world; or, if JSON is asked for, the record of both.
+fn plan_text(
+    alloc: Global,
+    asks_json: bool,
     world: &ComponentWorld<'_>,
     plan: &Plan,
 ) -> Result<Vec<u8>, AllocError>
     requires { plan_view plan.now ≡ plan_of (world_view world.now) }
-    ensures { IfOk result (λ text. text.items
-        ≡ printed_text command.now.json (world_view world.now)) }
+    ensures { IfOk result (λ text. text.items ≡ printed_text asks_json (world_view world.now)) }
 {
-    if command.json {
+    if asks_json {
         record_line(alloc, world, plan)
     } else {
         Ok(plan_lines(alloc, plan)?.into_bytes())
+    }
+}
+
+/// Why a key is imported: as a graph, if that is asked for, or in lines.
+fn ways_of(
+    alloc: Global,
+    asks_graph: bool,
+    world: &ComponentWorld<'_>,
+    key: &str,
+) -> Result<Vec<u8>, GcFault>
+    requires { AreNameable (world_view world.now) }
+    ensures text { IfOk result (λ text. IsPrintedWays asks_graph
+        (world_view world.now) key.now text.items) }
+    ensures fault { IfErr result (IsWaysFault (world_view world.now)) }
+{
+    if asks_graph {
+        Ok(ways_graph(alloc, world, key)?.into_bytes())
+    } else {
+        Ok(ways_text(alloc, world, key)?.into_bytes())
     }
 }
 

@@ -10,7 +10,7 @@ ghost use Rattle.wcplan_command.specs.Arguments.{command_value};
 ghost use Rattle.wc_program.specs.Files.{store_change};
 ghost use Rattle.wc_program.specs.Screen.{Becomes};
 ghost use Rattle.wc_program.specs.Program.{Prints, failure, wrong_arguments};
-ghost use Rattle.wcplan_command.specs.Program.{CommandEnds, EndsWell, EndsWith, EndsWithout, EndsWithoutArguments, IsEncoderOf, IsPlanned, IsReported, IsRunCause, NeedsText, PrintsAsked, ProgramEnds};
+ghost use Rattle.wcplan_command.specs.Program.{CommandEnds, EndsWell, EndsWith, EndsWithout, EndsWithoutArguments, IsEncoderOf, IsPlanned, IsReported, IsReportedAs, IsRunCause, NeedsText, PrintsAsked, ProgramEnds};
 ghost use Rattle.wcplan_command.specs.Private.Runs.{AnswersStop, IsMadeFor, IsReportedWith};
 ghost use Rattle.wcplan_command.specs.Usage.{fault_and_usage, fault_line, help_text};
 
@@ -19,6 +19,7 @@ use crate::details::UNPLACED;
 use crate::explained::world_fault;
 use crate::faults::{ProgramFault, UNPRINTED};
 use crate::inputs::read_encoder;
+use crate::json_faults::report_json;
 use crate::outputs::{description_of, outputs_of, write_and_print};
 use crate::usage::{AND_USAGE, NO_TEXT, OPTIONS, USAGE, VERSION};
 use std::alloc::{AllocError, Global};
@@ -41,8 +42,9 @@ use wc_write::{PutFailed, Sink};
 /// |---|---|---|
 /// | 0 | there are no arguments | the usage text, to `out` |
 /// | 0 | `parse` answers `Help` or `Version` | the help text or the version, to `out` |
-/// | 0 | the command was run | the lines of the plan, or with `--json` the record, to `out` |
+/// | 0 | the command was run | the lines of the plan, the record, or why a key is imported, to `out` |
 /// | 1 | the command could not be run | the line `wcplan: TEXT`, and lines of what the fault is about, to `err` |
+/// | 1 | it could not, and has `--json` | the fault as JSON in a line, to `err` |
 /// | 1 | there was no memory for the arguments | the line `wcplan: out of memory`, to `err` |
 /// | 2 | an argument is wrong, or no text | the line `wcplan: TEXT` and the usage text, to `err` |
 /// | 1 | `out` failed | not known there; the line `wcplan: cannot print`, to `err` |
@@ -139,7 +141,7 @@ fn run_and_report<F: DirectoryStore, O: Screen, E: Screen>(
         &mut shell.out,
     ) {
         Ok(()) => SUCCESS,
-        Err(fault) => report(shell.alloc, &mut shell.err, &fault),
+        Err(fault) => report_as(shell.alloc, &mut shell.err, &fault, command.json),
     }
 }
 
@@ -148,7 +150,9 @@ fn run_and_report<F: DirectoryStore, O: Screen, E: Screen>(
 /// as it was renamed, and then `NAME.wasm` for each adapter of the component's world, as it was trimmed: each as a whole
 /// (`DirectoryStore::replace`). Every other file stays the same. Then it prints the lines of the plan, as
 /// `wc_plan::write_plan` writes them, but each escaped (`wc_json::escaped`); or with `--json` the record in a line
-/// (`wc_record::planned_world_to_json`). `seed`: the seed of the maps that are made.
+/// (`wc_record::planned_world_to_json`); or with `--why` why the key is imported, by `wc_ways`: in lines (`ways_text`), with
+/// `--dot` as a graph (`ways_graph`). A path `-` of a file that is read is
+/// that of `/dev/stdin`. `seed`: the seed of the maps that are made.
 ///
 /// # Errors
 ///
@@ -161,9 +165,10 @@ fn run_and_report<F: DirectoryStore, O: Screen, E: Screen>(
 /// - `CannotRead`, `Dedupe`: the main module could not be read, or not renamed.
 /// - `CannotRead`: an adapter could not be read; they are read in order.
 /// - `Encoder`, `World`, `Plan`: there is no encoder, no component's world, or no plan.
+/// - `Ways`: it can't be said why the key is imported.
 /// - `CannotMake`: the directory could not be made.
 /// - `CannotWrite`: a file could not be written. The files before it were; it has what it had.
-/// - `Output`: the lines, or the record, could not be printed. All files were written; `out` is failed, and how much was
+/// - `Output`: what is asked for could not be printed. All files were written; `out` is failed, and how much was
 ///   printed is left open.
 /// - `Memory`: an allocation failed.
 ///
@@ -257,6 +262,7 @@ fn run_plan<'a, F: DirectoryStore, O: Screen>(
 ) -> Result<(), ProgramFault<'a>>
     requires planned { IsPlanned (command_value command.now) (F.held files.old)
         (world_view planned.world.now) }
+    requires nameable { AreNameable (world_view planned.world.now) }
     requires plan { plan_view planned.plan.now ≡ plan_of (world_view planned.world.now) }
     ensures done { OnOk result (EndsWell
         (command_value command.now)
@@ -270,6 +276,17 @@ fn run_plan<'a, F: DirectoryStore, O: Screen>(
     let outputs = outputs_of(alloc, command.out, planned.world)?;
     let description = description_of(alloc, command, planned.world, planned.plan)?;
     write_and_print(command.out, outputs, &description, files, out)
+}
+
+/// Prints why a command failed: as JSON, if that is asked for; else in lines. The answer is the status of a failure.
+fn report_as<E: Screen>(alloc: Global, err: &mut E, fault: &ProgramFault<'_>, asks_json: bool) -> u8
+    ensures { IsReportedAs asks_json fault.now (Becomes E.ends err.old err.new) result }
+{
+    if asks_json {
+        report_json(alloc, err, fault)
+    } else {
+        report(alloc, err, fault)
+    }
 }
 
 /// Prints why the program failed, and what that is about. The answer is the status of a failure.

@@ -13,8 +13,8 @@ use wc_json::escaped;
 pub(crate) const USAGE: &[u8] =
     b"usage: wcplan WORLDS.json WORLD MAIN.wasm [--adapt [NAME=]FILE]... [--export KEY]... \
       [--adapter-export NAME=KEY]...
-              [--reject-legacy-names] [--realloc-via-memory-grow] [--task-hook NAME] [--json] \
-      [--out DIR]
+              [--reject-legacy-names] [--realloc-via-memory-grow] [--task-hook NAME] [--json \
+      | --why KEY [--dot]] [--out DIR]
        wcplan --help | --version
 ";
 
@@ -30,7 +30,10 @@ pub(crate) const OPTIONS: &[u8] =
   --realloc-via-memory-grow  let adapters grow memory for themselves
   --task-hook NAME           the export of MAIN.wasm that is the hook of tasks
   --json                     print the component's world and its plan as JSON
+  --why KEY                  print why the interface KEY is imported; why each is, if KEY is `all`
+  --dot                      print that as a graph, in the language of Graphviz
   --out DIR                  write the modules to DIR, which is made if need be
+  -                          standard input, as WORLDS.json, MAIN.wasm or FILE
   -h, --help                 print this text
   --version                  print the version
 ";
@@ -42,8 +45,8 @@ pub(crate) const VERSION: &[u8] = b"wcplan 0.262.0\n";
 pub(crate) const AND_USAGE: &[u8] = b"
 usage: wcplan WORLDS.json WORLD MAIN.wasm [--adapt [NAME=]FILE]... [--export KEY]... \
       [--adapter-export NAME=KEY]...
-              [--reject-legacy-names] [--realloc-via-memory-grow] [--task-hook NAME] [--json] \
-      [--out DIR]
+              [--reject-legacy-names] [--realloc-via-memory-grow] [--task-hook NAME] [--json \
+      | --why KEY [--dot]] [--out DIR]
        wcplan --help | --version
 ";
 
@@ -78,5 +81,6 @@ fn wrong_text(alloc: Global, wrong: &WrongArgument<'_>) -> Result<String, AllocE
         WrongArgument::RepeatedOption(option) => format!(in alloc; "{option} twice"),
         WrongArgument::Unexpected(argument) => format!(in alloc; "unexpected argument {argument}"),
         WrongArgument::Missing(name) => format!(in alloc; "missing {name}"),
+        WrongArgument::Together { option, other } => format!(in alloc; "{option} with {other}"),
     }
 }

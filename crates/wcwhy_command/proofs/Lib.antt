@@ -1,9 +1,9 @@
 mod TextsLemmas
-mod JoinedLemmas
-mod ItemLemmas
-mod LineLemmas
-mod ExecutionLemmas
+pub mod JoinedLemmas
+pub mod ItemLemmas
+pub mod LineLemmas
+pub mod ExecutionLemmas
 mod RunLemmas
-mod MarkLemmas
+pub mod MarkLemmas
 mod PatternLemmas
 mod GraphLemmas

@@ -9,16 +9,17 @@ use Rattle.wc_gc.specs.declared.import_chains.ImportChains.{ImportChains}
 use Rattle.wcwhy_command.specs.Arguments.{PatternValue}
 use Rattle.wcwhy_command.specs.Graph.{AreMarks, IsOnChain, here, before}
 use Rattle.wcwhy_command.specs.Patterns.{is_shown}
-use Rattle.wcwhy_command.specs.Private.Marks.{AreHere, AreTaken, IsHere, IsTaken, first, next, place_at, shown_by}
+use Rattle.wcwhy_command.specs.Marks.{AreTaken, IsTaken, first, next}
+use Rattle.wcwhy_command.specs.Private.Marks.{AreHere, IsHere, place_at, shown_by}
 
 -- marks, when one is set
 
-none_is_set : (n k : ℕ) → slice_get (replicate n false) k ≡ Some true → ⊥
+pub none_is_set : (n k : ℕ) → slice_get (replicate n false) k ≡ Some true → ⊥
 none_is_set zero k e = absurd cc
 none_is_set (suc n) zero e = absurd cc
 none_is_set (suc n) (suc k) e = none_is_set n k e
 
-set_at : (marks : List Bool) (k : ℕ) → k < length marks → slice_get (set marks k true) k ≡ Some true
+pub set_at : (marks : List Bool) (k : ℕ) → k < length marks → slice_get (set marks k true) k ≡ Some true
 set_at [] k lt = absurd (omega arith)
 set_at (m ∷ marks) zero lt = refl
 set_at (m ∷ marks) (suc k) lt = set_at marks k (omega arith)
@@ -30,7 +31,7 @@ set_other (m ∷ marks) zero (suc j) differ = refl
 set_other (m ∷ marks) (suc k) zero differ = refl
 set_other (m ∷ marks) (suc k) (suc j) differ = set_other marks k j (λ e. differ (ap suc e))
 
-same_or : (j k : ℕ) → (j ≡ k) ⊎ (j ≢ k)
+pub same_or : (j k : ℕ) → (j ≡ k) ⊎ (j ≢ k)
 same_or zero zero = inl refl
 same_or zero (suc k) = inr (λ e. absurd cc)
 same_or (suc j) zero = inr (λ e. absurd cc)
@@ -40,13 +41,13 @@ same_or (suc j) (suc k) = elim (same_or j k) [
 ]
 
 -- what is marked of marks of which one was set: this one, or what was
-was_set : (marks : List Bool) (k j : ℕ) → slice_get (set marks k true) j ≡ Some true → (j ≡ k) ⊎ (slice_get marks j ≡ Some true)
+pub was_set : (marks : List Bool) (k j : ℕ) → slice_get (set marks k true) j ≡ Some true → (j ≡ k) ⊎ (slice_get marks j ≡ Some true)
 was_set marks k j e = elim (same_or j k) [
   | inl same ↦ inl same
   | inr differ ↦ inr (sym (set_other marks k j differ) ∙ e)
 ]
 
-stays_set : (marks : List Bool) (k j : ℕ) → k < length marks → slice_get marks j ≡ Some true → slice_get (set marks k true) j ≡ Some true
+pub stays_set : (marks : List Bool) (k j : ℕ) → k < length marks → slice_get marks j ≡ Some true → slice_get (set marks k true) j ≡ Some true
 stays_set marks k j lt e = elim (same_or j k) [
   | inl same ↦ subst (λ n. slice_get (set marks k true) n ≡ Some true) (sym same) (set_at marks k lt)
   | inr differ ↦ set_other marks k j differ ∙ e

@@ -6,6 +6,7 @@ pub mod Patterns
 pub mod Joined
 pub mod Lines
 pub mod Graph
+pub mod Marks
 pub mod Faults
 pub mod Program
 pub mod Private

@@ -2,7 +2,8 @@
 //! imports something: by the chain of items that leads from a required export to the import (`wc_gc::why_imports`).
 //!
 //! `parse` gives the command of some arguments. `run_command` does a command's work, over any `FileStore` and any `Output`,
-//! and `run` is the program over these and any `Screen` for its faults.
+//! and `run` is the program over these and any `Screen` for its faults. `push_items`, `item_text`, `with_finders`, `word`
+//! and `graph_text` serve programs that print chains as this one does.
 #![tactic(auto)]
 
 mod arguments;
@@ -19,4 +20,7 @@ mod usage;
 
 pub use arguments::{Command, ImportPattern, NoCommand, WrongArgument, parse};
 pub use faults::WhyFault;
+pub use lines::{item_text, push_items};
+pub use marks::with_finders;
 pub use program::{run, run_command};
+pub use texts::{graph_text, word};

@@ -139,8 +139,12 @@ pub(crate) fn title(alloc: Global, import: &Import<'_>) -> Result<String, AllocE
     format!(in alloc; "{module} {name}")
 }
 
-/// Appends a line for each item, in order.
-fn push_items(
+/// Appends a line for each item, in order: two blanks, and what `item_text` answers for it.
+///
+/// # Errors
+///
+/// `AllocError`: an allocation failed. Some of the lines may have been appended.
+pub fn push_items(
     alloc: Global,
     names: &OrderedMap<u32, &str>,
     items: &[(Space, u32)],
@@ -170,8 +174,13 @@ fn push_item(
     text.push_str(&line)
 }
 
-/// The kind of an item, its index, and its name, if it has one.
-pub(crate) fn item_text(
+/// The kind of an item, its index, and its name, if it has one: of a function the one of these names that its index has.
+/// The name is escaped (`wc_json::escaped`).
+///
+/// # Errors
+///
+/// `AllocError`: an allocation failed.
+pub fn item_text(
     alloc: Global,
     names: &OrderedMap<u32, &str>,
     item: (Space, u32),

@@ -3,7 +3,8 @@
 ghost use Rattle.std.specs.Prelude.{◌≡◌, ◌<◌, IfOk, IfSome, false, length, map, replicate};
 ghost use Rattle.wcwhy_command.specs.Arguments.{pattern_value};
 ghost use Rattle.wcwhy_command.specs.Graph.{AreMarks};
-ghost use Rattle.wcwhy_command.specs.Private.Marks.{AreHere, AreTaken, place_at};
+ghost use Rattle.wcwhy_command.specs.Marks.{AreTaken};
+ghost use Rattle.wcwhy_command.specs.Private.Marks.{AreHere, place_at};
 ghost use Rattle.wcwhy_command.specs.Private.Reasons.{AreReasons, adapter_in};
 
 use crate::arguments::ImportPattern;
@@ -67,8 +68,9 @@ fn shown_place(
     }
 }
 
-/// Marks the finder of each place that is marked, and its finder, and so on.
-fn with_finders(chains: &ImportChains<'_>, marks: Vec<bool>) -> Vec<bool>
+/// Marks the finder of each place that is marked, and its finder, and so on: for marks of some items, the marks of all that
+/// are on the chains to these (`wc_gc::ImportChains`).
+pub fn with_finders(chains: &ImportChains<'_>, marks: Vec<bool>) -> Vec<bool>
     requires { length marks.items ≡ length chains.now.order.items }
     ensures { AreTaken chains.now marks.items 0 result.items }
 {

@@ -8,7 +8,11 @@ use std::alloc::{AllocError, Global};
 use wc_json::escaped;
 
 /// A text, escaped (`wc_json::escaped`), with each blank as `\u{20}`: so it ends at the next blank.
-pub(crate) fn word(alloc: Global, text: &str) -> Result<String, AllocError>
+///
+/// # Errors
+///
+/// `AllocError`: an allocation failed.
+pub fn word(alloc: Global, text: &str) -> Result<String, AllocError>
     ensures { IfOk result (λ s. string_bytes s ≡ word text.now) }
 {
     let text = escaped(alloc, text)?;
@@ -38,7 +42,11 @@ fn push_word(out: &mut String, c: char) -> Result<(), AllocError>
 }
 
 /// A text as it stands between the quotes of a label: Graphviz shows this text.
-pub(crate) fn graph_text(alloc: Global, text: &str) -> Result<String, AllocError>
+///
+/// # Errors
+///
+/// `AllocError`: an allocation failed.
+pub fn graph_text(alloc: Global, text: &str) -> Result<String, AllocError>
     ensures { IfOk result (λ s. string_bytes s ≡ graph_text text.now) }
 {
     let characters: Vec<char> = text.chars().collect(alloc)?;

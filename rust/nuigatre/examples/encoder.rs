@@ -1,124 +1,115 @@
-//! The first half of a component encoder: of a main module, an adapter and a world it makes the list of what is to be
-//! encoded, in order, and prints it as a table.
+//! An encoder for an engine of core modules: it writes all modules of a component, and prints what each gets.
+//! `encoder OUT WORLDS.json WORLD MAIN.wasm [NAME=ADAPTER.wasm [KEY]...]`
 //!
-//!     encoder WORLDS.json WORLD MAIN.wasm [NAME=ADAPTER.wasm [KEY]...]
+//! A KEY is an export of the world that the adapter has to have. The folder OUT gets `main.wasm`, each needed adapter under
+//! its name, and `shim.wasm` and `fixup.wasm`: what needs a memory before there is one calls through the shim's table, which
+//! the fixup fills. The words of a line are separated by tabs:
 //!
-//! A KEY is an export of the world that the adapter has to have: `wasi:cli/run`, or a plain name. The main module has to
-//! have the others.
+//! - `use`, and a line of `wcplan`; `slot`, its number, and the name and the type of a function of the shim;
+//! - `module`, and a name: modules are instantiated in this order, as `run.mjs` does;
+//! - `supply`, a module, an import's module and name, and what meets it: `export` of a module, or `host` and two names;
+//! - `lift`, a module and its export, and the key and the name that it has in the world.
 
 use nuigatre::{
-    AbiVariant, Adapter, ComponentEncoder, ComponentWorld, Export, Import, ImportInstance,
-    Lowering, MainOrAdapter, Plan, ValidatedModule,
+    Adapter, ComponentEncoder, ComponentWorld, Export, Filler, Import, Slot, Table, ValType,
+    ValidatedModule,
 };
-use std::error::Error;
-use std::{env, fs};
+use std::{env, error::Error, fs, path::Path};
 
-/// A step: what is done, to what, and with what.
-type Step = [String; 3];
-
-/// Interfaces are imported as instances, with their live types and with the functions that core modules import.
-fn imports(world: &ComponentWorld, steps: &mut Vec<Step>) {
-    for (name, imported) in &world.import_map {
-        let types = imported
-            .interface
-            .and_then(|id| world.live_type_imports.get(&id));
-        let types = types.map_or(0, Vec::len);
-        let name = name.clone().unwrap_or("the world itself".into());
-        let with = format!("{types} types, {} lowerings", imported.lowerings.len());
-        steps.push(["import".into(), name, with]);
-    }
+/// In five bytes, for a number below 2^28, with a sign or without.
+fn number(number: usize) -> Vec<u8> {
+    let low = [0, 7, 14, 21].map(|shift| (number >> shift) as u8 | 128);
+    [&low[..], &[0]].concat()
 }
 
-/// The core modules are put in, adapters as they were trimmed.
-fn modules(world: &ComponentWorld, encoder: &ComponentEncoder<'_>, steps: &mut Vec<Step>) {
-    let renamed = world.module_import_map.iter().flatten().count();
-    let with = format!("{} bytes, {renamed} imports renamed", world.module.len());
-    steps.push(["module".into(), "main".into(), with]);
-    for given in &encoder.adapters {
-        let Some(adapter) = world.adapters.get(given.name) else {
-            continue; // not needed
-        };
-        let with = format!("{} bytes of {}", adapter.wasm.len(), given.wasm.len());
-        steps.push(["module".into(), given.name.into(), with]);
-    }
+fn vector(items: impl IntoIterator<Item = Vec<u8>>) -> Vec<u8> {
+    let items: Vec<_> = items.into_iter().collect();
+    [number(items.len()), items.concat()].concat()
 }
 
-/// Functions are lowered, each for each module that imports it: as the plan says, which is what `wcplan` prints. Those with
-/// a slot need a memory, and get a shim before there is one.
-fn functions(plan: &Plan, steps: &mut Vec<Step>) {
-    for used in plan {
-        let module = match &used.module {
-            MainOrAdapter::Main => "main".to_string(),
-            MainOrAdapter::Adapter(name) => format!("adapter {name}"),
-        };
-        let interface = used.interface.as_deref().unwrap_or("$root");
-        let abi = match used.abi {
-            AbiVariant::GuestImportAsync => "async",
-            _ => "sync",
-        };
-        let slot = used.slot.map_or("-".to_string(), |it| it.to_string());
-        let realloc = used.realloc.as_deref().unwrap_or("-");
-        let step = if used.slot.is_some() { "shim" } else { "lower" };
-        let what = format!("{module} {interface} {}", used.name);
-        let with = format!("{abi} slot {slot} realloc {realloc}");
-        steps.push([step.into(), what, with]);
-    }
+fn name(text: &str) -> Vec<u8> {
+    [number(text.len()), text.into()].concat()
 }
 
-/// All else that is imported is no function of the world: it is built in, or drops a resource.
-fn built_in(world: &ComponentWorld, steps: &mut Vec<Step>) {
-    for (module, imported) in &world.import_map {
-        let module = module.as_deref().unwrap_or("$root");
-        for ((name, _), lowering) in &imported.lowerings {
-            let what = format!("{module} {name}");
-            steps.push(match lowering {
-                Lowering::Direct { .. } | Lowering::Indirect { .. } => continue,
-                Lowering::ResourceDrop(ty) => ["drop".into(), what, format!("type {}", ty.0)],
-                other => ["built-in".into(), what, format!("{other:?}")],
-            });
-        }
-    }
+fn module(sections: &[(u8, Vec<u8>)]) -> Vec<u8> {
+    let section = |(id, of): &(u8, Vec<u8>)| [vec![*id], number(of.len()), of.clone()].concat();
+    let sections: Vec<_> = sections.iter().map(section).collect();
+    [b"\0asm\x01\0\0\0".to_vec(), sections.concat()].concat()
 }
 
-/// A core module is instantiated with what meets each of its imports, and its exports are lifted.
-fn instance(name: &str, module: &ValidatedModule, world: &ComponentWorld, steps: &mut Vec<Step>) {
-    let what = |module: &str, import: &str| format!("{name} <- {module} {import}");
-    for (from, instance) in module.imports.modules() {
-        if let ImportInstance::Whole(which) = instance {
-            steps.push(["supply".into(), what(from, "*"), format!("{which:?}")]);
-        }
-    }
-    for (from, field, import) in module.imports.imports() {
-        let with = match (import, world.lowering(import)) {
-            (_, Some(Lowering::Indirect { .. })) => "its shim".into(),
-            (_, Some(_)) => "what is lowered".into(),
-            (Import::AdapterExport { adapter, func, .. }, _) => {
-                format!("a shim of {adapter} {func}")
+fn type_section(slots: &[Slot<'_>]) -> (u8, Vec<u8>) {
+    let codes = [ValType::F64, ValType::F32, ValType::I64, ValType::I32];
+    let code = |ty: &ValType| vec![0x7c + codes.iter().position(|it| it == ty).unwrap() as u8];
+    let list = |types: &[ValType]| vector(types.iter().map(code));
+    let ty = |slot: &Slot<'_>| [vec![0x60], list(&slot.ty.params), list(&slot.ty.results)].concat();
+    (1, vector(slots.iter().map(ty)))
+}
+
+/// Exports functions `0`, `1`, .. that call those of its table, and the table as `$imports`.
+fn shim(slots: &[Slot<'_>]) -> Vec<u8> {
+    let (numbers, count) = (0..slots.len(), number(slots.len()));
+    let export = |at: usize| [name(&at.to_string()), vec![0], number(at)].concat();
+    let body = |at: usize| {
+        let params = 0..slots[at].ty.params.len();
+        let gets: Vec<_> = params.map(|at| [vec![0x20], number(at)].concat()).collect();
+        let constant = [vec![0x41], number(at)].concat();
+        let call = [vec![0x11], number(at), vec![0, 0x0b]].concat();
+        let code = [vec![0], gets.concat(), constant, call].concat();
+        [number(code.len()), code].concat()
+    };
+    let table = [name("$imports"), vec![1, 0]].concat();
+    module(&[
+        type_section(slots),
+        (3, vector(numbers.clone().map(number))),
+        (4, [vec![1, 0x70, 1], count.clone(), count].concat()),
+        (7, vector(numbers.clone().map(export).chain([table]))),
+        (10, vector(numbers.map(body))),
+    ])
+}
+
+/// Imports such functions and the table, and puts them into it.
+fn fixup(slots: &[Slot<'_>]) -> Vec<u8> {
+    let (numbers, count) = (0..slots.len(), number(slots.len()));
+    let import = |at: usize| [name(""), name(&at.to_string()), vec![0], number(at)].concat();
+    let limits = [vec![1, 0x70, 1], count.clone(), count].concat();
+    let table = [name(""), name("$imports"), limits].concat();
+    let functions = vector(numbers.clone().map(number));
+    let filled = [vec![1, 0, 0x41, 0, 0x0b], functions].concat();
+    let imports = vector(numbers.map(import).chain([table]));
+    module(&[type_section(slots), (2, imports), (9, filled)])
+}
+
+/// What meets each import of a module: `adapter` is its name, or `None` for the main module.
+fn supply(world: &ComponentWorld, table: &Table<'_>, adapter: Option<&str>, of: &ValidatedModule) {
+    let module = adapter.unwrap_or("main");
+    for (from, field, import) in of.imports.imports() {
+        let filler = world.filler(adapter, import);
+        let memory = world.info.exports.memory().map_or("", |it| it.0);
+        let with = match (filler, import) {
+            (Some(filler), _) => {
+                let slot = table.number_of(filler).expect("it is in the table");
+                format!("export\tshim\t{slot}")
             }
-            (Import::MainModuleMemory(_), _) => "the memory of main".into(),
-            (Import::MainModuleExport { name, .. }, _) => format!("{name} of main"),
-            (other, _) => format!("{other:?}"),
+            (_, Import::MainModuleMemory(_)) => format!("export\tmain\t{memory}"),
+            (_, Import::MainModuleExport { name, .. }) => format!("export\tmain\t{name}"),
+            _ => format!("host\t{from}\t{field}"),
         };
-        steps.push(["supply".into(), what(from, field), with]);
+        println!("supply\t{module}\t{from}\t{field}\t{with}");
     }
-    for (export, what) in &module.exports {
-        if let Export::InterfaceFunc(key, _, func, abi) | Export::WorldFunc(key, func, abi) = what {
-            let after = module.exports.post_return(key, func).unwrap_or("nothing");
-            let with = format!("as {abi:?}, then {after}");
-            steps.push(["lift".into(), format!("{name} {export}"), with]);
+    for (export, what) in &of.exports {
+        if let Export::InterfaceFunc(key, _, func, _) | Export::WorldFunc(key, func, _) = what {
+            println!("lift\t{module}\t{export}\t{key}\t{func}");
         }
     }
 }
 
 fn main() -> Result<(), Box<dyn Error>> {
     let arguments: Vec<String> = env::args().skip(1).collect();
-    let [worlds, world, main, adapter @ ..] = &arguments[..] else {
-        return Err(
-            "usage: encoder WORLDS.json WORLD MAIN.wasm [NAME=ADAPTER.wasm [KEY]...]".into(),
-        );
+    let [out, worlds, world, main, adapter @ ..] = &arguments[..] else {
+        return Err("usage: encoder OUT WORLDS.json WORLD MAIN.wasm [NAME=FILE [KEY]...]".into());
     };
-    let (resolve, module) = (fs::read_to_string(worlds)?, fs::read(main)?);
-    let mut encoder = ComponentEncoder::new(&resolve, world, &module);
+    let (resolve, wasm) = (fs::read_to_string(worlds)?, fs::read(main)?);
+    let mut encoder = ComponentEncoder::new(&resolve, world, &wasm);
     let wasm;
     if let [named, keys @ ..] = adapter {
         let (name, file) = named.split_once('=').ok_or("an adapter is NAME=FILE")?;
@@ -127,20 +118,33 @@ fn main() -> Result<(), Box<dyn Error>> {
         adapter.required_exports = keys.iter().map(String::as_str).collect();
         encoder.adapters.push(adapter);
     }
-    let (world, plan) = (ComponentWorld::new(&encoder)?, Plan::new(&encoder)?);
-    let mut steps = Vec::new();
-    imports(&world, &mut steps);
-    modules(&world, &encoder, &mut steps);
-    functions(&plan, &mut steps);
-    built_in(&world, &mut steps);
-    instance("main", &world.info, &world, &mut steps);
+    let (world, plan) = ComponentWorld::with_plan(&encoder)?;
+    let table = world.table()?;
+    let slots = table.slots();
+    let write = |name: &str, wasm: &[u8]| {
+        println!("module\t{name}");
+        fs::write(Path::new(out).join(name).with_extension("wasm"), wasm)
+    };
+    write("shim", &shim(slots))?;
+    write("main", &world.module)?;
+    supply(&world, &table, None, &world.info);
     for (name, adapter) in &world.adapters {
-        instance(name, &adapter.info, &world, &mut steps);
+        write(name, &adapter.wasm)?;
+        supply(&world, &table, Some(name), &adapter.info);
     }
-    let width = steps.iter().map(|step| step[1].len()).max();
-    let width = width.unwrap_or_default();
-    for [step, what, with] in &steps {
-        println!("{step:8}{what:width$}  {with}");
+    write("fixup", &fixup(slots))?;
+    plan.iter().for_each(|it| println!("use\t{it}"));
+    println!("supply\tfixup\t\t$imports\texport\tshim\t$imports");
+    for (at, slot) in slots.iter().enumerate() {
+        println!("slot\t{at}\t{slot}\t{}", slot.ty);
+        let (kind, from, name) = match slot.filler {
+            Filler::Adapter { adapter, function } => ("export", adapter, function),
+            Filler::Lowered {
+                interface, name, ..
+            } => ("host", interface.unwrap_or("$root"), name),
+            _ => return Err("a slot of another kind".into()),
+        };
+        println!("supply\tfixup\t\t{at}\t{kind}\t{from}\t{name}");
     }
     Ok(())
 }

@@ -235,6 +235,7 @@ fn worlds() {
     let encoder = encoder();
     assert!(failures(|| ComponentWorld::new(&encoder)) > 200);
     assert!(failures(|| Plan::new(&encoder)) > 200);
+    assert!(failures(|| ComponentWorld::with_plan(&encoder)) > 200);
 }
 
 #[test]

@@ -2,7 +2,7 @@
 
 use crate::json::Value;
 use crate::memory::OutOfMemory;
-use crate::read::{Read, Unread, member, optional_member};
+use crate::read::{Read, Unread, member, of_name, optional_member, show};
 use std::fmt::{self, Display, Formatter};
 
 /// A value type.
@@ -47,7 +47,7 @@ pub struct MemoryType {
     pub page_size_log2: Option<u32>,
 }
 
-/// What is exported.
+/// What is exported. Its text is `func`, `table`, `memory` or `global`.
 #[derive(Clone, Copy, Debug, PartialEq, Eq, Hash)]
 #[allow(missing_docs)]
 #[non_exhaustive]
@@ -188,24 +188,55 @@ impl Read for MemoryType {
 
 impl Read for ExportKind {
     fn read(value: &Value<'_>) -> Result<Self, Unread> {
-        Ok(match value.as_str()? {
-            "func" => ExportKind::Func,
-            "table" => ExportKind::Table,
-            "memory" => ExportKind::Memory,
-            "global" => ExportKind::Global,
-            _ => return Err(Unread::Unknown),
-        })
+        of_name(value.as_str()?, &ExportKind::ALL)
     }
 }
 
 impl ExportKind {
-    /// Its name, as it is in JSON.
-    pub(crate) fn name(self) -> &'static str {
-        match self {
-            ExportKind::Func => "func",
-            ExportKind::Table => "table",
-            ExportKind::Memory => "memory",
-            ExportKind::Global => "global",
+    const ALL: [(&'static str, ExportKind); 4] = [
+        ("func", ExportKind::Func),
+        ("table", ExportKind::Table),
+        ("memory", ExportKind::Memory),
+        ("global", ExportKind::Global),
+    ];
+}
+
+impl Display for ExportKind {
+    fn fmt(&self, f: &mut Formatter<'_>) -> fmt::Result {
+        show(self, &ExportKind::ALL, f)
+    }
+}
+
+impl MemoryType {
+    /// How many bytes a page has.
+    #[must_use]
+    pub fn page_size(&self) -> u64 {
+        1_u64
+            .checked_shl(self.page_size_log2.unwrap_or(16))
+            .unwrap_or_default()
+    }
+}
+
+impl From<WasmType> for ValType {
+    /// The type that it is where memories have 32 bits.
+    fn from(ty: WasmType) -> Self {
+        match ty {
+            WasmType::I32 | WasmType::Pointer | WasmType::Length => ValType::I32,
+            WasmType::I64 | WasmType::PointerOrI64 => ValType::I64,
+            WasmType::F32 => ValType::F32,
+            WasmType::F64 => ValType::F64,
+        }
+    }
+}
+
+impl From<&WasmSignature> for FuncType {
+    /// The type of a core function of this signature, where memories have 32 bits. It ends the process where there is no
+    /// memory, as `clone` does.
+    fn from(signature: &WasmSignature) -> Self {
+        let types = |types: &[WasmType]| types.iter().map(|ty| ValType::from(*ty)).collect();
+        FuncType {
+            params: types(&signature.params),
+            results: types(&signature.results),
         }
     }
 }

@@ -5,11 +5,12 @@ use crate::error::Error;
 use crate::json::{Value, put_list, put_string};
 use crate::memory::{OutOfMemory, Text, concat};
 use crate::read::{Read, Unread, list, member};
+use crate::required_options::RequiredOptions;
 use crate::resolved::Worlds;
-use crate::world::RequiredOptions;
 use std::borrow::Cow;
+use std::fmt::{self, Display, Formatter};
 
-/// The main module, or the adapter of this name.
+/// The main module, or the adapter of this name. Its text is as `main` or `adapter old`.
 #[derive(Clone, Debug, PartialEq, Eq, Hash)]
 pub enum MainOrAdapter {
     /// The main module.
@@ -303,12 +304,21 @@ fn put_which(out: &mut Text, which: &MainOrAdapter) -> Result<(), OutOfMemory> {
 fn put_item(out: &mut Text, item: &Item) -> Result<(), OutOfMemory> {
     out.put("{\"alias\":")?;
     put_string(out, &item.alias)?;
-    let kind = item.kind.name();
+    let kind = item.kind;
     out.put_args(format_args!(",\"kind\":\"{kind}\",\"which\":"))?;
     put_which(out, &item.which)?;
     out.put(",\"name\":")?;
     put_string(out, &item.name)?;
     out.put("}")
+}
+
+impl Display for MainOrAdapter {
+    fn fmt(&self, f: &mut Formatter<'_>) -> fmt::Result {
+        match self {
+            MainOrAdapter::Main => f.write_str("main"),
+            MainOrAdapter::Adapter(name) => write!(f, "adapter {name}"),
+        }
+    }
 }
 
 impl Read for MainOrAdapter {

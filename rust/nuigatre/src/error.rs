@@ -9,8 +9,8 @@ use std::fmt::{self, Display, Formatter};
 
 /// Why a call has no answer.
 ///
-/// Its text has no source beside it: that of `Dedupe` and of `Trim` is the one that the program `wctrim` prints. What it is
-/// about is beside it, where that is known:
+/// Its text has all names that are known: that of `Dedupe` and of `Trim` is the one that the program `wctrim` prints. What it
+/// is about is its source, where that is known, and its [place](Error::place):
 ///
 /// ```
 /// use nuigatre::gc;
@@ -21,14 +21,20 @@ use std::fmt::{self, Display, Formatter};
 /// assert_eq!(error.to_string(), "Trim: UnsupportedSection");
 /// let place = error.place().expect("a section");
 /// assert_eq!(place.to_string(), "start section");
+/// let source = std::error::Error::source(&error).expect("the same");
+/// assert_eq!(source.to_string(), "start section");
 /// ```
 #[derive(Clone, Debug, PartialEq, Eq)]
 #[non_exhaustive]
 pub enum Error {
     /// An allocation failed. What was asked for is not done, and nothing stays allocated.
     Memory,
-    /// No export is required, the exponent of a page size is more than 16, or no adapter has the name.
-    BadArgument,
+    /// No export is required of an adapter that is to be trimmed.
+    NothingRequired,
+    /// The exponent of a page size is more than 16.
+    LargePageSize,
+    /// No adapter of the encoder has the name.
+    UnknownAdapter,
     /// The library that is linked is of another version than this crate: its form has another number, or it answers what
     /// this crate does not know.
     OtherVersion,
@@ -62,9 +68,9 @@ impl Display for Error {
     fn fmt(&self, f: &mut Formatter<'_>) -> fmt::Result {
         match self {
             Error::Memory => f.write_str("out of memory"),
-            Error::BadArgument => f.write_str(
-                "no export is required, a page size is more than 2^16, or no adapter has the name",
-            ),
+            Error::NothingRequired => f.write_str("no export is required"),
+            Error::LargePageSize => f.write_str("a page has more than 2^16 bytes"),
+            Error::UnknownAdapter => f.write_str("no adapter has the name"),
             Error::OtherVersion => f.write_str("libnuigatre.a is of another version"),
             Error::Dedupe(fault) => write!(f, "Dedupe: {fault}"),
             Error::Trim(error) => write!(f, "Trim: {error}"),
@@ -73,4 +79,9 @@ impl Display for Error {
     }
 }
 
-impl error::Error for Error {}
+impl error::Error for Error {
+    /// [The place](Error::place).
+    fn source(&self) -> Option<&(dyn error::Error + 'static)> {
+        self.place().map(|place| place as _)
+    }
+}

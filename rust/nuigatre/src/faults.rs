@@ -2,14 +2,17 @@
 
 use crate::ffi::Fault;
 use crate::memory::{Held, string};
-use crate::place::Place;
+use crate::place::{Place, Shown};
 use crate::read::Unread;
 use std::error;
-use std::fmt::{self, Display, Formatter};
+use std::fmt::{self, Debug, Display, Formatter};
 
-/// An enum of faults that carry nothing, with the numbers that the archive has for them. These never change.
+/// An enum of faults that carry nothing, with the numbers that the archive has for them. These never change. Each is
+/// shown by its name, or by a text if it has one.
 macro_rules! numbered {
-    ($(#[$attribute:meta])* $name:ident { $($(#[$documentation:meta])* $variant:ident = $number:literal,)* }) => {
+    ($(#[$attribute:meta])* $name:ident {
+        $($(#[$documentation:meta])* $variant:ident = $number:literal $($text:literal)?,)*
+    }) => {
         $(#[$attribute])*
         #[derive(Clone, Copy, Debug, PartialEq, Eq, Hash)]
         #[non_exhaustive]
@@ -28,7 +31,11 @@ macro_rules! numbered {
 
         impl Display for $name {
             fn fmt(&self, f: &mut Formatter<'_>) -> fmt::Result {
-                write!(f, "{self:?}")
+                match self {
+                    $($(Self::$variant => return f.write_str($text),)?)*
+                    #[allow(unreachable_patterns)]
+                    _ => write!(f, "{self:?}"),
+                }
             }
         }
 
@@ -120,8 +127,8 @@ pub enum GcFault {
     TooLarge,
 }
 
-/// Why an adapter could not be trimmed. Its text is that of the fault, without [the place](TrimError::place).
-#[derive(Clone, Debug, PartialEq, Eq)]
+/// Why an adapter could not be trimmed. Its text is that of the fault, and its source [the place](TrimError::place).
+#[derive(Clone, PartialEq, Eq)]
 pub struct TrimError {
     fault: GcFault,
     place: Held<Place>,
@@ -212,9 +219,25 @@ impl Display for TrimError {
     }
 }
 
+impl Debug for TrimError {
+    /// The place is there by its text.
+    fn fmt(&self, f: &mut Formatter<'_>) -> fmt::Result {
+        f.debug_struct("TrimError")
+            .field("fault", &self.fault)
+            .field("place", &Shown(self.place()))
+            .finish()
+    }
+}
+
 impl error::Error for DedupeFault {}
 impl error::Error for GcFault {}
-impl error::Error for TrimError {}
+
+impl error::Error for TrimError {
+    /// [The place](TrimError::place).
+    fn source(&self) -> Option<&(dyn error::Error + 'static)> {
+        self.place().map(|place| place as _)
+    }
+}
 
 #[cfg(test)]
 mod tests {

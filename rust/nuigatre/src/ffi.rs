@@ -1,5 +1,5 @@
-//! The archive's functions, as `crates/nuigatre/src/lib.rt` has them, and the calls of them. Nothing compares the
-//! declarations with those, so a test calls each function with all arguments different.
+//! The archive's functions, as `crates/nuigatre/src/lib.rt` has them, and the calls of them. `checks/c-header.py` compares
+//! the declarations with those, and a test calls each function with all arguments different.
 
 use crate::error::Error;
 use crate::memory::OutOfMemory;
@@ -38,7 +38,7 @@ const BAD_ARGUMENT: u32 = 4;
 const MEMORY: u32 = 5;
 
 /// The form of the calls, of messages and of answers that this crate knows: the archive's own number has to be this one.
-const ABI: u32 = 4;
+const ABI: u32 = 5;
 
 unsafe extern "C" {
     safe fn nuigatre_abi() -> u32;
@@ -98,6 +98,17 @@ unsafe extern "C" {
         out_length: usize,
     ) -> Answer;
 
+    fn nuigatre_planned_world(
+        seed0: u64,
+        seed1: u64,
+        message: *const u8,
+        message_length: usize,
+        modules: *const u8,
+        modules_length: usize,
+        out: *mut u8,
+        out_length: usize,
+    ) -> Answer;
+
     fn nuigatre_validate(
         seed0: u64,
         seed1: u64,
@@ -105,12 +116,33 @@ unsafe extern "C" {
         message_length: usize,
         modules: *const u8,
         modules_length: usize,
-        has_name: bool,
-        name: *const u8,
-        name_length: usize,
+        has_adapter: bool,
+        adapter: *const u8,
+        adapter_length: usize,
         out: *mut u8,
         out_length: usize,
     ) -> Answer;
+}
+
+/// Whether the library that is linked was built of what is proved. One that was compiled without its proof has a symbol
+/// that no other has, and here is zero where it is not there.
+pub(crate) fn is_proved() -> bool {
+    #[cfg(all(target_os = "linux", target_arch = "x86_64"))]
+    {
+        let address: usize;
+        // SAFETY: it reads the entry of a symbol in a table of the program, which the linker fills.
+        unsafe {
+            std::arch::asm!(
+                ".weak nuigatre_unproved",
+                "mov {}, qword ptr [rip + nuigatre_unproved@GOTPCREL]",
+                out(reg) address,
+                options(pure, readonly, nostack, preserves_flags),
+            );
+        }
+        address == 0
+    }
+    #[cfg(not(all(target_os = "linux", target_arch = "x86_64")))]
+    false
 }
 
 /// How a trim is asked for.
@@ -122,7 +154,7 @@ pub(crate) struct TrimArguments<'a> {
     pub(crate) page_size_log2: u32,
 }
 
-/// What a call answers, where memory did not run out and the arguments are such.
+/// What a call answers, where memory did not run out.
 pub(crate) enum Answered {
     /// These bytes, the first of which are modules.
     Bytes {
@@ -131,6 +163,8 @@ pub(crate) enum Answered {
     },
     /// The input itself.
     Same,
+    /// The arguments have no answer.
+    BadArgument,
     /// A fault.
     Fault(Fault),
 }
@@ -243,6 +277,15 @@ pub(crate) fn plan(message: &[u8], modules: &[u8], room: usize) -> Result<Answer
     answer_to(nuigatre_plan, message, modules, room)
 }
 
+/// Makes the world of a component and its plan. The answer is that for the world, whose record has the plan too.
+pub(crate) fn planned_world(
+    message: &[u8],
+    modules: &[u8],
+    room: usize,
+) -> Result<Answered, Error> {
+    answer_to(nuigatre_planned_world, message, modules, room)
+}
+
 /// What one of these calls answers to a message.
 fn answer_to(
     call: OnMessage,
@@ -337,7 +380,7 @@ fn answered(
                 return answer.with(bytes);
             }
             SAME => return Ok(Answered::Same),
-            BAD_ARGUMENT => return Err(Error::BadArgument),
+            BAD_ARGUMENT => return Ok(Answered::BadArgument),
             MEMORY => return Err(Error::Memory),
             _ => return Err(Error::OtherVersion),
         }

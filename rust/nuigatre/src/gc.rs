@@ -13,6 +13,9 @@ use std::str;
 /// made twice: those of the code that is added.
 const ADDED: usize = 1024;
 
+/// The largest exponent of a page's bytes.
+const MAX_PAGE_SIZE_LOG2: u32 = 16;
+
 /// Trims an adapter: its exports of the names `required`, and what they reach, under new indices. A repeated name
 /// counts once. The names may be those of any collection of texts, `["write"]` or the set of another crate.
 ///
@@ -22,7 +25,7 @@ const ADDED: usize = 1024;
 ///
 /// # Errors
 ///
-/// - `BadArgument`: `required` is empty, or `page_size_log2` is more than 16.
+/// - `NothingRequired`, `LargePageSize`: `required` is empty, or else `page_size_log2` is more than 16.
 /// - `Trim`: the adapter is no module, or has what is not supported. The error has [a place](Error::place).
 /// - `Memory`: an allocation failed.
 /// - `OtherVersion`: the library is of another version than this crate.
@@ -43,6 +46,12 @@ fn run_on(
     main_module_realloc: Option<&str>,
     page_size_log2: u32,
 ) -> Result<Vec<u8>, Error> {
+    if required.is_empty() {
+        return Err(Error::NothingRequired);
+    }
+    if page_size_log2 > MAX_PAGE_SIZE_LOG2 {
+        return Err(Error::LargePageSize);
+    }
     let names = collect(required.iter().map(|name| Slice::new(name.as_bytes())))?;
     let arguments = TrimArguments {
         wasm,
@@ -53,7 +62,7 @@ fn run_on(
     let room = wasm.len() + main_module_realloc.unwrap_or_default().len() + ADDED;
     match ffi::trim(arguments, room)? {
         Answered::Bytes { bytes, .. } => Ok(fitted(bytes)),
-        Answered::Same => Err(Error::OtherVersion),
+        Answered::Same | Answered::BadArgument => Err(Error::OtherVersion),
         Answered::Fault(fault) => {
             let missing = required.get(fault.position).copied();
             Err(Error::Trim(TrimError::of(&fault, missing)?))
@@ -210,7 +219,7 @@ fn why_of(wasm: &[u8], required: &[&str]) -> Result<Chains, Error> {
     let names = collect(required.iter().map(|name| Slice::new(name.as_bytes())))?;
     match ffi::why(wasm, &names, PER_BYTE * wasm.len() + ADDED)? {
         Answered::Bytes { bytes, .. } => Ok(read_chains(&bytes)?),
-        Answered::Same => Err(Error::OtherVersion),
+        Answered::Same | Answered::BadArgument => Err(Error::OtherVersion),
         Answered::Fault(fault) => {
             let missing = required.get(fault.position).copied();
             Err(Error::Trim(TrimError::of(&fault, missing)?))

@@ -2,11 +2,12 @@
 //! ([`ModuleImportMap`]), adapters trimmed to what is used of them ([`gc::run`]), and all of that for the world of a
 //! component and its plan ([`ComponentWorld`], [`Plan`]), by resolved worlds as JSON, which may be read once for many
 //! components ([`Resolved`]). One module may be validated alone ([`validate_module`], [`validate_adapter_module`]), and an
-//! adapter asked why it imports what it does ([`gc::why`]). The names are those of the Rust crate `wit-component`, and so is
-//! what they do. A fault says what it is about ([`Error::place`]).
+//! adapter asked why it imports what it does ([`gc::why`]). The shim that a component needs is listed too
+//! ([`ComponentWorld::table`]). The names are those of the Rust crate `wit-component`, and so is what they do. An error says
+//! what it is about ([`Error::place`]), which is its source.
 //!
 //! The work is done by `libnuigatre.a`, whose functions are proved: each ends on all bytes, and answers what its
-//! contract says. This crate is the way there, and is tested: a heap, six calls, and the reading of their answers. It
+//! contract says. This crate is the way there, and is tested: a heap, seven calls, and the reading of their answers. It
 //! has no dependency but the standard library. Calls may run on several threads at once, and keep nothing but the seed of
 //! their maps, which the first trim, world or plan draws for the process.
 //!
@@ -58,7 +59,9 @@ mod place;
 mod plan;
 mod read;
 mod renames;
+mod required_options;
 mod resolved;
+mod table;
 mod validation;
 mod wit_types;
 mod world;
@@ -67,6 +70,14 @@ mod world_error;
 #[cfg(test)]
 #[allow(unsafe_code)]
 mod allocation_tests;
+
+/// Whether the library that is linked is the one that is proved. One that is compiled without its proof does the same, but
+/// stops the process where it is wrong, and is slower; the build script warns of it only where this crate is built for
+/// itself or as a path dependency.
+#[must_use]
+pub fn is_proved() -> bool {
+    ffi::is_proved()
+}
 
 pub use core_types::{ExportKind, FuncType, MemoryType, ValType, WasmSignature, WasmType};
 pub use encoder::{
@@ -81,12 +92,12 @@ pub use module_import_map::{ModuleImportMap, Rename};
 pub use ordered_map::{Iter, Lookup, OrderedMap};
 pub use place::{Place, Subject, TypeDifference};
 pub use plan::{Plan, Use};
+pub use required_options::RequiredOptions;
 pub use resolved::{Resolved, Worlds};
+pub use table::{Filler, Slot, Table};
 pub use validation::{validate_adapter_module, validate_module};
 pub use wit_types::Type;
-pub use world::{
-    ComponentWorld, ImportedInterface, Lowering, RequiredOptions, ValidatedModule, WorldAdapter,
-};
+pub use world::{ComponentWorld, ImportedInterface, Lowering, ValidatedModule, WorldAdapter};
 pub use world_error::{
     EncoderFault, JsonFault, PlanFault, Problem, ResolveFault, ValidateFault, WorldError,
     WorldFault,

@@ -73,7 +73,7 @@ pub(crate) fn fitted_text(text: String) -> String {
 }
 
 /// A value on the heap, or nothing.
-#[derive(Clone, Debug, PartialEq, Eq)]
+#[derive(Clone, PartialEq, Eq)]
 pub(crate) struct Held<T>(Vec<T>);
 
 impl<T> Held<T> {

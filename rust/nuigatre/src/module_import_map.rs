@@ -64,6 +64,7 @@ impl ModuleImportMap {
                 Ok((Cow::Owned(fitted(bytes)), Some(map)))
             }
             Answered::Same => Ok((wasm, None)),
+            Answered::BadArgument => Err(Error::OtherVersion),
             Answered::Fault(fault) => Err(Error::Dedupe(DedupeFault::from_number(fault.number)?)),
         }
     }

@@ -1,6 +1,6 @@
 //! Maps that keep their order.
 
-use crate::ids::{AbiVariant, InterfaceId};
+use crate::ids::{AbiVariant, InterfaceId, WorldKey};
 use crate::index::Index;
 use crate::memory::OutOfMemory;
 use std::fmt::{self, Debug, Formatter};
@@ -8,11 +8,28 @@ use std::hash::Hash;
 use std::iter::FusedIterator;
 use std::{ops, slice, vec};
 
-/// What a map with keys `K` can be asked for: a key, or what it is without owning it. It hashes as the key does.
-pub trait Lookup<K: ?Sized>: Hash {
+/// What a map with keys `K` can be asked for: a key, or what it is without owning it. It hashes as the key does. Other crates
+/// can't implement it.
+pub trait Lookup<K: ?Sized>: Hash + Sealed<K> {
     /// Whether it is this key.
     fn is(&self, key: &K) -> bool;
 }
+
+/// What other crates can't implement.
+mod sealed {
+    pub trait Sealed<K: ?Sized> {}
+}
+
+use sealed::Sealed;
+
+impl Sealed<String> for str {}
+impl Sealed<String> for String {}
+impl Sealed<Option<String>> for Option<&str> {}
+impl Sealed<Option<String>> for Option<String> {}
+impl Sealed<(String, AbiVariant)> for (&str, AbiVariant) {}
+impl Sealed<(String, AbiVariant)> for (String, AbiVariant) {}
+impl Sealed<InterfaceId> for InterfaceId {}
+impl Sealed<WorldKey> for WorldKey {}
 
 impl Lookup<String> for str {
     fn is(&self, key: &String) -> bool {
@@ -46,6 +63,12 @@ impl Lookup<(String, AbiVariant)> for (&str, AbiVariant) {
 
 impl Lookup<(String, AbiVariant)> for (String, AbiVariant) {
     fn is(&self, key: &(String, AbiVariant)) -> bool {
+        self == key
+    }
+}
+
+impl Lookup<WorldKey> for WorldKey {
+    fn is(&self, key: &WorldKey) -> bool {
         self == key
     }
 }

@@ -4,9 +4,11 @@ use crate::core_types::FuncType;
 use crate::ids::{InterfaceId, TypeId};
 use crate::json::Value;
 use crate::read::{Read, Unread, member, optional_member};
-use std::fmt::{self, Display, Formatter};
+use std::error;
+use std::fmt::{self, Debug, Display, Formatter};
 
-/// What a fault is about. Its text is as `import "env" "log", wanted (i32) -> (), found () -> (), in adapter "old"`.
+/// What a fault is about. Its text is as `import "env" "log", wanted (i32) -> (), found () -> (), in adapter "old"`. It is the
+/// source of the error that has it, so what prints a chain of sources prints it.
 #[derive(Clone, Debug, PartialEq, Eq, Hash)]
 #[non_exhaustive]
 pub struct Place {
@@ -174,6 +176,20 @@ impl Display for Place {
     }
 }
 
+impl error::Error for Place {}
+
+/// A place, or that there is none, by its text, also where it is debugged.
+pub(crate) struct Shown<'a>(pub(crate) Option<&'a Place>);
+
+impl Debug for Shown<'_> {
+    fn fmt(&self, f: &mut Formatter<'_>) -> fmt::Result {
+        match self.0 {
+            Some(place) => write!(f, "Some({place})"),
+            None => f.write_str("None"),
+        }
+    }
+}
+
 impl Display for Subject {
     /// Names are in quotes, with escapes.
     fn fmt(&self, f: &mut Formatter<'_>) -> fmt::Result {
@@ -193,8 +209,8 @@ impl Display for Subject {
             } => write!(f, "operator {operator} of the body of function {function}"),
             Subject::Body { function, .. } => write!(f, "body of function {function}"),
             Subject::World(index) => write!(f, "world {index}"),
-            Subject::Interface(id) => write!(f, "interface {}", id.0),
-            Subject::Type(id) => write!(f, "type {}", id.0),
+            Subject::Interface(id) => write!(f, "{id}"),
+            Subject::Type(id) => write!(f, "{id}"),
             Subject::Package(index) => write!(f, "package {index}"),
         }
     }

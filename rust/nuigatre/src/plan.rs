@@ -4,16 +4,21 @@ use crate::encoder::{ComponentEncoder, MainOrAdapter};
 use crate::error::Error;
 use crate::ffi::{self, Answered};
 use crate::ids::AbiVariant;
+use crate::imports::Import;
+use crate::index::Index;
 use crate::json::Value;
+use crate::memory::OutOfMemory;
 use crate::read::{Read, Unread, member, optional_member};
+use crate::world::ComponentWorld;
 use crate::world_error::WorldError;
+use std::fmt::{self, Display, Formatter};
 use std::{slice, str, vec};
 
 /// How many bytes of a first buffer are for each byte of the message.
 const PER_BYTE: usize = 2;
 
-/// What a function that core modules import needs.
-#[derive(Clone, Debug, PartialEq, Eq)]
+/// What a function that core modules import needs. Its text is the line that the program `wcplan` prints.
+#[derive(Clone, Debug, PartialEq, Eq, Hash)]
 #[non_exhaustive]
 pub struct Use {
     /// The module that imports it.
@@ -33,12 +38,22 @@ pub struct Use {
 
 /// The functions that the core modules of a component import, each once, with what it needs: those of the main module, and
 /// then those of each adapter.
-#[derive(Clone, Debug, PartialEq, Eq)]
-#[non_exhaustive]
+#[derive(Clone, Debug)]
 pub struct Plan {
-    /// The functions, in the order of the modules and of their imports.
-    pub uses: Vec<Use>,
+    uses: Vec<Use>,
+    index: Index,
 }
+
+impl PartialEq for Plan {
+    fn eq(&self, other: &Self) -> bool {
+        self.uses == other.uses
+    }
+}
+
+impl Eq for Plan {}
+
+/// What a function is found by: the name of its adapter, the name that its interface has, its own, and how it is called.
+type Call<'a> = (Option<&'a str>, Option<&'a str>, &'a str, AbiVariant);
 
 impl Plan {
     /// The plan of the component whose world [`ComponentWorld::new`](crate::ComponentWorld::new) makes of the same.
@@ -55,9 +70,72 @@ impl Plan {
         let room = PER_BYTE * message.len() + 4096;
         match ffi::plan(message.as_bytes(), &modules, room)? {
             Answered::Bytes { bytes, .. } => Ok(read_plan(&bytes)?),
-            Answered::Same => Err(Error::OtherVersion),
+            Answered::Same | Answered::BadArgument => Err(Error::OtherVersion),
             Answered::Fault(fault) => Err(Error::World(WorldError::of(fault, encoder)?)),
         }
+    }
+}
+
+impl Plan {
+    pub(crate) fn of_uses(uses: Vec<Use>) -> Result<Self, OutOfMemory> {
+        let index = Index::of(uses.len(), |position: usize| uses[position].call())?;
+        Ok(Plan { uses, index })
+    }
+
+    /// The functions, in the order of the modules and of their imports.
+    #[must_use]
+    pub fn uses(&self) -> &[Use] {
+        &self.uses
+    }
+
+    /// The same, one by one.
+    pub fn iter(&self) -> slice::Iter<'_, Use> {
+        self.uses.iter()
+    }
+
+    /// What an import of a module needs, by the world that the plan is of: `module` is the name of the adapter, or `None` for
+    /// the main module. `None` where the import is no function that the world imports.
+    #[must_use]
+    pub fn of(
+        &self,
+        world: &ComponentWorld,
+        module: Option<&str>,
+        import: &Import,
+    ) -> Option<&Use> {
+        let call: Call<'_> = match import {
+            Import::WorldFunc(_, name, abi) => (module, None, name, *abi),
+            Import::InterfaceFunc(key, _, name, abi) => {
+                (module, Some(world.imported(key)?.0), name, *abi)
+            }
+            _ => return None,
+        };
+        let is_at = |position: usize| self.uses[position].call() == call;
+        let position = self.index.find(&call, self.uses.len(), is_at)?;
+        self.uses.get(position)
+    }
+}
+
+impl Use {
+    fn call(&self) -> Call<'_> {
+        let module = match &self.module {
+            MainOrAdapter::Main => None,
+            MainOrAdapter::Adapter(name) => Some(name.as_str()),
+        };
+        (module, self.interface.as_deref(), &self.name, self.abi)
+    }
+}
+
+impl Display for Use {
+    fn fmt(&self, f: &mut Formatter<'_>) -> fmt::Result {
+        let interface = self.interface.as_deref().unwrap_or("$root");
+        let is_async = self.abi == AbiVariant::GuestImportAsync;
+        let abi = if is_async { "async" } else { "sync" };
+        write!(f, "{} {interface} {} {abi} slot ", self.module, self.name)?;
+        match self.slot {
+            Some(slot) => write!(f, "{slot}")?,
+            None => f.write_str("-")?,
+        }
+        write!(f, " realloc {}", self.realloc.as_deref().unwrap_or("-"))
     }
 }
 
@@ -82,9 +160,7 @@ impl IntoIterator for Plan {
 /// The plan of this text, which the archive wrote.
 fn read_plan(text: &[u8]) -> Result<Plan, Unread> {
     let value = Value::parse(str::from_utf8(text).map_err(|_| Unread::Unknown)?)?;
-    Ok(Plan {
-        uses: Vec::read(&value)?,
-    })
+    Ok(Plan::of_uses(Vec::read(&value)?)?)
 }
 
 impl Read for Use {

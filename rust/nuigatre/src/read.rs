@@ -4,6 +4,7 @@ use crate::error::Error;
 use crate::json::Value;
 use crate::memory::{OutOfMemory, string};
 use crate::ordered_map::OrderedMap;
+use std::fmt::{self, Formatter};
 use std::hash::Hash;
 
 /// Why a value is not read.
@@ -96,6 +97,22 @@ fn items<T>(
         items.push(read(value)?);
     }
     Ok(items)
+}
+
+/// The value of this name, among all that a type has with their names.
+pub(crate) fn of_name<T: Copy>(name: &str, all: &[(&str, T)]) -> Result<T, Unread> {
+    let found = all.iter().find(|it| it.0 == name);
+    found.map(|it| it.1).ok_or(Unread::Unknown)
+}
+
+/// Writes the name of a value, which is among all that its type has with their names.
+pub(crate) fn show<T: PartialEq>(
+    value: &T,
+    all: &[(&str, T)],
+    f: &mut Formatter<'_>,
+) -> fmt::Result {
+    let found = all.iter().find(|it| it.1 == *value);
+    f.pad(found.map_or("", |it| it.0))
 }
 
 /// The member of this name of an object.

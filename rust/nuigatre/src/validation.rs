@@ -27,7 +27,7 @@ pub fn validate_module(encoder: &ComponentEncoder<'_>) -> Result<(), Error> {
 ///
 /// # Errors
 ///
-/// - `BadArgument`: no adapter of the encoder has the name.
+/// - `UnknownAdapter`: no adapter of the encoder has the name.
 /// - `World`: the worlds, or a module, are refused; of the adapter it is
 ///   [`WorldFault::Adapter`](crate::WorldFault::Adapter), with [a place](Error::place).
 /// - `Memory`: an allocation failed.
@@ -41,7 +41,9 @@ fn validate(encoder: &ComponentEncoder<'_>, adapter: Option<&str>) -> Result<(),
     let modules = encoder.modules()?;
     match ffi::validate(message.as_bytes(), &modules, adapter, ROOM)? {
         Answered::Bytes { .. } => Ok(()),
-        Answered::Same => Err(Error::OtherVersion),
+        // no adapter has a name that is not given
+        Answered::BadArgument if adapter.is_some() => Err(Error::UnknownAdapter),
+        Answered::Same | Answered::BadArgument => Err(Error::OtherVersion),
         Answered::Fault(fault) => Err(Error::World(WorldError::of(fault, encoder)?)),
     }
 }

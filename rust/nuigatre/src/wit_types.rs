@@ -2,9 +2,10 @@
 
 use crate::ids::TypeId;
 use crate::json::Value;
-use crate::read::{Read, Unread};
+use crate::read::{Read, Unread, of_name, show};
+use std::fmt::{self, Display, Formatter};
 
-/// A type of the resolved worlds.
+/// A type of the resolved worlds. Its text is as `u32`, or as `type 3` of one that they define.
 #[derive(Clone, Copy, Debug, PartialEq, Eq, Hash)]
 #[allow(missing_docs)]
 #[non_exhaustive]
@@ -32,22 +33,33 @@ impl Read for Type {
         let Ok(name) = value.as_str() else {
             return Ok(Type::Id(TypeId::read(value)?));
         };
-        Ok(match name {
-            "bool" => Type::Bool,
-            "u8" => Type::U8,
-            "u16" => Type::U16,
-            "u32" => Type::U32,
-            "u64" => Type::U64,
-            "s8" => Type::S8,
-            "s16" => Type::S16,
-            "s32" => Type::S32,
-            "s64" => Type::S64,
-            "f32" => Type::F32,
-            "f64" => Type::F64,
-            "char" => Type::Char,
-            "string" => Type::String,
-            "error-context" => Type::ErrorContext,
-            _ => return Err(Unread::Unknown),
-        })
+        of_name(name, &PLAIN)
+    }
+}
+
+/// The types that are not defined by worlds.
+const PLAIN: [(&str, Type); 14] = [
+    ("bool", Type::Bool),
+    ("u8", Type::U8),
+    ("u16", Type::U16),
+    ("u32", Type::U32),
+    ("u64", Type::U64),
+    ("s8", Type::S8),
+    ("s16", Type::S16),
+    ("s32", Type::S32),
+    ("s64", Type::S64),
+    ("f32", Type::F32),
+    ("f64", Type::F64),
+    ("char", Type::Char),
+    ("string", Type::String),
+    ("error-context", Type::ErrorContext),
+];
+
+impl Display for Type {
+    fn fmt(&self, f: &mut Formatter<'_>) -> fmt::Result {
+        match self {
+            Type::Id(id) => write!(f, "{id}"),
+            plain => show(plain, &PLAIN, f),
+        }
     }
 }

@@ -3,7 +3,7 @@
 use crate::core_types::WasmSignature;
 use crate::encoder::{ComponentEncoder, LibraryInfo};
 use crate::error::Error;
-use crate::exports::ExportMap;
+use crate::exports::{Export, ExportMap};
 use crate::ffi::{self, Answered};
 use crate::ids::{AbiVariant, InterfaceId, TypeId, WorldKey};
 use crate::imports::{Import, ImportMap};
@@ -11,9 +11,10 @@ use crate::json::Value;
 use crate::memory::{concat, fitted, push};
 use crate::module_import_map::{ModuleImportMap, Rename};
 use crate::ordered_map::OrderedMap;
+use crate::plan::Plan;
 use crate::read::{Read, Unread, list, map, member, optional_member};
+use crate::required_options::RequiredOptions;
 use crate::world_error::WorldError;
-use std::ops::BitOr;
 
 /// How many bytes of a first buffer are for the record of the modules' imports and exports, at most.
 const MORE: usize = 1 << 22;
@@ -38,48 +39,6 @@ pub struct WorldAdapter {
     pub info: ValidatedModule,
     /// How it is instantiated, if it is a library.
     pub library_info: Option<LibraryInfo>,
-}
-
-/// Which canonical options a lowered function needs.
-#[derive(Clone, Copy, Debug, Default, PartialEq, Eq, Hash)]
-pub struct RequiredOptions(u32);
-
-impl RequiredOptions {
-    /// A memory.
-    pub const MEMORY: RequiredOptions = RequiredOptions(1);
-    /// A realloc.
-    pub const REALLOC: RequiredOptions = RequiredOptions(2);
-    /// How strings are encoded.
-    pub const STRING_ENCODING: RequiredOptions = RequiredOptions(4);
-    /// The function is called asynchronously.
-    pub const ASYNC: RequiredOptions = RequiredOptions(8);
-
-    /// The set as bits.
-    #[must_use]
-    pub fn bits(self) -> u32 {
-        self.0
-    }
-
-    /// Whether all of these are in the set.
-    #[must_use]
-    pub fn contains(self, others: RequiredOptions) -> bool {
-        self.0 & others.0 == others.0
-    }
-
-    /// Whether the set is empty.
-    #[must_use]
-    pub fn is_empty(self) -> bool {
-        self.0 == 0
-    }
-}
-
-impl BitOr for RequiredOptions {
-    type Output = RequiredOptions;
-
-    /// What is in one of two sets.
-    fn bitor(self, others: RequiredOptions) -> RequiredOptions {
-        RequiredOptions(self.0 | others.0)
-    }
 }
 
 /// How an import of a core module is met.
@@ -137,6 +96,8 @@ pub struct ComponentWorld {
     pub exports_used: OrderedMap<InterfaceId, Vec<InterfaceId>>,
     /// The positions in `import_map` of the interfaces that are imported under their own ids.
     own_ids: OrderedMap<InterfaceId, usize>,
+    /// Of the keys of what modules export, which exports it: 0 for the main module, and then each adapter.
+    exporters: OrderedMap<WorldKey, usize>,
 }
 
 impl ComponentWorld {
@@ -169,19 +130,19 @@ impl ComponentWorld {
     /// - `Memory`: an allocation failed.
     /// - `OtherVersion`: the library is of another version than this crate.
     pub fn new(encoder: &ComponentEncoder<'_>) -> Result<Self, Error> {
-        let message = encoder.message()?;
-        let modules = encoder.modules()?;
-        // what is not written to costs nothing, and a second call all that the first did
-        let record = 4 * message.len() + (8 * modules.len()).min(MORE) + 4096;
-        let room = modules.len() + record;
-        match ffi::world(message.as_bytes(), &modules, room)? {
-            Answered::Bytes {
-                bytes,
-                module_length,
-            } => Ok(read_world(bytes, module_length)?),
-            Answered::Same => Err(Error::OtherVersion),
-            Answered::Fault(fault) => Err(Error::World(WorldError::of(fault, encoder)?)),
-        }
+        Ok(made(encoder, ffi::world, |_| Ok(()))?.0)
+    }
+
+    /// The world of a component, as of [`ComponentWorld::new`], and its plan, as of [`Plan::new`], made once: it takes hardly
+    /// longer than a world alone.
+    ///
+    /// # Errors
+    ///
+    /// As of [`Plan::new`]: there is no world where there is no plan of it.
+    pub fn with_plan(encoder: &ComponentEncoder<'_>) -> Result<(Self, Plan), Error> {
+        made(encoder, ffi::planned_world, |record| {
+            Ok(Plan::of_uses(member(record, "plan")?)?)
+        })
     }
 
     /// What core modules import of the interface that the world imports under a key, and the name of that.
@@ -193,6 +154,19 @@ impl ComponentWorld {
         };
         let (name, imported) = self.import_map.get_index(position)?;
         Some((name.as_deref()?, imported))
+    }
+
+    /// The module whose functions are exported under a key of the world: the name of the adapter, or `None` for the main
+    /// module, and what it imports and exports. Where several modules export functions under the key, the first of them.
+    #[must_use]
+    pub fn exported(&self, key: &WorldKey) -> Option<(Option<&str>, &ValidatedModule)> {
+        match self.exporters.get(key)?.checked_sub(1) {
+            None => Some((None, &self.info)),
+            Some(position) => {
+                let (name, adapter) = self.adapters.get_index(position)?;
+                Some((Some(name), &adapter.info))
+            }
+        }
     }
 
     /// How an import of a core module is met; `None` where it is met by nothing that the world imports.
@@ -236,8 +210,37 @@ fn uses_slot_1(import: &Import) -> bool {
     }
 }
 
-/// The world of an answer: modules, the first so many bytes, and then the record.
-fn read_world(mut bytes: Vec<u8>, module_length: usize) -> Result<ComponentWorld, Unread> {
+/// A call of the archive that answers modules and a record.
+type Call = fn(&[u8], &[u8], usize) -> Result<Answered, Error>;
+
+/// What a call makes of an encoder: the world, and what else is read of its record.
+fn made<T>(
+    encoder: &ComponentEncoder<'_>,
+    call: Call,
+    more: impl FnOnce(&Value<'_>) -> Result<T, Unread>,
+) -> Result<(ComponentWorld, T), Error> {
+    let message = encoder.message()?;
+    let modules = encoder.modules()?;
+    // what is not written to costs nothing, and a second call all that the first did
+    let record = 4 * message.len() + (8 * modules.len()).min(MORE) + 4096;
+    let room = modules.len() + record;
+    match call(message.as_bytes(), &modules, room)? {
+        Answered::Bytes {
+            bytes,
+            module_length,
+        } => Ok(read_world(bytes, module_length, more)?),
+        Answered::Same | Answered::BadArgument => Err(Error::OtherVersion),
+        Answered::Fault(fault) => Err(Error::World(WorldError::of(fault, encoder)?)),
+    }
+}
+
+/// The world of an answer, and what else is read of its record: modules are the first so many bytes, and then comes the
+/// record.
+fn read_world<T>(
+    mut bytes: Vec<u8>,
+    module_length: usize,
+    more: impl FnOnce(&Value<'_>) -> Result<T, Unread>,
+) -> Result<(ComponentWorld, T), Unread> {
     let (modules, record) = bytes
         .split_at_checked(module_length)
         .ok_or(Unread::Unknown)?;
@@ -260,13 +263,16 @@ fn read_world(mut bytes: Vec<u8>, module_length: usize) -> Result<ComponentWorld
     let import_map = map(&value, "import_map", |entry| {
         Ok((optional_member(entry, "name")?, Read::read(entry)?))
     })?;
+    let info: ValidatedModule = member(&value, "info")?;
+    let adapters = OrderedMap::of(adapters)?;
     let mut world = ComponentWorld {
         module: Vec::new(),
+        exporters: exporters(&info, &adapters)?,
         own_ids: own_ids(&import_map)?,
         import_map,
         module_import_map: read_renames(&value)?,
-        info: member(&value, "info")?,
-        adapters: OrderedMap::of(adapters)?,
+        info,
+        adapters,
         live_type_imports: map(&value, "live_type_imports", |entry| {
             Ok((member(entry, "interface")?, member(entry, "types")?))
         })?,
@@ -274,9 +280,10 @@ fn read_world(mut bytes: Vec<u8>, module_length: usize) -> Result<ComponentWorld
             Ok((member(entry, "interface")?, member(entry, "uses")?))
         })?,
     };
+    let more = more(&value)?;
     bytes.truncate(main);
     world.module = fitted(bytes);
-    Ok(world)
+    Ok((world, more))
 }
 
 /// The positions of interfaces that are imported under their own ids. Plain names have no colon.
@@ -291,6 +298,29 @@ fn own_ids(
         }
     }
     Ok(OrderedMap::of(ids)?)
+}
+
+/// Of the keys of functions that modules export, which module exports them: 0 for the main module, and then each adapter.
+fn exporters(
+    info: &ValidatedModule,
+    adapters: &OrderedMap<String, WorldAdapter>,
+) -> Result<OrderedMap<WorldKey, usize>, Unread> {
+    let modules = std::iter::once(info).chain(adapters.values().map(|adapter| &adapter.info));
+    let mut exporters = Vec::new();
+    for (position, module) in modules.enumerate() {
+        let mut last = None;
+        for export in module.exports.exports().values() {
+            let key = match export {
+                Export::WorldFunc(key, ..) | Export::InterfaceFunc(key, ..) => key,
+                _ => continue,
+            };
+            if last != Some(key) {
+                push(&mut exporters, (key.try_clone()?, position))?;
+                last = Some(key);
+            }
+        }
+    }
+    Ok(OrderedMap::of(exporters)?)
 }
 
 /// The renamed imports of the main module, if there are some.
@@ -326,12 +356,6 @@ impl Read for Rename {
             original: member(value, "original")?,
             name: member(value, "name")?,
         })
-    }
-}
-
-impl Read for RequiredOptions {
-    fn read(value: &Value<'_>) -> Result<Self, Unread> {
-        Ok(RequiredOptions(u32::read(value)?))
     }
 }
 

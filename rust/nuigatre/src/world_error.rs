@@ -4,19 +4,22 @@ use crate::encoder::ComponentEncoder;
 use crate::faults::{DedupeFault, GcFault, ReadFault, numbered, parts_of};
 use crate::ffi::Fault;
 use crate::memory::{Held, string};
-use crate::place::Place;
+use crate::place::{Place, Shown};
 use crate::read::Unread;
 use std::error;
-use std::fmt::{self, Display, Formatter};
+use std::fmt::{self, Debug, Display, Formatter};
 
-/// Why a component has no world. Its text has all names that the fault carries, and the path to what is wrong in the JSON;
-/// but not [the place](WorldError::place).
-#[derive(Clone, Debug, PartialEq, Eq)]
+/// Why a component has no world. Its text is that of the fault, which has all names that it carries, and the path to what is
+/// wrong in the message of which the worlds are the member `resolve`. Its source is [the place](WorldError::place).
+#[derive(Clone, PartialEq, Eq)]
 pub struct WorldError {
     fault: WorldFault,
     text: String,
     place: Held<Place>,
 }
+
+/// The number of the encoder's fault that no world is at the index.
+const UNKNOWN_WORLD: u32 = 1;
 
 /// Why a component has no world. Of several causes the first in this order is named, and of several keys the first, those
 /// of the main module before those of adapters; but a key that is given twice after all that are unknown or of several
@@ -26,7 +29,7 @@ pub struct WorldError {
 pub enum WorldFault {
     /// The JSON of the worlds is not what it has to be.
     Json(JsonFault),
-    /// No world has the name.
+    /// No world has the name, or none is at the index.
     UnknownWorld,
     /// Several worlds have the name.
     SeveralWorlds,
@@ -61,43 +64,49 @@ pub enum WorldFault {
 }
 
 /// What is wrong with JSON.
-#[derive(Clone, Copy, Debug, PartialEq, Eq, Hash)]
+#[derive(Clone, Debug, PartialEq, Eq, Hash)]
 #[non_exhaustive]
 pub enum JsonFault {
-    /// The text is not JSON.
+    /// The text is not JSON, or not one value of it.
     NotJson,
     /// An object has two members of one name.
     RepeatedMember,
-    /// A value is not what it has to be. The text of the error has the path to it.
-    Wrong(Problem),
+    /// A value is not what it has to be.
+    #[non_exhaustive]
+    Wrong {
+        /// The path to it in the JSON of the worlds, as `interfaces[0].functions["f"].kind`; empty for the whole.
+        path: String,
+        /// What is wrong with it.
+        problem: Problem,
+    },
 }
 
 numbered! {
     /// What is wrong with a JSON value.
     Problem {
         /// An object has no member of a name that has to be there.
-        Missing = 0,
+        Missing = 0 "missing",
         /// The value is not an object.
-        NotAnObject = 1,
+        NotAnObject = 1 "not an object",
         /// The value is an object that should have exactly one member, and has none or several.
-        NotOneMember = 2,
+        NotOneMember = 2 "not an object of one member",
         /// The value is not a list.
-        NotAList = 3,
+        NotAList = 3 "not a list",
         /// The value is not a text.
-        NotAText = 4,
+        NotAText = 4 "not a text",
         /// The value is not a number of decimal digits alone, below 2^32.
-        NotAnIndex = 5,
+        NotAnIndex = 5 "not an index",
         /// The text, or the name of an object's only member, is none that the format has here.
-        Unknown = 6,
+        Unknown = 6 "unknown",
         /// A kind of type that the format has and this layer leaves out: `fixed-length-list`, `fixed-size-list`, `map`
         /// or `unknown`.
-        LeftOut = 7,
+        LeftOut = 7 "kind of type that is left out",
         /// A member of an older form of the format, which means something that would be lost: `results`.
-        Outdated = 8,
+        Outdated = 8 "member of an older form",
         /// The text is neither `namespace:name` nor `namespace:name@version`.
-        NotAPackageName = 9,
+        NotAPackageName = 9 "not a package name",
         /// The value is neither true nor false.
-        NotABool = 10,
+        NotABool = 10 "not a truth value",
     }
 }
 
@@ -133,8 +142,6 @@ numbered! {
 numbered! {
     /// Why parts are no encoder's.
     EncoderFault {
-        /// The `Resolve` has no world at the index.
-        UnknownWorld = 1,
         /// The world doesn't export a key of `main_module_exports`, or of an adapter's `required_exports`. Here that is
         /// [`WorldFault::UnknownKey`].
         NotAnExport = 2,
@@ -160,7 +167,7 @@ numbered! {
 }
 
 /// Why a core module is refused.
-#[derive(Clone, Copy, Debug, PartialEq, Eq, Hash)]
+#[derive(Clone, Debug, PartialEq, Eq, Hash)]
 #[non_exhaustive]
 pub enum ValidateFault {
     /// The bytes are neither a module nor a component.
@@ -203,8 +210,8 @@ pub enum ValidateFault {
     MissingInterfaceExport,
     /// A function of the world that has to be exported is not.
     MissingWorldExport,
-    /// An adapter doesn't export what is imported from it.
-    AdapterModuleDidNotExport,
+    /// An adapter doesn't export the function of this name, which is imported from it.
+    AdapterModuleDidNotExport(String),
     /// An adapter exports what is imported from it with another type.
     AdapterExportType,
     /// A function's type names a type of its module by an index, which means nothing in another module: that of a
@@ -214,18 +221,30 @@ pub enum ValidateFault {
 }
 
 impl JsonFault {
-    fn from_number(number: u32) -> Result<JsonFault, Unread> {
+    /// The fault of this number, whose text is this one.
+    fn from_number(number: u32, text: &str) -> Result<JsonFault, Unread> {
         match parts_of(number) {
             (1, 0) => Ok(JsonFault::NotJson),
             (2, 0) => Ok(JsonFault::RepeatedMember),
-            (3, carried) => Ok(JsonFault::Wrong(Problem::from_number(carried)?)),
+            (3, carried) => Ok(JsonFault::Wrong {
+                path: string(path_of(text).ok_or(Unread::Unknown)?)?,
+                problem: Problem::from_number(carried)?,
+            }),
             _ => Err(Unread::Unknown),
         }
     }
 }
 
+/// The path of the text `Json: PATH: PROBLEM`, from the worlds on, which are the member `resolve` of the message.
+fn path_of(text: &str) -> Option<&str> {
+    let (path, _) = text.strip_prefix("Json: ")?.rsplit_once(": ")?;
+    let path = path.strip_prefix("resolve")?;
+    Some(path.strip_prefix('.').unwrap_or(path))
+}
+
 impl ValidateFault {
-    fn from_number(number: u32) -> Result<ValidateFault, Unread> {
+    /// The fault of this number, whose text is this one.
+    fn from_number(number: u32, text: &str) -> Result<ValidateFault, Unread> {
         Ok(match parts_of(number) {
             (1, carried) => ValidateFault::Read(ReadFault::from_number(carried)?),
             (2, 0) => ValidateFault::NotAModule,
@@ -247,7 +266,7 @@ impl ValidateFault {
             (18, 0) => ValidateFault::MissingCallback,
             (19, 0) => ValidateFault::MissingInterfaceExport,
             (20, 0) => ValidateFault::MissingWorldExport,
-            (21, 0) => ValidateFault::AdapterModuleDidNotExport,
+            (21, 0) => ValidateFault::AdapterModuleDidNotExport(quoted(text, NOT_EXPORTED)?),
             (22, 0) => ValidateFault::AdapterExportType,
             (23, 0) => ValidateFault::TypedReference,
             _ => return Err(Unread::Unknown),
@@ -282,6 +301,15 @@ impl WorldError {
         })
     }
 
+    /// No world has the name, or none is at the index.
+    fn unknown_world() -> Result<WorldError, Unread> {
+        Ok(WorldError {
+            fault: WorldFault::UnknownWorld,
+            text: string("UnknownWorld")?,
+            place: Held::NOTHING,
+        })
+    }
+
     /// The error of a fault that the archive answered to the message of an encoder.
     pub(crate) fn of(
         answered: Fault,
@@ -290,11 +318,12 @@ impl WorldError {
         let number = answered.number;
         let (text, place) = answered.into_parts()?;
         let fault = match parts_of(number) {
-            (2, carried) => WorldFault::Json(JsonFault::from_number(carried)?),
+            (2, carried) => WorldFault::Json(JsonFault::from_number(carried, &text)?),
             (3, 0) => WorldFault::UnknownWorld,
             (5, carried) => WorldFault::Resolve(ResolveFault::from_number(carried)?),
             (6, 0) => WorldFault::AdapterTwice(named(&text, "AdapterTwice ", encoder)?),
             (7, carried) => WorldFault::Dedupe(DedupeFault::from_number(carried)?),
+            (8, UNKNOWN_WORLD) => return WorldError::unknown_world(),
             (8, carried) => WorldFault::Encoder(EncoderFault::from_number(carried)?),
             (9, carried) => of_module(carried, &text, encoder)?,
             (10, carried) => WorldFault::Plan(PlanFault::from_number(carried)?),
@@ -310,33 +339,50 @@ impl WorldError {
     }
 }
 
-/// The fault of this number of a module.
+/// The fault of this number of a module, whose text is this one.
 fn of_module(
     number: u32,
     text: &str,
     encoder: &ComponentEncoder<'_>,
 ) -> Result<WorldFault, Unread> {
-    let name = |head| named(text, head, encoder);
     let (own, carried) = parts_of(number);
+    // of a fault of an adapter its name, and the text of what is wrong with it
+    let parts = |head| {
+        let name = named(text, head, encoder)?;
+        let rest = text.get(head.len() + name.len() + 2..);
+        let rest = rest.and_then(|it| it.strip_prefix(": "));
+        Ok::<_, Unread>((name, rest.ok_or(Unread::Unknown)?))
+    };
     Ok(match own {
-        1 => WorldFault::Main(ValidateFault::from_number(carried)?),
-        2 => WorldFault::Adapter(
-            name("World: Adapter ")?,
-            ValidateFault::from_number(carried)?,
-        ),
-        3 => {
-            let name = name("World: Trim ")?;
-            let missing = missing_export(text, &name);
-            WorldFault::Trim(name, GcFault::from_number(carried, missing)?)
+        1 => {
+            let rest = text.strip_prefix("World: Main: ").ok_or(Unread::Unknown)?;
+            WorldFault::Main(ValidateFault::from_number(carried, rest)?)
         }
-        4 => WorldFault::Minimized(
-            name("World: Minimized ")?,
-            ValidateFault::from_number(carried)?,
-        ),
+        2 => {
+            let (name, rest) = parts("World: Adapter ")?;
+            WorldFault::Adapter(name, ValidateFault::from_number(carried, rest)?)
+        }
+        3 => {
+            let (name, rest) = parts("World: Trim ")?;
+            WorldFault::Trim(
+                name,
+                GcFault::from_number(carried, in_quotes(rest, MISSING))?,
+            )
+        }
+        4 => {
+            let (name, rest) = parts("World: Minimized ")?;
+            WorldFault::Minimized(name, ValidateFault::from_number(carried, rest)?)
+        }
         5 if carried == 0 => WorldFault::PageSize,
         _ => return Err(Unread::Unknown),
     })
 }
+
+/// What the text of a missing export of an adapter begins with, where it is trimmed.
+const MISSING: &str = "adapter module does not have export ";
+
+/// The same where another module imports it.
+const NOT_EXPORTED: &str = "adapter module did not export ";
 
 /// The name of an adapter of the encoder, which a text has in backquotes after its head: the longest of those that fit.
 fn named(text: &str, head: &str, encoder: &ComponentEncoder<'_>) -> Result<String, Unread> {
@@ -351,18 +397,15 @@ fn named(text: &str, head: &str, encoder: &ComponentEncoder<'_>) -> Result<Strin
     Ok(string(name.ok_or(Unread::Unknown)?)?)
 }
 
-/// What a text has in backquotes after its head.
-fn quoted(text: &str, head: &str) -> Result<String, Unread> {
-    let rest = text.strip_prefix(head).and_then(|it| it.strip_prefix('`'));
-    let quoted = rest.and_then(|it| it.strip_suffix('`'));
-    Ok(string(quoted.ok_or(Unread::Unknown)?)?)
+/// What a text has in backquotes after its head, if that is all that it has.
+fn in_quotes<'a>(text: &'a str, head: &str) -> Option<&'a str> {
+    let rest = text.strip_prefix(head)?.strip_prefix('`')?;
+    rest.strip_suffix('`')
 }
 
-/// The name of the export that the adapter of this name lacks, by the text of the fault.
-fn missing_export<'a>(text: &'a str, adapter: &str) -> Option<&'a str> {
-    let rest = text.strip_prefix("World: Trim `")?.strip_prefix(adapter)?;
-    rest.strip_prefix("`: adapter module does not have export `")?
-        .strip_suffix('`')
+/// The same, as a text that is wanted.
+fn quoted(text: &str, head: &str) -> Result<String, Unread> {
+    Ok(string(in_quotes(text, head).ok_or(Unread::Unknown)?)?)
 }
 
 impl Display for WorldError {
@@ -371,4 +414,70 @@ impl Display for WorldError {
     }
 }
 
-impl error::Error for WorldError {}
+impl Debug for WorldError {
+    /// The place is there by its text.
+    fn fmt(&self, f: &mut Formatter<'_>) -> fmt::Result {
+        f.debug_struct("WorldError")
+            .field("fault", &self.fault)
+            .field("place", &Shown(self.place()))
+            .finish()
+    }
+}
+
+impl error::Error for WorldError {
+    /// [The place](WorldError::place).
+    fn source(&self) -> Option<&(dyn error::Error + 'static)> {
+        self.place().map(|place| place as _)
+    }
+}
+
+impl Display for WorldFault {
+    fn fmt(&self, f: &mut Formatter<'_>) -> fmt::Result {
+        match self {
+            WorldFault::Json(fault) => write!(f, "Json: {fault}"),
+            WorldFault::UnknownWorld => f.write_str("UnknownWorld"),
+            WorldFault::SeveralWorlds => f.write_str("SeveralWorlds"),
+            WorldFault::PackageRange => f.write_str("PackageRange"),
+            WorldFault::Resolve(fault) => write!(f, "Resolve: {fault}"),
+            WorldFault::UnknownKey(key) => write!(f, "UnknownKey `{key}`"),
+            WorldFault::SeveralKeys(key) => write!(f, "SeveralKeys `{key}`"),
+            WorldFault::RepeatedKey(key) => write!(f, "RepeatedKey `{key}`"),
+            WorldFault::AdapterTwice(name) => write!(f, "AdapterTwice `{name}`"),
+            WorldFault::Dedupe(fault) => write!(f, "Dedupe: {fault}"),
+            WorldFault::Encoder(fault) => write!(f, "Encoder: {fault}"),
+            WorldFault::Main(fault) => write!(f, "World: Main: {fault}"),
+            WorldFault::Adapter(name, fault) => write!(f, "World: Adapter `{name}`: {fault}"),
+            WorldFault::Trim(name, fault) => write!(f, "World: Trim `{name}`: {fault}"),
+            WorldFault::Minimized(name, fault) => write!(f, "World: Minimized `{name}`: {fault}"),
+            WorldFault::PageSize => f.write_str("World: PageSize"),
+            WorldFault::Plan(fault) => write!(f, "Plan: {fault}"),
+        }
+    }
+}
+
+impl Display for JsonFault {
+    fn fmt(&self, f: &mut Formatter<'_>) -> fmt::Result {
+        match self {
+            JsonFault::NotJson => f.write_str("not JSON"),
+            JsonFault::RepeatedMember => f.write_str("repeated member"),
+            JsonFault::Wrong { path, problem } if path.is_empty() => write!(f, "{problem}"),
+            JsonFault::Wrong { path, problem } => write!(f, "{path}: {problem}"),
+        }
+    }
+}
+
+impl Display for ValidateFault {
+    fn fmt(&self, f: &mut Formatter<'_>) -> fmt::Result {
+        match self {
+            ValidateFault::Read(fault) => write!(f, "Read: {fault}"),
+            ValidateFault::AdapterModuleDidNotExport(name) => {
+                write!(f, "{NOT_EXPORTED}`{name}`")
+            }
+            fault => write!(f, "{fault:?}"),
+        }
+    }
+}
+
+impl error::Error for WorldFault {}
+impl error::Error for JsonFault {}
+impl error::Error for ValidateFault {}

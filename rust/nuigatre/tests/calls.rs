@@ -4,6 +4,8 @@ use nuigatre::{DedupeFault, Error, GcFault, ModuleImportMap, ReadFault, gc};
 use std::borrow::Cow;
 use std::collections::BTreeSet;
 use std::error::Error as _;
+use std::path::Path;
+use std::{env, fs};
 
 /// Three functions, of which `a` is the first, and `b` the second, which calls the third.
 const THREE: &[u8] = b"\0asm\x01\0\0\0\x01\x04\x01\x60\0\0\x03\x04\x03\0\0\0\x07\x09\x02\x01a\0\0\x01b\0\x01\x0a\x0c\x03\x02\0\x0b\x04\0\x10\x02\x0b\x02\0\x0b";
@@ -78,9 +80,12 @@ fn the_realloc_is_passed() {
 
 #[test]
 fn arguments_that_are_none() {
-    assert_eq!(gc::run(THREE, [""; 0], None, 16), Err(Error::BadArgument));
-    assert_eq!(gc::run(THREE, ["b"], None, 17), Err(Error::BadArgument));
-    assert_eq!(gc::run(b"", ["b"], None, u32::MAX), Err(Error::BadArgument));
+    let nothing = Err(Error::NothingRequired);
+    assert_eq!(gc::run(THREE, [""; 0], None, 16), nothing);
+    assert_eq!(gc::run(THREE, [""; 0], None, 17), nothing);
+    let large = Err(Error::LargePageSize);
+    assert_eq!(gc::run(THREE, ["b"], None, 17), large);
+    assert_eq!(gc::run(b"", ["b"], None, u32::MAX), large);
 }
 
 #[test]
@@ -124,4 +129,16 @@ fn buffers() {
         assert_eq!(map.original_name("b", &last), None);
         assert!(bytes.ends_with(format!("{last}\0\0").as_bytes()));
     }
+}
+
+/// The symbol that only an unproved library has, in the library that `rust/check` links.
+#[test]
+fn which_library() {
+    let Some(folder) = env::var_os("NUIGATRE_LIB_DIR") else {
+        return;
+    };
+    let library = fs::read(Path::new(&folder).join("libnuigatre.a")).expect("the library");
+    let symbol = b"nuigatre_unproved";
+    let is_unproved = library.windows(symbol.len()).any(|at| at == symbol);
+    assert_eq!(nuigatre::is_proved(), !is_unproved);
 }

@@ -4,6 +4,7 @@ use nuigatre::{
     Adapter, ComponentEncoder, ComponentWorld, Error, GcFault, Plan, PlanFault, ResolveFault,
     Resolved, Subject, ValidateFault, WorldFault, gc, validate_adapter_module, validate_module,
 };
+use std::error::Error as _;
 
 /// The package `my:demo@0.2.0`: the interface `host` with `add: func(a: u32) -> u64` and `log: func(s: string)`, and the
 /// world `w`, which imports `host` and `ask: func() -> string`, and exports `run: func(a: u32) -> u64`.
@@ -118,6 +119,8 @@ fn mistake(main: &[u8], adapters: &[Adapter<'_>]) -> (Error, String) {
     let mut encoder = ComponentEncoder::new(WORLDS, "w", main);
     encoder.adapters = adapters.to_vec();
     let error = Plan::new(&encoder).expect_err("a mistake");
+    let both = ComponentWorld::with_plan(&encoder).map(|it| it.1);
+    assert_eq!(both, Err(error.clone()));
     match &error {
         Error::World(it) if matches!(it.fault(), WorldFault::Plan(_)) => {
             ComponentWorld::new(&encoder).expect("a world without a plan");
@@ -125,6 +128,14 @@ fn mistake(main: &[u8], adapters: &[Adapter<'_>]) -> (Error, String) {
         _ => assert_eq!(ComponentWorld::new(&encoder), Err(error.clone())),
     }
     let place = error.place().map(ToString::to_string);
+    // the source says the same, and so does what is printed where `main` ends with the error
+    assert_eq!(error.source().map(ToString::to_string), place);
+    let debugged = format!("{error:?}");
+    assert!(
+        place.iter().all(|place| debugged.contains(place)),
+        "{debugged}"
+    );
+    assert!(!debugged.contains("Held"), "{debugged}");
     (error, place.unwrap_or_default())
 }
 
@@ -238,7 +249,7 @@ fn an_adapter_for_the_wrong_world() {
     assert_eq!(validate_adapter_module(&encoder, name), Err(error));
     assert_eq!(
         validate_adapter_module(&encoder, "other"),
-        Err(Error::BadArgument)
+        Err(Error::UnknownAdapter)
     );
 }
 

@@ -1,8 +1,8 @@
 //! Worlds that are read once, and what futures and streams carry.
 
 use nuigatre::{
-    ComponentEncoder, ComponentWorld, EncoderFault, Error, Import, JsonFault, PayloadInfo, Plan,
-    Problem, ResolveFault, Resolved, Type, TypeId, WorldFault,
+    ComponentEncoder, ComponentWorld, Error, Import, JsonFault, PayloadInfo, Plan, Problem,
+    ResolveFault, Resolved, Type, TypeId, WorldFault,
 };
 use std::thread;
 
@@ -95,7 +95,7 @@ fn the_same_answers() {
     );
     match ComponentWorld::new(&ComponentEncoder::new(&resolved, 1, &module)) {
         Err(Error::World(error)) => {
-            let unknown = WorldFault::Encoder(EncoderFault::UnknownWorld);
+            let unknown = WorldFault::UnknownWorld;
             assert_eq!(*error.fault(), unknown);
         }
         answer => panic!("no fault: {answer:?}"),
@@ -122,9 +122,12 @@ fn worlds_that_are_refused() {
     for json in ["", "{", "1,2", "{},\"world\":1", "{\"worlds\":}"] {
         assert_eq!(refused(json).0, not_json, "{json}");
     }
-    let missing = WorldFault::Json(JsonFault::Wrong(Problem::Missing));
-    let text = "Json: resolve.worlds: missing".to_owned();
-    assert_eq!(refused("{}"), (missing, text));
+    let (fault, text) = refused("{}");
+    assert_eq!(text, "Json: resolve.worlds: missing");
+    assert!(matches!(
+        fault,
+        WorldFault::Json(JsonFault::Wrong { path, problem: Problem::Missing, .. }) if path == "worlds"
+    ));
     // one that would be left out
     let twice = WORLDS.replace("\"docs\": null", "\"docs\": null, \"docs\": null");
     let repeated = WorldFault::Json(JsonFault::RepeatedMember);

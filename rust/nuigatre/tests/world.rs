@@ -1,12 +1,13 @@
 //! The world of a small component, and why there is none.
 
 use nuigatre::{
-    AbiVariant, Adapter, ComponentEncoder, ComponentWorld, DedupeFault, EncoderFault, Error,
+    AbiVariant, Adapter, ComponentEncoder, ComponentWorld, DedupeFault, Error, ExportMap, Filler,
     FuncType, Import, ImportInstance, ImportOptions, InterfaceId, JsonFault, Lowering,
     MainOrAdapter, ModuleImportMap, Plan, PlanFault, Problem, ReadFault, RequiredOptions,
     ResolveFault, ValidateFault, World, WorldFault, WorldKey, validate_adapter_module,
     validate_module,
 };
+use std::collections::HashSet;
 use std::thread;
 
 /// A world that imports the interface `my:demo/host`, which has the function `hello: func(x: u32)`.
@@ -33,10 +34,16 @@ fn encoder() -> ComponentEncoder<'static> {
     encoder
 }
 
-/// The fault and its text.
+/// The fault and its text, which the fault has too, but for the path of JSON.
 fn fault_of(encoder: &ComponentEncoder<'_>) -> (WorldFault, String) {
     match ComponentWorld::new(encoder) {
-        Err(Error::World(error)) => (error.fault().clone(), error.to_string()),
+        Err(Error::World(error)) => {
+            let fault = error.fault().clone();
+            if !matches!(fault, WorldFault::Json(_)) {
+                assert_eq!(fault.to_string(), error.to_string());
+            }
+            (fault, error.to_string())
+        }
         answer => panic!("no fault of a world: {answer:?}"),
     }
 }
@@ -132,15 +139,10 @@ fn a_world_by_its_index() {
     let by_name = ComponentWorld::new(&self::encoder());
     assert_eq!(ComponentWorld::new(&encoder), by_name);
     encoder.world = World::Index(1);
-    assert_eq!(
-        fault_of(&encoder),
-        (
-            WorldFault::Encoder(EncoderFault::UnknownWorld),
-            "Encoder: UnknownWorld".into()
-        )
-    );
-    encoder.world = World::Name("root");
+    // by its name or its index
     let unknown = (WorldFault::UnknownWorld, "UnknownWorld".into());
+    assert_eq!(fault_of(&encoder), unknown);
+    encoder.world = World::Name("root");
     assert_eq!(fault_of(&encoder), unknown);
 }
 
@@ -151,21 +153,32 @@ fn faults_have_their_paths() {
         encoder.resolve = worlds.into();
         fault_of(&encoder)
     };
-    let wrong = |problem| WorldFault::Json(JsonFault::Wrong(problem));
-    let function = "resolve.interfaces[0].functions[\"hello\"]";
+    let wrong = |worlds: &str| match refused(worlds) {
+        (WorldFault::Json(fault), text) => {
+            let JsonFault::Wrong { path, problem, .. } = &fault else {
+                panic!("no path: {fault:?}");
+            };
+            // the text is of the message, whose member the worlds are
+            let whole = if path.is_empty() { "" } else { "." };
+            assert_eq!(text, format!("Json: resolve{whole}{path}: {problem}"));
+            (path.clone(), *problem, fault.to_string())
+        }
+        other => panic!("no fault of JSON: {other:?}"),
+    };
+    let function = "interfaces[0].functions[\"hello\"]";
+    let kind = format!("{function}.kind");
     assert_eq!(
-        refused(&WORLDS.replace("freestanding", "standing")),
-        (
-            wrong(Problem::Unknown),
-            format!("Json: {function}.kind: unknown")
-        )
+        wrong(&WORLDS.replace("freestanding", "standing")),
+        (kind.clone(), Problem::Unknown, kind + ": unknown")
+    );
+    let params = format!("{function}.params");
+    assert_eq!(
+        wrong(&WORLDS.replace("\"params\"", "\"parameters\"")),
+        (params.clone(), Problem::Missing, params + ": missing")
     );
     assert_eq!(
-        refused(&WORLDS.replace("\"params\"", "\"parameters\"")),
-        (
-            wrong(Problem::Missing),
-            format!("Json: {function}.params: missing")
-        )
+        wrong("[]"),
+        (String::new(), Problem::NotAnObject, "not an object".into())
     );
     let not_json = (
         WorldFault::Json(JsonFault::NotJson),
@@ -244,7 +257,7 @@ fn modules_that_are_refused() {
     let wasm: Vec<u8> = wasm.collect();
     lacking.adapters[0].wasm = &wasm;
     let (fault, text) = fault_of(&lacking);
-    let missing = ValidateFault::AdapterModuleDidNotExport;
+    let missing = ValidateFault::AdapterModuleDidNotExport("b".into());
     assert_eq!(fault, WorldFault::Adapter("old".into(), missing), "{text}");
 }
 
@@ -368,13 +381,13 @@ fn plan_by_import_options() {
         .import_options
         .push(ImportOptions::new("hello", RequiredOptions::default()));
     let plan = Plan::new(&encoder).expect("a plan");
-    assert_eq!(plan.uses[0].slot, None);
+    assert_eq!(plan.uses()[0].slot, None);
 }
 
 #[test]
 fn plan() {
     let plan = Plan::new(&encoder()).expect("a plan");
-    let [hello] = plan.uses.as_slice() else {
+    let [hello] = plan.uses() else {
         panic!("not one function: {plan:?}");
     };
     assert_eq!(hello.module, MainOrAdapter::Main);
@@ -384,8 +397,88 @@ fn plan() {
         ("hello", AbiVariant::GuestImport)
     );
     assert_eq!((hello.slot, &hello.realloc), (None, &None));
-    assert!((&plan).into_iter().eq(&plan.uses));
-    assert!(plan.clone().into_iter().eq(plan.uses));
+    assert!((&plan).into_iter().eq(plan.uses()));
+    assert!(plan.iter().cloned().eq(plan.clone()));
+    let both = ComponentWorld::with_plan(&encoder()).expect("both");
+    let world = ComponentWorld::new(&encoder()).expect("a world");
+    assert_eq!(both, (world, plan.clone()));
+    let line = "main my:demo/host hello sync slot - realloc -";
+    assert_eq!(hello.to_string(), line);
+    // both imports of `hello` are this use, and that of `old` is none
+    let world = ComponentWorld::new(&encoder()).expect("a world");
+    let uses = world.info.imports.imports();
+    let uses: Vec<_> = uses.map(|it| plan.of(&world, None, it.2)).collect();
+    assert_eq!(uses, [Some(hello), Some(hello), None]);
+    let import = world.info.imports.get("my:demo/host", "hello");
+    let import = import.expect("an import");
+    assert_eq!(plan.of(&world, Some("old"), import), None);
+    assert!(HashSet::from([hello]).contains(hello));
+}
+
+/// The shim of a main module that imports two functions of an adapter, one of them twice, and of a function that takes a
+/// string.
+#[test]
+fn table() {
+    let worlds = WORLDS.replace("u32", "string");
+    // types (i32, i32) -> () and () -> (); imports `b` of `old`, `hello` of `my:demo/host` twice, `a` of `old`, `b` again;
+    // exports its memory
+    let main = b"\0asm\x01\0\0\0\x01\x09\x02\x60\x02\x7f\x7f\0\x60\0\0\x02\x43\x05\x03old\x01b\0\x01\x0cmy:demo/host\x05hello\0\0\x0cmy:demo/host\x05hello\0\0\x03old\x01a\0\x01\x03old\x01b\0\x01\x05\x03\x01\0\x01\x07\x0a\x01\x06memory\x02\0";
+    let mut encoder = ComponentEncoder::new(&worlds, World::Name("demo"), main);
+    encoder.adapters.push(Adapter::new("old", OLD));
+    let world = ComponentWorld::new(&encoder).expect("a world");
+    let table = world.table().expect("memory");
+    let shown: Vec<_> = table
+        .slots()
+        .iter()
+        .map(|it| format!("{it} {}", it.ty))
+        .collect();
+    let wanted = [
+        "adapt-old-b () -> ()",
+        "adapt-old-a () -> ()",
+        "indirect-my:demo/host-hello (i32, i32) -> ()",
+    ];
+    assert_eq!(shown, wanted);
+    let plan = Plan::new(&encoder).expect("a plan");
+    let mut numbers = Vec::new();
+    for (_, _, import) in world.info.imports.imports() {
+        let filler = world.filler(None, import).expect("all need a slot");
+        let number = table.number_of(filler).expect("a slot");
+        numbers.push(number);
+        // what is lowered has the slots of the plan, in the same order
+        let used = plan.of(&world, None, import);
+        let is_lowered = matches!(filler, Filler::Lowered { .. });
+        assert_eq!(used.and_then(|it| it.slot), is_lowered.then_some(0));
+    }
+    // module by module
+    assert_eq!(numbers, [0, 1, 0, 2, 2]);
+    let import = world.info.imports.get("my:demo/host", "hello");
+    let import = import.expect("an import");
+    let other = world.filler(Some("old"), import).expect("lowered for it");
+    assert_eq!(table.number_of(other), None);
+    let direct = ComponentWorld::new(&self::encoder()).expect("a world");
+    let table = direct.table().expect("memory");
+    assert_eq!(table.slots().len(), 1);
+}
+
+/// Which module exports what is under a key.
+#[test]
+fn exported() {
+    let worlds = WORLDS.replace(
+        "\"exports\": {}",
+        r#""exports": {"b": {"function": {"name": "b", "kind": "freestanding", "params": [], "result": null}},
+            "a": {"function": {"name": "a", "kind": "freestanding", "params": [], "result": null}}}"#,
+    );
+    let mut encoder = ComponentEncoder::new(&worlds, World::Name("demo"), OLD);
+    encoder.adapters.push(Adapter::new("old", OLD));
+    encoder.adapters[0].required_exports.push("b");
+    let world = ComponentWorld::new(&encoder).expect("a world");
+    let key = |name: &str| WorldKey::Name(name.into());
+    let exported = |name: &str| world.exported(&key(name)).map(|it| (it.0, &it.1.exports));
+    let old: &ExportMap = &world.adapters["old"].info.exports;
+    assert_eq!(exported("a"), Some((None, &world.info.exports)));
+    assert_eq!(exported("b"), Some((Some("old"), old)));
+    assert_eq!(exported("c"), None);
+    assert_eq!(world.exported(&WorldKey::Interface(InterfaceId(0))), None);
 }
 
 /// A function that takes a string needs a memory, which the main module has not.
@@ -396,6 +489,8 @@ fn no_plan() {
         b"\0asm\x01\0\0\0\x01\x06\x01\x60\x02\x7f\x7f\0\x02\x16\x01\x0cmy:demo/host\x05hello\0\0";
     let encoder = ComponentEncoder::new(&worlds, World::Name("demo"), main);
     ComponentWorld::new(&encoder).expect("a world");
+    let both = ComponentWorld::with_plan(&encoder).map(|it| it.1);
+    assert_eq!(both, Plan::new(&encoder));
     match Plan::new(&encoder) {
         Err(Error::World(error)) => {
             assert_eq!(*error.fault(), WorldFault::Plan(PlanFault::NoMemory));

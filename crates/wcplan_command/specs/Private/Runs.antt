@@ -26,8 +26,10 @@ use Rattle.wcplan_command.specs.declared.explained_part.ExplainedPart.{Explained
 use Rattle.wcplan_command.specs.declared.arguments.NoCommand.{NoCommand}
 use Rattle.wcplan_command.specs.declared.arguments.NoCommand.TheVariants.{Memory, Help, Version, Wrong}
 use Rattle.wcplan_command.specs.declared.faults.ProgramFault.{ProgramFault}
-use Rattle.wcplan_command.specs.declared.faults.ProgramFault.TheVariants.{CannotMake, CannotWrite, Output, Resolve, Selection, World, Memory as no_memory}
+use Rattle.wcplan_command.specs.declared.faults.ProgramFault.TheVariants.{CannotMake, CannotWrite, Output, Resolve, Selection, Ways, World, Memory as no_memory}
 use Rattle.wcplan_command.specs.Usage.{fault_line}
+use Rattle.wc_gc.specs.declared.fault.GcFault.TheVariants.{Memory as gc_memory}
+use Rattle.wc_ways.specs.WaysFaults.{IsWaysFault}
 use Rattle.wc_world.specs.declared.fault.WorldFault.{WorldFault}
 use Rattle.wc_world.specs.declared.fault.WorldFault.TheVariants.{Memory as world_memory}
 
@@ -36,6 +38,12 @@ pub record IsMadeFor (c : CommandValue) (before : Option Held) (w : ComponentWor
   pub encoder : EncoderView
   pub encodes : IsEncoderOf c before encoder
   pub world : IsWorldOf plain_options encoder w
+
+-- why there is no text that is printed of a component's world
+abbrev pub IsDescriptionFault : ComponentWorldView → ProgramFault → Type 0
+IsDescriptionFault w no_memory = Unit {0}
+IsDescriptionFault w (Ways f) = (f ≢ gc_memory) × IsWaysFault w f
+IsDescriptionFault w f = ⊥
 
 -- a directory could not be made
 abbrev pub IsMakingFault : Option (List ℕ) → (List ℕ → Type 0) → ProgramFault → Type 0

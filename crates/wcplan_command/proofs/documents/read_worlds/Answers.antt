@@ -1,7 +1,8 @@
 use Rattle.std.proofs.Common.{◌∙◌, subst, sym}
 use Rattle.std.proofs.lemmas.Result.{err_from_is_err_and}
-use Rattle.wc_program.specs.Files.{FailsToRead, Holds}
+use Rattle.wc_program.specs.Files.{FailsToRead}
 use Rattle.wcplan_command.specs.Arguments.{command_value}
+use Rattle.wcplan_command.specs.Program.{HoldsInput}
 use Rattle.wcplan_command.proofs.WorldsLemmas.{all_there, some_cause, unread}
 use Rattle.wcplan_command.proofs.documents.read_worlds.Goals as goal
 
@@ -14,12 +15,12 @@ pub returns-in-Ok-clause-worlds : goal.returns-in-Ok-clause-worlds
 returns-in-Ok-clause-worlds g c =
     let command = command_value c.args.command.now in
     let before = g.F.FileStore.held c.args.files.now in
-    let held = subst (Holds before command.worlds) (sym (c.in-Ok.ensures.cases.0 ∙ c.deref.ensures.value)) c.in_ok-bytes.ensures.read in
+    let held = subst (HoldsInput before command.worlds) (sym (c.in-Ok.ensures.cases.0 ∙ c.deref.ensures.value)) c.in_ok-bytes.ensures.read in
     all_there command before c.in-Ok.text.now (λ m. m.resolve) (λ m. m.world.0) c.worlds_in.result held c.worlds_in.ensures.worlds
 
 pub returns-in-Ok-clause-fault : goal.returns-in-Ok-clause-fault
 returns-in-Ok-clause-fault g c =
     let command = command_value c.args.command.now in
     let before = g.F.FileStore.held c.args.files.now in
-    let held = subst (Holds before command.worlds) (sym (c.in-Ok.ensures.cases.0 ∙ c.deref.ensures.value)) c.in_ok-bytes.ensures.read in
+    let held = subst (HoldsInput before command.worlds) (sym (c.in-Ok.ensures.cases.0 ∙ c.deref.ensures.value)) c.in_ok-bytes.ensures.read in
     some_cause command before (FailsToRead g.F.FileStore.read_fails c.args.files.now) c.in-Ok.text.now c.worlds_in.result held c.worlds_in.ensures.fault

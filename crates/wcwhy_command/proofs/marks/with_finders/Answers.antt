@@ -2,7 +2,7 @@ use Rattle.std.proofs.Common.{◌≡◌, ◌<◌, ◌≤◌, ◌+◌, ◌-◌, f
 use Rattle.std.proofs.lemmas.List.{get_or_default}
 use Rattle.std.proofs.lemmas.Option.{slice_get_read}
 use Rattle.std.specs.List.{slice_get}
-use Rattle.wcwhy_command.specs.Private.Marks.{AreTaken}
+use Rattle.wcwhy_command.specs.Marks.{AreTaken}
 use Rattle.wcwhy_command.proofs.MarkLemmas.{none_taken, not_taken, one_taken}
 use Rattle.wcwhy_command.proofs.marks.with_finders.Goals as goal
 

@@ -1,5 +1,5 @@
 use Rattle.std.proofs.Common.{ℕ, ◌≤◌, length}
-use Rattle.wcwhy_command.specs.Private.Marks.{AreTaken}
+use Rattle.wcwhy_command.specs.Marks.{AreTaken}
 use Rattle.wcwhy_command.proofs.marks.with_finders.Given as goal
 
 abbrev pub invariant-loop-place : goal.invariant-loop-place

@@ -1,0 +1,151 @@
+#!/usr/bin/env python3
+"""Compiles the examples of examples/c over the static library, runs them, and compares what they answer.
+
+    checks/c-examples.py [--library FOLDER] [--cases N] [PROGRAM]
+
+Each is compiled with cc and with c++, all warnings refused, and linked with libnuigatre.a, and with a shared library that
+is made of it: by the flags that pkg-config reads from nuigatre.pc beside it, where there is pkg-config. The trimmed adapters
+have to be those of examples/, and plans those of PROGRAM, the script `wcplan` unless another is given. Then
+checks/c/fuzz_calls.c asks N damaged cases (2000). FOLDER has the library; else it is the one that cargo links. What differs is
+printed, and the status is 1. It needs cc and c++; rust/check runs it.
+"""
+import argparse
+import json
+import os
+import re
+import shutil
+import subprocess
+import sys
+import tempfile
+
+from rust_examples import PLANS, TOP, lines_of
+
+INCLUDE = os.path.join(TOP, "include")
+WARNINGS = ["-Wall", "-Wextra", "-Werror"]
+COMPILERS = {"cc": ["cc"], "c++": ["c++", "-x", "c++"]}
+# the adapter, what is trimmed of it, and the arguments of the example
+TRIMMED = [("adapter.wasm", "trimmed.wasm", ["--realloc", "cabi_realloc", "size_of"])]
+
+
+def library_folder():
+    """The folder of the library that cargo links."""
+    given = os.environ.get("NUIGATRE_LIB_DIR")
+    folders = [given] if given else [os.path.join(TOP, "crates", "nuigatre", "out"), os.path.join(TOP, "rust", "unproved")]
+    found = [folder for folder in folders if os.path.isfile(os.path.join(folder, "libnuigatre.a"))]
+    if not found:
+        sys.exit("there is no libnuigatre.a: rust/check makes it")
+    return found[0]
+
+
+def flags_of(folder):
+    """What is passed to compile with the header, and to link the library."""
+    if not (shutil.which("pkg-config") and os.path.isfile(os.path.join(folder, "nuigatre.pc"))):
+        return ["-I" + INCLUDE], ["-L" + folder, "-lnuigatre"]
+    environment = {**os.environ, "PKG_CONFIG_PATH": folder}
+    asked = [subprocess.run(["pkg-config", flag, "nuigatre"], env=environment, capture_output=True, text=True, check=True)
+             for flag in ("--cflags", "--libs")]
+    return asked[0].stdout.split(), asked[1].stdout.split()
+
+
+def run(command, **how):
+    """What a command prints; ends where it fails."""
+    ran = subprocess.run(command, capture_output=True, text=True, check=False, **how)
+    if ran.returncode:
+        sys.exit("%s\n%s%s" % (" ".join(command), ran.stdout, ran.stderr))
+    return ran.stdout
+
+
+class Built:
+    """Programs in a folder, each compiled in the ways that there are."""
+
+    def __init__(self, made, folder):
+        self.made, self.folder = made, folder
+        self.compiling, self.linking = flags_of(folder)
+        self.shared = os.path.join(made, "libnuigatre.so")
+        whole = ["-Wl,--whole-archive", os.path.join(folder, "libnuigatre.a"), "-Wl,--no-whole-archive"]
+        run(["cc", *WARNINGS, "-O2", "-fPIC", "-shared", *self.compiling, os.path.join(INCLUDE, "nuigatre_heap.c"), *whole,
+             "-o", self.shared])
+        exported = run(["nm", "-D", "--defined-only", self.shared])
+        if "rattle_" in exported:
+            sys.exit("the shared library exports functions of its heap:\n" + exported)
+
+    def program(self, source, compiler, heap=("-lnuigatre",)):
+        """A program over the static library, with the sources of its heap, or over the shared one."""
+        name = re.sub(r"\W", "", os.path.basename(source) + compiler + str(heap))
+        program, linked = os.path.join(self.made, name), [*heap, "-x", "none"]
+        linked += ["-L" + self.made, "-Wl,-rpath," + self.made] if heap == ("-lnuigatre",) else self.linking
+        command = [*COMPILERS[compiler], *WARNINGS, "-O2", *self.compiling, source, *linked, "-o", program]
+        # a library comes after what needs it
+        run([word for word in command if word != "-lnuigatre"] + ["-lnuigatre"])
+        return program
+
+    def ways(self, source):
+        """The program in each way: how it is made, and its path."""
+        source = os.path.join(TOP, "examples", "c", source)
+        for compiler in COMPILERS:
+            for kind, heap in ("static", (os.path.join(INCLUDE, "nuigatre_heap.c"),)), ("shared", ("-lnuigatre",)):
+                yield "%s, %s" % (compiler, kind), self.program(source, compiler, heap)
+
+
+def line_of(use):
+    """A use of a plan, as `wcplan` prints it."""
+    module = use["module"]
+    words = ["main"] if module["kind"] == "main" else ["adapter", module["name"]]
+    words += [use["interface"] or "$root", use["name"], "async" if use["abi"] == "guest-import-async" else "sync"]
+    words += ["slot", "-" if use["slot"] is None else str(use["slot"]), "realloc", use["realloc"] or "-"]
+    return " ".join(words)
+
+
+def compare_trims(built):
+    """How many adapters are trimmed as they have to be."""
+    count, out = 0, os.path.join(built.made, "out.wasm")
+    for way, program in built.ways("trim.c"):
+        for adapter, trimmed, arguments in TRIMMED:
+            run([program, os.path.join(TOP, "examples", adapter), out, *arguments])
+            with open(out, "rb") as found, open(os.path.join(TOP, "examples", trimmed), "rb") as wanted:
+                if found.read() != wanted.read():
+                    sys.exit("trim.c by %s: another adapter than examples/%s" % (way, trimmed))
+            count += 1
+    return count
+
+
+def compare_plans(built, wcplan):
+    """How many lines of plans agree with those of `wcplan`."""
+    count, programs = 0, list(built.ways("plan.c"))
+    for plan in PLANS:
+        wanted = plan.lines_of(wcplan)
+        if wanted is None:
+            continue
+        for way, program in programs:
+            found = [line_of(use) for use in json.loads("".join(lines_of([program, *plan.arguments], plan.folder)))]
+            if found != wanted:
+                sys.exit("plan.c by %s: another plan of %s than that of wcplan:\n%s" % (way, plan.folder, "\n".join(found)))
+            count += len(found)
+    return count
+
+
+def fuzz(built, cases):
+    source = os.path.join(TOP, "checks", "c", "fuzz_calls.c")
+    program = os.path.join(built.made, "fuzz_calls")
+    run(["cc", *WARNINGS, "-O2", *built.compiling, source, *built.linking, "-o", program])
+    plan = PLANS[0]
+    world, name, main, adapter, key = plan.arguments
+    return run([program, str(cases), "0", world, name, main, adapter, key], cwd=plan.folder)
+
+
+def main():
+    parser = argparse.ArgumentParser(description=__doc__, formatter_class=argparse.RawDescriptionHelpFormatter)
+    parser.add_argument("--library", metavar="FOLDER", help="the folder of libnuigatre.a")
+    parser.add_argument("--cases", type=int, default=2000, metavar="N", help="how many damaged cases are asked")
+    parser.add_argument("program", nargs="?", default=os.path.join(TOP, "wcplan"), metavar="PROGRAM")
+    arguments = parser.parse_args()
+    with tempfile.TemporaryDirectory() as made:
+        built = Built(made, os.path.abspath(arguments.library or library_folder()))
+        print("%d adapters trimmed from C agree" % compare_trims(built))
+        print("%d lines of plans from C agree" % compare_plans(built, arguments.program))
+        print("%d damaged cases from C: each call, and how many ended with each status\n%s" % (
+            arguments.cases, fuzz(built, arguments.cases)), end="")
+
+
+if __name__ == "__main__":
+    main()

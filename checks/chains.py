@@ -1,0 +1,153 @@
+#!/usr/bin/env python3
+"""Compares the chains that `wcwhy` prints with those of another search, breadth first in Python over what wasm-objdump lists.
+
+    checks/chains.py [PROGRAM] [ADAPTER ..]
+
+PROGRAM is crates/wcwhy/out/wcwhy unless another is named. The ADAPTERs are those that Rust's `wasm-component-ld` carries, as
+in checks/adapters.py, three in each toolchain of rustup, unless files are named. For each of its exports alone, for all of
+them, and for ten choices of them, every import has to have a chain just where this search finds one, of the same length;
+and the chain has to be one: each item is named by the one before it. A line is printed for each that differs, and at last
+how many agreed; the status is 1 where one differs, or where there is none to compare. It needs wabt.
+
+A function names what its operators do: functions, globals, tables, and the memory 0. Types are left out, since no import is
+reached by one, and initialisers: adapters whose globals are initialised by imports are not judged.
+"""
+import argparse
+import collections
+import os
+import pathlib
+import random
+import re
+import subprocess
+import sys
+import tempfile
+
+from adapters import linkers, modules_inside, read
+from module_bytes import content, name_at, number_at
+
+sys.path.append(str(pathlib.Path(__file__).resolve().parent.parent / "tools"))
+from repository import TOP, need
+
+KINDS = "func", "table", "memory", "global"
+OPERATOR = re.compile(r" [0-9a-f]+: [0-9a-f ]+\| *(\S+)(?: (.*))?")
+MEMORY = re.compile(r"\w+\.(load|store)\w*|memory\.(size|grow|fill|copy)")
+NAMED = {"call": "func", "return_call": "func", "ref.func": "func", "global.get": "global", "global.set": "global",
+         "table.get": "table", "table.set": "table", "table.size": "table", "table.grow": "table", "table.fill": "table"}
+
+
+def imports_of(module):
+    """The module, the name and the item of each import, in the order of the file."""
+    data, found, counts = content(module, 2), [], collections.Counter()
+    count, at = number_at(data, 0)
+    for _ in range(count):
+        field, at = name_at(data, at)
+        name, at = name_at(data, at)
+        kind = KINDS[data[at]]
+        # a table and a global have a byte of a type; limits have a flag, and a maximum where it is odd
+        at += 1 + (kind in ("table", "global"))
+        limits = 1 + (data[at] & 1) if kind in ("table", "memory") else 0
+        for _ in range(limits + 1):
+            _, at = number_at(data, at)
+        found.append((field, name, (kind, counts[kind])))
+        counts[kind] += 1
+    return found
+
+
+def exports_of(module):
+    """The names of the exports, with their items."""
+    data, found = content(module, 7), {}
+    count, at = number_at(data, 0)
+    for _ in range(count):
+        name, at = name_at(data, at)
+        index, after = number_at(data, at + 1)
+        found[name], at = (KINDS[data[at]], index), after
+    return found
+
+
+def references_of(path):
+    """What each function names, by wasm-objdump."""
+    listed = subprocess.run(["wasm-objdump", "-d", path], capture_output=True, text=True, errors="replace", check=True).stdout
+    found, inside = collections.defaultdict(dict), None
+    for line in listed.splitlines():
+        head = re.match(r"[0-9a-f]+ func\[(\d+)\]", line)
+        inside = ("func", int(head[1])) if head else inside
+        operator = OPERATOR.match(line)
+        name, words = (operator[1], operator[2] or "") if operator else ("", "")
+        if name in NAMED:
+            found[inside][NAMED[name], int(words.split()[0])] = None
+        elif MEMORY.fullmatch(name):
+            found[inside]["memory", 0] = None
+        elif name in ("call_indirect", "return_call_indirect"):
+            found[inside]["table", int(words.split()[0])] = None
+    return found
+
+
+def lengths(references, roots):
+    """How many items the shortest chain to each item has that is reached."""
+    found, waiting = dict.fromkeys(roots, 1), collections.deque(roots)
+    while waiting:
+        item = waiting.popleft()
+        for other in references[item]:
+            if other not in found:
+                found[other] = found[item] + 1
+                waiting.append(other)
+    return found
+
+
+def chains_of(program, path, names):
+    """Of each line of an import that the program prints the export and the items under it."""
+    ran = subprocess.run([program, path, *names], capture_output=True, text=True, check=False)
+    if ran.returncode:
+        sys.exit(f"{path} {names}: status {ran.returncode} {ran.stderr}")
+    found = []
+    for line in ran.stdout.splitlines():
+        words = line.split()
+        if not line.startswith("  "):
+            found.append([tuple(words)])
+        else:
+            found[-1].append(words[1] if words[0] == "export" else (words[0], int(words[1])))
+    return found
+
+
+def differing(module, references, names, printed):
+    """How many imports agree, and what is said of those that differ."""
+    exported, agreed, wrong = exports_of(module), 0, []
+    wanted = lengths(references, dict.fromkeys(exported[it] for it in names))
+    printed = iter(printed)
+    for field, name, item in imports_of(module):
+        if item not in wanted:
+            agreed += 1
+            continue
+        (title, export, *chain) = next(printed, [None, None])
+        is_chain = title == (field, name) and export in names and chain[:1] == [exported[export]] and chain[-1:] == [item]
+        is_chain = is_chain and all(after in references[before] for before, after in zip(chain, chain[1:]))
+        if is_chain and len(chain) == wanted[item]:
+            agreed += 1
+        else:
+            wrong.append(f"{field} {name} of {' '.join(names)[:60]}: {title} {export} {chain}; {wanted[item]} items wanted")
+    return agreed, wrong + [f"{' '.join(names)[:60]}: {more} is not reached" for more in printed]
+
+
+def main():
+    parser = argparse.ArgumentParser(description=__doc__, formatter_class=argparse.RawDescriptionHelpFormatter)
+    parser.add_argument("program", nargs="?", default=TOP / "crates" / "wcwhy" / "out" / "wcwhy", type=os.path.abspath)
+    parser.add_argument("adapters", nargs="*", metavar="ADAPTER")
+    given = parser.parse_args()
+    need("wasm-objdump wabt")
+    modules = [read(it) for it in given.adapters] or [it for linker in linkers() for it in modules_inside(read(linker))]
+    agreed, wrong, asked, chance = 0, [], 0, random.Random(1)
+    with tempfile.TemporaryDirectory() as folder:
+        path = os.path.join(folder, "adapter.wasm")
+        for module in modules:
+            pathlib.Path(path).write_bytes(module)
+            references, names = references_of(path), list(exports_of(module))
+            some = [chance.sample(names, chance.randint(2, len(names))) for _ in range(10)]
+            for each in [[name] for name in names] + [names] + some:
+                more, differ = differing(module, references, each, chains_of(given.program, path, each))
+                agreed, wrong, asked = agreed + more, wrong + differ, asked + 1
+    print("\n".join([*wrong, f"{len(modules)} adapters, {asked} choices of exports: {agreed} answers agree, {len(wrong)} differ"]))
+    return 1 if wrong or not agreed else 0
+
+
+if __name__ == "__main__":
+    sys.exit(main())

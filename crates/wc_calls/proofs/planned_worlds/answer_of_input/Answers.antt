@@ -1,0 +1,25 @@
+use Rattle.wc_world.specs.WorldViews.{world_view}
+use Rattle.wc_calls.specs.Private.OptionTables.{table_options}
+use Rattle.wc_calls.proofs.PlannedWorldLemmas.{faults_of_plan, no_world_for, planned_for}
+use Rattle.wc_calls.proofs.planned_worlds.answer_of_input.Goals as goal
+
+pub answer_of_world-requires : goal.answer_of_world-requires
+answer_of_world-requires c =
+    c.worlds_nameable.ensures (table_options c.args.input.now.options) (world_view c.in-Ok.world) c.in-Ok.ensures.world
+
+pub returns-in-Ok-clause-answer : goal.returns-in-Ok-clause-answer
+returns-in-Ok-clause-answer c =
+    let input = c.args.input.now in
+    planned_for (table_options input.options) input.encoder (world_view c.in-Ok.world) c.answer_of_world.result c.in-Ok.ensures.world
+    c.answer_of_world.ensures.answer
+
+pub returns-in-Ok-clause-fault : goal.returns-in-Ok-clause-fault
+returns-in-Ok-clause-fault c =
+    let input = c.args.input.now in
+    faults_of_plan (table_options input.options) input.encoder (world_view c.in-Ok.world) c.answer_of_world.result c.in-Ok.ensures.world
+    c.answer_of_world.ensures.fault
+
+pub returns-in-Err-clause-fault : goal.returns-in-Err-clause-fault
+returns-in-Err-clause-fault c =
+    let input = c.args.input.now in
+    rw c.from.ensures (no_world_for (table_options input.options) input.encoder c.in-Err.fault c.in-Err.ensures.fault)

@@ -1,0 +1,23 @@
+-- Words of contracts of private functions. No contract of a public function cites these, directly or through others.
+-- What is answered for an encoder and its plan.
+use Rattle.std.specs.Prelude.{ℕ, List, ⊤}
+use Rattle.wc_encoder.specs.EncoderParts.{EncoderView}
+use Rattle.wc_plan.specs.Faults.{IsFirstFault}
+use Rattle.wc_world.specs.Options.{OptionsOf}
+use Rattle.wc_world.specs.Views.{ComponentWorldView}
+use Rattle.wc_world.specs.World.{IsWorldOf}
+use Rattle.wc_calls.specs.PlannedWorlds.{IsPlannedText}
+use Rattle.wc_calls.specs.declared.message_fault.MessageFault.{MessageFault}
+use Rattle.wc_calls.specs.declared.message_fault.MessageFault.TheVariants.{Memory, Plan}
+
+-- the modules of the world that options make of an encoder, of this length, and then the world with its plan as JSON
+pub record IsPlannedFor (options : OptionsOf) (e : EncoderView) (module_length : ℕ) (text : List ℕ) : Type 0 where
+  pub world : ComponentWorldView
+  pub made : IsWorldOf options e world
+  pub is : IsPlannedText world module_length text
+
+-- why a world has no plan
+abbrev pub IsPlanFaultOf : ComponentWorldView → MessageFault → Type 0
+IsPlanFaultOf w Memory = ⊤
+IsPlanFaultOf w (Plan f) = IsFirstFault w f
+IsPlanFaultOf w f = ⊥

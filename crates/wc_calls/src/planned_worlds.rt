@@ -1,0 +1,126 @@
+//! The call that makes a component's world and its plan.
+
+ghost use Rattle.std.specs.Prelude.{◌≡◌, ◌≢◌, ◌++◌, ◌≤◌, IfErr, IfOk, length};
+ghost use Rattle.wc_uses.specs.PlanViews.{plan_view};
+ghost use Rattle.wc_world.specs.WorldViews.{world_view};
+ghost use Rattle.wc_plan.specs.Faults.{AreNameable};
+ghost use Rattle.wc_record.specs.Texts.{planned_world_text};
+ghost use Rattle.wc_calls.specs.Answers.{AreOthersOfTextZero, IsPut, IsTextStatus, IsTooLong, bad_argument, done, failed, same, too_small};
+ghost use Rattle.wc_calls.specs.ComponentWorlds.{IsFaultOf, modules_text};
+ghost use Rattle.wc_calls.specs.FaultAnswers.{IsFaultAnswered};
+ghost use Rattle.wc_calls.specs.PlannedWorlds.{IsPlannedText, IsPlannedWorldAnswer};
+ghost use Rattle.wc_calls.specs.Private.EncoderAnswers.{IsPlaceFor, IsPlanFaultFor};
+ghost use Rattle.wc_calls.specs.Private.OptionTables.{table_options};
+ghost use Rattle.wc_calls.specs.Private.PlannedAnswers.{IsPlanFaultOf, IsPlannedFor};
+
+use crate::answers::{Answer, put};
+use crate::component_worlds::{WorldAnswer, modules_of};
+use crate::encoders::{WorldInput, world_input};
+use crate::explained::{answer_encoder_fault, answer_message_fault};
+use crate::message_fault::MessageFault;
+use std::alloc::Global;
+use wc_maps::Seed;
+use wc_plan::laws::worlds_nameable;
+use wc_plan::{Plan, plan};
+use wc_record::planned_world_to_json;
+use wc_world::ComponentWorld;
+
+/// What is answered for a component's world and its plan.
+fn answer_of_plan(
+    alloc: Global,
+    world: &ComponentWorld<'_>,
+    plan: &Plan,
+) -> Result<WorldAnswer, MessageFault>
+    ensures modules { IfOk result (λ a. a.modules.items ≡ modules_text (world_view world.now)) }
+    ensures json { IfOk result (λ a. a.json.items
+        ≡ planned_world_text (world_view world.now) (plan_view plan.now)) }
+    ensures fault { IfErr result (λ f. f ≡ MessageFault.Memory) }
+{
+    Ok(WorldAnswer {
+        modules: modules_of(alloc, world)?,
+        json: planned_world_to_json(alloc, world, plan)?,
+    })
+}
+
+/// What is answered for a component's world.
+fn answer_of_world(alloc: Global, world: &ComponentWorld<'_>) -> Result<WorldAnswer, MessageFault>
+    requires { AreNameable (world_view world.now) }
+    ensures answer { IfOk result (λ a. IsPlannedText (world_view world.now)
+        (length a.modules.items) (a.modules.items ++ a.json.items)) }
+    ensures fault { IfErr result (IsPlanFaultOf (world_view world.now)) }
+{
+    match plan(alloc, world) {
+        Ok(plan) => answer_of_plan(alloc, world, &plan),
+        Err(fault) => Err(MessageFault::from(fault)),
+    }
+}
+
+/// What is answered for an encoder and options.
+fn answer_of_input(alloc: Global, input: &WorldInput) -> Result<WorldAnswer, MessageFault>
+    ensures answer { IfOk result (λ a. IsPlannedFor (table_options input.now.options)
+        input.now.encoder (length a.modules.items) (a.modules.items ++ a.json.items)) }
+    ensures fault { IfErr result (IsPlanFaultFor (table_options input.now.options)
+        input.now.encoder) }
+{
+    worlds_nameable(&input.encoder);
+    match ComponentWorld::new(alloc, &input.encoder, &input.options) {
+        Ok(world) => answer_of_world(alloc, &world),
+        Err(fault) => Err(MessageFault::from(fault)),
+    }
+}
+
+/// Makes the world and the plan of an encoder's component: `planned_world`.
+fn planned_world_for(alloc: Global, input: &WorldInput, out: &mut [u8]) -> Answer
+    ensures done { result.status ≡ done → IsPut (IsPlannedFor (table_options input.now.options)
+        input.now.encoder result.module_length) result.length out.old out.new }
+    ensures too_small { result.status ≡ too_small
+        → IsTooLong (IsPlannedFor (table_options input.now.options) input.now.encoder
+        result.module_length) result.length out.old }
+    ensures fault { result.status ≡ failed
+        → IsFaultAnswered (IsPlanFaultFor (table_options input.now.options) input.now.encoder)
+        (IsPlaceFor input.now.encoder) result out.old out.new }
+    ensures unchanged { result.status ≢ done → result.status ≢ failed → out.new ≡ out.old }
+    ensures statuses { IsTextStatus result.status }
+    ensures others { AreOthersOfTextZero result }
+{
+    match answer_of_input(alloc, input) {
+        Ok(answer) => put(&answer.modules, &answer.json, out),
+        Err(fault) => answer_encoder_fault(alloc, &input.encoder, &fault, out),
+    }
+}
+
+/// Makes the world of a component and its plan: what `world` and `plan` answer of the same message and modules, made once.
+/// `seed`: the seed of the maps that are made.
+///
+/// - `DONE`: as of `world`, and the JSON object has one member more, which is the last: `plan`, the list that `plan` answers
+///   (`wc_record::planned_world_to_json`).
+/// - `TOO_SMALL`: the same would have `length` bytes, and `out` has fewer.
+/// - `FAULT`: as of `plan`: why there is no world, or no plan of it.
+/// - `MEMORY`: an allocation failed.
+///
+/// It is never `SAME` or `BAD_ARGUMENT`. `out` is as it was but for what is said here, and then after the first `length`
+/// bytes. Numbers of the answer that nothing is said of are 0.
+pub fn planned_world(
+    alloc: Global,
+    seed: Seed,
+    message: &[u8],
+    modules: &[u8],
+    out: &mut [u8],
+) -> Answer
+    ensures done { result.status ≡ done → IsPut (IsPlannedWorldAnswer message.now modules.now
+        result.module_length) result.length out.old out.new }
+    ensures too_small { result.status ≡ too_small → IsTooLong
+        (IsPlannedWorldAnswer message.now modules.now result.module_length)
+        result.length out.old }
+    ensures fault { result.status ≡ failed → IsFaultOf message.now modules.now
+        result out.old out.new }
+    ensures unchanged { result.status ≢ done → result.status ≢ failed → out.new ≡ out.old }
+    ensures statuses { (result.status ≤ 5) × (result.status ≢ same)
+        × (result.status ≢ bad_argument) }
+    ensures others { AreOthersOfTextZero result }
+{
+    match world_input(alloc, seed, message, modules) {
+        Ok(input) => planned_world_for(alloc, &input, out),
+        Err(fault) => answer_message_fault(alloc, seed, message, &fault, out),
+    }
+}

@@ -1,0 +1,7 @@
+mod ListLemmas
+mod RecordLemmas
+mod OriginalLemmas
+mod ImportLemmas
+mod WalkLemmas
+mod MarkLemmas
+mod GraphLemmas

@@ -1,0 +1,5 @@
+use Rattle.wc_ways.specs.Private.Graphs.{AreHere}
+use Rattle.wc_ways.proofs.marks.with_imports.Given as goal
+
+abbrev pub invariant-loop-position : goal.invariant-loop-position
+invariant-loop-position l = AreHere l.walk l.position l.marks.items

@@ -1,0 +1,192 @@
+//! An adapter as the encoder has it, before it is trimmed.
+
+ghost use Rattle.std.specs.Prelude.{◌≡◌, IfErr, IfOk, string_bytes};
+ghost use Rattle.std.specs.Option.{option_map};
+ghost use Rattle.wc_gc.specs.Liveness.{IsFault, names_of};
+ghost use Rattle.wc_names.specs.Views.{import_view};
+ghost use Rattle.wc_read.specs.Imports.{import_value};
+ghost use Rattle.wc_validate.specs.Validated.{module_record};
+ghost use Rattle.wc_world.specs.WorldViews.{world_view};
+ghost use Rattle.wc_validate.specs.Imports.Instances.{instance_view};
+ghost use Rattle.wc_ways.specs.Originals.{asked_in, recorded_at, recorded_in, wanted_of};
+ghost use Rattle.wc_ways.specs.Private.Walks.{AreChainsFor, IsNameableIn, IsSaidFor, IsSaidOfWalk, IsWalk, function_value, original_in, required_in};
+ghost use Rattle.wc_ways.specs.WaysFaults.{search_input};
+ghost use Rattle.wc_ways.specs.Words.{is_wanted};
+
+use crate::asked::{Function, asked_function};
+use crate::graph::original_graph;
+use crate::lines::original_ways;
+use std::alloc::{AllocError, Global};
+use wc_gc::{GcFault, ImportChains, why_imports};
+use wc_maps::{Map, OrderedMap, Set};
+use wc_names::Import as Recorded;
+use wc_read::laws::modules_unique;
+use wc_read::{FuncType, Import, Module, function_names, read_module};
+use wc_validate::{ImportInstance, ImportMap, ValidatedModule};
+use wc_world::{ComponentWorld, required_exports};
+
+/// In which form ways are said.
+#[derive(Clone, Copy)]
+pub(crate) enum Form {
+    Lines,
+    Graph,
+}
+
+/// An adapter of a component's world that was trimmed, and what is asked about.
+#[derive(Clone, Copy)]
+pub(crate) struct Adapter<'a, 'w> {
+    pub(crate) world: &'a ComponentWorld<'w>,
+    /// The key of an interface, or `all`.
+    pub(crate) key: &'a str,
+    /// Its position among the adapters.
+    pub(crate) index: usize,
+    pub(crate) name: &'a str,
+    /// What the component's world records of it.
+    pub(crate) info: &'a ValidatedModule,
+}
+
+/// The same as the encoder has it, with the chains to what it imports.
+#[derive(Clone, Copy)]
+pub(crate) struct Walk<'a, 'w, 'r> {
+    pub(crate) adapter: &'a Adapter<'a, 'w>,
+    pub(crate) original: &'a Module<'r>,
+    /// The names of its functions.
+    pub(crate) names: &'a OrderedMap<u32, &'r str>,
+    pub(crate) chains: &'a ImportChains<'r>,
+    /// The functions that the main module imports from it.
+    pub(crate) wanted: &'a Map<String, FuncType>,
+}
+
+/// What is said of an adapter that has these bytes before it is trimmed.
+pub(crate) fn said_in(
+    alloc: Global,
+    form: Form,
+    adapter: &Adapter<'_, '_>,
+    wasm: &[u8],
+) -> Result<String, GcFault>
+    requires { IsNameableIn adapter.now }
+    ensures said { IfOk result (λ s. IsSaidFor form adapter.now wasm.now (string_bytes s)) }
+    ensures fault { IfErr result (IsFault (search_input (world_view adapter.now.world.now)
+        adapter.now.name.now (module_record adapter.now.info.now) wasm.now)) }
+{
+    let main = &adapter.world.info;
+    match required_exports(alloc, main, adapter.name, adapter.info) {
+        Ok(required) => said_for(alloc, form, adapter, wasm, &required),
+        Err(AllocError) => Err(GcFault::Memory),
+    }
+}
+
+/// The same, where these exports are required of the adapter.
+fn said_for(
+    alloc: Global,
+    form: Form,
+    adapter: &Adapter<'_, '_>,
+    wasm: &[u8],
+    required: &Set<String>,
+) -> Result<String, GcFault>
+    requires nameable { IsNameableIn adapter.now }
+    requires required { names_of required.now.keys ≡ required_in adapter.now }
+    ensures said { IfOk result (λ s. IsSaidFor form adapter.now wasm.now (string_bytes s)) }
+    ensures fault { IfErr result (IsFault (search_input (world_view adapter.now.world.now)
+        adapter.now.name.now (module_record adapter.now.info.now) wasm.now)) }
+{
+    match why_imports(alloc, wasm, required) {
+        Ok(chains) => match said_with(alloc, form, adapter, wasm, &chains) {
+            Ok(said) => Ok(said),
+            Err(AllocError) => Err(GcFault::Memory),
+        },
+        Err(fault) => Err(fault),
+    }
+}
+
+/// The same, where these are the chains in the adapter.
+fn said_with(
+    alloc: Global,
+    form: Form,
+    adapter: &Adapter<'_, '_>,
+    wasm: &[u8],
+    chains: &ImportChains<'_>,
+) -> Result<String, AllocError>
+    requires nameable { IsNameableIn adapter.now }
+    requires chains { AreChainsFor adapter.now wasm.now chains.now }
+    ensures { IfOk result (λ s. IsSaidFor form adapter.now wasm.now (string_bytes s)) }
+{
+    // The bytes are those of a module: there is no fault but that memory runs out.
+    modules_unique();
+    let Ok(original) = read_module(alloc, wasm) else {
+        return Err(AllocError);
+    };
+    let Ok(names) = function_names(alloc, wasm) else {
+        return Err(AllocError);
+    };
+    let imports = &adapter.world.info.imports;
+    let wanted = imports.required_from_adapter(alloc, adapter.name)?;
+    let walk = Walk {
+        adapter,
+        original: &original,
+        names: &names,
+        chains,
+        wanted: &wanted,
+    };
+    said_of(alloc, form, &walk)
+}
+
+/// What is said of an adapter whose module was read.
+fn said_of(alloc: Global, form: Form, walk: &Walk<'_, '_, '_>) -> Result<String, AllocError>
+    requires { IsWalk walk.now }
+    ensures { IfOk result (λ s. IsSaidOfWalk form walk.now (string_bytes s)) }
+{
+    match form {
+        Form::Lines => original_ways(alloc, walk),
+        Form::Graph => original_graph(alloc, walk),
+    }
+}
+
+/// The function that an import of an adapter is, if it stays, and is one that is asked about.
+pub(crate) fn asked_import<'a>(
+    alloc: Global,
+    adapter: &Adapter<'a, '_>,
+    import: &Import<'_>,
+) -> Result<Option<Function<'a>>, AllocError>
+    requires { IsNameableIn adapter.now }
+    ensures { IfOk result (λ f. option_map function_value f
+        ≡ asked_in (world_view adapter.now.world.now).encoder.resolve adapter.now.key.now
+        (module_record adapter.now.info.now).imports (import_value import.now)) }
+{
+    let info = adapter.info;
+    let Some(recorded) = recorded_at(&info.imports, import.module, import.name) else {
+        return Ok(None);
+    };
+    let metadata = adapter.world.encoder.metadata();
+    asked_function(alloc, &metadata.resolve, adapter.key, recorded)
+}
+
+/// What is recorded of an import, by its module and its name.
+fn recorded_at<'a>(imports: &'a ImportMap, from: &str, name: &str) -> Option<&'a Recorded>
+    ensures { option_map (λ i. import_view i.now) result
+        ≡ recorded_at imports.now from.now name.now }
+{
+    match imports.modules().get(from) {
+        Some(instance) => recorded_in(instance, name),
+        None => None,
+    }
+}
+
+/// What is recorded of an import of a module, by its name.
+fn recorded_in<'a>(instance: &'a ImportInstance, name: &str) -> Option<&'a Recorded>
+    ensures { option_map (λ i. import_view i.now) result
+        ≡ recorded_in name.now (instance_view instance.now) }
+{
+    match instance {
+        ImportInstance::Names(names) => names.get(name),
+        ImportInstance::Whole(_) => None,
+    }
+}
+
+/// Whether the main module imports an export of the adapter.
+pub(crate) fn is_wanted(walk: &Walk<'_, '_, '_>, export: &str) -> bool
+    requires { IsWalk walk.now }
+    ensures { result ≡ is_wanted (wanted_of (original_in walk.now)) export.now }
+{
+    walk.wanted.contains_key(export)
+}

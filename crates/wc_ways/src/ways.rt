@@ -1,0 +1,112 @@
+//! The ways to the functions that a component imports.
+
+ghost use Rattle.std.specs.Prelude.{◌≡◌, [], IfErr, IfOk, string_bytes};
+ghost use Rattle.wc_plan.specs.Faults.{AreNameable};
+ghost use Rattle.wc_world.specs.WorldViews.{world_view};
+ghost use Rattle.wc_ways.specs.Private.Walks.{main_said};
+ghost use Rattle.wc_ways.specs.Ways.{IsWaysText, or_none};
+ghost use Rattle.wc_ways.specs.WaysFaults.{IsWaysFault};
+ghost use Rattle.wc_ways.specs.WaysGraph.{IsWaysGraph};
+
+use crate::adapters::{Module, all_said, module_said};
+use crate::originals::Form;
+use std::alloc::{AllocError, Global};
+use wc_gc::GcFault;
+use wc_json::escaped;
+use wc_world::ComponentWorld;
+
+/// The ways to the functions that the modules of a component import, as lines: of an interface that `key` names, with its
+/// version or without, or of all where it is `all`. `$root` names the functions that are the world's own. A key without a
+/// version asks about each version; what is before the first `@` of an interface's name is its name without one.
+///
+/// The imports of the main module come first, and then those of each adapter, in order. Of each function there is a line
+/// `INTERFACE NAME`, and then a line for each step of the way to it, after two blanks:
+///
+/// - of the main module `main imports MODULE NAME` alone;
+/// - of an adapter `main imports ADAPTER EXPORT`, if the main module imports the export where the way begins;
+///   `adapter ADAPTER exports EXPORT`; a line for each item that leads from it to the import, in the adapter as the encoder
+///   has it, by the shortest chain (`wc_gc::why_imports`) of the exports for which it was trimmed; and
+///   `adapter ADAPTER imports MODULE NAME`;
+/// - of a library `adapter ADAPTER imports MODULE NAME` alone.
+///
+/// Where nothing is imported that is asked about, there is one line, `KEY: not imported`. Texts from outside are escaped
+/// (`wc_json::escaped`), and a blank in them is `\u{20}`; in the line of a key it stays.
+///
+/// It takes time and memory linear in the modules and in the text.
+///
+/// # Errors
+///
+/// - `Memory`: an allocation failed.
+/// - Others: an adapter, as the encoder has it, has this fault of `wc_gc::why_imports`. An adapter that was trimmed has
+///   none, and those of a component's world were.
+pub fn ways_text(alloc: Global, world: &ComponentWorld<'_>, key: &str) -> Result<String, GcFault>
+    requires { AreNameable (world_view world.now) }
+    ensures text { IfOk result (λ s. IsWaysText (world_view world.now) key.now
+        (string_bytes s)) }
+    ensures fault { IfErr result (IsWaysFault (world_view world.now)) }
+{
+    let mut text = main_said(alloc, Form::Lines, world, key)?;
+    let ways = all_said(alloc, Form::Lines, world, key)?;
+    text.push_str(&ways)?;
+    Ok(text_or_none(alloc, key, text)?)
+}
+
+/// The same ways as a graph, in the language of Graphviz: the main module, each adapter and each library as a cluster, with
+/// an arrow from the main module to each export where a way begins, if it imports it; in an adapter the items of all ways
+/// together, which are a tree, with an arrow to each from the item that first names it, or from the export that does; and
+/// a node for each function that is asked about, with arrows from the items, or modules, that import it. Texts are escaped
+/// as in the lines, and then as Graphviz has to read them between quotes. Where nothing is imported that is asked about,
+/// no function is in the graph.
+///
+/// It takes time and memory linear in the modules: of many long ways it has each item once.
+///
+/// # Errors
+///
+/// Those of `ways_text`.
+pub fn ways_graph(alloc: Global, world: &ComponentWorld<'_>, key: &str) -> Result<String, GcFault>
+    requires { AreNameable (world_view world.now) }
+    ensures graph { IfOk result (λ s. IsWaysGraph (world_view world.now) key.now
+        (string_bytes s)) }
+    ensures fault { IfErr result (IsWaysFault (world_view world.now)) }
+{
+    let main = main_said(alloc, Form::Graph, world, key)?;
+    let adapters = all_said(alloc, Form::Graph, world, key)?;
+    Ok(format!(in alloc; "digraph wcplan {{\n{main}{adapters}}}\n")?)
+}
+
+/// The lines; or the line that nothing is imported.
+fn text_or_none(alloc: Global, key: &str, text: String) -> Result<String, AllocError>
+    ensures { IfOk result (λ s. string_bytes s ≡ or_none key.now (string_bytes text)) }
+{
+    if text.is_empty() {
+        none_text(alloc, key)
+    } else {
+        Ok(text)
+    }
+}
+
+/// The line that nothing is imported.
+fn none_text(alloc: Global, key: &str) -> Result<String, AllocError>
+    ensures { IfOk result (λ s. string_bytes s ≡ or_none key.now []) }
+{
+    let key = escaped(alloc, key)?;
+    format!(in alloc; "{key}: not imported\n")
+}
+
+/// What is said of the main module.
+fn main_said(
+    alloc: Global,
+    form: Form,
+    world: &ComponentWorld<'_>,
+    key: &str,
+) -> Result<String, AllocError>
+    requires { AreNameable (world_view world.now) }
+    ensures { IfOk result (λ s. string_bytes s ≡ main_said form (world_view world.now) key.now) }
+{
+    let module = Module {
+        name: "main",
+        id: "main",
+        imports: &world.info.imports,
+    };
+    module_said(alloc, form, world, key, module)
+}

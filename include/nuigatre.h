@@ -1,0 +1,338 @@
+/* The calls of libnuigatre.a, for C and C++: core WebAssembly modules made ready to be parts of a component.
+ *
+ * Link libnuigatre.a, and nuigatre_heap.c beside this file or another definition of the three functions at the end.
+ * The library is for 64-bit Linux on x86. It needs nothing else but memcpy, memmove, memset and memcmp.
+ *
+ * Slices. A slice is passed as a pointer and then a length: of bytes, or of slices. One that is read and one that is
+ * written must not overlap. The library keeps no pointer after a call, and writes to nothing but `out`.
+ *
+ * NULL. The pointer of an empty slice may be NULL, that of `out` too. No other pointer may.
+ *
+ * Memory. Each call takes what it needs from the three functions at the end, and has given all of it back when it
+ * returns, whatever it answers. Nothing that it answers has to be freed: all bytes are in the caller's `out`.
+ *
+ * The buffer `out`. It need not be initialised. Where it is too small for the answer (NUIGATRE_TOO_SMALL), or for what
+ * says what is wrong (NUIGATRE_FAULT with a `length` of more than `out_length`), nothing is written to it, and `length`
+ * is how many bytes are needed: call again with so many. The same arguments have the same answer each time, under any
+ * seed. Where `length` bytes are written, those after them are as they were.
+ *
+ * Threads. Calls may run on several threads at once, if the three functions at the end may. No call waits, and none
+ * reads or sets anything of its thread or its process. A signal handler must not make one.
+ *
+ * Stack. nuigatre_dedupe, nuigatre_trim and nuigatre_why need the smallest stack that a thread can have, 16 KB. The
+ * other calls need 256 KB. No input was found that needs more.
+ *
+ * Seed. `seed0` and `seed1` are the seed of the maps that a call makes. No answer depends on them. Whoever chooses the
+ * names in a module and knows the seed can make a call slow, so let them be random, as by getrandom, if modules come
+ * from others. All calls of a process may have one seed.
+ */
+#ifndef NUIGATRE_H
+#define NUIGATRE_H
+
+#include <stdbool.h>
+#include <stddef.h>
+#include <stdint.h>
+
+#ifdef __cplusplus
+extern "C" {
+#endif
+
+/* What nuigatre_abi has to answer, for the library to be of this header's form of calls, messages and answers. */
+#define NUIGATRE_ABI 5
+
+/* Bytes that are read. */
+typedef struct nuigatre_slice {
+    const uint8_t *bytes;
+    size_t length;
+} nuigatre_slice;
+
+/* What a call answers. */
+typedef struct nuigatre_answer {
+    /* Which kind of answer it is: one of the numbers of nuigatre_status. */
+    uint32_t status;
+    /* With NUIGATRE_FAULT the number of the fault; else 0. */
+    uint32_t fault;
+    /* With NUIGATRE_DONE and NUIGATRE_TOO_SMALL how many bytes the answer has. With NUIGATRE_FAULT how many bytes say
+     * what is wrong. Else 0. */
+    size_t length;
+    /* How many of the answer's bytes are modules. They are the first ones. */
+    size_t module_length;
+    /* With NUIGATRE_FAULT: of nuigatre_trim and nuigatre_why, where an export is missing, the position of its name in
+     * `required`; of calls on a message how many bytes the fault's text has. Else 0. */
+    size_t position;
+} nuigatre_answer;
+
+enum nuigatre_status {
+    /* The answer is in the front of `out`. */
+    NUIGATRE_DONE = 0,
+    /* There is no answer, because of a fault. */
+    NUIGATRE_FAULT = 1,
+    /* The answer is longer than `out`. */
+    NUIGATRE_TOO_SMALL = 2,
+    /* The answer is the input itself. */
+    NUIGATRE_SAME = 3,
+    /* The call has no answer for such arguments. */
+    NUIGATRE_BAD_ARGUMENT = 4,
+    /* An allocation failed. */
+    NUIGATRE_MEMORY = 5
+};
+
+/* Renames imports so that no two share a module and a name: the first keeps its name, and each that is there again
+ * gets ` [v2]`, or the next free number, after its own.
+ *
+ * NUIGATRE_DONE: `out` has the renamed module, `module_length` bytes, and then its renames: how many they are, and of
+ * each the import's module, its original name and its new name, each with its length before it. Numbers are LEB128.
+ * NUIGATRE_SAME: no import repeats, or the bytes are a component's.
+ * NUIGATRE_FAULT: a fault of nuigatre_dedupe_fault. Nothing is written.
+ * NUIGATRE_TOO_SMALL, NUIGATRE_MEMORY. */
+nuigatre_answer nuigatre_dedupe(const uint8_t *wasm, size_t wasm_length, uint8_t *out, size_t out_length);
+
+/* Trims an adapter to what its exports of the names `required` reach. There are `required_length` names, each once or
+ * more. The main module exports a realloc as `realloc`, where `has_realloc`; else `realloc` is not looked at. Its
+ * memory has pages of 2^`page_size_log2` bytes, 16 as a rule.
+ *
+ * NUIGATRE_DONE: `out` has the trimmed adapter.
+ * NUIGATRE_BAD_ARGUMENT: there is no name, a name is not UTF-8, or `page_size_log2` is more than 16.
+ * NUIGATRE_FAULT: a fault of nuigatre_gc_fault. `out` has a JSON object that says what it is about, or `length` is 0.
+ * NUIGATRE_TOO_SMALL, NUIGATRE_MEMORY. */
+nuigatre_answer nuigatre_trim(uint64_t seed0, uint64_t seed1, const uint8_t *wasm, size_t wasm_length,
+                              const nuigatre_slice *required, size_t required_length, bool has_realloc,
+                              const uint8_t *realloc, size_t realloc_length, uint32_t page_size_log2, uint8_t *out,
+                              size_t out_length);
+
+/* Says why an adapter imports what it does, where its exports of these names are required.
+ *
+ * NUIGATRE_DONE: `out` has the shortest chains from required exports to imports, as JSON.
+ * NUIGATRE_BAD_ARGUMENT: a name is not UTF-8.
+ * NUIGATRE_FAULT: as of nuigatre_trim.
+ * NUIGATRE_TOO_SMALL, NUIGATRE_MEMORY. */
+nuigatre_answer nuigatre_why(uint64_t seed0, uint64_t seed1, const uint8_t *wasm, size_t wasm_length,
+                             const nuigatre_slice *required, size_t required_length, uint8_t *out, size_t out_length);
+
+/* Makes the world of a component. `message` is JSON, an object with the members `resolve`, `world`, `length`,
+ * `exports`, `adapters` and others; `modules` has the bytes of the main module and of the adapters, one after another.
+ * What the members mean: crates/wc_calls/MODEL.md of the repository.
+ *
+ * NUIGATRE_DONE: `out` has modules, `module_length` bytes: the main module, with its repeated imports renamed, and the
+ * trimmed adapters and the libraries that are needed. After them is the world as JSON, with the length of each adapter.
+ * NUIGATRE_FAULT: a fault of nuigatre_message_fault. `out` has its text, `position` bytes, and then, if `length` is
+ * more, a JSON object that says what it is about.
+ * NUIGATRE_TOO_SMALL, NUIGATRE_MEMORY. */
+nuigatre_answer nuigatre_world(uint64_t seed0, uint64_t seed1, const uint8_t *message, size_t message_length,
+                               const uint8_t *modules, size_t modules_length, uint8_t *out, size_t out_length);
+
+/* Makes the plan of a component: what each function that its core modules import needs, as JSON. All else is as of
+ * nuigatre_world. */
+nuigatre_answer nuigatre_plan(uint64_t seed0, uint64_t seed1, const uint8_t *message, size_t message_length,
+                              const uint8_t *modules, size_t modules_length, uint8_t *out, size_t out_length);
+
+/* Makes the world of a component and its plan, once, where nuigatre_world and nuigatre_plan make it twice.
+ *
+ * NUIGATRE_DONE: as of nuigatre_world, and the JSON object has the plan as its last member, `plan`.
+ * NUIGATRE_FAULT: as of nuigatre_plan: also where there is a world, and no plan of it.
+ * NUIGATRE_TOO_SMALL, NUIGATRE_MEMORY. */
+nuigatre_answer nuigatre_planned_world(uint64_t seed0, uint64_t seed1, const uint8_t *message, size_t message_length,
+                                       const uint8_t *modules, size_t modules_length, uint8_t *out,
+                                       size_t out_length);
+
+/* Validates one module of a component: the adapter or the library of the name `adapter`, where `has_adapter`; else the
+ * main module, and `adapter` is not looked at. The message and the modules are those of nuigatre_world.
+ *
+ * NUIGATRE_DONE: it is valid. `length` is 0.
+ * NUIGATRE_BAD_ARGUMENT: no adapter has the name.
+ * NUIGATRE_FAULT: as of nuigatre_world.
+ * NUIGATRE_MEMORY. It is never NUIGATRE_TOO_SMALL. */
+nuigatre_answer nuigatre_validate(uint64_t seed0, uint64_t seed1, const uint8_t *message, size_t message_length,
+                                  const uint8_t *modules, size_t modules_length, bool has_adapter,
+                                  const uint8_t *adapter, size_t adapter_length, uint8_t *out, size_t out_length);
+
+/* The number of the form of these calls, their messages and answers: NUIGATRE_ABI. It goes up with each change that a
+ * caller can see. */
+uint32_t nuigatre_abi(void);
+
+/* Faults. The number of a fault is one of its enum. Where it carries another one, 256 times the number of that is
+ * added. So of a fault f of nuigatre_world, f % 256 is a nuigatre_message_fault; where that is NUIGATRE_MESSAGE_WORLD,
+ * f / 256 % 256 is a nuigatre_world_fault, and so on. Numbers never change, and new ones come last. No fault is or
+ * carries that an allocation failed, which would be 0: the status is then NUIGATRE_MEMORY. */
+
+/* Why bytes are not a module. */
+enum nuigatre_read_fault {
+    NUIGATRE_READ_NOT_WASM = 1,
+    NUIGATRE_READ_COMPONENT = 2,
+    NUIGATRE_READ_TRUNCATED = 3,
+    NUIGATRE_READ_BAD_NUMBER = 4,
+    NUIGATRE_READ_BAD_NAME = 5,
+    NUIGATRE_READ_SECTION_ORDER = 6,
+    NUIGATRE_READ_SECTION_SIZE = 7,
+    NUIGATRE_READ_UNKNOWN_SECTION = 8,
+    NUIGATRE_READ_BAD_TYPE = 9,
+    NUIGATRE_READ_BAD_LIMITS = 10,
+    NUIGATRE_READ_BAD_INDEX = 11,
+    NUIGATRE_READ_DUPLICATE_EXPORT = 12,
+    NUIGATRE_READ_BAD_INITIALISER = 13,
+    NUIGATRE_READ_COUNT_MISMATCH = 14,
+    NUIGATRE_READ_UNKNOWN_OPERATOR = 15,
+    NUIGATRE_READ_BAD_NESTING = 16,
+    NUIGATRE_READ_BAD_START = 17,
+    NUIGATRE_READ_TOO_LARGE = 18
+};
+
+/* Why imports could not be renamed. */
+enum nuigatre_dedupe_fault {
+    NUIGATRE_DEDUPE_READ = 1, /* carries a nuigatre_read_fault */
+    NUIGATRE_DEDUPE_TOO_LARGE = 2
+};
+
+/* Why an adapter could not be trimmed. */
+enum nuigatre_gc_fault {
+    NUIGATRE_GC_READ = 1, /* carries a nuigatre_read_fault */
+    NUIGATRE_GC_MISSING_EXPORT = 2,
+    NUIGATRE_GC_UNSUPPORTED_SECTION = 3,
+    NUIGATRE_GC_LIVE_BODY = 4,
+    NUIGATRE_GC_SEVERAL_NAMED = 5,
+    NUIGATRE_GC_LIVE_TABLE = 6,
+    NUIGATRE_GC_SEVERAL_MEMORIES = 7,
+    NUIGATRE_GC_LOCAL_MEMORY = 8,
+    NUIGATRE_GC_REALLOC_TYPE = 9,
+    NUIGATRE_GC_REALLOC_MEMORY = 10,
+    NUIGATRE_GC_TOO_LARGE = 11
+};
+
+/* What is wrong with a JSON value. */
+enum nuigatre_problem {
+    NUIGATRE_PROBLEM_MISSING = 0,
+    NUIGATRE_PROBLEM_NOT_AN_OBJECT = 1,
+    NUIGATRE_PROBLEM_NOT_ONE_MEMBER = 2,
+    NUIGATRE_PROBLEM_NOT_A_LIST = 3,
+    NUIGATRE_PROBLEM_NOT_A_TEXT = 4,
+    NUIGATRE_PROBLEM_NOT_AN_INDEX = 5,
+    NUIGATRE_PROBLEM_UNKNOWN = 6,
+    NUIGATRE_PROBLEM_LEFT_OUT = 7,
+    NUIGATRE_PROBLEM_OUTDATED = 8,
+    NUIGATRE_PROBLEM_NOT_A_PACKAGE_NAME = 9,
+    NUIGATRE_PROBLEM_NOT_A_BOOL = 10
+};
+
+/* Why a text could not be read as JSON. */
+enum nuigatre_json_fault {
+    NUIGATRE_JSON_NOT_JSON = 1,
+    NUIGATRE_JSON_REPEATED_MEMBER = 2,
+    NUIGATRE_JSON_WRONG = 3 /* carries a nuigatre_problem */
+};
+
+/* What is not well-formed of worlds, interfaces, types and packages. */
+enum nuigatre_resolve_fault {
+    NUIGATRE_RESOLVE_ID_RANGE = 1,
+    NUIGATRE_RESOLVE_CYCLE = 2,
+    NUIGATRE_RESOLVE_UNNAMED = 3,
+    NUIGATRE_RESOLVE_KEY_MISMATCH = 4,
+    NUIGATRE_RESOLVE_NAME_CLASH = 5,
+    NUIGATRE_RESOLVE_BAD_CHARACTER = 6,
+    NUIGATRE_RESOLVE_BY_VALUE_RESOURCE = 7,
+    NUIGATRE_RESOLVE_EMPTY = 8
+};
+
+/* Why parts are no encoder's. */
+enum nuigatre_encoder_fault {
+    NUIGATRE_ENCODER_UNKNOWN_WORLD = 1,
+    NUIGATRE_ENCODER_NOT_AN_EXPORT = 2,
+    NUIGATRE_ENCODER_TYPE_EXPORTED = 3,
+    NUIGATRE_ENCODER_INTERFACE_TWICE = 4,
+    NUIGATRE_ENCODER_DEPENDENCY_LATER = 5,
+    NUIGATRE_ENCODER_IMPORT_NAME_CLASH = 6
+};
+
+/* Why a core module is refused. */
+enum nuigatre_validate_fault {
+    NUIGATRE_VALIDATE_READ = 1, /* carries a nuigatre_read_fault */
+    NUIGATRE_VALIDATE_NOT_A_MODULE = 2,
+    NUIGATRE_VALIDATE_NOT_A_FUNCTION = 3,
+    NUIGATRE_VALIDATE_SIGNATURE_MISMATCH = 4,
+    NUIGATRE_VALIDATE_NO_ROOT_IMPORT = 5,
+    NUIGATRE_VALIDATE_ROOT_NOT_FUNCTION = 6,
+    NUIGATRE_VALIDATE_BAD_SYNTAX = 7,
+    NUIGATRE_VALIDATE_UNKNOWN_INTERFACE = 8,
+    NUIGATRE_VALIDATE_UNKNOWN_INTRINSIC = 9,
+    NUIGATRE_VALIDATE_MISSING_FUNCTION = 10,
+    NUIGATRE_VALIDATE_NO_SUCH_EXPORT = 11,
+    NUIGATRE_VALIDATE_WHOLE_DIFFERS = 12,
+    NUIGATRE_VALIDATE_MIXED = 13,
+    NUIGATRE_VALIDATE_SEVERAL_MEMORY_IMPORTS = 14,
+    NUIGATRE_VALIDATE_DUPLICATE_IMPORT = 15,
+    NUIGATRE_VALIDATE_ADAPTER_TYPES_DIFFER = 16,
+    NUIGATRE_VALIDATE_SEVERAL_MEMORY_EXPORTS = 17,
+    NUIGATRE_VALIDATE_MISSING_CALLBACK = 18,
+    NUIGATRE_VALIDATE_MISSING_INTERFACE_EXPORT = 19,
+    NUIGATRE_VALIDATE_MISSING_WORLD_EXPORT = 20,
+    NUIGATRE_VALIDATE_ADAPTER_MODULE_DID_NOT_EXPORT = 21,
+    NUIGATRE_VALIDATE_ADAPTER_EXPORT_TYPE = 22,
+    NUIGATRE_VALIDATE_TYPED_REFERENCE = 23
+};
+
+/* Why a component has no world. */
+enum nuigatre_world_fault {
+    NUIGATRE_WORLD_MAIN = 1, /* carries a nuigatre_validate_fault */
+    NUIGATRE_WORLD_ADAPTER = 2, /* carries a nuigatre_validate_fault */
+    NUIGATRE_WORLD_TRIM = 3, /* carries a nuigatre_gc_fault */
+    NUIGATRE_WORLD_MINIMIZED = 4, /* carries a nuigatre_validate_fault */
+    NUIGATRE_WORLD_PAGE_SIZE = 5
+};
+
+/* Why a component's world has no plan. */
+enum nuigatre_plan_fault {
+    NUIGATRE_PLAN_NO_MEMORY = 1,
+    NUIGATRE_PLAN_NO_REALLOC = 2,
+    NUIGATRE_PLAN_NO_LOWERING = 3,
+    NUIGATRE_PLAN_WORLD = 4,
+    NUIGATRE_PLAN_OUTPUT = 5
+};
+
+/* Why a message has no answer. */
+enum nuigatre_message_fault {
+    NUIGATRE_MESSAGE_NOT_TEXT = 1,
+    NUIGATRE_MESSAGE_JSON = 2, /* carries a nuigatre_json_fault */
+    NUIGATRE_MESSAGE_UNKNOWN_WORLD = 3,
+    NUIGATRE_MESSAGE_LENGTHS = 4,
+    NUIGATRE_MESSAGE_RESOLVE = 5, /* carries a nuigatre_resolve_fault */
+    NUIGATRE_MESSAGE_ADAPTER_TWICE = 6,
+    NUIGATRE_MESSAGE_DEDUPE = 7, /* carries a nuigatre_dedupe_fault */
+    NUIGATRE_MESSAGE_ENCODER = 8, /* carries a nuigatre_encoder_fault */
+    NUIGATRE_MESSAGE_WORLD = 9, /* carries a nuigatre_world_fault */
+    NUIGATRE_MESSAGE_PLAN = 10, /* carries a nuigatre_plan_fault */
+    NUIGATRE_MESSAGE_SEVERAL_WORLDS = 11,
+    NUIGATRE_MESSAGE_PACKAGE_RANGE = 12,
+    NUIGATRE_MESSAGE_UNKNOWN_KEY = 13,
+    NUIGATRE_MESSAGE_SEVERAL_KEYS = 14,
+    NUIGATRE_MESSAGE_REPEATED_KEY = 15
+};
+
+/* What the program defines: nuigatre_heap.c has it, over malloc, realloc and free. The names are hidden: a shared
+ * library that has libnuigatre.a in it exports none of them, and calls its own. */
+
+#if defined(__GNUC__)
+#define NUIGATRE_HEAP __attribute__((visibility("hidden")))
+#else
+#define NUIGATRE_HEAP
+#endif
+
+/* A block, where `ok`; else `block` is any pointer but NULL. */
+typedef struct nuigatre_allocated {
+    bool ok;
+    void *block;
+} nuigatre_allocated;
+
+/* A block of `size` bytes, which may be 0, at an address that `align` divides. `align` is 1, 2, 4, 8 or 16. */
+NUIGATRE_HEAP nuigatre_allocated rattle_alloc(size_t size, size_t align);
+
+/* The block with `size` bytes, at the same address or another, the first `kept` bytes as they were. Where there is no
+ * memory the block stays as it is. */
+NUIGATRE_HEAP nuigatre_allocated rattle_realloc(void *block, size_t kept, size_t size, size_t align);
+
+/* Takes back a block that one of these two gave. */
+NUIGATRE_HEAP void rattle_dealloc(void *block);
+
+#ifdef __cplusplus
+}
+#endif
+
+#endif
