@@ -43,7 +43,10 @@ def make_repository(crates):
             shutil.rmtree(HOME / "crates" / crate / part, ignore_errors=True)
             if (TOP / "crates" / crate / part).is_dir():
                 shutil.copytree(TOP / "crates" / crate / part, HOME / "crates" / crate / part)
-    shutil.copytree(SOURCES, HOME / "crates" / "reader" / "src", dirs_exist_ok=True)
+    # Their names end in .txt here, since `rt ci` takes each .rt file for a part of a crate that it proves.
+    (HOME / "crates" / "reader" / "src").mkdir(exist_ok=True)
+    for source in SOURCES.iterdir():
+        shutil.copy(source, HOME / "crates" / "reader" / "src" / source.stem)
 
 
 def reader_program(is_unproved=None):
