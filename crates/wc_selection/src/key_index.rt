@@ -223,7 +223,8 @@ impl<'k, 'a> AdapterKeys<'k, 'a> {
         keys: &'k [(WorldKey, String)],
     ) -> Result<AdapterKeys<'k, 'a>, AllocError>
         requires { AreKeysApart (map named_key keys.now) }
-        ensures { IfOk result (AreAdapterKeys (request_value request.now) (map named_key keys.now)) }
+        ensures { IfOk result
+            (AreAdapterKeys (request_value request.now) (map named_key keys.now)) }
     {
         let index = KeyIndex::new(alloc, seed, keys)?;
         let texts = texts_by_name(alloc, seed, request.adapter_exports)?;
