@@ -12,7 +12,7 @@ the calls on small adapters are repeated until they take a tenth of a second. Th
 as the call. Where PROGRAM is not there, calls alone are timed.
 
 Then worlds of 1,000, 10,000 and 40,000 functions are made, or of those of N at most, as many of which an adapter
-exports, and all of which the main module imports; and with a FOLDER that of checks/rust-world.py. For each a line says
+exports, and all of which the main module imports; and with a FOLDER that of checks/wcplan-real.py. For each a line says
 the time of a call of `ComponentWorld::new`, and of looking each import of the main module up in it.
 """
 import argparse

@@ -6,19 +6,19 @@
 
 The programs are those in crates/*/out unless others are named; `./wctrim --build`, `./wcplan --build`, and `rt run`
 in crates/wc_tests make them. Each case is a shape of worlds, modules, keys or messages of so many parts (1,024, or what
-its own factor makes of N); `chosen NAME` is a case of chosen-names.py, with the names that collide. A CASE is one of the
-table's first column, or a program for all of its cases; all are run unless some are named.
+its own factor makes of N); `chosen NAME` is one of names that are chosen to collide (chosen_names.py). A CASE is one of
+the table's first column, a program for all of its cases, or `chosen` for all of those; all are run unless some are named.
 
 A line says, of N parts and of 2 N: the bytes that go in and that come out, in thousands; the millions of instructions that
 callgrind counts; how many times those of N parts 2 N of them take, and the most that they may take; and the peak of
 memory in megabytes. The limit is 2.3, or 1.15 times what the input and the answer grow by where the answer alone grows
-faster: a line for each of n uses with a name of n letters, say. Memory has the same limit, from 8 MB on. A run of more
+faster: a line for each of n uses with a name of n letters, say. Memory has the same limit, from 8 MB on. Chosen names may
+take 1.5 times what plain ones take, and the line's last figure says how many times that is. A run of more
 than S seconds of the processor (120) is stopped. --functions says after each line which F functions 2 N take most
 instructions in. The status is 1 where a case is past a limit, or stopped; the last line counts them. The inputs are
 written into bench/data.
 """
 import argparse
-import importlib.util
 import json
 import os
 import pathlib
@@ -32,6 +32,7 @@ import sys
 
 TOP = pathlib.Path(__file__).resolve().parent.parent
 sys.path += [str(TOP / "bench"), str(TOP / "checks")]
+import chosen_names
 import colliding
 from module_bytes import HEADER, name, number, section, vector
 
@@ -40,7 +41,7 @@ FILES = "worlds.json", "main.wasm", "adapter.wasm", "out.wasm", "rows", "callgri
 WORLDS, MAIN, ADAPTER, OUT, ROWS, GRIND, PEAK = (str(FOLDER / file) for file in FILES)
 TIME = "/usr/bin/time"
 PROGRAMS = "wctrim", "wcplan", "wc_tests"
-PARTS, GROWTH, PER_BYTE = 1024, 2.3, 1.15
+PARTS, GROWTH, PER_BYTE, EXCESS = 1024, 2.3, 1.15, 1.5
 # peaks below are mostly those of the program itself
 LEAST_PEAK = 8.0
 # how deep JSON may be nested
@@ -510,23 +511,14 @@ def _(count):
     return ["trim", MAIN, OUT, *("f%d" % at for at in range(4))]
 
 
-def chosen_names():
-    """The cases of chosen-names.py, with the names that collide."""
-    spec = importlib.util.spec_from_file_location("chosen_names", TOP / "bench" / "chosen-names.py")
-    chosen = importlib.util.module_from_spec(spec)
-    spec.loader.exec_module(chosen)
-    chosen.FOLDER.mkdir(parents=True, exist_ok=True)
+def add_chosen(title, program, make, keys, most):
+    """Adds a case of names that collide, at most so many, and keeps how its input is made of plain ones."""
 
-    def add(title, program, make, keys, most):
-        def made(count):
-            count = min(count, most) if most else count
-            return make(keys(count, count)[0])
+    def made(count, plain=0):
+        count = min(count, most) if most else count
+        return make(keys(count, count)[plain])
 
-        CASES["chosen " + title] = program, 1.0, None, made
-
-    for title, held in chosen.CASES.items():
-        add(title, *held)
-    return chosen.ROWS
+    CASES["chosen " + title] = program, 2.0, None, made
 
 
 def limited(seconds):
@@ -578,33 +570,35 @@ def costly(count):
     return ["    " + line.strip()[:150] for line in lines[:count]]
 
 
-def compare(asked, title, stdin):
+def compare(asked, title):
     """Measures a case, and prints its line; whether it is within the limits."""
     program, factor, answer, make = CASES[title]
-    count = max(int(asked.parts * factor), 1)
-    stdin = stdin if title.startswith("chosen ") else ROWS
-    found = []
-    for many in (count, 2 * count):
-        words = make(many)
+    count, is_chosen = max(int(asked.parts * factor), 1), title.startswith("chosen ")
+    stdin, found = chosen_names.ROWS if is_chosen else ROWS, []
+    for many in [(count,), (2 * count,), (2 * count, 1)][: 3 if is_chosen else 2]:
+        words = make(*many)
         found.append(Run(asked, program, words, stdin if words == ["-"] else os.devnull))
         if found[-1].is_stopped:
-            print("%-26s %6d stopped after %d s" % (title, many, asked.seconds), flush=True)
+            print("%-26s %6d stopped after %d s" % (title, many[0], asked.seconds), flush=True)
             return False
-    one, two = found
+    one, two = found[:2]
     sizes = [held.read + held.printed for held in found]
     limit = max(GROWTH, PER_BYTE * sizes[1] / sizes[0], PER_BYTE * answer(2 * count) / answer(count) if answer else 0)
     growth, peak = two.instructions / one.instructions, two.peak / max(one.peak, 1)
     missed = ["grows"] * (growth > limit) + ["swells"] * (peak > limit and two.peak > LEAST_PEAK)
+    excess = two.instructions / found[2].instructions if is_chosen else 0
+    missed += ["exceeds"] * (excess > EXCESS)
     sizes = one.read / 1e3, two.read / 1e3, two.printed / 1e3
     counted = one.instructions, two.instructions, growth, limit, one.peak, two.peak
-    print(LINE % (title, count, *sizes, *counted, " ".join(missed)), flush=True)
+    print(LINE % (title, count, *sizes, *counted, " ".join(["%.2f" % excess] * is_chosen + missed)), flush=True)
     if asked.functions:
         print("\n".join(costly(asked.functions)), flush=True)
     return not missed
 
 
 def main():
-    stdin = chosen_names()
+    for title, held in chosen_names.CASES.items():
+        add_chosen(title, *held)
     parser = argparse.ArgumentParser(description=__doc__, formatter_class=argparse.RawDescriptionHelpFormatter)
     for program in PROGRAMS:
         path = TOP / "crates" / program / "out" / program
@@ -615,19 +609,21 @@ def main():
     parser.add_argument("cases", nargs="*", metavar="CASE", help=", ".join([*PROGRAMS, *CASES]))
     asked = parser.parse_args()
     for text in asked.cases:
-        if text not in CASES and text not in PROGRAMS:
+        if text not in CASES and text not in (*PROGRAMS, "chosen"):
             parser.error("no case %s" % text)
-    titles = [title for title, held in CASES.items() if not asked.cases or {title, held[0]} & set(asked.cases)]
+    titles = [title for title, held in CASES.items()
+              if not asked.cases or {title, held[0], title.split()[0]} & set(asked.cases)]
     for tool in "valgrind", TIME:
         if not shutil.which(tool):
             sys.exit("%s is not there: it counts what a run takes" % tool)
     for program in sorted({CASES[title][0] for title in titles}):
         if not os.path.exists(getattr(asked, program)):
             sys.exit("%s is not there: build it, or name another" % getattr(asked, program))
-    FOLDER.mkdir(parents=True, exist_ok=True)
+    for folder in FOLDER, chosen_names.FOLDER:
+        folder.mkdir(parents=True, exist_ok=True)
     titled = "case", "N", "kB N", "kB 2N", "out 2N", "N", "2N", "2N/N", "limit", "MB N", "MB 2N"
     print("%-26s %6s %7s %7s %7s %9s %9s %6s %6s %7s %7s" % titled)
-    missed = [title for title in titles if not compare(asked, title, stdin)]
+    missed = [title for title in titles if not compare(asked, title)]
     print("%d of %d cases past a limit" % (len(missed), len(titles)))
     return 1 if missed else 0
 

@@ -1,7 +1,8 @@
 #!/usr/bin/env python3
 """Times `wctrim trim` on adapters of several shapes, each in three sizes, and checks what it wrote.
 
-    trimming.py [--program PROGRAM] [--beside PROGRAM] [--instructions] [--rounds N] [--most COUNT] [SHAPE|FILE ..]
+    trimming.py [--program PROGRAM] [--beside PROGRAM] [--floor PROGRAM] [--instructions] [--rounds N] [--most COUNT]
+        [SHAPE|FILE ..]
 
 PROGRAM is crates/wctrim/out/wctrim unless another is named; `./wctrim --build` makes it. All shapes are made, in
 bench/data/trimming, unless some are named, each with its largest count, a tenth and a hundredth of it, and with no
@@ -13,7 +14,8 @@ wasm-metadce is timed once on the same adapter and the same exports.
 
 With --instructions the millions of instructions that callgrind counts are at the end of the line. With --beside a
 second line has the time, the memory and the instructions of the other program in the same run, such as one that was
-built before a change, and both have to write the same bytes.
+built before a change, and both have to write the same bytes. With --floor a line has those of bench/trimming_floor.c,
+for the shapes that it knows (one export, and calls alone); it has to write the same bytes too.
 
 Each output without a start function is trimmed again, which has to give the same bytes; and wasm-validate has to accept
 it where it is installed and accepts the adapter (it refuses `globals`, where an initialiser names a global that is not
@@ -39,6 +41,8 @@ PROGRAM = TOP / "crates" / "wctrim" / "out" / "wctrim"
 FOLDER = TOP / "bench" / "data" / "trimming"
 # the section of the start function
 START = 8
+# the shapes that the least program knows
+PLAIN = ("chain", "backward", "shuffled", "body", "labels", "blocks", "calls", "call")
 
 
 def written(path, content):
@@ -119,6 +123,20 @@ def figures(words, rounds, instructions):
     return min(seconds for seconds, _, _ in runs), megabytes(words), millions(words) if instructions else None, ""
 
 
+def floor(options, count, adapter, target, wanted):
+    """Runs the least program on an adapter, and prints its line; what is wrong with its output."""
+    path = adapter.with_suffix(".floor")
+    words = [options.floor, str(adapter), str(path)] + wanted
+    best, memory, counted, fault = figures(words, options.rounds, options.instructions)
+    if fault:
+        return "the floor: " + fault
+    size = adapter.stat().st_size
+    line = "%-8s %8d %9d %9d %8.4f %8.1f" % ("floor", count, size, path.stat().st_size, best, best * 1e9 / size)
+    line += column(" %8.1f", memory) + column(" %9.3f", None)
+    print(line + (" %9.3f" % counted if options.instructions else ""), flush=True)
+    return None if path.read_bytes() == target.read_bytes() else "the floor has other bytes"
+
+
 def measure(options, shape, count, adapter, wanted):
     """Trims one adapter by each program, and prints a line for each; whether all holds."""
     size = adapter.stat().st_size
@@ -135,6 +153,8 @@ def measure(options, shape, count, adapter, wanted):
         line += column(" %9.3f", meta_seconds(adapter, wanted) if first else None)
         print(line + (" %9.3f" % counted if options.instructions else ""), flush=True)
     wrong = check(options.program, adapter, target, wanted)
+    if options.floor and shape in PLAIN:
+        wrong = wrong or floor(options, count, adapter, target, wanted)
     if not wrong and options.beside and other.read_bytes() != target.read_bytes():
         wrong = "the other program wrote other bytes"
     if wrong:
@@ -163,6 +183,7 @@ def main():
     parser = argparse.ArgumentParser(description=__doc__, formatter_class=argparse.RawDescriptionHelpFormatter)
     parser.add_argument("--program", default=str(PROGRAM))
     parser.add_argument("--beside")
+    parser.add_argument("--floor")
     parser.add_argument("--instructions", action="store_true")
     parser.add_argument("--rounds", type=int, default=5)
     parser.add_argument("--most", type=int)

@@ -13,9 +13,11 @@ It prints a line for each thing that is wrong, and ends with status 1 where ther
   (`a.b(c)`) occur in the sources, comments aside; so do names of two words and more with hyphens, as those of edits;
 - README.md: its lines have at most 120 columns, and KIT is one line;
 - docs/MAP.md has a row for each crate;
-- a crate's README: under "Clauses" each function is one of the crate, and has the clauses of its rows, and each public
-  function of a library has a row; under "What functions require" is each function with a `requires`, and no other; under
-  "Files" each file that a row names is there; a file of src/ that has no row says at its head what is in it.
+- a library's README: each public function says in its source what it does, and each variant of a fault when it comes; a
+  function is on the page unless it is of a type;
+  under "What is promised" each function has the clauses that are named after it; under "What functions require" is each
+  function with a `requires`, and no other;
+- sources, definitions and lemmas say at their head what is in them.
 """
 
 import argparse
@@ -254,7 +256,7 @@ def check_names(document, words):
 
 class Crate:
     """A crate's source files, the heads of its functions by their names, its types, the functions in their blocks, its
-    public functions, and those of them that have a `requires`."""
+    public functions, those of them that have a `requires`, and which of them, and of the variants of faults, have no doc."""
 
     def __init__(self, folder):
         self.name = os.path.basename(folder)
@@ -262,7 +264,7 @@ class Crate:
         self.files = files(self.source, "**", "*.rt")
         self.exported = exports_of_crate(self.name)
         self.heads, self.types, self.members = {}, set(), set()
-        self.public, self.required = set(), set()
+        self.public, self.required, self.silent = set(), set(), set()
         for file in self.files:
             self.add_file(file)
 
@@ -270,12 +272,9 @@ class Crate:
         path = os.path.join(self.source, module + ".rt")
         return read(path) if os.path.exists(path) else ""
 
-    def path_of(self, file):
-        return os.path.relpath(file, self.source)[: -len(".rt")]
-
     def public_module(self, file):
         """The path of a file's module, as `laws::x`, where it is public."""
-        parts = self.path_of(file).split("/")
+        parts = os.path.relpath(file, self.source)[: -len(".rt")].split("/")
         for depth, part in enumerate(parts):
             if f"pub mod {part};" not in self.text("/".join(parts[:depth]) or "lib"):
                 return None
@@ -283,6 +282,10 @@ class Crate:
 
     def add_file(self, file):
         text, module = read(file), self.public_module(file)
+        lines = text.split("\n")
+        for name, body in re.findall(r"^pub enum (\w*Fault|Problem)\b[^{]*\{\n(.*?)^\}", text, re.M | re.S):
+            for head, variant in re.findall(r"((?:^    (?:///|#\[).*\n)*)^    (\w+)[({, ]", body, re.M):
+                self.silent.update([] if "/// " in head else [f"{name}::{variant}"])
         self.types.update(re.findall(r"^pub (?:struct|enum|trait|type|const) (\w+)", text, re.M))
         for it in functions_of(file, text):
             self.heads.setdefault(it.name, []).append(it.text)
@@ -298,6 +301,11 @@ class Crate:
                 self.public.add(path)
                 if re.search(r"^\s*requires\b", it.text, re.M):
                     self.required.add(path)
+                up = it.head - 1
+                while lines[up].lstrip().startswith("#["):
+                    up -= 1
+                if not lines[up].lstrip().startswith("/// "):
+                    self.silent.add(path)
 
     def has(self, parts):
         """Whether the crate has a function, a type, or a public module of this path."""
@@ -337,25 +345,31 @@ def paths_in(cell):
 
 
 def check_clauses(document, crate):
-    listed, paths = set(), []
-    for number, cells in section_rows(document, "Clauses"):
-        if cells[0] == "Function":
-            continue
-        # a row of some types goes on with the function before it
-        is_of_types = cells[0].startswith("of ")
-        paths = (not is_of_types and paths_in(cells[0].removeprefix("`Display` of "))) or paths
-        clauses = re.findall(r"`(\w+)`", cells[1] + ("" if cells[1] else cells[2]))
-        for path in paths:
-            listed.add(path[-1])
-            listed.update(clauses)
-            if not crate.has(path):
-                fault(document, number, f"no {'::'.join(path)}")
-        for clause in clauses if cells[1] else ():
-            if not crate.has_clause([path[-1] for path in paths], clause):
-                fault(document, number, f"no clause {clause} of {'::'.join(paths[0])}")
+    """What is in parentheses after a promise: `f`, `A::g`: `clause`, `clause`; and other such functions after `;`."""
+    heading = ""
+    for number, kind, text in texts_of(document):
+        heading = text if kind == "heading" else heading
+        names = r"`[\w:]+`(?:, `[\w:]+`)*"
+        for group in re.findall(rf"\(({names}: {names}(?:; {names}: {names})*)\)", text) if heading == "What is promised" else ():
+            for functions, clauses in (part.split(": ") for part in group.split("; ")):
+                paths = paths_in(functions)
+                for path in paths:
+                    if not crate.has(path):
+                        fault(document, number, f"no {'::'.join(path)}")
+                for clause in re.findall(r"`(\w+)`", clauses):
+                    if not crate.has_clause([path[-1] for path in paths], clause):
+                        fault(document, number, f"no clause {clause} of {functions}")
+
+
+def check_public(document, crate):
+    """Each public function says what it does; its page names it or its module, unless it is one of a type."""
+    spans = [span for _, _, text in texts_of(document) for span in re.findall(r"`([^`]+)`", text)]
+    named = {word for span in spans for word in re.findall(r"\w+", span)}
+    for path in sorted(crate.silent):
+        fault(document, 1, f"{path} has no doc in its source")
     for path in sorted(crate.public):
-        if path.split("::")[-1] not in listed:
-            fault(document, 1, f"no row for {path}")
+        if path not in crate.members and not named & set(path.split("::")):
+            fault(document, 1, f"{path} is not on the page")
     requirements = {}
     for number, cells in section_rows(document, "What functions require"):
         requirements.update(("::".join(path), number) for path in paths_in(cells[0]))
@@ -365,26 +379,16 @@ def check_clauses(document, crate):
         fault(document, requirements[path], f"{path} is in the table of requirements, and has no `requires`")
 
 
-def check_files(document, crate):
-    named = {"lib"}
-    for number, cells in section_rows(document, "Files"):
-        if len(cells) != 3 or cells[0] == "`src/`":
-            continue
-        for name in re.findall(r"`([\w/]+)`", cells[0]) + re.findall(r"`(examples/\w+)`", cells[1]):
-            named.add(name)
-            if not os.path.exists(os.path.join(crate.source, name + ".rt")):
-                fault(document, number, f"no src/{name}")
-        folder = None
-        for name in re.findall(r"`([\w/]+)`", cells[2]):
-            first, _, rest = name.partition("/")
-            if first in ("specs", "proofs"):
-                folder, name = first, rest
-            is_there = os.path.exists(os.path.join(TOP, "crates", name + ".antt"))
-            if folder and name and not is_there and not files("crates", crate.name, folder, name + ".antt"):
-                fault(document, number, f"no {folder}/{name}")
+def check_heads(crate):
+    """Each file of sources, definitions and lemmas says at its head what is in it."""
     for file in crate.files:
-        if crate.path_of(file) not in named and not read(file).startswith("//! "):
-            fault(document, 1, f"no row for src/{crate.path_of(file)}, which doesn't say what is in it")
+        if not read(file).startswith("//! "):
+            fault(file, 1, "no line `//!` says what is in it")
+    for file in files("crates", crate.name, "specs", "**", "*.antt") + files("crates", crate.name, "proofs", "*.antt"):
+        text = read(file)
+        is_list = os.path.basename(file) == "Lib.antt" or not re.search(r"^(?!pub mod )\S", text, re.M)
+        if not is_list and not text.startswith("-- "):
+            fault(file, 1, "no line `--` says what is in it")
 
 
 def check_crate(crate, is_library):
@@ -394,7 +398,8 @@ def check_crate(crate, is_library):
         return
     if is_library:
         check_clauses(document, crate)
-    check_files(document, crate)
+        check_public(document, crate)
+    check_heads(crate)
 
 
 def check_list():

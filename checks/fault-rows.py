@@ -55,6 +55,18 @@ def listed(reasons):
     return {tuple(it.split("::")): why for why, names in reasons.items() for it in names.split()}
 
 
+# The texts of faults that have no `Display`, but for those that are the fault's name and what it carries.
+TEXTS = {
+    "RunFault": {"CannotRead": "cannot read {0}", "CannotWrite": "cannot write {0}", "Tool": "{0}"},
+    "WhyFault": {"Memory": "out of memory", "CannotRead": "cannot read {0}", "Adapter": "{0}", "NoImport": "no import {0}",
+                 "Output": "cannot print"},
+    "ProgramFault": {
+        "Memory": "out of memory", "CannotRead": "cannot read {0}", "NotText": "Json: not UTF-8",
+        "NotJson": "Json: not JSON at byte {0}", "RepeatedMember": "Json: {0}: repeated member", "Selection": "{0}",
+        "NoWorld": "{0}; worlds:{1}", "NoExport": "no export `{0}`; exports:{1}",
+        "CannotMake": "cannot make directory {0}", "CannotWrite": "cannot write {0}", "Output": "cannot print"},
+    "NoCommand": {"Memory": "out of memory", "Help": "help", "Version": "version", "Wrong": "{0}"},
+}
 # What no row of any input can reach, and why.
 BARRED = listed({
     "a section, or a body, of 2^32 bytes": "WriteFault::TooLarge",
@@ -99,12 +111,6 @@ def variants_of(body):
     return found
 
 
-def run_fault(text):
-    """The variants of `RunFault`, which has no `Display`: the texts that it puts."""
-    put = dict(re.findall(r'RunFault::(\w+)\(path\) => put_after\(out, b"([^"]*)", path\)', text))
-    return [(name, start + "{0}", ["String"]) for name, start in put.items()] + [("Tool", "{0}", ["ToolFault"])]
-
-
 def written(name, text):
     """The variants of an enum whose `Display` writes a text of its own for each, or what it carries."""
     shown = re.findall(r'%s::(\w+) => f\.write_str\("(.*?)"\)' % name, text)
@@ -122,49 +128,24 @@ def numbered(words):
     return "".join(part + "{%d}" % number for number, part in enumerate(parts[:-1])) + parts[-1]
 
 
-def program_fault(text):
-    """The variants of `ProgramFault`, which has no `Display`: the texts that its function `text` makes."""
-    body = re.search(r"pub enum ProgramFault.*?\{(.*?)\n\}", text, re.S).group(1)
-    fields = {name: [field] for name, field in re.findall(r"^ +(\w+)\((?:&'a )?(\w+)", body, re.M)}
-    shown = re.findall(r'ProgramFault::(\w+)(?:\(\w+\))? => (?:String::from_str|format!)\((?:in )?alloc[;,] "(.*?)"\)', text)
-    carried = re.findall(r'ProgramFault::(\w+)\(fault(?:, _)?\) => carried_text\(alloc, "(\w+)", fault\)', text)
-    constants = re.findall(r'ProgramFault::(\w+) => String::from_str\(alloc, ([A-Z]+)\)', text)
-    shown += [(name, re.search(r'const %s: &str = "(.*?)"' % words, text).group(1)) for name, words in constants]
-    texts = {name: re.sub(r"\{\w+\}", "{0}", words) for name, words in shown}
-    texts.update({name: words + ": {0}" for name, words in carried})
-    texts.update({name: words + "{0}" for name, words in re.findall(r'ProgramFault::(\w+)\(path\) => path_text\(alloc, "(.*?)", path\)', text)})
-    texts.update({name: "{0}" for name in re.findall(r"ProgramFault::(\w+)\(fault\) => selection_text\(alloc, fault\)", text)})
-    texts.update({name: "cannot read {0}" for name in re.findall(r"ProgramFault::(\w+)\(path, problem\) => unread_text\(", text)})
-    texts.update({"RepeatedMember": "Json: {0}: repeated member", "World": "World: {0}"})
-    texts["NoExport"] = "no export `{0}`; exports:{1}"
-    fields["NoExport"] = ["str", "String"]
-    return [(name, texts[name], fields.get(name, [])) for name in re.findall(r"^    (\w+)[(,]", body, re.M)]
-
-
-def why_fault(text):
-    """The variants of `WhyFault`, which has no `Display`: the texts that its function `text` makes."""
-    shown = dict(re.findall(r'WhyFault::(\w+) => String::from_str\(alloc, "(.*?)"\)', text))
-    path, named = (re.search(r'"(%s )\{' % words, text).group(1) for words in ("cannot read", "no import"))
-    shown.update({"CannotRead": path + "{0}", "Adapter": "{0}", "NoImport": named + "{0}"})
-    return [(name, words, {"Adapter": ["GcFault"]}.get(name, ["String"] * words.count("{"))) for name, words in shown.items()]
+def without_display(name, body):
+    """The variants of an enum without `Display`: their texts are those of TEXTS, or the name and what it carries."""
+    for own, field in re.findall(r"^    (\w+)(?:\((?:&'a )?(\w+).*\))?,", body, re.M):
+        text = TEXTS[name].get(own, own + ": {0}" * bool(field))
+        yield own, text, [field or "String"] * text.count("{")
 
 
 def faults():
     """Each enum of faults, and each struct that is one: its crate, and its variants."""
     found = {}
     for crate, text in sources():
-        for name, body in re.findall(r"pub enum (\w*Fault)\b[^{]*\{(.*?)\n\}", text, re.S):
+        for name, body in re.findall(r"pub enum (\w*Fault|NoCommand)\b[^{]*\{(.*?)\n\}", text, re.S):
             if "#[error" in body:
                 found[name] = (crate, variants_of(body))
-            elif name == "ProgramFault":
-                found[name] = (crate, program_fault(text))
-            elif name == "WhyFault":
-                found[name] = (crate, why_fault(text))
-            else:
-                found[name] = (crate, run_fault(text) if name == "RunFault" else written(name, text))
-        if "pub enum NoCommand<" in text and crate != "wcwhy_command":
-            shown = {"Memory": "out of memory", "Help": "help", "Version": "version"}
-            found["NoCommand"] = (crate, [(own, words, []) for own, words in shown.items()] + [("Wrong", "{0}", ["WrongArgument"])])
+            elif name not in TEXTS:
+                found[name] = (crate, written(name, text))
+            elif name != "NoCommand" or crate != "wcwhy_command":
+                found[name] = (crate, list(without_display(name, body)))
         wrong = re.findall(r'WrongArgument::(\w+)(?:\(\w+\)| \{[^}]*\}) => (?:\{\s*)?format!\(in alloc; "(.*?)"\)', text)
         if wrong:
             found["WhyWrongArgument" if crate == "wcwhy_command" else "WrongArgument"] = (crate, [(own, numbered(words), ["String"] * words.count("{")) for own, words in wrong])

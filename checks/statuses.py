@@ -338,7 +338,8 @@ class Plan(Checked):
             ("blank", *words[1:]): "Json: not JSON at byte 3",
             ("latin", *words[1:]): "Json: not UTF-8",
             ("twice", *words[1:]): "Json: worlds: repeated member",
-            ("notes.json", "nothing", *words[2:]): "no world `nothing`",
+            ("notes.json", "nothing", *words[2:]): "no world `nothing`; worlds: `my:notes/guest@1.2.0` "
+                                                   "`my:notes/old-notes@1.2.0` `my:notes/app@1.2.0`",
             (*plain, *adapter, *adapter): "adapter `old-notes` twice",
             (*plain, *exported): "no adapter `old-notes`",
             (*plain, "--adapter-export", "a\nb=is-ready"): "no adapter `a\\nb`",
@@ -367,14 +368,14 @@ class Plan(Checked):
                 self.differs([asked], (status, printed, said), "the usage text and more")
         self.check(["--version"], 0, "wcplan 0.262.0\n", "")
         for given, wrong in {
-            tuple(words[:1]): "missing WORLD",
-            tuple(words[:2]): "missing MAIN.wasm",
-            ("--out", *words): "missing MAIN.wasm",
+            tuple(words[:1]): "missing MAIN.wasm",
+            ("--out", *words[:2]): "missing MAIN.wasm",
             (*words, "more"): "unexpected argument more",
             (*words, "--adapt"): "missing value of --adapt",
             (*words, "--adapter-export", "more"): "no = in more of --adapter-export",
             (*words, "--out"): "missing value of --out",
             (*words, "--json", "--json"): "--json twice",
+            (*words, "--why", "all", "--dot", "--json"): "--dot with --json",
             (*words, "--nothing"): "unknown option --nothing",
             (*words, "--export", b"\xff"): "argument that is not UTF-8",
         }.items():

@@ -116,7 +116,7 @@ nuigatre_answer nuigatre_why(uint64_t seed0, uint64_t seed1, const uint8_t *wasm
  * NUIGATRE_DONE: `out` has modules, `module_length` bytes: the main module, with its repeated imports renamed, and the
  * trimmed adapters and the libraries that are needed. After them is the world as JSON, with the length of each adapter.
  * NUIGATRE_FAULT: a fault of nuigatre_message_fault. `out` has its text, `position` bytes, and then, if `length` is
- * more, a JSON object that says what it is about.
+ * more, a JSON object that says what it is about: its member `kind` says which object it is.
  * NUIGATRE_TOO_SMALL, NUIGATRE_MEMORY. */
 nuigatre_answer nuigatre_world(uint64_t seed0, uint64_t seed1, const uint8_t *message, size_t message_length,
                                const uint8_t *modules, size_t modules_length, uint8_t *out, size_t out_length);
@@ -147,7 +147,7 @@ nuigatre_answer nuigatre_validate(uint64_t seed0, uint64_t seed1, const uint8_t 
                                   const uint8_t *adapter, size_t adapter_length, uint8_t *out, size_t out_length);
 
 /* The number of the form of these calls, their messages and answers: NUIGATRE_ABI. It goes up with each change that a
- * caller can see. */
+ * caller can see, but for objects of a new kind that say what a fault is about. */
 uint32_t nuigatre_abi(void);
 
 /* Faults. The number of a fault is one of its enum. Where it carries another one, 256 times the number of that is

@@ -64,7 +64,7 @@ impl Item {
     }
 }
 
-/// What a library is passed under a module's name: all exports of another module, or items.
+/// An instance that a library is passed under a module's name: all exports of another module, or items.
 #[derive(Drop)]
 pub enum Instance {
     MainOrAdapter(MainOrAdapter),

@@ -1,4 +1,4 @@
-//! What stands beside a main module: adapters and libraries, and how its texts are encoded.
+//! Adapters and libraries, which stand beside a main module, and how its texts are encoded.
 #![tactic(auto)]
 
 mod adapters;

@@ -5,6 +5,7 @@ use Rattle.std.specs.Option.{option_map_or}
 use Rattle.wc_adapters.specs.Adapters.{AdapterView}
 use Rattle.wc_resolve.specs.Views.{WorldView, key_view}
 use Rattle.wc_resolve.specs.World.{ResolveView}
+use Rattle.wc_selection.specs.KeyIndex.{keys_under}
 use Rattle.wc_selection.specs.KeyNames.{count_unversioned, indexed_keys, keys_as_given, keys_by_index}
 use Rattle.wc_selection.specs.Keys.{NamedKey, export_keys, named_key, named_keys, texts_of}
 use Rattle.wc_selection.specs.ModuleKeys.{AreKeysThere, IsKeysCause}
@@ -13,7 +14,8 @@ use Rattle.wc_selection.specs.Texts.{IsFirstMissing, IsFirstRepeated, is_in}
 use Rattle.wc_selection.specs.declared.fault.RequestFault.{RequestFault}
 use Rattle.wc_selection.specs.declared.fault.RequestFault.TheVariants as request
 use Rattle.wc_json.specs.Messages.{AdapterMessageView, KeyMessageView}
-use Rattle.wc_calls.specs.AskedKeys.{adapter_texts, keys_in, main_texts, request_of}
+use Rattle.wc_selection.proofs.KeyIndexLemmas.{own_required}
+use Rattle.wc_calls.specs.AskedKeys.{adapter_keys, adapter_request, adapter_texts, key_texts, keys_in, main_texts, request_of}
 use Rattle.wc_calls.specs.Encoders.{AreAdaptersOf, AreExporters}
 use Rattle.wc_calls.specs.MessageFaults.{IsAdaptersCause, IsAskedCause}
 use Rattle.wc_calls.specs.Private.AskedKeys.{IsAskedCauseFor, IsAskedCauseIn, IsAskedFor, IsExportersCause, IsKeyFault, IsRepeatedKey, IsUnknownKey}
@@ -120,3 +122,7 @@ exporters_made keys messages ms r world exports bytes a adapters same listed ask
       main = is.main;
       others = subst (λ (k : List NamedKey). AreAdaptersOf k ms bytes adapters) (listed ∙ is.listed) made;
     }
+
+-- the keys that an adapter has to export are those that its texts are of
+pub adapter_keys_under : (keys : List NamedKey) (a : AdapterMessageView) → keys_under (key_texts a.exports) keys ≡ adapter_keys keys a
+adapter_keys_under keys a = own_required (λ (k : KeyMessageView). k.text) a.name a.exports (adapter_request a) refl keys

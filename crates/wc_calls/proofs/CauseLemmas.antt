@@ -1,5 +1,6 @@
 -- Causes of faults, step by step.
-use Rattle.std.proofs.Common.{◌≡◌, ℕ, ◌<◌, Bool, false, List, length, Option, unwrap_or, Result, Ok, Err, IfErr, inl, inr, refl, subst, sym}
+use Rattle.std.proofs.Common.{◌≡◌, ◌∙◌, ℕ, ◌<◌, Bool, false, List, length, Option, None, Some, unwrap_or, ap, inl, inr, refl, subst, sym}
+use Rattle.std.specs.Str.{IsUtf8}
 use Rattle.json.specs.Json.{document}
 use Rattle.wc_dedupe.specs.Dedupe.{IsDedupeCause, IsDeduped, renames_in}
 use Rattle.wc_dedupe.specs.Renaming.{RenameValue}
@@ -17,6 +18,10 @@ use Rattle.wc_resolve.specs.Views.{KeyView}
 use Rattle.wc_resolve.specs.WellFormed.{IsWellFormed}
 use Rattle.wc_resolve.specs.World.{ResolveView}
 use Rattle.wc_resolve.specs.Faults.{IsResolveCause}
+use Rattle.wc_resolve.specs.Places.{IsPlace}
+use Rattle.wc_resolve.specs.Refusals.{IsRefusal}
+use Rattle.wc_resolve.specs.declared.explain.Part.{Part}
+use Rattle.wc_resolve.specs.declared.explain.Refusal.{Refusal}
 use Rattle.wc_resolve.specs.declared.fault.ResolveFault.{ResolveFault}
 use Rattle.wc_resolve.specs.declared.fault.ResolveFault.TheVariants.{Memory as resolve_memory}
 use Rattle.wc_json.specs.Document.{DocumentView}
@@ -32,8 +37,10 @@ use Rattle.wc_calls.specs.AskedKeys.{keys_in, request_of}
 use Rattle.wc_calls.specs.Encoders.{AreChosen, AreExporters, IsMessage, IsPartsOf, IsWorldNamed}
 use Rattle.wc_calls.specs.MessageFaults.{AreKeysKnown, IsAskedCause, IsKeyCause, IsNameCause, IsNoEncoderCause, IsOfChosen, IsPartsCause, IsWorldNameCause, of_dedupe, of_encoder, of_json, of_request, of_resolve}
 use Rattle.wc_calls.specs.Private.AskedKeys.{IsExportersCause}
+use Rattle.wc_calls.specs.Private.RefusedMessages.{AreNoParts, IsNoEncoder, IsOfRefusal, IsPartFor, IsPartOf, IsWithoutPart}
 use Rattle.wc_calls.specs.declared.message_fault.MessageFault.{MessageFault}
-use Rattle.wc_calls.specs.declared.message_fault.MessageFault.TheVariants.{Memory, NotText, Json, UnknownWorld as unknown_world, Lengths, AdapterTwice, World, SeveralWorlds as several_worlds, PackageRange as package_range, UnknownKey, SeveralKeys, RepeatedKey, Plan}
+use Rattle.wc_calls.specs.declared.message_fault.MessageFault.TheVariants.{Memory, NotText, Json, UnknownWorld as unknown_world, Lengths, Resolve, AdapterTwice, World, SeveralWorlds as several_worlds, PackageRange as package_range, UnknownKey, SeveralKeys, RepeatedKey, Plan}
+use Rattle.wc_calls.specs.declared.refused_message.RefusedMessage.{RefusedMessage}
 
 -- a world that is not selected
 
@@ -66,6 +73,58 @@ pub resolve_cause : (m : MessageView) (modules main others : List ℕ) (world : 
 resolve_cause m modules main others world resolve_memory chosen h = tt
 resolve_cause m modules main others world f chosen h = ((λ same. cc), (world, main, others, chosen, h))
 
+-- why there are no parts of an encoder, with the part of the message that this is about
+
+refused_for : (m : MessageView) (modules : List ℕ) (x : RefusedMessage) (f : MessageFault) (part : Option Part) → x.fault ≡ f → x.part ≡ part
+    → IsPartsCause m modules f → IsPartFor m.document.parts f part → AreNoParts m modules x
+refused_for m modules x f part fault is cause at = (
+  subst (IsPartsCause m modules) (sym fault) cause,
+  subst (λ g. IsPartFor m.document.parts g x.part) (sym fault) (subst (IsPartFor m.document.parts f) (sym is) at),
+)
+
+part_explained : (r : ResolveView) (f : ResolveFault) (p : Part) → IsResolveCause r f → IsPlace r f p → IsPartFor r (of_resolve f) (Some p)
+part_explained r resolve_memory p cause at = absurd at
+part_explained r f p cause at = (cause, at)
+
+pub parts_refused : (m : MessageView) (modules main others : List ℕ) (world : ℕ) (r : Refusal) (x : RefusedMessage) → AreChosen m modules world main others
+    → IsRefusal m.document.parts r → IsOfRefusal r x → AreNoParts m modules x
+parts_refused m modules main others world r x chosen (inl memory) (fault, part) =
+    refused_for m modules x Memory None (fault ∙ ap of_resolve memory.0) (part ∙ memory.1) tt refl
+parts_refused m modules main others world r x chosen (inr (p, at, cause, place)) (fault, part) =
+    refused_for m modules x (of_resolve r.fault) (Some p) fault (part ∙ at) (resolve_cause m modules main others world r.fault chosen cause)
+    (part_explained m.document.parts r.fault p cause place)
+
+world_part : (d : DocumentView) (name : WorldNameView) (f : MessageFault) → IsWorldNameCause d name f → IsPartFor d.parts f None
+world_part d (at_index n) f h = absurd h
+world_part d (of_name name) (Resolve f) h = absurd h
+world_part d (of_name name) f h = refl
+
+pub world_refused : (m : MessageView) (modules : List ℕ) (f : MessageFault) (x : RefusedMessage) → IsWorldNameCause m.document m.world f → IsWithoutPart f x
+    → AreNoParts m modules x
+world_refused m modules f x h (fault, none) =
+    refused_for m modules x f None fault none (world_cause m modules f h) (world_part m.document m.world f h)
+
+pub lengths_refused : (m : MessageView) (modules : List ℕ) (world : ℕ) (x : RefusedMessage) → IsWorldNamed m.document m.world world → length modules < m.size
+    → IsWithoutPart Lengths x → AreNoParts m modules x
+lengths_refused m modules world x named fewer (fault, none) =
+    refused_for m modules x Lengths None fault none (fewer_bytes m modules world named fewer) refl
+
+pub memory_refused : (m : MessageView) (modules : List ℕ) (x : RefusedMessage) → IsWithoutPart Memory x → AreNoParts m modules x
+memory_refused m modules x (fault, none) = refused_for m modules x Memory None fault none tt refl
+
+exporters_part : (r : ResolveView) (world : ℕ) (m : MessageView) (others : List ℕ) (f : MessageFault)
+    → IsExportersCause r world m.exports m.adapters others f → IsPartFor m.document.parts f None
+exporters_part r world m others (Resolve f) h = absurd h.1
+exporters_part r world m others f h = refl
+
+main_part : (r : ResolveView) (f : DedupeFault) → IsPartFor r (of_dedupe f) None
+main_part r dedupe_memory = refl
+main_part r f = refl
+
+encoder_part : (r : ResolveView) (f : EncoderFault) → IsPartFor r (of_encoder f) None
+encoder_part r encoder_memory = refl
+encoder_part r f = refl
+
 -- in parts that are well-formed
 module _ (m : MessageView) (modules main others : List ℕ) (world : ℕ) (chosen : AreChosen m modules world main others) (r : ResolveView) (is : r ≡ m.document.parts)
     (formed : IsWellFormed r) where
@@ -88,7 +147,7 @@ module _ (m : MessageView) (modules main others : List ℕ) (world : ℕ) (chose
   known : AreKeysThere (given_keys (request_of m.exports m.adapters)) (texts_of (keys_in r world m.exports m.adapters)) → AreKeysKnown m world
   known h = subst (λ (p : ResolveView). AreKeysThere (given_keys (request_of m.exports m.adapters)) (texts_of (keys_in p world m.exports m.adapters))) is h
 
-  pub exporters_cause : (f : MessageFault) → IsExportersCause r world m.exports m.adapters others f → IsPartsCause m modules f
+  exporters_cause : (f : MessageFault) → IsExportersCause r world m.exports m.adapters others f → IsPartsCause m modules f
   exporters_cause Memory h = tt
   exporters_cause (UnknownKey key) h = key_cause (UnknownKey key) h
   exporters_cause (SeveralKeys key) h = key_cause (SeveralKeys key) h
@@ -97,7 +156,12 @@ module _ (m : MessageView) (modules main others : List ℕ) (world : ℕ) (chose
   exporters_cause (AdapterTwice name) h = (world, main, others, chosen, (parts_formed, known h.0, h.1))
   exporters_cause f h = absurd h.1
 
-  pub main_cause : (required : List KeyView) (adapters : List (List ℕ × AdapterView)) (f : DedupeFault)
+  pub exporters_refused : (f : MessageFault) (x : RefusedMessage) → IsExportersCause r world m.exports m.adapters others f → IsWithoutPart f x
+      → AreNoParts m modules x
+  exporters_refused f x h (fault, none) =
+      refused_for m modules x f None fault none (exporters_cause f h) (exporters_part r world m others f h)
+
+  main_cause : (required : List KeyView) (adapters : List (List ℕ × AdapterView)) (f : DedupeFault)
       → AreExporters r world m.exports m.adapters others required adapters → IsDedupeCause main f → IsPartsCause m modules (of_dedupe f)
   main_cause required adapters dedupe_memory made h = tt
   main_cause required adapters f made h = (
@@ -117,9 +181,19 @@ module _ (m : MessageView) (modules main others : List ℕ) (world : ℕ) (chose
     ),
   )
 
-  pub encoder_cause : (e : EncoderView) (f : EncoderFault) → IsPartsOf m modules e → IsEncoderCause e f → IsPartsCause m modules (of_encoder f)
+  pub main_refused : (required : List KeyView) (adapters : List (List ℕ × AdapterView)) (f : DedupeFault) (x : RefusedMessage)
+      → AreExporters r world m.exports m.adapters others required adapters → IsDedupeCause main f → IsWithoutPart (of_dedupe f) x → AreNoParts m modules x
+  main_refused required adapters f x made h (fault, none) =
+      refused_for m modules x (of_dedupe f) None fault none (main_cause required adapters f made h) (main_part m.document.parts f)
+
+  encoder_cause : (e : EncoderView) (f : EncoderFault) → IsPartsOf m modules e → IsEncoderCause e f → IsPartsCause m modules (of_encoder f)
   encoder_cause e encoder_memory made h = tt
   encoder_cause e f made h = ((λ same. cc), e, made, parts_formed, h)
+
+  pub encoder_refused : (e : EncoderView) (f : EncoderFault) (x : RefusedMessage) → IsPartsOf m modules e → IsEncoderCause e f → IsWithoutPart (of_encoder f) x
+      → AreNoParts m modules x
+  encoder_refused e f x made h (fault, none) =
+      refused_for m modules x (of_encoder f) None fault none (encoder_cause e f made h) (encoder_part m.document.parts f)
 
 -- the parts of an encoder
 pub parts_of : (m : MessageView) (modules main others : List ℕ) (world : ℕ) (wasm : List ℕ) (renames : Option (List RenameValue)) (resolve : ResolveView)
@@ -151,13 +225,34 @@ parts_of m modules main others world wasm renames resolve keys adapters rejects 
   hook = hooked;
 }
 
--- faults of a message
+-- why a message is no encoder, with the part of it that this is about
 
-pub json_cause : (text modules : List ℕ) (f : JsonFault) → IsCauseOf message (document text) f → IsNoEncoderCause text modules (of_json f)
+no_encoder : (text modules : List ℕ) (x : RefusedMessage) (f : MessageFault) → IsNoEncoderCause text modules f → IsPartOf text f None → IsWithoutPart f x
+    → IsNoEncoder text modules x
+no_encoder text modules x f cause at (fault, none) = (
+  subst (IsNoEncoderCause text modules) (sym fault) cause,
+  subst (λ g. IsPartOf text g x.part) (sym fault) (subst (IsPartOf text f) (sym none) at),
+)
+
+pub not_text : (text modules : List ℕ) (x : RefusedMessage) → ¬ IsUtf8 text → IsWithoutPart NotText x → IsNoEncoder text modules x
+not_text text modules x h is = no_encoder text modules x NotText h refl is
+
+pub no_memory : (text modules : List ℕ) (x : RefusedMessage) → IsWithoutPart Memory x → IsNoEncoder text modules x
+no_memory text modules x is = no_encoder text modules x Memory tt refl is
+
+json_cause : (text modules : List ℕ) (f : JsonFault) → IsCauseOf message (document text) f → IsNoEncoderCause text modules (of_json f)
 json_cause text modules json_memory h = tt
 json_cause text modules f h = ((λ same. cc), h)
 
-pub parts_cause : (text modules : List ℕ) (m : MessageView) (f : MessageFault) → IsMessage text m → IsPartsCause m modules f → IsNoEncoderCause text modules f
+json_part : (text : List ℕ) (f : JsonFault) → IsPartOf text (of_json f) None
+json_part text json_memory = refl
+json_part text f = refl
+
+pub json_refused : (text modules : List ℕ) (f : JsonFault) (x : RefusedMessage) → IsCauseOf message (document text) f → IsWithoutPart (of_json f) x
+    → IsNoEncoder text modules x
+json_refused text modules f x h is = no_encoder text modules x (of_json f) (json_cause text modules f h) (json_part text f) is
+
+parts_cause : (text modules : List ℕ) (m : MessageView) (f : MessageFault) → IsMessage text m → IsPartsCause m modules f → IsNoEncoderCause text modules f
 parts_cause text modules m Memory is h = tt
 parts_cause text modules m NotText is h = absurd h
 parts_cause text modules m (Json f) is h = absurd h
@@ -165,7 +260,9 @@ parts_cause text modules m (World f) is h = absurd h
 parts_cause text modules m (Plan f) is h = absurd h
 parts_cause text modules m f is h = (m, is, h)
 
-pub message_causes : {X : Type 0} (text modules : List ℕ) (m : MessageView) (r : Result X MessageFault) → IsMessage text m → IfErr r (IsPartsCause m modules)
-    → IfErr r (IsNoEncoderCause text modules)
-message_causes text modules m (Ok x) is h = tt
-message_causes text modules m (Err f) is h = parts_cause text modules m f is h
+part_of : (text : List ℕ) (m : MessageView) (f : MessageFault) (part : Option Part) → IsMessage text m → IsPartFor m.document.parts f part → IsPartOf text f part
+part_of text m (Resolve f) part is h = (m, is, h)
+part_of text m f part is h = h
+
+pub message_refused : (text modules : List ℕ) (m : MessageView) (x : RefusedMessage) → IsMessage text m → AreNoParts m modules x → IsNoEncoder text modules x
+message_refused text modules m x is (cause, at) = (parts_cause text modules m x.fault is cause, part_of text m x.fault x.part is at)

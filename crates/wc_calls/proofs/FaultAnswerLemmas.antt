@@ -1,7 +1,8 @@
 -- Faults that are answered, by their causes and what they are about.
-use Rattle.std.proofs.Common.{◌≡◌, ℕ, List, false, true, ap, inl, inr, refl, sym, subst, ◌∙◌}
+use Rattle.std.proofs.Common.{◌≡◌, ℕ, List, Option, false, true, ap, inl, inr, refl, sym, subst, ◌∙◌}
 use Rattle.std.proofs.lemmas.Bool.{false≢true}
 use Rattle.wc_encoder.specs.EncoderParts.{EncoderView}
+use Rattle.wc_resolve.specs.declared.explain.Part.{Part}
 use Rattle.wc_plan.specs.EncoderFaults.{IsWorldCause}
 use Rattle.wc_validate.specs.Validated.{ModuleRecord}
 use Rattle.wc_world.specs.Adapters.{NamedAdapter}
@@ -9,16 +10,19 @@ use Rattle.wc_world.specs.Causes.{IsComponentWorldCause, IsMemory, IsMemoryOf}
 use Rattle.wc_world.specs.Options.{OptionsOf}
 use Rattle.wc_world.specs.declared.fault.WorldFault.{WorldFault}
 use Rattle.wc_world.specs.declared.fault.WorldFault.TheVariants.{Memory as world_memory, Main, Adapter, Trim, Minimized, PageSize}
+use Rattle.wc_record.specs.Places.{part_json}
 use Rattle.wc_calls.specs.Answers.{IsPut, IsTooLong}
 use Rattle.wc_calls.specs.Encoders.{AreOptionsOf, IsEncoderOf}
 use Rattle.wc_calls.specs.FaultAnswers.{IsFaultAnswered}
 use Rattle.wc_calls.specs.MemoryFaults.{gc_is_memory, is_memory, validate_is_memory, world_is_memory}
 use Rattle.wc_calls.specs.MessageFaults.{IsMessageCause, IsNoEncoderCause}
-use Rattle.wc_calls.specs.Places.{IsPlaceOf}
-use Rattle.wc_calls.specs.Private.EncoderAnswers.{IsFaultFor, IsPartPlaceFor, IsPlaceFor, IsPlanFaultFor}
+use Rattle.wc_calls.specs.Places.{IsPlaceOf, place_text}
+use Rattle.wc_calls.specs.Private.EncoderAnswers.{IsFaultFor, IsPlaceFor, IsPlanFaultFor}
+use Rattle.wc_calls.specs.Private.RefusedMessages.{IsNoEncoder, IsPartOf}
 use Rattle.wc_calls.specs.declared.answers.Answer.{Answer}
 use Rattle.wc_calls.specs.declared.message_fault.MessageFault.{MessageFault}
-use Rattle.wc_calls.specs.declared.message_fault.MessageFault.TheVariants.{Memory, Plan, World}
+use Rattle.wc_calls.specs.declared.message_fault.MessageFault.TheVariants.{Memory, Plan, Resolve, World}
+use Rattle.wc_calls.specs.declared.refused_message.RefusedMessage.{RefusedMessage}
 
 -- what is put, and what is too long for the buffer, by what is known of it
 
@@ -48,17 +52,19 @@ message_cause message modules (World f) h = absurd h
 message_cause message modules (Plan f) h = absurd h
 message_cause message modules f h = h
 
-pub part_place : (message modules : List ℕ) (f : MessageFault) (place : List ℕ) → IsNoEncoderCause message modules f → IsPartPlaceFor message f place
-    → IsPlaceOf message modules f place
-part_place message modules (World f) place h at = absurd h
-part_place message modules f place h at = at
+pub part_place : (message modules : List ℕ) (f : MessageFault) (part : Option Part) (place : List ℕ) → IsNoEncoderCause message modules f → IsPartOf message f part
+    → place ≡ place_text part_json part → IsPlaceOf message modules f place
+part_place message modules (World f) part place h about at = absurd h
+part_place message modules (Plan f) part place h about at = absurd h
+part_place message modules (Resolve f) part place h (m, read, explained) at = (m, read, (part, explained, at))
+part_place message modules f part place h none at = at ∙ ap (place_text part_json) none
 
-pub message_refused : (message modules : List ℕ) (f : MessageFault) (a : Answer) (old new : List ℕ) → IsNoEncoderCause message modules f
-    → IsFaultAnswered (λ g. g ≡ f) (IsPartPlaceFor message) a old new
+pub message_refused : (message modules : List ℕ) (x : RefusedMessage) (a : Answer) (old new : List ℕ) → IsNoEncoder message modules x
+    → IsFaultAnswered (λ g. g ≡ x.fault) (λ g place. place ≡ place_text part_json x.part) a old new
     → IsFaultAnswered (IsMessageCause message modules) (IsPlaceOf message modules) a old new
-message_refused message modules f a old new h answered =
-    answered_as f (IsMessageCause message modules) (IsPartPlaceFor message) (IsPlaceOf message modules) a old new (message_cause message modules f h)
-    (λ place at. part_place message modules f place h at) answered
+message_refused message modules x a old new (h, about) answered =
+    answered_as x.fault (IsMessageCause message modules) (λ g place. place ≡ place_text part_json x.part) (IsPlaceOf message modules) a old new
+    (message_cause message modules x.fault h) (λ place at. part_place message modules x.fault x.part place h about at) answered
 
 -- a fault of a component's world that carries no Memory has its own cause
 

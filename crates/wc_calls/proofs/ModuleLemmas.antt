@@ -23,19 +23,20 @@ use Rattle.wc_world.specs.World.{IsMainRecord}
 use Rattle.wc_world.specs.declared.fault.WorldFault.TheVariants.{Main, Adapter}
 use Rattle.wc_world.specs.declared.places.ModulePlace.TheVariants as place
 use Rattle.wc_world.specs.declared.places.WorldPlace.{WorldPlace}
-use Rattle.wc_record.specs.Places.{world_place_json}
+use Rattle.wc_record.specs.Places.{part_json, world_place_json}
 use Rattle.wc_calls.specs.Encoders.{IsEncoderOf}
 use Rattle.wc_calls.specs.FaultAnswers.{IsFaultAnswered}
 use Rattle.wc_calls.specs.MessageFaults.{IsNoEncoderCause}
-use Rattle.wc_calls.specs.Places.{place_text}
-use Rattle.wc_calls.specs.Private.EncoderAnswers.{IsPartPlaceFor}
+use Rattle.wc_calls.specs.Places.{IsPlaceOf, place_text}
 use Rattle.wc_calls.specs.Private.ModuleAnswers.{IsInputPlace, IsInputPlaceText, IsInputRefused, IsInputValid, IsModuleFault, IsModulePlaceFor, input_of}
+use Rattle.wc_calls.specs.Private.RefusedMessages.{IsNoEncoder}
 use Rattle.wc_calls.specs.Validation.{IsAdapterPlace, IsAdapterRefused, IsModuleRefused, IsModuleValid, IsUnder, IsValidationCause, IsValidationPlaceOf}
 use Rattle.wc_calls.specs.declared.answers.Answer.{Answer}
 use Rattle.wc_calls.specs.declared.message_fault.MessageFault.{MessageFault}
-use Rattle.wc_calls.specs.declared.message_fault.MessageFault.TheVariants.{Memory, World}
+use Rattle.wc_calls.specs.declared.message_fault.MessageFault.TheVariants.{Memory, Plan, World}
+use Rattle.wc_calls.specs.declared.refused_message.RefusedMessage.{RefusedMessage}
 use Rattle.wc_calls.specs.declared.validation.AdapterInput.{AdapterInput}
-use Rattle.wc_calls.proofs.FaultAnswerLemmas.{answered_as, answered_by}
+use Rattle.wc_calls.proofs.FaultAnswerLemmas.{answered_as, answered_by, part_place}
 
 -- what an adapter or a library is validated for, by what the code has for it
 module _ (g : AdapterInput) (library : Option LibraryView) (own : library ≡ option_map library_view g.adapter.now.library_info) where
@@ -155,14 +156,16 @@ no_encoder_cause : (message modules : List ℕ) (name : Option (List ℕ)) (f : 
 no_encoder_cause message modules name (World f) h = absurd h
 no_encoder_cause message modules name f h = h
 
-no_encoder_place : (message modules : List ℕ) (f : MessageFault) (text : List ℕ) → IsNoEncoderCause message modules f → IsPartPlaceFor message f text
+no_encoder_place : (message modules : List ℕ) (f : MessageFault) (text : List ℕ) → IsNoEncoderCause message modules f → IsPlaceOf message modules f text
     → IsValidationPlaceOf message modules f text
 no_encoder_place message modules (World f) text h at = absurd h
+no_encoder_place message modules (Plan f) text h at = absurd h
 no_encoder_place message modules f text h at = at
 
-pub no_encoder_refused : (message modules : List ℕ) (name : Option (List ℕ)) (f : MessageFault) (a : Answer) (old new : List ℕ) → IsNoEncoderCause message modules f
-    → IsFaultAnswered (λ g. g ≡ f) (IsPartPlaceFor message) a old new
+pub no_encoder_refused : (message modules : List ℕ) (name : Option (List ℕ)) (x : RefusedMessage) (a : Answer) (old new : List ℕ) → IsNoEncoder message modules x
+    → IsFaultAnswered (λ g. g ≡ x.fault) (λ g text. text ≡ place_text part_json x.part) a old new
     → IsFaultAnswered (IsValidationCause message modules name) (IsValidationPlaceOf message modules) a old new
-no_encoder_refused message modules name f a old new h answered =
-    answered_as f (IsValidationCause message modules name) (IsPartPlaceFor message) (IsValidationPlaceOf message modules) a old new
-    (no_encoder_cause message modules name f h) (λ text at. no_encoder_place message modules f text h at) answered
+no_encoder_refused message modules name x a old new (h, about) answered =
+    answered_as x.fault (IsValidationCause message modules name) (λ g text. text ≡ place_text part_json x.part) (IsValidationPlaceOf message modules) a old new
+    (no_encoder_cause message modules name x.fault h)
+    (λ text at. no_encoder_place message modules x.fault text h (part_place message modules x.fault x.part text h about at)) answered

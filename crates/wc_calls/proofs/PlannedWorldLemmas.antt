@@ -1,7 +1,6 @@
 -- What the call that makes a component's world and its plan answers.
-use Rattle.std.proofs.Common.{◌≡◌, ◌++◌, ◌⊎◌, inl, inr, ℕ, List, Result, Ok, Err, IfOk, IfErr, OnOk, length, ap, refl, sym, subst}
+use Rattle.std.proofs.Common.{◌≡◌, ◌++◌, ◌⊎◌, inl, inr, ℕ, List, Result, Ok, Err, IfOk, IfErr, length, ap, refl, sym, subst}
 use Rattle.wc_encoder.specs.EncoderParts.{EncoderView}
-use Rattle.wc_plan.specs.EncoderFaults.{IsWorldCause}
 use Rattle.wc_plan.specs.Faults.{HasNoFault, IsFaultNamed, IsFirstFault, UseFault, no_lowering, no_memory, no_realloc}
 use Rattle.wc_plan.specs.Plans.{plan_of}
 use Rattle.wc_plan.specs.Progress.{IsPlanFault}

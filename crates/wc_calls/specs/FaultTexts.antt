@@ -1,32 +1,30 @@
--- The texts of the faults of a message.
-use Rattle.std.specs.Prelude.{◌≡◌, ℕ, List, ◌++◌, codes, string_bytes}
+-- The texts of the faults of a message: the name of a fault; where it carries another fault, its name, `: `, and the text of
+-- that; or its name, and a name or a key in quotation marks.
+use Rattle.std.specs.Prelude.{ℕ, List, ◌++◌, codes, string_bytes}
 use Rattle.wc_json.specs.Faults.{json_fault_text}
+use Rattle.wc_program.specs.FaultTexts.{carried_text, dedupe_fault_text, memory_text}
+use Rattle.wc_record.specs.FaultTexts.{encoder_fault_text, plan_fault_text, resolve_fault_text, world_fault_text}
 use Rattle.wc_calls.specs.declared.message_fault.MessageFault.{MessageFault}
 use Rattle.wc_calls.specs.declared.message_fault.MessageFault.TheVariants.{Memory, NotText, Json, UnknownWorld, Lengths, Resolve, AdapterTwice, Dedupe, Encoder, World, SeveralWorlds, PackageRange, UnknownKey, SeveralKeys, RepeatedKey, Plan}
-
--- the name of a fault, and what `Display` writes of the fault that it carries
-abbrev pub IsCarried : List ℕ → List ℕ → Type 0
-IsCarried name text = (inside : List ℕ) × (text ≡ name ++ (codes ": " ++ inside))
 
 -- the name of a fault, and a name or a key
 abbrev pub quoted : List ℕ → List ℕ → List ℕ
 quoted name key = name ++ (codes " `" ++ (key ++ codes "`"))
 
--- the text of a fault. It is open what `Display` writes of the faults of other libraries, but for those of JSON
-abbrev pub IsTextOf : MessageFault → List ℕ → Type 0
-IsTextOf Memory text = text ≡ codes "out of memory"
-IsTextOf NotText text = text ≡ codes "NotText"
-IsTextOf (Json f) text = text ≡ codes "Json: " ++ json_fault_text f
-IsTextOf UnknownWorld text = text ≡ codes "UnknownWorld"
-IsTextOf Lengths text = text ≡ codes "Lengths"
-IsTextOf (Resolve f) text = IsCarried (codes "Resolve") text
-IsTextOf (AdapterTwice name) text = text ≡ quoted (codes "AdapterTwice") (string_bytes name)
-IsTextOf (Dedupe f) text = IsCarried (codes "Dedupe") text
-IsTextOf (Encoder f) text = IsCarried (codes "Encoder") text
-IsTextOf (World f) text = IsCarried (codes "World") text
-IsTextOf (Plan f) text = IsCarried (codes "Plan") text
-IsTextOf SeveralWorlds text = text ≡ codes "SeveralWorlds"
-IsTextOf PackageRange text = text ≡ codes "PackageRange"
-IsTextOf (UnknownKey key) text = text ≡ quoted (codes "UnknownKey") (string_bytes key)
-IsTextOf (SeveralKeys key) text = text ≡ quoted (codes "SeveralKeys") (string_bytes key)
-IsTextOf (RepeatedKey key) text = text ≡ quoted (codes "RepeatedKey") (string_bytes key)
+abbrev pub message_fault_text : MessageFault → List ℕ
+message_fault_text Memory = memory_text
+message_fault_text NotText = codes "NotText"
+message_fault_text (Json f) = carried_text (codes "Json") (json_fault_text f)
+message_fault_text UnknownWorld = codes "UnknownWorld"
+message_fault_text Lengths = codes "Lengths"
+message_fault_text (Resolve f) = carried_text (codes "Resolve") (resolve_fault_text f)
+message_fault_text (AdapterTwice name) = quoted (codes "AdapterTwice") (string_bytes name)
+message_fault_text (Dedupe f) = carried_text (codes "Dedupe") (dedupe_fault_text f)
+message_fault_text (Encoder f) = carried_text (codes "Encoder") (encoder_fault_text f)
+message_fault_text (World f) = carried_text (codes "World") (world_fault_text f)
+message_fault_text (Plan f) = carried_text (codes "Plan") (plan_fault_text f)
+message_fault_text SeveralWorlds = codes "SeveralWorlds"
+message_fault_text PackageRange = codes "PackageRange"
+message_fault_text (UnknownKey key) = quoted (codes "UnknownKey") (string_bytes key)
+message_fault_text (SeveralKeys key) = quoted (codes "SeveralKeys") (string_bytes key)
+message_fault_text (RepeatedKey key) = quoted (codes "RepeatedKey") (string_bytes key)

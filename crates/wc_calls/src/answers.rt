@@ -13,7 +13,7 @@ pub const FAULT: u32 = 1;
 /// The buffer is too small for the answer, and is as it was.
 pub const TOO_SMALL: u32 = 2;
 
-/// What was asked for is the input itself. The buffer is as it was.
+/// The answer would be the input itself. The buffer is as it was.
 pub const SAME: u32 = 3;
 
 /// The arguments are none that the call has an answer for. The buffer is as it was.
@@ -22,7 +22,7 @@ pub const BAD_ARGUMENT: u32 = 4;
 /// An allocation failed. The buffer is as it was.
 pub const MEMORY: u32 = 5;
 
-/// What a call answers.
+/// The answer of a call.
 #[derive(Clone, Copy, Debug, PartialEq, Eq)]
 #[repr(C)]
 pub struct Answer {

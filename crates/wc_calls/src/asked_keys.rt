@@ -1,4 +1,4 @@
-//! Which keys of a world's exports a message asks of its modules.
+//! The keys of a world's exports that a message asks of its modules.
 
 ghost use Rattle.std.specs.Prelude.{◌≡◌, IfErr, IfOk, OnOk, flat_map, map};
 ghost use Rattle.wc_json.specs.Messages.{adapter_message_view, exports_view, key_message_view};
@@ -18,8 +18,8 @@ use wc_json::{AdapterMessage, KeyMessage};
 use wc_maps::{Seed, Set};
 use wc_resolve::{Resolve, WorldId, WorldKey};
 use wc_selection::{
-    Exporter, KeyRequest, RequestFault, check_keys, count_unversioned, export_keys, indexed_keys,
-    is_export, required_keys,
+    Exporter, KeyIndex, KeyRequest, RequestFault, check_keys, count_unversioned, export_keys,
+    indexed_keys, is_export, required_keys,
 };
 
 /// A world, and the keys of its exports that a message gives for the main module.
@@ -30,7 +30,7 @@ pub(crate) struct AskedWorld<'a> {
     pub exports: &'a Option<Vec<KeyMessage>>,
 }
 
-/// What a message asks of a world's exports.
+/// The keys that a message asks of a world's exports.
 #[derive(Drop)]
 pub(crate) struct AskedKeys {
     /// The keys of the world's exports, in order, each with the text by which the message gives it.
@@ -154,7 +154,7 @@ fn unknown_key(alloc: Global, key: &str, named: &[(WorldKey, String)]) -> Messag
     }
 }
 
-/// The same for the exports of a world.
+/// The fault of a key that no export of a world is given by (`unknown_key`).
 fn unknown_in(alloc: Global, key: &str, world: AskedWorld<'_>) -> MessageFault
     ensures { IsUnknownKey (export_keys world.entry.resolve.now world.entry.world.0)
         key.now result }
@@ -224,27 +224,20 @@ fn main_keys(
     required_keys(alloc, seed, request, Exporter::Main, keys)
 }
 
-/// The keys of exports, with the texts by which they are given, that an adapter has to export.
+/// The keys that an adapter has to export, of exports that are indexed by the texts by which they are given.
 pub(crate) fn adapter_keys(
     alloc: Global,
-    seed: Seed,
-    keys: &[(WorldKey, String)],
+    index: &KeyIndex<'_>,
     adapter: &AdapterMessage,
 ) -> Result<Set<WorldKey>, AllocError>
-    requires { AreKeysApart (map named_key keys.now) }
     ensures { IfOk result (λ set. map key_view set.keys
-        ≡ adapter_keys (map named_key keys.now) (adapter_message_view adapter.now)) }
+        ≡ adapter_keys index.now (adapter_message_view adapter.now)) }
 {
-    let texts = adapter_texts(alloc, adapter)?;
-    let request = KeyRequest {
-        exports: &[],
-        adapter_exports: &texts,
-    };
-    let exporter = Exporter::Adapter(adapter.name.as_str());
-    required_keys(alloc, seed, &request, exporter, keys)
+    let texts = key_texts(alloc, &adapter.exports)?;
+    index.keys_under(alloc, &texts)
 }
 
-/// What a request asks of a world's exports, which gives the main module's keys as the message does.
+/// The keys that a request asks of a world's exports, which gives the main module's keys as the message does.
 fn asked_by(
     alloc: Global,
     seed: Seed,
@@ -263,7 +256,7 @@ fn asked_by(
     Ok(AskedKeys { keys, main })
 }
 
-/// What the keys of a message ask of a world's exports.
+/// The keys of a world's exports that a message gives, and those of the main module.
 pub(crate) fn asked_of(
     alloc: Global,
     seed: Seed,

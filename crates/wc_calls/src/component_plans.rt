@@ -10,7 +10,7 @@ ghost use Rattle.wc_calls.specs.Private.OptionTables.{table_options};
 
 use crate::answers::{Answer, put};
 use crate::encoders::{WorldInput, world_input};
-use crate::explained::{answer_encoder_fault, answer_message_fault};
+use crate::explained::{answer_encoder_fault, answer_refused};
 use crate::message_fault::MessageFault;
 use std::alloc::Global;
 use wc_maps::Seed;
@@ -59,7 +59,8 @@ fn plan_for(alloc: Global, input: &WorldInput, out: &mut [u8]) -> Answer
 ///   that has.
 /// - `TOO_SMALL`: the same would have `length` bytes, and `out` has fewer.
 /// - `FAULT`: why there is no plan, by its number (`message_fault_number`), and its text, and what it is about, as of
-///   `world`. It neither is nor carries a `Memory`. A fault of the plan itself has no place.
+///   `world`. It neither is nor carries a `Memory`. A fault of the plan itself is about a function, by its name
+///   (`wc_record::function_to_json`).
 /// - `MEMORY`: an allocation failed.
 ///
 /// It is never `SAME` or `BAD_ARGUMENT`. `out` is as it was but for what is said here, and then after the first `length`
@@ -79,6 +80,6 @@ pub fn plan(alloc: Global, seed: Seed, message: &[u8], modules: &[u8], out: &mut
 {
     match world_input(alloc, seed, message, modules) {
         Ok(input) => plan_for(alloc, &input, out),
-        Err(fault) => answer_message_fault(alloc, seed, message, &fault, out),
+        Err(refused) => answer_refused(alloc, &refused, out),
     }
 }

@@ -11,7 +11,7 @@ ghost use Rattle.wc_calls.specs.Private.OptionTables.{table_options};
 
 use crate::answers::{Answer, put};
 use crate::encoders::{WorldInput, world_input};
-use crate::explained::{answer_encoder_fault, answer_message_fault};
+use crate::explained::{answer_encoder_fault, answer_refused};
 use crate::message_fault::MessageFault;
 use std::alloc::{AllocError, Global};
 use wc_maps::Seed;
@@ -36,7 +36,7 @@ pub(crate) fn modules_of(alloc: Global, world: &ComponentWorld<'_>) -> Result<Ve
     Ok(modules)
 }
 
-/// What is answered for an encoder and options.
+/// The answer for an encoder and options.
 fn answer_of_input(alloc: Global, input: &WorldInput) -> Result<WorldAnswer, MessageFault>
     ensures answer { IfOk result (λ a. IsAnswerFor (table_options input.now.options)
         input.now.encoder (length a.modules.items) (a.modules.items ++ a.json.items)) }
@@ -48,7 +48,7 @@ fn answer_of_input(alloc: Global, input: &WorldInput) -> Result<WorldAnswer, Mes
     }
 }
 
-/// What is answered for a component's world.
+/// The answer for a component's world.
 fn answer_of_world(alloc: Global, world: &ComponentWorld<'_>) -> Result<WorldAnswer, MessageFault>
     ensures modules { IfOk result (λ a. a.modules.items ≡ modules_text (world_view world.now)) }
     ensures json { IfOk result (λ a. a.json.items ≡ world_text (world_view world.now)) }
@@ -110,11 +110,12 @@ fn world_for(alloc: Global, input: &WorldInput, out: &mut [u8]) -> Answer
 ///   JSON, as `wc_record::world_to_json` writes it, with the length of each adapter. `length` is how many bytes both have.
 /// - `TOO_SMALL`: the same would have `length` bytes, and `out` has fewer.
 /// - `FAULT`: why there is no component's world, by its number (`message_fault_number`). It neither is nor carries a
-///   `Memory`. Its text, as it is printed, has `position` bytes. Of a message that is not what it has to be, it has the path to what is wrong, as
-///   `Json: adapters[0].length: not an index`. After the text is a JSON object that says what the fault is about, if it is
-///   one of an import, an export, a section or a body (`wc_world::explain`), or of a world, an interface, a type or a
-///   package (`wc_resolve::explain_parts`); else nothing. Both have `length` bytes, and are in the front of `out`, if
-///   `out` has so many. `wc_record::world_place_to_json` and `part_to_json` list the members of these objects.
+///   `Memory`. Its text, as it is printed, has `position` bytes. Of a message that is not what it has to be, it has the path
+///   to what is wrong, as `Json: adapters[0].length: not an index`. After the text is a JSON object that says what the fault
+///   is about, if it is one of an import, an export, a section or a body (`wc_world::explain`), of page sizes, or of a
+///   world, an interface, a type or a package (`wc_resolve::Refusal`); else nothing. Both have `length` bytes, and are in
+///   the front of `out`, if `out` has so many. `wc_record::world_place_to_json`, `page_sizes_to_json` and `part_to_json`
+///   list the members of these objects.
 /// - `MEMORY`: an allocation failed, at whichever step.
 ///
 /// It is never `SAME` or `BAD_ARGUMENT`. `out` is as it was but for what is said here, and then after the first `length`
@@ -133,6 +134,6 @@ pub fn world(alloc: Global, seed: Seed, message: &[u8], modules: &[u8], out: &mu
 {
     match world_input(alloc, seed, message, modules) {
         Ok(input) => world_for(alloc, &input, out),
-        Err(fault) => answer_message_fault(alloc, seed, message, &fault, out),
+        Err(refused) => answer_refused(alloc, &refused, out),
     }
 }

@@ -11,13 +11,15 @@ ghost use Rattle.wc_selection.specs.Keys.{AreKeysApart, named_key};
 ghost use Rattle.wc_selection.specs.TaskHook.{no_task_hook};
 ghost use Rattle.wc_selection.specs.Worlds.{IsSelected};
 ghost use Rattle.wc_calls.specs.Encoders.{AreAdaptersOf, AreChosen, AreExporters, AreOptionsOf, IsEncoderOf, IsPartsOf, IsWorldNamed};
-ghost use Rattle.wc_calls.specs.MessageFaults.{IsAdaptersCause, IsNameCause, IsNoEncoderCause, IsPartsCause, IsWorldNameCause, of_request};
+ghost use Rattle.wc_calls.specs.MessageFaults.{IsAdaptersCause, IsNameCause, IsWorldNameCause, of_request};
 ghost use Rattle.wc_calls.specs.Private.AskedKeys.{IsExportersCause};
 ghost use Rattle.wc_calls.specs.Private.OptionTables.{table_options};
+ghost use Rattle.wc_calls.specs.Private.RefusedMessages.{AreNoParts, IsNoEncoder};
 
 use crate::asked_keys::{AskedWorld, adapter_keys, asked_of};
 use crate::import_options::OptionTable;
 use crate::message_fault::MessageFault;
+use crate::refused_message::RefusedMessage;
 use std::alloc::{AllocError, Global};
 use std::borrow::CowSlice;
 use std::str;
@@ -25,7 +27,7 @@ use wc_encoder::{Adapter, ComponentEncoder, EncoderParts, LibraryInfo, Metadata}
 use wc_json::{AdapterMessage, Document, Message, WorldName, message_from_json};
 use wc_maps::{Map, Seed, Set};
 use wc_resolve::{Resolve, WorldId, WorldKey};
-use wc_selection::{MainModule, RequestFault, no_task_hook, select_world};
+use wc_selection::{KeyIndex, MainModule, RequestFault, no_task_hook, select_world};
 
 /// The fault of a message whose world is not selected.
 fn world_fault(fault: RequestFault<'_>) -> MessageFault
@@ -97,17 +99,16 @@ fn adapter_with(
     })
 }
 
-/// The adapters of messages, with these bytes one after another, and with those of the keys of exports, under the texts
-/// by which the messages give them, that they have to export. `seed`: the seed of the maps that are made.
+/// The adapters of messages, with these bytes one after another, and with those of the indexed keys of exports, under the
+/// texts by which the messages give them, that they have to export. `seed`: the seed of the map that is made.
 fn adapters_of(
     alloc: Global,
     seed: Seed,
-    keys: &[(WorldKey, String)],
+    index: &KeyIndex<'_>,
     messages: Vec<AdapterMessage>,
     bytes: &[u8],
 ) -> Result<Map<String, Adapter>, MessageFault>
-    requires { AreKeysApart (map named_key keys.now) }
-    ensures adapters { IfOk result (λ m. AreAdaptersOf (map named_key keys.now)
+    ensures adapters { IfOk result (λ m. AreAdaptersOf index.now
         (map adapter_message_view messages.items) bytes.now (map adapter_entry m.entries)) }
     ensures fault { IfErr result (IsAdaptersCause
         (map adapter_message_view messages.items) bytes.now) }
@@ -122,7 +123,7 @@ fn adapters_of(
         if adapters.contains_key(message.name.as_str()) {
             return Err(MessageFault::AdapterTwice(message.name));
         }
-        let required = adapter_keys(alloc, seed, keys, &message)?;
+        let required = adapter_keys(alloc, index, &message)?;
         let adapter = adapter_with(alloc, wasm, required, message.library_info)?;
         adapters.insert(message.name, adapter)?;
     }
@@ -132,14 +133,33 @@ fn adapters_of(
     Ok(adapters)
 }
 
-/// What modules have to export: the main module, and the adapters.
+/// The adapters of messages (`adapters_of`), with those of these keys that they have to export. The keys are indexed once
+/// for all adapters.
+fn adapters_by_keys(
+    alloc: Global,
+    seed: Seed,
+    keys: &[(WorldKey, String)],
+    messages: Vec<AdapterMessage>,
+    bytes: &[u8],
+) -> Result<Map<String, Adapter>, MessageFault>
+    requires { AreKeysApart (map named_key keys.now) }
+    ensures adapters { IfOk result (λ m. AreAdaptersOf (map named_key keys.now)
+        (map adapter_message_view messages.items) bytes.now (map adapter_entry m.entries)) }
+    ensures fault { IfErr result (IsAdaptersCause
+        (map adapter_message_view messages.items) bytes.now) }
+{
+    let index = KeyIndex::new(alloc, seed, keys)?;
+    adapters_of(alloc, seed, &index, messages, bytes)
+}
+
+/// The keys that the main module has to export, and the adapters with theirs.
 #[derive(Drop)]
 struct Exporters {
     main: Set<WorldKey>,
     adapters: Map<String, Adapter>,
 }
 
-/// What the modules of a message have to export of a world. `bytes`: those of the adapters. `seed`: the seed of the
+/// The keys of a world's exports that the modules of a message have to export, with the adapters. `bytes`: those of the adapters. `seed`: the seed of the
 /// maps that are made.
 fn exporters_of(
     alloc: Global,
@@ -157,7 +177,7 @@ fn exporters_of(
         bytes.now) }
 {
     let asked = asked_of(alloc, seed, world, &adapters)?;
-    let adapters = adapters_of(alloc, seed, &asked.keys, adapters, bytes)?;
+    let adapters = adapters_by_keys(alloc, seed, &asked.keys, adapters, bytes)?;
     Ok(Exporters {
         main: asked.main,
         adapters,
@@ -189,14 +209,14 @@ fn encoder_for(
     message: Message,
     world: WorldId,
     bytes: ModuleBytes<'_>,
-) -> Result<ComponentEncoder, MessageFault>
+) -> Result<ComponentEncoder, RefusedMessage>
     ensures parts { (modules : List ℕ)
         → AreChosen (message_view message) modules world.0 bytes.entry.main.now
         bytes.entry.others.now → IfOk result (IsPartsOf (message_view message) modules) }
     ensures formed { IfOk result IsWellFormed }
     ensures fault { (modules : List ℕ)
         → AreChosen (message_view message) modules world.0 bytes.entry.main.now
-        bytes.entry.others.now → IfErr result (IsPartsCause (message_view message) modules) }
+        bytes.entry.others.now → IfErr result (AreNoParts (message_view message) modules) }
 {
     let Message {
         document,
@@ -209,7 +229,7 @@ fn encoder_for(
         adapters,
         options: _options,
     } = message;
-    let resolve = Resolve::build(alloc, document.parts)?;
+    let resolve = Resolve::build_explained(alloc, document.parts)?;
     let asked = AskedWorld {
         resolve: &resolve,
         world,
@@ -239,19 +259,19 @@ fn encoder_with(
     seed: Seed,
     message: Message,
     modules: &[u8],
-) -> Result<ComponentEncoder, MessageFault>
+) -> Result<ComponentEncoder, RefusedMessage>
     ensures parts { IfOk result (IsPartsOf (message_view message) modules.now) }
     ensures formed { IfOk result IsWellFormed }
-    ensures fault { IfErr result (IsPartsCause (message_view message) modules.now) }
+    ensures fault { IfErr result (AreNoParts (message_view message) modules.now) }
 {
     let world = world_of(alloc, &message.document, &message.world)?;
     let Some((main, others)) = split(modules, message.length) else {
-        return Err(MessageFault::Lengths);
+        return Err(RefusedMessage::from(MessageFault::Lengths));
     };
     encoder_for(alloc, seed, message, world, ModuleBytes { main, others })
 }
 
-/// What a component's world is made of.
+/// The parts that a component's world is made of.
 #[derive(Drop)]
 pub(crate) struct WorldInput {
     pub encoder: ComponentEncoder,
@@ -265,13 +285,13 @@ pub(crate) fn world_input(
     seed: Seed,
     message: &[u8],
     modules: &[u8],
-) -> Result<WorldInput, MessageFault>
+) -> Result<WorldInput, RefusedMessage>
     ensures encoder { IfOk result (λ i. IsEncoderOf message.now modules.now i.encoder) }
     ensures options { IfOk result (λ i. AreOptionsOf message.now (table_options i.options)) }
-    ensures fault { IfErr result (IsNoEncoderCause message.now modules.now) }
+    ensures fault { IfErr result (IsNoEncoder message.now modules.now) }
 {
     let Ok(text) = str::from_utf8(message) else {
-        return Err(MessageFault::NotText);
+        return Err(RefusedMessage::from(MessageFault::NotText));
     };
     let message = message_from_json(alloc, seed, text)?;
     let options = OptionTable::listed(alloc, seed, &message.options)?;

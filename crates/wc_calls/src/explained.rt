@@ -1,25 +1,36 @@
-//! What the faults of messages and of their components' worlds are about.
+//! The places of faults of messages, of their components' worlds and of plans.
 
 ghost use Rattle.std.specs.Prelude.{◌≡◌, ◌≢◌, ◌⊎◌, IfOk};
-ghost use Rattle.wc_json.specs.Messages.{message_view};
+ghost use Rattle.wc_record.specs.Places.{part_json};
 ghost use Rattle.wc_calls.specs.Answers.{AreOthersOfTextZero, failed, out_of_memory};
 ghost use Rattle.wc_calls.specs.FaultAnswers.{IsFaultAnswered};
-ghost use Rattle.wc_calls.specs.Places.{IsPartPlaceText, IsPartText, IsWorldPlaceText};
-ghost use Rattle.wc_calls.specs.Private.EncoderAnswers.{IsPartPlaceFor, IsPlaceFor};
+ghost use Rattle.wc_calls.specs.Places.{IsExplainedText, IsWorldPlaceText, place_text, plan_place_text};
+ghost use Rattle.wc_calls.specs.Private.EncoderAnswers.{IsPlaceFor};
 
 use crate::answers::{Answer, MEMORY, answer_without_bytes};
 use crate::fault_answers::answer_fault;
 use crate::message_fault::MessageFault;
 use crate::places::{part_text, world_place_text};
+use crate::refused_message::RefusedMessage;
 use std::alloc::{AllocError, Global};
-use std::str;
 use wc_encoder::ComponentEncoder;
-use wc_json::{Message, message_from_json};
-use wc_maps::Seed;
-use wc_resolve::{ResolveFault, explain_parts};
+use wc_plan::PlanFault;
+use wc_record::{function_to_json, page_sizes_to_json};
 use wc_world::{WorldFault, explain};
 
-/// What a fault of an encoder's component is about, as JSON (`wc_world::explain`).
+/// The place that `wc_world::explain` finds of a fault of an encoder's component, as JSON.
+fn explained_place(
+    alloc: Global,
+    encoder: &ComponentEncoder,
+    fault: &WorldFault,
+) -> Result<Vec<u8>, AllocError>
+    ensures { IfOk result (λ v. IsExplainedText encoder.now fault.now v.items) }
+{
+    let place = explain(alloc, encoder, fault)?;
+    world_place_text(alloc, &place)
+}
+
+/// The place of a fault of an encoder's component, as JSON: of page sizes both, else what is explained.
 pub(crate) fn world_fault_place(
     alloc: Global,
     encoder: &ComponentEncoder,
@@ -27,11 +38,25 @@ pub(crate) fn world_fault_place(
 ) -> Result<Vec<u8>, AllocError>
     ensures { IfOk result (λ v. IsWorldPlaceText encoder.now fault.now v.items) }
 {
-    let place = explain(alloc, encoder, fault)?;
-    world_place_text(alloc, &place)
+    match fault {
+        WorldFault::PageSize(name, own, main) => page_sizes_to_json(alloc, name, *own, *main),
+        _ => explained_place(alloc, encoder, fault),
+    }
 }
 
-/// What a fault for an encoder is about, as JSON; no bytes where it is none of its component's world.
+/// The function that a fault of a plan is about, as JSON; no bytes where it is about none.
+fn plan_fault_place(alloc: Global, fault: &PlanFault) -> Result<Vec<u8>, AllocError>
+    ensures { IfOk result (λ v. v.items ≡ plan_place_text fault.now) }
+{
+    match fault {
+        PlanFault::NoMemory(name) => function_to_json(alloc, name),
+        PlanFault::NoRealloc(name) => function_to_json(alloc, name),
+        PlanFault::NoLowering(name) => function_to_json(alloc, name),
+        _ => Ok(Vec::new(alloc)),
+    }
+}
+
+/// The place of a fault for an encoder, as JSON; no bytes where it is none of its component's world or of its plan.
 fn encoder_fault_place(
     alloc: Global,
     encoder: &ComponentEncoder,
@@ -41,6 +66,7 @@ fn encoder_fault_place(
 {
     match fault {
         MessageFault::World(fault) => world_fault_place(alloc, encoder, fault),
+        MessageFault::Plan(fault) => plan_fault_place(alloc, fault),
         _ => Ok(Vec::new(alloc)),
     }
 }
@@ -64,75 +90,16 @@ pub(crate) fn answer_encoder_fault(
     }
 }
 
-/// The part of a message that a fault of its parts is about, as JSON (`wc_resolve::explain_parts`).
-fn part_place(alloc: Global, message: &Message, fault: ResolveFault) -> Result<Vec<u8>, AllocError>
-    ensures { IfOk result (λ v. IsPartText (message_view message.now) fault v.items) }
-{
-    let part = explain_parts(alloc, &message.document.parts, fault)?;
-    part_text(alloc, part)
-}
-
-/// The same for the text of a message. Since its parts have a fault, it is read: else an allocation failed.
-fn text_place(
-    alloc: Global,
-    seed: Seed,
-    text: &str,
-    fault: ResolveFault,
-) -> Result<Vec<u8>, AllocError>
-    ensures { IfOk result (λ v. IsPartPlaceText text.now fault v.items) }
-{
-    match message_from_json(alloc, seed, text) {
-        Ok(message) => part_place(alloc, &message, fault),
-        Err(_) => Err(AllocError),
-    }
-}
-
-/// The same for the bytes of a message, which are text.
-fn bytes_place(
-    alloc: Global,
-    seed: Seed,
-    message: &[u8],
-    fault: ResolveFault,
-) -> Result<Vec<u8>, AllocError>
-    ensures { IfOk result (λ v. IsPartPlaceText message.now fault v.items) }
-{
-    match str::from_utf8(message) {
-        Ok(text) => text_place(alloc, seed, text, fault),
-        Err(_) => Err(AllocError),
-    }
-}
-
-/// What a fault of a message that is no encoder is about, as JSON; no bytes where it is none of its parts.
-fn message_fault_place(
-    alloc: Global,
-    seed: Seed,
-    message: &[u8],
-    fault: &MessageFault,
-) -> Result<Vec<u8>, AllocError>
-    ensures { IfOk result (λ v. IsPartPlaceFor message.now fault.now v.items) }
-{
-    match fault {
-        MessageFault::Resolve(fault) => bytes_place(alloc, seed, message, *fault),
-        _ => Ok(Vec::new(alloc)),
-    }
-}
-
-/// Answers a fault of a message that is no encoder, with what it is about.
-pub(crate) fn answer_message_fault(
-    alloc: Global,
-    seed: Seed,
-    message: &[u8],
-    fault: &MessageFault,
-    out: &mut [u8],
-) -> Answer
-    ensures fault { result.status ≡ failed → IsFaultAnswered (λ f. f ≡ fault.now)
-        (IsPartPlaceFor message.now) result out.old out.new }
+/// Answers why a message is no encoder, with the part that this is about.
+pub(crate) fn answer_refused(alloc: Global, refused: &RefusedMessage, out: &mut [u8]) -> Answer
+    ensures fault { result.status ≡ failed → IsFaultAnswered (λ f. f ≡ refused.now.fault)
+        (λ _ text. text ≡ place_text part_json refused.now.part) result out.old out.new }
     ensures unchanged { result.status ≢ failed → out.new ≡ out.old }
     ensures statuses { (result.status ≡ failed) ⊎ (result.status ≡ out_of_memory) }
     ensures others { AreOthersOfTextZero result }
 {
-    match message_fault_place(alloc, seed, message, fault) {
-        Ok(place) => answer_fault(alloc, fault, &place, out),
+    match part_text(alloc, refused.part) {
+        Ok(place) => answer_fault(alloc, &refused.fault, &place, out),
         Err(_) => answer_without_bytes(MEMORY),
     }
 }

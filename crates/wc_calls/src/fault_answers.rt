@@ -1,9 +1,10 @@
 //! Faults of messages as answers: their numbers, their texts, and after these what they are about.
 
 ghost use Rattle.std.specs.Prelude.{◌≡◌, ◌≢◌, ◌⊎◌, IfOk, false, string_bytes};
+ghost use Rattle.wc_program.specs.FaultTexts.{carried_text};
 ghost use Rattle.wc_calls.specs.Answers.{AreOthersOfTextZero, failed, out_of_memory};
 ghost use Rattle.wc_calls.specs.FaultAnswers.{IsFaultAnswer};
-ghost use Rattle.wc_calls.specs.FaultTexts.{IsCarried, IsTextOf, quoted};
+ghost use Rattle.wc_calls.specs.FaultTexts.{message_fault_text, quoted};
 ghost use Rattle.wc_calls.specs.MemoryFaults.{is_memory};
 
 use crate::answers::{Answer, FAULT, MEMORY, answer_without_bytes, put};
@@ -11,13 +12,13 @@ use crate::fault_numbers::message_fault_number;
 use crate::memory_faults::is_memory;
 use crate::message_fault::MessageFault;
 use std::alloc::{AllocError, Global};
-use std::fmt;
+use wc_record::FaultText;
 
-/// The name of a fault, `: `, and what `Display` writes of the fault that it carries.
-fn carried_text<F: fmt::Display>(alloc: Global, name: &str, fault: &F) -> Result<String, AllocError>
-    ensures { IfOk result (λ text. IsCarried name.now (string_bytes text)) }
+/// The name of a fault, `: `, and the text of the fault that it carries.
+fn carried_text<F: FaultText>(alloc: Global, name: &str, fault: &F) -> Result<String, AllocError>
+    ensures { IfOk result (λ text. string_bytes text ≡ carried_text name.now (F.text fault.now)) }
 {
-    let text = fault.to_string(alloc)?;
+    let text = fault.to_text(alloc)?;
     format!(in alloc; "{name}: {text}")
 }
 
@@ -30,7 +31,7 @@ fn quoted_text(alloc: Global, name: &str, key: &str) -> Result<String, AllocErro
 
 /// The text of a fault.
 fn fault_text(alloc: Global, fault: &MessageFault) -> Result<String, AllocError>
-    ensures { IfOk result (λ text. IsTextOf fault.now (string_bytes text)) }
+    ensures { IfOk result (λ text. string_bytes text ≡ message_fault_text fault.now) }
 {
     match fault {
         MessageFault::Memory => String::from_str(alloc, "out of memory"),
@@ -54,7 +55,7 @@ fn fault_text(alloc: Global, fault: &MessageFault) -> Result<String, AllocError>
 
 /// Writes the text of a fault, and what it is about, to the front of the buffer, if it has room for both.
 fn put_fault(fault: &MessageFault, text: &str, place: &[u8], out: &mut [u8]) -> Answer
-    requires { IsTextOf fault.now text.now }
+    requires { text.now ≡ message_fault_text fault.now }
     ensures { IsFaultAnswer fault.now place.now result out.old out.new }
 {
     let answer = put(text.as_bytes(), place, out);

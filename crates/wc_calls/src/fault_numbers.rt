@@ -15,7 +15,7 @@ use wc_resolve::ResolveFault;
 use wc_validate::ValidateFault;
 use wc_world::WorldFault;
 
-/// What the number of a fault is multiplied by in the number of one that carries it.
+/// The factor of a fault's number in the number of a fault that carries it.
 const CARRIED: u32 = 256;
 
 /// The number of a reader's fault.

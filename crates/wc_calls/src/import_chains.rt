@@ -53,7 +53,7 @@ pub fn why(alloc: Global, seed: Seed, wasm: &[u8], required: &[&[u8]], out: &mut
     why_for_names(alloc, seed, wasm, required, out)
 }
 
-/// The same for names that are texts.
+/// Says why an adapter imports what it does, by names that are texts.
 fn why_for_names<'a>(
     alloc: Global,
     seed: Seed,

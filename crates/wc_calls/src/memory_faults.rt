@@ -24,7 +24,7 @@ fn read_is_memory(fault: ReadFault) -> bool
     }
 }
 
-/// The same of a fault of renaming, or of the one that it carries.
+/// Whether a fault of renaming is or carries that an allocation failed.
 pub(crate) fn dedupe_is_memory(fault: DedupeFault) -> bool
     ensures { result ≡ dedupe_is_memory fault }
 {
@@ -35,7 +35,7 @@ pub(crate) fn dedupe_is_memory(fault: DedupeFault) -> bool
     }
 }
 
-/// The same of a fault of trimming.
+/// Whether a fault of trimming is or carries that an allocation failed.
 pub(crate) fn gc_is_memory(fault: &GcFault) -> bool
     ensures { result ≡ gc_is_memory fault.now }
 {
@@ -46,7 +46,7 @@ pub(crate) fn gc_is_memory(fault: &GcFault) -> bool
     }
 }
 
-/// The same of a fault of reading JSON.
+/// Whether a fault of reading JSON is that an allocation failed.
 fn json_is_memory(fault: &JsonFault) -> bool
     ensures { result ≡ json_is_memory fault.now }
 {
@@ -56,7 +56,7 @@ fn json_is_memory(fault: &JsonFault) -> bool
     }
 }
 
-/// The same of a fault of worlds, interfaces, types and packages.
+/// Whether a fault of worlds, interfaces, types and packages is that an allocation failed.
 fn resolve_is_memory(fault: ResolveFault) -> bool
     ensures { result ≡ resolve_is_memory fault }
 {
@@ -66,7 +66,7 @@ fn resolve_is_memory(fault: ResolveFault) -> bool
     }
 }
 
-/// The same of a fault of an encoder's parts.
+/// Whether a fault of an encoder's parts is that an allocation failed.
 fn encoder_is_memory(fault: EncoderFault) -> bool
     ensures { result ≡ encoder_is_memory fault }
 {
@@ -76,7 +76,7 @@ fn encoder_is_memory(fault: EncoderFault) -> bool
     }
 }
 
-/// The same of a fault of a core module.
+/// Whether a fault of a core module is or carries that an allocation failed.
 fn validate_is_memory(fault: &ValidateFault) -> bool
     ensures { result ≡ validate_is_memory fault.now }
 {
@@ -87,7 +87,7 @@ fn validate_is_memory(fault: &ValidateFault) -> bool
     }
 }
 
-/// The same of a fault of a component's world.
+/// Whether a fault of a component's world is or carries that an allocation failed.
 fn world_is_memory(fault: &WorldFault) -> bool
     ensures { result ≡ world_is_memory fault.now }
 {
@@ -101,7 +101,7 @@ fn world_is_memory(fault: &WorldFault) -> bool
     }
 }
 
-/// The same of a fault of a plan.
+/// Whether a fault of a plan is or carries that an allocation failed.
 fn plan_is_memory(fault: &PlanFault) -> bool
     ensures { result ≡ plan_is_memory fault.now }
 {

@@ -1,4 +1,4 @@
-//! Why a message has no component's world, or no plan.
+//! The faults of messages: why one has no component's world, or no plan.
 
 ghost use Rattle.std.specs.Prelude.{◌≡◌};
 ghost use Rattle.wc_calls.specs.declared.message_fault.MessageFault.TheVariants.{Memory};

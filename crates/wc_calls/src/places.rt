@@ -1,4 +1,4 @@
-//! What faults are about, as JSON; no bytes where there is no place.
+//! The places of faults as JSON; no bytes where there is none.
 
 ghost use Rattle.std.specs.Prelude.{◌≡◌, IfOk, None};
 ghost use Rattle.wc_record.specs.Places.{part_json, trim_place_json, world_place_json};
@@ -10,7 +10,7 @@ use wc_record::{part_to_json, trim_place_to_json, world_place_to_json};
 use wc_resolve::Part;
 use wc_world::WorldPlace;
 
-/// What a fault of a component's world is about.
+/// The place of a fault of a component's world.
 pub(crate) fn world_place_text(
     alloc: Global,
     place: &Option<WorldPlace>,
@@ -23,7 +23,7 @@ pub(crate) fn world_place_text(
     }
 }
 
-/// What a fault of worlds, interfaces, types and packages is about.
+/// The part that a fault of worlds, interfaces, types and packages is about.
 pub(crate) fn part_text(alloc: Global, part: Option<Part>) -> Result<Vec<u8>, AllocError>
     ensures { IfOk result (λ v. v.items ≡ place_text part_json part) }
 {
@@ -33,7 +33,7 @@ pub(crate) fn part_text(alloc: Global, part: Option<Part>) -> Result<Vec<u8>, Al
     }
 }
 
-/// What a fault of trimming is about.
+/// The place of a fault of trimming.
 pub(crate) fn trim_place_text(
     alloc: Global,
     place: Option<TrimPlace>,

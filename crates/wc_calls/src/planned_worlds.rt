@@ -16,7 +16,7 @@ ghost use Rattle.wc_calls.specs.Private.PlannedAnswers.{IsPlanFaultOf, IsPlanned
 use crate::answers::{Answer, put};
 use crate::component_worlds::{WorldAnswer, modules_of};
 use crate::encoders::{WorldInput, world_input};
-use crate::explained::{answer_encoder_fault, answer_message_fault};
+use crate::explained::{answer_encoder_fault, answer_refused};
 use crate::message_fault::MessageFault;
 use std::alloc::Global;
 use wc_maps::Seed;
@@ -25,7 +25,7 @@ use wc_plan::{Plan, plan};
 use wc_record::planned_world_to_json;
 use wc_world::ComponentWorld;
 
-/// What is answered for a component's world and its plan.
+/// The answer for a component's world and its plan.
 fn answer_of_plan(
     alloc: Global,
     world: &ComponentWorld<'_>,
@@ -42,7 +42,7 @@ fn answer_of_plan(
     })
 }
 
-/// What is answered for a component's world.
+/// The answer for a component's world.
 fn answer_of_world(alloc: Global, world: &ComponentWorld<'_>) -> Result<WorldAnswer, MessageFault>
     requires { AreNameable (world_view world.now) }
     ensures answer { IfOk result (λ a. IsPlannedText (world_view world.now)
@@ -55,7 +55,7 @@ fn answer_of_world(alloc: Global, world: &ComponentWorld<'_>) -> Result<WorldAns
     }
 }
 
-/// What is answered for an encoder and options.
+/// The answer for an encoder and options.
 fn answer_of_input(alloc: Global, input: &WorldInput) -> Result<WorldAnswer, MessageFault>
     ensures answer { IfOk result (λ a. IsPlannedFor (table_options input.now.options)
         input.now.encoder (length a.modules.items) (a.modules.items ++ a.json.items)) }
@@ -121,6 +121,6 @@ pub fn planned_world(
 {
     match world_input(alloc, seed, message, modules) {
         Ok(input) => planned_world_for(alloc, &input, out),
-        Err(fault) => answer_message_fault(alloc, seed, message, &fault, out),
+        Err(refused) => answer_refused(alloc, &refused, out),
     }
 }

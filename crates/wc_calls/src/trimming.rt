@@ -83,7 +83,7 @@ pub fn trim(
     }
 }
 
-/// What an adapter is trimmed by.
+/// The arguments by which an adapter is trimmed.
 #[derive(Clone, Copy)]
 pub(crate) struct Arguments<'a> {
     pub wasm: &'a [u8],
@@ -92,7 +92,7 @@ pub(crate) struct Arguments<'a> {
     pub page_size_log2: u32,
 }
 
-/// The same for arguments that `run` takes.
+/// Trims an adapter by arguments that `run` takes.
 fn trim_for_names(alloc: Global, seed: Seed, passed: Arguments<'_>, out: &mut [u8]) -> Answer
     requires some { passed.required.now ≢ [] }
     requires are_texts { All IsUtf8 (texts passed.required.now) }
@@ -125,7 +125,7 @@ fn trim_for_names(alloc: Global, seed: Seed, passed: Arguments<'_>, out: &mut [u
     put_trimmed(alloc, passed, &names, &trimmed, out)
 }
 
-/// What a fault of trimming is about, as JSON; no bytes where there is no place.
+/// The place of a fault of trimming, as JSON; no bytes where there is none.
 fn fault_place(
     alloc: Global,
     wasm: &[u8],

@@ -16,7 +16,7 @@ ghost use Rattle.wc_calls.specs.Validation.{IsModuleValid, IsNoModule, IsNoModul
 
 use crate::answers::{Answer, BAD_ARGUMENT, DONE, MEMORY, answer_without_bytes};
 use crate::encoders::world_input;
-use crate::explained::{answer_message_fault, world_fault_place};
+use crate::explained::{answer_refused, world_fault_place};
 use crate::fault_answers::answer_fault;
 use crate::message_fault::MessageFault;
 use crate::places::world_place_text;
@@ -65,7 +65,7 @@ fn in_adapter(
     }))
 }
 
-/// What a fault of an adapter or a library is about, as JSON.
+/// The place of a fault of an adapter or a library, as JSON.
 fn input_place(
     alloc: Global,
     input: AdapterInput<'_>,
@@ -87,7 +87,7 @@ fn input_place(
     world_place_text(alloc, &place)
 }
 
-/// Answers that an adapter or a library is refused, by its name.
+/// Answers the fault of an adapter or a library, under its name.
 fn answer_under(
     alloc: Global,
     input: AdapterInput<'_>,
@@ -111,7 +111,7 @@ fn answer_under(
     }
 }
 
-/// Answers that an adapter or a library is refused.
+/// Answers the fault of an adapter or a library.
 fn answer_input_fault(
     alloc: Global,
     input: AdapterInput<'_>,
@@ -246,7 +246,7 @@ fn validate_under(alloc: Global, main: ValidMain<'_>, name: &str, out: &mut [u8]
     }
 }
 
-/// The same for a name that may be no text.
+/// Answers whether the adapter or the library of a name, which may be no text, is valid.
 fn validate_named(alloc: Global, main: ValidMain<'_>, name: &[u8], out: &mut [u8]) -> Answer
     requires { IsMainRecord main.encoder.now (module_record main.validated.now) }
     ensures done { result.status ≡ done
@@ -266,7 +266,7 @@ fn validate_named(alloc: Global, main: ValidMain<'_>, name: &[u8], out: &mut [u8
     }
 }
 
-/// Answers that the main module is refused.
+/// Answers the fault of the main module.
 fn answer_main_fault(
     alloc: Global,
     encoder: &ComponentEncoder,
@@ -377,6 +377,6 @@ pub fn validate(
 {
     match world_input(alloc, seed, message, modules) {
         Ok(input) => validate_for(alloc, &input.encoder, adapter, out),
-        Err(fault) => answer_message_fault(alloc, seed, message, &fault, out),
+        Err(refused) => answer_refused(alloc, &refused, out),
     }
 }

@@ -61,7 +61,7 @@ fn put_world_place(place: &WorldPlace, out: &mut Lines) {
     }
 }
 
-/// What a fault is about, or `none`, where that is asked for.
+/// Puts the place of a fault, where the first part that is asked for is `explain`.
 fn put_asked_place(
     alloc: Global,
     encoder: &ComponentEncoder,
@@ -99,7 +99,7 @@ fn set_main<'a>(alloc: Global, input: &[&'a str], fixture: &mut Fixture) -> Resu
     Ok(())
 }
 
-/// The encoder that the input describes.
+/// Builds the encoder of a row's lines, which describe its main module too.
 pub(crate) fn described_encoder<'a>(
     alloc: Global,
     input: &[&'a str],
@@ -127,7 +127,7 @@ fn plain_options<'a>(
     Ok(())
 }
 
-/// The faults of the adapter `old`, by their numbers.
+/// A fault that carries an adapter's name, for rows of texts.
 fn adapter_fault(alloc: Global, number: u32) -> Result<WorldFault, AllocError> {
     let name = String::from_str(alloc, "old")?;
     Ok(match number {

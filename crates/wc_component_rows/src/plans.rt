@@ -17,7 +17,7 @@ use wc_validate::ValidateFault;
 use wc_world::{ComponentWorld, PlainOptions, WorldFault};
 use wc_write::{PutFailed, Sink};
 
-/// What the lines of a plan are printed to. It takes some puts, and fails at the next.
+/// The output that the lines of a plan are printed to. It takes some puts, and fails at the next.
 #[derive(Drop)]
 struct Printed {
     lines: Lines,
@@ -112,7 +112,7 @@ fn plan_without_lowerings(alloc: Global, encoder: &ComponentEncoder) -> Result<P
     plan(alloc, &world)
 }
 
-/// A fault of the function `f`, by its number.
+/// A fault that carries a function's name, for rows of texts.
 fn function_fault(alloc: Global, number: u32) -> Result<PlanFault, AllocError> {
     let name = String::from_str(alloc, "f")?;
     Ok(match number {
@@ -186,7 +186,7 @@ fn puts_of<'a>(alloc: Global, call: Call, row: &'a Row<'a>) -> Result<u32, Stop<
     Ok(puts)
 }
 
-/// What a call says of the plan of an encoder's world.
+/// Puts the answer to a call on the plan of an encoder's world.
 fn put_planned(alloc: Global, call: Call, encoder: &ComponentEncoder, puts: u32, out: &mut Lines) {
     let plan = if matches!(call, Call::WithoutLowerings) {
         plan_without_lowerings(alloc, encoder)

@@ -2,7 +2,6 @@
 
 use std::alloc::Global;
 use std::borrow::CowSlice;
-use std::collections::HashSet;
 use wc_fixtures::shown_names::{put_id, put_name, put_optional_name};
 use wc_lines::input::bad_row;
 use wc_lines::lines::Lines;
@@ -96,7 +95,7 @@ fn put_lowerings(lowerings: &Map<(String, AbiVariant), Lowering>, out: &mut Line
     }
 }
 
-/// What is imported of an interface, or of the world itself.
+/// Puts the imports from an interface, or from the world itself.
 fn put_imported(imported: &ImportedInterface, out: &mut Lines) {
     let interface = imported.interface;
     let implements = imported.implements;
@@ -117,7 +116,7 @@ fn put_import_map(world: &ComponentWorld<'_>, out: &mut Lines) {
 }
 
 /// The interfaces of a set, by their ids.
-fn put_set(resolve: &Resolve, set: &HashSet<InterfaceId>, out: &mut Lines) {
+fn put_set(resolve: &Resolve, set: &Set<InterfaceId>, out: &mut Lines) {
     for index in 0..u32::MAX {
         if !resolve.has_interface(InterfaceId(index)) {
             break;
@@ -184,7 +183,7 @@ const PARTS: [(&str, Part); 9] = [
     ("slot-1", Part::Slot1),
 ];
 
-/// What a part of a world is asked for by its name.
+/// Puts the part of a world that is asked for by its name.
 pub(crate) fn put_named_part(
     alloc: Global,
     world: &ComponentWorld<'_>,

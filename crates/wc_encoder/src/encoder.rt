@@ -17,7 +17,7 @@ use wc_dedupe::ModuleImportMap;
 use wc_maps::{Map, Set};
 use wc_resolve::WorldKey;
 
-/// What a component is encoded from: a main module, the world that it is encoded for, and adapters
+/// The parts of a component: a main module, the world that it is encoded for, and adapters
 /// and libraries beside it. Its parts are well-formed: they have none of the faults that `build`
 /// lists.
 #[derive(Drop)]
@@ -63,7 +63,7 @@ impl ComponentEncoder {
         Ok(ComponentEncoder { parts })
     }
 
-    /// That the parts are well-formed, for proofs of callers. It does nothing when it runs.
+    /// Says that the parts are well-formed, to proofs of callers. It does nothing when it runs.
     pub fn well_formedness(&self)
         ensures { IsWellFormed self.now }
     {
@@ -92,7 +92,8 @@ impl ComponentEncoder {
         &self.parts.metadata
     }
 
-    /// Which exports of the world the main module has to export.
+    /// The keys of the world's exports that the main module itself has to export. Those of an
+    /// adapter or a library are in its `required_exports`.
     pub fn main_module_exports(&self) -> &Set<WorldKey>
         ensures { map key_view result.now.keys ≡ self.now.main_module_exports }
     {

@@ -1,4 +1,4 @@
-//! What an encoder is made of.
+//! The parts that an encoder is made of.
 
 use wc_adapters::Adapter;
 use wc_dedupe::ModuleImportMap;
@@ -12,7 +12,7 @@ pub struct Metadata {
     pub world: WorldId,
 }
 
-/// What [`ComponentEncoder::build`](crate::ComponentEncoder::build) makes an encoder of.
+/// The parts that [`ComponentEncoder::build`](crate::ComponentEncoder::build) makes an encoder of.
 #[derive(Drop)]
 pub struct EncoderParts {
     /// The main module's bytes. They are not read.

@@ -1,4 +1,4 @@
-//! What a component is encoded from: a main module, the world that it is encoded for, and adapters
+//! The parts that a component is encoded from: a main module, the world that it is encoded for, and adapters
 //! and libraries beside it. `ComponentEncoder::build` checks that modules can be encoded for that
 //! world. It does not read the modules.
 //!

@@ -112,7 +112,7 @@ fn argument<'a>(row: &Row<'a>, index: usize) -> &'a str {
     }
 }
 
-/// An argument that is a number.
+/// Parses an argument. The row is bad where it is no number.
 fn number(row: &Row<'_>, index: usize, out: &mut Lines) -> Result<u32, Stop> {
     match argument(row, index).parse::<u32>() {
         Ok(number) => Ok(number),

@@ -29,7 +29,8 @@ fn answer_document(alloc: Global, input: &[&str], out: &mut Lines) -> Result<(),
     put_document(document_from_json(alloc, row_seed(), &text), out)
 }
 
-/// The lines of a document, or of a fault.
+/// Lines for the parts, the package of each world, and the worlds of each package; or for the
+/// fault.
 fn put_document(read: Result<Document, JsonFault>, out: &mut Lines) -> Result<(), Stop> {
     match read {
         Ok(document) => {
@@ -80,7 +81,7 @@ fn put_worlds(out: &mut Lines, parts: &Parts) {
     }
 }
 
-/// `of`, a world and its package, for each world that names one.
+/// A line `of WORLD PACKAGE` for each world that names its package.
 fn put_world_packages(out: &mut Lines, packages: &[Option<PackageId>]) {
     let mut index = 0u32;
     for package in packages {

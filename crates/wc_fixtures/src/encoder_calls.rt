@@ -59,7 +59,7 @@ fn which_clone<'a>(words: &mut Words, out: &mut Lines) -> Result<(), Stop<'a>> {
     Ok(())
 }
 
-/// The world that the modules are encoded for.
+/// Appends the lines of the world that the metadata of an encoder name.
 fn put_encoded_world<'a>(encoder: &ComponentEncoder, out: &mut Lines) -> Result<(), Stop<'a>> {
     let metadata = encoder.metadata();
     if !metadata.resolve.has_world(metadata.world) {
@@ -73,7 +73,7 @@ fn put_encoded_world<'a>(encoder: &ComponentEncoder, out: &mut Lines) -> Result<
     Ok(())
 }
 
-/// What a call asks of an encoder.
+/// Appends the part of an encoder that the call names, or `ok`.
 fn put_of_encoder<'a>(
     call: Call,
     encoder: &ComponentEncoder,
@@ -131,7 +131,7 @@ fn answered<'a>(
     Ok(())
 }
 
-/// Appends the answer of a call on encoders.
+/// Builds the encoder that a row describes, and answers a call on it; or says why there is none.
 pub fn answer(alloc: Global, call: Call, row: &Row<'_>, out: &mut Lines) {
     let mut lines = Lines::new(alloc);
     let answered = answered(alloc, call, row, &mut lines);

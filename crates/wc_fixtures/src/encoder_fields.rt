@@ -32,6 +32,7 @@ fn put_keys(out: &mut Lines, word: &str, keys: &Set<WorldKey>) {
     out.push('\n');
 }
 
+/// Appends `main`, or `adapter NAME`.
 pub fn put_which(out: &mut Lines, which: &MainOrAdapter) {
     match which {
         MainOrAdapter::Main => out.push_str("main"),
@@ -51,6 +52,7 @@ fn kind_name(kind: ExportKind) -> &'static str {
     }
 }
 
+/// A line for an item: its alias, its kind and name, and the module that has it.
 pub fn put_item(out: &mut Lines, item: &Item) {
     put_name(out, &item.alias);
     out.push_str(kind_name(item.kind));

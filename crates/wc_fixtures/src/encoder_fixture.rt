@@ -33,6 +33,7 @@ pub struct EncoderDraft {
 }
 
 impl EncoderDraft {
+    /// A draft for the world of index 0, with an empty main module and nothing beside it.
     pub fn new(alloc: Global) -> EncoderDraft {
         EncoderDraft {
             module: Vec::new(alloc),
@@ -46,7 +47,7 @@ impl EncoderDraft {
         }
     }
 
-    /// Sets the main module.
+    /// Sets the bytes of the main module; they are empty until then.
     pub fn set_module(&mut self, bytes: Vec<u8>) {
         self.module = bytes;
     }
@@ -144,7 +145,7 @@ pub fn draft_line(words: &mut Words, draft: &mut EncoderDraft) -> Result<(), Bad
     Ok(())
 }
 
-/// `main`, or `adapter NAME`.
+/// Takes `main`, or `adapter NAME`.
 pub fn main_or_adapter(words: &mut Words) -> Result<MainOrAdapter, Bad> {
     if words.take("main") {
         return Ok(MainOrAdapter::Main);
@@ -260,7 +261,7 @@ fn by_names(alloc: Global, adapters: Vec<(String, Adapter)>) -> Result<Map<Strin
     Ok(named)
 }
 
-/// The encoder that a fixture describes.
+/// Builds the `Resolve` of a fixture, and the encoder over it. A fault of either stops the row.
 pub fn encoder_of<'a>(alloc: Global, fixture: Fixture) -> Result<ComponentEncoder, Stop<'a>> {
     let (parts, draft) = fixture.into_parts();
     let resolve = Resolve::build(alloc, parts)?;

@@ -14,7 +14,7 @@ use wc_lines::seeds::row_seed;
 use wc_maps::Map;
 use wc_resolve::{Interface, Package, PackageId, Parts, TypeDef, TypeOwner, World, WorldId};
 
-/// What the lines that begin with a space belong to.
+/// The part that lines which begin with a space belong to.
 #[derive(Clone, Copy)]
 enum Open {
     Nothing,
@@ -25,7 +25,7 @@ enum Open {
     Adapter,
 }
 
-/// What lines say: the parts of a `Resolve`, and of an encoder.
+/// The parts of a `Resolve`, and of an encoder, that lines describe.
 #[derive(Drop)]
 pub struct Fixture {
     parts: Parts,
@@ -242,7 +242,7 @@ impl Fixture {
         }
     }
 
-    /// Sets the main module.
+    /// Sets the bytes of the draft's main module.
     pub fn set_module(&mut self, bytes: Vec<u8>) {
         self.draft.set_module(bytes);
     }
@@ -266,7 +266,7 @@ impl Fixture {
     }
 }
 
-/// What lines say. Lines of a script, which begin with `do `, are passed over.
+/// The parts that lines describe. Lines of a script, which begin with `do `, are passed over.
 pub fn fixture_of<'a>(alloc: Global, lines: &[&'a str]) -> Result<Fixture, Stop<'a>> {
     let mut fixture = Fixture::new(alloc);
     for line in lines {

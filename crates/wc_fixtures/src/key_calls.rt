@@ -59,7 +59,7 @@ fn keys_equal<'a>(words: &mut Words, out: &mut Lines) -> Result<(), Stop<'a>> {
     Ok(())
 }
 
-/// A name, on a line.
+/// Appends a name, in quotes unless it is plain, and a line feed.
 fn put_line(out: &mut Lines, name: &str) {
     put_name(out, name);
     out.push('\n');
@@ -73,7 +73,7 @@ fn version_compat_track<'a>(words: &mut Words, out: &mut Lines) -> Result<(), St
     Ok(())
 }
 
-/// `is_version_compat_track VERSION TEXT`
+/// `is_version_compat_track VERSION TEXT`: whether the text is the version's track.
 fn is_version_compat_track<'a>(words: &mut Words, out: &mut Lines) -> Result<(), Stop<'a>> {
     let version = words.name()?;
     let version = version_of(words.alloc, &version)?;
@@ -112,7 +112,7 @@ fn put_core_export_name<'a>(
     Ok(())
 }
 
-/// The resource of a handle.
+/// Takes a handle, and appends the id of its resource.
 fn handle_resource<'a>(words: &mut Words, out: &mut Lines) -> Result<(), Stop<'a>> {
     put_found(out, 't', Some(handle(words)?.resource().0));
     Ok(())

@@ -1,4 +1,4 @@
-//! What a defined type is, in fixtures: a word for the kind, and after it the parts.
+//! Kinds of defined types in fixtures: a word for the kind, and after it the parts.
 
 use crate::bad::Bad;
 use crate::functions::named_types;
@@ -89,7 +89,7 @@ fn cases(words: &mut Words) -> Result<VariantCases, Bad> {
     Ok(cases)
 }
 
-/// A kind with one type, or with none.
+/// Takes a kind that has one type in it, or may have one, as `option TYPE`.
 fn holder(words: &mut Words) -> Result<TypeDefKind, Bad> {
     let kind = if words.take("option") {
         TypeDefKind::Option(wit_type(words)?)
@@ -111,6 +111,7 @@ fn holder(words: &mut Words) -> Result<TypeDefKind, Bad> {
     Ok(kind)
 }
 
+/// Takes a kind of type, by its first word.
 pub fn type_kind(words: &mut Words) -> Result<TypeDefKind, Bad> {
     let kind = if words.take("record") {
         TypeDefKind::Record(named_types(words)?)

@@ -83,8 +83,10 @@ fn add_func<'a>(
     Ok(())
 }
 
+/// Adds the types of an item of a world; where types are known, beside them.
 fn add_world_item<'a>(
     resolve: &Resolve,
+    known: Option<&LiveTypes>,
     live: &mut LiveTypes,
     words: &mut Words,
 ) -> Result<(), Stop<'a>> {
@@ -97,7 +99,10 @@ fn add_world_item<'a>(
     if !is_there {
         return Err(Stop::Missing("an item of what is not there"));
     }
-    live.add_world_item(resolve, &item)?;
+    match known {
+        Some(known) => live.add_world_item_beside(known, resolve, &item)?,
+        None => live.add_world_item(resolve, &item)?,
+    }
     Ok(())
 }
 
@@ -117,22 +122,23 @@ fn put_count(live: &LiveTypes, out: &mut Lines) {
     writeln!(out, "{count}");
 }
 
-/// A line of the script, after `do`.
+/// A line of the script, after `do`, about one list.
 fn step<'a>(
-    alloc: Global,
     resolve: &Resolve,
     live: &mut LiveTypes,
     words: &mut Words,
     out: &mut Lines,
 ) -> Result<(), Stop<'a>> {
     if words.take("add_type_id") {
-        add_type_id(alloc, resolve, live, words)?;
+        add_type_id(words.alloc, resolve, live, words)?;
     } else if words.take("add_type") {
         add_type(resolve, live, words)?;
     } else if words.take("add_func") {
         add_func(resolve, live, words)?;
     } else if words.take("add_world_item") {
-        add_world_item(resolve, live, words)?;
+        add_world_item(resolve, None, live, words)?;
+    } else if words.take("clear") {
+        live.clear();
     } else if words.take("contains") {
         put_answer(out, live.contains(type_id(words)?));
     } else if words.take("ids") {
@@ -146,6 +152,25 @@ fn step<'a>(
     Ok(())
 }
 
+/// A line of the script, after `do`: about the known types after the word `known`, and else about the others.
+fn answer_line<'a>(
+    resolve: &Resolve,
+    known: &mut LiveTypes,
+    live: &mut LiveTypes,
+    words: &mut Words,
+    out: &mut Lines,
+) -> Result<(), Stop<'a>> {
+    if words.take("known") {
+        return step(resolve, known, words, out);
+    }
+    if words.take("add_world_item_beside") {
+        add_world_item(resolve, Some(known), live, words)?;
+        words.end()?;
+        return Ok(());
+    }
+    step(resolve, live, words, out)
+}
+
 /// The answers of the script's lines.
 pub fn live_call<'a>(
     alloc: Global,
@@ -153,11 +178,12 @@ pub fn live_call<'a>(
     input: &[&'a str],
     out: &mut Lines,
 ) -> Result<(), Stop<'a>> {
+    let mut known = LiveTypes::new(alloc);
     let mut live = LiveTypes::new(alloc);
     for line in input {
         if let Some(line) = line.strip_prefix("do ") {
             let mut words = Words::of(alloc, line, 0)?;
-            step(alloc, resolve, &mut live, &mut words, out)?;
+            answer_line(resolve, &mut known, &mut live, &mut words, out)?;
         }
     }
     Ok(())

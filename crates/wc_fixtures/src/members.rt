@@ -8,6 +8,7 @@ use semver::Version;
 use std::alloc::{AllocError, Global};
 use wc_resolve::{Handle, InterfaceId, PackageName, WorldItem, WorldKey};
 
+/// Takes the id of an interface, as `i0`.
 pub fn interface_id(words: &mut Words) -> Result<InterfaceId, Bad> {
     Ok(InterfaceId(words.id('i', "the id of an interface is missing")?))
 }
@@ -43,7 +44,7 @@ pub fn world_item(words: &mut Words, key: &WorldKey) -> Result<WorldItem, Bad> {
     Ok(WorldItem::Function(function_under(words, name)?))
 }
 
-/// A key, `:` and an item.
+/// Takes `KEY : ITEM`, an import or export of a world.
 pub fn world_entry(words: &mut Words) -> Result<(WorldKey, WorldItem), Bad> {
     let key = world_key(words)?;
     words.expect(":", "`:` is missing")?;
@@ -59,7 +60,7 @@ fn of_version(error: semver::Error) -> Bad {
     }
 }
 
-/// The version of a text.
+/// Parses a semantic version; the row's line is bad where the text is none.
 pub fn version_of(alloc: Global, text: &str) -> Result<Version, Bad> {
     Version::parse(alloc, text).map_err(of_version)
 }
@@ -71,7 +72,7 @@ fn optional_version(alloc: Global, text: Option<&str>) -> Result<Option<Version>
     }
 }
 
-/// The name of a package, from one plain word.
+/// Parses `NAMESPACE:NAME` or `NAMESPACE:NAME@VERSION`.
 fn plain_package_name(alloc: Global, word: &str) -> Result<PackageName, Bad> {
     let Some((namespace, rest)) = word.split_once(':') else {
         return Err(Bad::Line("a package's name without `:`"));

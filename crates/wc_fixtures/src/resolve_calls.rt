@@ -41,12 +41,13 @@ pub fn argument_words<'a>(alloc: Global, row: &Row<'_>) -> Result<Words, Stop<'a
     Ok(Words::of(alloc, &line, 0)?)
 }
 
-/// The `Resolve` that the input describes.
+/// Builds the `Resolve` of a row's lines. Its fault stops the row.
 pub fn resolve_of<'a>(alloc: Global, input: &[&'a str]) -> Result<Resolve, Stop<'a>> {
     let (parts, _draft) = fixture_of(alloc, input)?.into_parts();
     Ok(Resolve::build(alloc, parts)?)
 }
 
+/// A line `true` or `false`.
 pub fn put_answer(out: &mut Lines, holds: bool) {
     out.push_str(if holds { "true\n" } else { "false\n" });
 }
@@ -133,7 +134,7 @@ fn package_named<'a>(
     Ok(())
 }
 
-/// What a call answers of a `Resolve`, but for live types.
+/// Puts the answer to a call on a `Resolve`, but for live types.
 fn resolve_call<'a>(
     call: Call,
     resolve: &Resolve,
@@ -153,7 +154,7 @@ fn resolve_call<'a>(
     }
 }
 
-/// What a call answers of a `Resolve`; `input` has the script of live types.
+/// Puts the answer to a call on a `Resolve`; `input` has the script of live types.
 fn answer_by<'a>(
     call: Call,
     resolve: &Resolve,
@@ -180,7 +181,7 @@ fn answered<'a>(
     Ok(())
 }
 
-/// Appends the answer of a call on a `Resolve`.
+/// Builds the `Resolve` that a row describes, and answers a call on it; or says why there is none.
 pub fn answer(alloc: Global, call: Call, row: &Row<'_>, out: &mut Lines) {
     let mut lines = Lines::new(alloc);
     let answered = answered(alloc, call, row, &mut lines);

@@ -45,6 +45,7 @@ fn put_cases(out: &mut Lines, cases: &[(String, Option<WitType>)]) {
     }
 }
 
+/// Appends `own ID` or `borrow ID`.
 pub fn put_handle(out: &mut Lines, handle: Handle) {
     let (word, id) = match handle {
         Handle::Own(id) => ("own ", id),
@@ -54,14 +55,14 @@ pub fn put_handle(out: &mut Lines, handle: Handle) {
     put_id(out, 't', id.0);
 }
 
-/// A word and a type.
+/// Appends `WORD TYPE`.
 fn put_holder(out: &mut Lines, word: &str, ty: WitType) {
     out.push_str(word);
     out.push(' ');
     put_type(out, ty);
 }
 
-/// A word and, where there is one, a type.
+/// Appends `WORD TYPE`, or the word alone.
 fn put_carrier(out: &mut Lines, word: &str, ty: Option<WitType>) {
     match ty {
         Some(ty) => put_holder(out, word, ty),
@@ -69,6 +70,7 @@ fn put_carrier(out: &mut Lines, word: &str, ty: Option<WitType>) {
     }
 }
 
+/// Appends a kind of type, as a row describes it.
 pub fn put_kind(out: &mut Lines, kind: &TypeDefKind) {
     match kind {
         TypeDefKind::Record(fields) => {
@@ -126,7 +128,7 @@ fn put_function_kind(out: &mut Lines, kind: FunctionKind) {
     }
 }
 
-/// What is after a function's key, where that is its name too.
+/// Puts the words after a function's key, where that is its name too.
 pub fn put_function(out: &mut Lines, key: &str, function: &Function) {
     if function.name.as_str() != key {
         out.push_str("named ");

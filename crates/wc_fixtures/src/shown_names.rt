@@ -37,7 +37,7 @@ fn is_plain(name: &str) -> bool {
         && name.chars().all(|c| is_plain_character(c))
 }
 
-/// Puts a name in quotes.
+/// Appends a name in quotes, with quotes, backslashes and line feeds escaped.
 fn put_quoted(out: &mut Lines, name: &str) {
     out.push('"');
     for c in name.chars() {
@@ -51,6 +51,7 @@ fn put_quoted(out: &mut Lines, name: &str) {
     out.push('"');
 }
 
+/// Appends a name, in quotes unless it is plain.
 pub fn put_name(out: &mut Lines, name: &str) {
     if is_plain(name) {
         out.push_str(name);
@@ -59,7 +60,7 @@ pub fn put_name(out: &mut Lines, name: &str) {
     }
 }
 
-/// A name, or `none`.
+/// Appends a name as `put_name` does, or `none`.
 pub fn put_optional_name(out: &mut Lines, name: &Option<String>) {
     match name {
         Some(name) => put_name(out, name),
@@ -67,7 +68,7 @@ pub fn put_optional_name(out: &mut Lines, name: &Option<String>) {
     }
 }
 
-/// An id: its letter and its index.
+/// Appends an id, as `t0`.
 pub fn put_id(out: &mut Lines, letter: char, index: u32) {
     write!(out, "{letter}{index}");
 }
@@ -92,6 +93,7 @@ fn primitive(ty: WitType) -> &'static str {
     }
 }
 
+/// Appends the id of a type, or the word of a primitive one.
 pub fn put_type(out: &mut Lines, ty: WitType) {
     match ty {
         WitType::Id(id) => put_id(out, 't', id.0),
@@ -99,7 +101,7 @@ pub fn put_type(out: &mut Lines, ty: WitType) {
     }
 }
 
-/// A type, or `_`.
+/// Appends a type, or `_` where there is none.
 pub fn put_payload(out: &mut Lines, ty: Option<WitType>) {
     match ty {
         Some(ty) => put_type(out, ty),
@@ -107,6 +109,7 @@ pub fn put_payload(out: &mut Lines, ty: Option<WitType>) {
     }
 }
 
+/// Appends a world's key: a name, or the id of an interface.
 pub fn put_key(out: &mut Lines, key: &WorldKey) {
     match key {
         WorldKey::Name(name) => put_name(out, name),
@@ -114,7 +117,7 @@ pub fn put_key(out: &mut Lines, key: &WorldKey) {
     }
 }
 
-/// ` in` and the owner, where there is one.
+/// Appends ` in ID`; nothing of a type without an owner.
 pub fn put_owner(out: &mut Lines, owner: TypeOwner) {
     match owner {
         TypeOwner::None => {}
@@ -138,6 +141,7 @@ fn put_part(out: &mut Lines, part: &str) {
     }
 }
 
+/// Appends `NAMESPACE:NAME`, and `@VERSION` if there is one.
 pub fn put_package_name(out: &mut Lines, name: &PackageName) {
     put_part(out, &name.namespace);
     out.push(':');

@@ -9,6 +9,7 @@ use wc_resolve::{
     WorldKey,
 };
 
+/// A line for a type: its id, name, owner and kind.
 pub fn put_type_def(out: &mut Lines, index: u32, def: &TypeDef) {
     out.push_str("type ");
     put_id(out, 't', index);
@@ -54,6 +55,7 @@ fn put_origin(out: &mut Lines, package: Option<PackageId>, clone_of: Option<Inte
     }
 }
 
+/// Lines for an interface: its id, name and package, then its types and functions.
 pub fn put_interface(out: &mut Lines, index: u32, interface: &Interface) {
     out.push_str("interface ");
     put_id(out, 'i', index);
@@ -77,6 +79,7 @@ fn put_members(out: &mut Lines, interfaces: &Map<String, InterfaceId>) {
     }
 }
 
+/// Lines for a package: its id and name, then its interfaces.
 pub fn put_package(out: &mut Lines, index: u32, package: &Package) {
     out.push_str("package ");
     put_id(out, 'p', index);
@@ -86,7 +89,7 @@ pub fn put_package(out: &mut Lines, index: u32, package: &Package) {
     put_members(out, &package.interfaces);
 }
 
-/// A key, `:` and an item.
+/// Appends `KEY: ITEM`, an import or export of a world.
 pub fn put_entry(out: &mut Lines, key: &WorldKey, item: &WorldItem) {
     put_key(out, key);
     match item {
@@ -123,6 +126,7 @@ fn put_entries(out: &mut Lines, word: &str, entries: &Map<WorldKey, WorldItem>) 
     }
 }
 
+/// Lines for a world: its id and name, then its imports and its exports.
 pub fn put_world(out: &mut Lines, index: u32, world: &World) {
     out.push_str("world ");
     put_id(out, 'w', index);

@@ -19,6 +19,7 @@ const VARIANTS: [(&str, AbiVariant); 5] = [
     ),
 ];
 
+/// Takes the word of a variant of the ABI.
 pub fn abi_variant(words: &mut Words) -> Result<AbiVariant, Bad> {
     for (word, abi) in VARIANTS {
         if words.take(word) {
@@ -40,7 +41,7 @@ fn core_word(ty: WasmType) -> &'static str {
     }
 }
 
-/// A word and core types, on a line.
+/// A line: a word, and the core types after it.
 fn put_core(out: &mut Lines, word: &str, types: &[WasmType]) {
     out.push_str(word);
     for ty in types {

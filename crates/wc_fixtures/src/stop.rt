@@ -20,6 +20,7 @@ pub enum Stop<'a> {
 }
 
 impl<'a> Stop<'a> {
+    /// Why a row stops: memory ran out, or this line is bad.
     pub fn at(bad: Bad, line: &'a str) -> Stop<'a> {
         match bad {
             Bad::Memory => Stop::Memory,
@@ -39,7 +40,7 @@ impl<'a> Stop<'a> {
     }
 }
 
-/// What is wrong with a line of a row, and the line.
+/// The flaw of a line of a row, and the line.
 #[derive(Clone, Copy)]
 struct BadLine<'a> {
     why: &'static str,

@@ -43,7 +43,7 @@ fn neighbour(word: &str, types: usize) -> Option<WitType> {
     Some(WitType::Id(TypeId(u32::try_from(index).ok()?)))
 }
 
-/// The type that the next word is, if it is one.
+/// Takes the next word if it is a type: an id, a primitive one, `prev` or `next`.
 pub fn take_type(words: &mut Words) -> Option<WitType> {
     if let Some(index) = words.take_id('t') {
         return Some(WitType::Id(TypeId(index)));
@@ -54,6 +54,7 @@ pub fn take_type(words: &mut Words) -> Option<WitType> {
     Some(ty)
 }
 
+/// Takes a type; a line without one is bad.
 pub fn wit_type(words: &mut Words) -> Result<WitType, Bad> {
     take_type(words).ok_or(Bad::Line("a type is missing"))
 }
@@ -66,6 +67,7 @@ pub fn payload(words: &mut Words) -> Result<Option<WitType>, Bad> {
     Ok(Some(wit_type(words)?))
 }
 
+/// Takes the id of a type, as `t0`.
 pub fn type_id(words: &mut Words) -> Result<TypeId, Bad> {
     Ok(TypeId(words.id('t', "the id of a type is missing")?))
 }

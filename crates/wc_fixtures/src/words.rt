@@ -107,6 +107,7 @@ pub struct Words {
 }
 
 impl Words {
+    /// Splits a line at blanks outside of quotes. Before it, `types` types were described.
     pub fn of(alloc: Global, line: &str, types: usize) -> Result<Words, Bad> {
         let mut splitter = Splitter {
             alloc,
@@ -144,11 +145,12 @@ impl Words {
         self.at = saved;
     }
 
+    /// Says whether no word is left.
     pub fn is_done(&self) -> bool {
         self.at >= self.words.len()
     }
 
-    /// That no words are left.
+    /// Asks that no words are left.
     pub fn end(&self) -> Result<(), Bad> {
         if self.is_done() {
             Ok(())
@@ -165,6 +167,7 @@ impl Words {
         }
     }
 
+    /// Passes over a word.
     pub fn skip(&mut self) {
         self.at = self.at.saturating_add(1);
     }
@@ -183,6 +186,7 @@ impl Words {
         is_there
     }
 
+    /// Takes this word. The line is bad, for the reason `why`, where another is next.
     pub fn expect(&mut self, text: &str, why: &'static str) -> Result<(), Bad> {
         if self.take(text) {
             Ok(())
@@ -221,6 +225,7 @@ impl Words {
         Some(id)
     }
 
+    /// Takes an id of this letter. The line is bad, for the reason `why`, where none is next.
     pub fn id(&mut self, letter: char, why: &'static str) -> Result<u32, Bad> {
         self.take_id(letter).ok_or(Bad::Line(why))
     }
@@ -233,7 +238,7 @@ impl Words {
         }
     }
 
-    /// A number.
+    /// Takes a number below 2^32; the line is bad where none is next.
     pub fn number(&mut self) -> Result<u32, Bad> {
         let number = self.peek().and_then(|text| text.parse::<u32>().ok());
         self.skip();

@@ -1,5 +1,5 @@
 -- Sets of bits.
-use Rattle.std.proofs.Common.{◌≡◌, ◌≢◌, ℕ, zero, suc, ◌*◌, ◌/◌, ◌%◌, ◌^◌, ◌<◌, ◌≤◌, List, length, get_or, set, max, refl, sym, ◌∙◌, ap, not, ◌⊎◌, inl, inr, arith, bit_or, bit_and}
+use Rattle.std.proofs.Common.{◌≡◌, ◌≢◌, ℕ, zero, suc, ◌+◌, ◌*◌, ◌/◌, ◌%◌, ◌^◌, ◌<◌, ◌≤◌, List, length, get_or, set, max, refl, sym, ◌∙◌, ap, not, ◌⊎◌, inl, inr, arith, bit_or, bit_and}
 use Rattle.std.proofs.Common.{Bool, true, false, ◌&&◌, nat_lt}
 use Rattle.std.specs.Prelude.{◌==◌}
 use Rattle.std.specs.Int.{bit_at}
@@ -49,6 +49,28 @@ mask_is x = shl_without_overflow 1 (x % 64) 1 (omega arith) (omega arith) ∙ on
   where
     one_mul : (n : ℕ) → 1 * n ≡ n
     one_mul n = omega arith
+
+-- a word without bits adds nothing
+
+word_of : (words : List ℕ) (index y : ℕ) → index * 64 ≤ y → y < index * 64 + 64 → get_or words index 0 ≡ 0 → bit_of words y ≡ false
+word_of words index y le lt empty =
+    let here : y / 64 ≡ index = omega arith in
+    ap (λ (w : ℕ). bit_at w (y % 64) == 1) (ap (λ (i : ℕ). get_or words i 0) here ∙ empty) ∙ ap (λ (w : ℕ). w == 1) (bit_at-zero (y % 64))
+
+pub zero_word : (words : List ℕ) (index y : ℕ) (h : Bool) → get_or words index 0 ≡ 0 → h ≡ (nat_lt y (index * 64) && bit_of words y) → h ≡ (nat_lt y (index * 64 + 64) && bit_of words y)
+zero_word words index y h empty e = below (nat_lt y (index * 64)) refl
+  where
+    above : (b : Bool) → nat_lt y (index * 64) ≡ false → nat_lt y (index * 64 + 64) ≡ b → h ≡ (nat_lt y (index * 64 + 64) && bit_of words y)
+    above true out k =
+        let none = word_of words index y (let s : index * 64 ≤ y = grind (arith, nat_tests, out) in s) (let s : y < index * 64 + 64 = grind (arith, nat_tests, k) in s) empty in
+        e ∙ (ap (λ b. b && bit_of words y) out ∙ sym (ap (λ b. b && bit_of words y) k ∙ none))
+    above false out k = e ∙ (ap (λ b. b && bit_of words y) out ∙ sym (ap (λ b. b && bit_of words y) k))
+
+    below : (b : Bool) → nat_lt y (index * 64) ≡ b → h ≡ (nat_lt y (index * 64 + 64) && bit_of words y)
+    below true k =
+        let also : nat_lt y (index * 64 + 64) ≡ true = grind (arith, nat_tests, k) in
+        e ∙ (ap (λ b. b && bit_of words y) k ∙ sym (ap (λ b. b && bit_of words y) also))
+    below false k = above (nat_lt y (index * 64 + 64)) k refl
 
 -- past the last word no bit is set, so a set that has the bits below is whole
 

@@ -25,6 +25,7 @@ use Rattle.wc_read.specs.declared.types.MemoryType.{MemoryType}
 use Rattle.wc_read.specs.declared.operators.Space.{Space}
 use Rattle.wc_read.specs.declared.operators.Space.TheVariants.{Types, Funcs, Tables, Memories, Globals}
 use Rattle.wc_write.specs.BuiltValues.{is_defined, is_imported, item_seen}
+use Rattle.wc_gc.specs.Bits.{bit_of}
 use Rattle.wc_gc.specs.Counts.{count_below}
 use Rattle.wc_gc.specs.Decoded.{FuncCode, ItemIndex, decoded_module, func_code, global_code, size_of}
 use Rattle.wc_gc.specs.Edited.{EditedModule, added_funcs, added_imports, added_types, growing_code, edited_by, edited_func, edited_funcs, is_exported_func}
@@ -274,8 +275,8 @@ module _ (edit : Edit) (a : Module) (exports : List ExportValue) (live : ItemInd
       → (ts : List FuncTypeValue)
       → ts ≡ map (renumber_func_type (new_indices edit)) (kept_items (λ n. live (Types, n)) (length a.types.items) (map func_type_value a.types.items))
       ++ added_types edit.parts (found_of edit)
-      → (fs : List (ItemValue ℕ BodyValue)) → fs ≡ live_funcs edit (has g.imports) (has g.exported) a.funcs.items
-      ++ (new_funcs edit (imports_added edit) ++ (live_funcs edit (has g.defined) (has g.exported) a.funcs.items ++ new_funcs edit (funcs_added edit)))
+      → (fs : List (ItemValue ℕ BodyValue)) → fs ≡ live_funcs edit (has g.imports) (bit_of g.exported.words.items) a.funcs.items
+      ++ (new_funcs edit (imports_added edit) ++ (live_funcs edit (has g.defined) (bit_of g.exported.words.items) a.funcs.items ++ new_funcs edit (funcs_added edit)))
       → (tables bs : List (Item TableType ⊤)) → bs ≡ kept_items (λ n. live (Tables, n)) (length a.tables.items) a.tables.items
       → map table_value tables ≡ map (new_table (new_indices edit)) (map table_value bs)
       → (ms : List (Item MemoryType ⊤)) → ms ≡ kept_items (λ n. live (Memories, n)) (length a.memories.items) a.memories.items
@@ -304,16 +305,16 @@ module _ (edit : Edit) (a : Module) (exports : List ExportValue) (live : ItemInd
       let t2 = t ∙ (ap (λ (r : Renumbering). map (renumber_func_type r) (old_types (length a.types.items)) ++ added_types edit.parts (found_of edit)) indices
       ∙ (ap (λ (k : ℕ). map (renumber_func_type r) (old_types k) ++ added_types edit.parts (found_of edit)) (sym (size_is a Types))
       ∙ ap (λ ts. map (renumber_func_type r) (old_types (size_of (decoded_module a) Types)) ++ ts) (sym (added_types_stay r edit.parts (found_of edit))))) in
-      let i2 = live_read (has g.exported) (has g.imports) (is_kept_import e) groups.exported (λ n. groups.imports n
+      let i2 = live_read (bit_of g.exported.words.items) (has g.imports) (is_kept_import e) groups.exported (λ n. groups.imports n
       ∙ sym (imports_same exports s' edit.parts (found_of edit) a live n))
       (λ n h. (and_parts (live (Funcs, n)) _ h).0) in
-      let d2 = live_read (has g.exported) (has g.defined) (is_kept_defined e) groups.exported (λ n. groups.defined n
+      let d2 = live_read (bit_of g.exported.words.items) (has g.defined) (is_kept_defined e) groups.exported (λ n. groups.defined n
       ∙ sym (defined_same exports s' edit.parts (found_of edit) a live n))
       (λ n h. (and_parts (live (Funcs, n)) _ h).0) in
-      let f2 = f ∙ (ap (λ z. z ++ (new_funcs edit (imports_added edit) ++ (live_funcs edit (has g.defined) (has g.exported) a.funcs.items
+      let f2 = f ∙ (ap (λ z. z ++ (new_funcs edit (imports_added edit) ++ (live_funcs edit (has g.defined) (bit_of g.exported.words.items) a.funcs.items
       ++ new_funcs edit (funcs_added edit)))) i2
       ∙ ap (λ z. map (new_func r) (kept_items (is_kept_import e) (length e.value.funcs) e.value.funcs) ++ z)
-      (ap (λ z. z ++ (live_funcs edit (has g.defined) (has g.exported) a.funcs.items ++ new_funcs edit (funcs_added edit))) imports_read
+      (ap (λ z. z ++ (live_funcs edit (has g.defined) (bit_of g.exported.words.items) a.funcs.items ++ new_funcs edit (funcs_added edit))) imports_read
       ∙ ap (λ z. map (new_func r) e.imports ++ z) (ap (λ z. z ++ new_funcs edit (funcs_added edit)) d2
       ∙ ap (λ z. map (new_func r) (kept_items (is_kept_defined e) (length e.value.funcs) e.value.funcs) ++ z) added_read))) in
       let b2 = bn ∙ (ap (λ (r : Renumbering). map (new_table r) (map table_value bs)) indices ∙ ap (map (new_table r)) (ap (map table_value) bk

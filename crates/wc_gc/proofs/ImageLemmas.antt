@@ -1,10 +1,11 @@
 -- The image of a module that was read.
-use Rattle.std.proofs.Common.{◌≡◌, ℕ, zero, suc, ◌+◌, ◌<◌, List, [], ◌∷◌, ◌++◌, length, map, get_or, refl, sym, ◌∙◌, ap, Bool, true, false, cond, Option, Some, None, append-nil, arith}
+use Rattle.std.proofs.Common.{◌≡◌, ℕ, zero, suc, ◌+◌, ◌<◌, List, [], ◌∷◌, ◌++◌, length, map, take, get_or, refl, sym, ◌∙◌, ap, Bool, true, false, cond, Option, Some, None, append-nil, arith}
 use Rattle.std.specs.Prelude.{All, filter}
 use Rattle.std.specs.List.{range_with_len, enumerate_from, filter_map, slice_get, cons_option, AllByRecursion}
 use Rattle.std.specs.Option.{option_map}
 use Rattle.std.specs.Borrow.{Bor}
 use Rattle.std.proofs.lemmas.List.Elements.{filter-append, filter_map-append, All-from_recursion}
+use Rattle.std.proofs.lemmas.List.{take_more}
 use Rattle.std.proofs.lemmas.Option.{slice_get-map}
 use Rattle.wc_read.specs.Bodies.{BodyValue}
 use Rattle.wc_read.specs.Items.{DefValue, imported, local}
@@ -18,11 +19,6 @@ use Rattle.wc_gc.proofs.ReachLemmas.{func_at}
 use Rattle.wc_gc.proofs.RankLemmas.{range_more}
 
 -- one more index
-
-pub item_read : {A : Type 0} (xs : List A) (n : ℕ) (x : A) → n < length xs → x ≡ get_or xs n x → slice_get xs n ≡ Some x
-item_read [] n x h e = absurd (omega arith)
-item_read (y ∷ xs) zero x h e = ap Some (sym e)
-item_read (y ∷ xs) (suc n) x h e = item_read xs n x (omega arith) e
 
 kept_step : {A : Type 0} (has : ℕ → Bool) (n : ℕ) (xs : List A) → kept_items has (n + 1) xs ≡ kept_items has n xs ++ filter_map (slice_get xs) (cond (has n) (n ∷ []) [])
 kept_step has n xs =
@@ -38,6 +34,11 @@ kept_yes has n xs x at h =
 
 pub kept_no : {A : Type 0} (has : ℕ → Bool) (n : ℕ) (xs : List A) → false ≡ has n → kept_items has (n + 1) xs ≡ kept_items has n xs
 kept_no has n xs h = kept_step has n xs ∙ (ap (λ b. kept_items has n xs ++ filter_map (slice_get xs) (cond b (n ∷ []) [])) (sym h) ∙ append-nil (kept_items has n xs))
+
+-- one more of these indices
+
+pub picked_more : {A : Type 0} (pick : ℕ → Option A) (ns : List ℕ) (i : ℕ) → i < length ns → filter_map pick (take (i + 1) ns) ≡ filter_map pick (take i ns) ++ filter_map pick (get_or ns i 0 ∷ [])
+picked_more pick ns i lt = ap (filter_map pick) (take_more ns i 0 lt) ∙ filter_map-append pick (take i ns) (get_or ns i 0 ∷ [])
 
 -- what is kept of items that are seen by a view
 
@@ -92,6 +93,9 @@ pub enumerated_read : {A B : Type 0} (f : ℕ × A → B) (xs : List A) (n : ℕ
 enumerated_read f xs n x at =
     let e : 0 + n ≡ n = omega arith in
     slice_get-map f (enumerate_from 0 xs) n ∙ ap (option_map f) (enumerated 0 xs n ∙ (ap (option_map (λ x. (0 + n, x))) at ∙ ap (λ (z : ℕ). Some (z, x)) e))
+
+pub enumerated_none : {A B : Type 0} (f : ℕ × A → B) (xs : List A) (n : ℕ) → slice_get xs n ≡ None → slice_get (map f (enumerate_from 0 xs)) n ≡ None
+enumerated_none f xs n none = slice_get-map f (enumerate_from 0 xs) n ∙ ap (option_map f) (enumerated 0 xs n ∙ ap (option_map (λ x. (0 + n, x))) none)
 
 pub enumerated_map : {A B : Type 0} (g : A → B) (k : ℕ) (xs : List A) → enumerate_from k (map g xs) ≡ map (λ x. (x.0, g x.1)) (enumerate_from k xs)
 enumerated_map g k [] = refl

@@ -1,11 +1,14 @@
--- Ranges after which others are put.
-use Rattle.std.proofs.Common.{◌≡◌, ℕ, zero, suc, ◌+◌, ◌-◌, ◌<◌, ◌≤◌, List, [], ◌∷◌, ◌++◌, length, get_or, set, max, refl, sym, ◌∙◌, ap, Bool, true, false}
-use Rattle.std.proofs.Common.{◌||◌, arith}
+-- Ranges in any order, and sorted ranges after which others are put.
+use Rattle.std.proofs.Common.{◌≡◌, ℕ, zero, suc, ◌+◌, ◌-◌, ◌<◌, ◌≤◌, List, [], ◌∷◌, ◌++◌, length, take, get_or, set, max, refl, sym, ◌∙◌, ap, Bool, true, false}
+use Rattle.std.proofs.Common.{◌||◌, ◌&&◌, nat_eq, nat_le, arith}
+use Rattle.std.specs.List.{list_any}
 use Rattle.std.proofs.lemmas.Bool.Decides.{nat_tests}
+use Rattle.std.proofs.lemmas.List.{take_more}
+use Rattle.std.proofs.lemmas.List.Folds.{list_any-append}
 use Rattle.std.proofs.Math.Bool.{or-false}
 use Rattle.wc_gc.specs.Ranges.{is_within, in_ranges, AreRanges}
-use Rattle.wc_gc.specs.Private.Merging.{BeginBy, lengthened}
-use Rattle.wc_gc.proofs.RangeLemmas.{AreFrom, are_from, ranges_from, all_before}
+use Rattle.wc_gc.specs.Private.Merging.{AreFilled, BeginBy, lengthened}
+use Rattle.wc_gc.proofs.RangeLemmas.{AreFrom, are_from, ranges_from, all_before, one_is}
 
 or_assoc : (a b c : Bool) → (a || (b || c)) ≡ ((a || b) || c)
 or_assoc true b c = refl
@@ -76,8 +79,38 @@ appended_apart rs e f a begun apart w =
 
 -- what begins by a number begins by a later one
 
-begun_more : (x z : ℕ) (rs : List (ℕ × ℕ)) → BeginBy x rs → x ≤ z → BeginBy z rs
-begun_more x z rs h le k d lt = let at = h k d lt in omega (arith, at)
+pub begun_later : (x z : ℕ) (rs : List (ℕ × ℕ)) → BeginBy x rs → x ≤ z → BeginBy z rs
+begun_later x z rs h le k d lt = let at = h k d lt in omega (arith, at)
 
-pub begun_before : (x z : ℕ) (merged : List (ℕ × ℕ)) → BeginBy x merged → x < z → BeginBy z merged
-begun_before x z merged h lt = begun_more x z merged h (omega arith)
+-- one number more as a range of its own
+
+pub filled_push : (rs : List (ℕ × ℕ)) (x : ℕ) → AreFilled rs → AreFilled (rs ++ (x, x) ∷ [])
+filled_push [] x h zero d lt = omega arith
+filled_push [] x h (suc k) d lt = absurd (omega arith)
+filled_push (r ∷ rs) x h zero d lt = h 0 d (omega arith)
+filled_push (r ∷ rs) x h (suc k) d lt = filled_push rs x (λ k d lt. h (suc k) d (omega arith)) k d (omega arith)
+
+pub number_more : (rs pieces : List (ℕ × ℕ)) (numbers : List ℕ) (i y : ℕ) → i < length numbers
+    → in_ranges pieces y ≡ (in_ranges rs y || list_any (nat_eq y) (take i numbers))
+    → in_ranges (pieces ++ (get_or numbers i 0, get_or numbers i 0) ∷ []) y ≡ (in_ranges rs y || list_any (nat_eq y) (take (i + 1) numbers))
+number_more rs pieces numbers i y lt before =
+    let x = get_or numbers i 0 in
+    list_any-append (is_within y) pieces ((x, x) ∷ [])
+    ∙ (ap (λ b. b || (is_within y (x, x) || false)) before
+    ∙ (ap (λ b. (in_ranges rs y || list_any (nat_eq y) (take i numbers)) || (b || false)) (one_is x y)
+    ∙ (sym (or_assoc (in_ranges rs y) (list_any (nat_eq y) (take i numbers)) (nat_eq y x || false))
+    ∙ ap (λ b. in_ranges rs y || b) (sym (ap (list_any (nat_eq y)) (take_more numbers i 0 lt) ∙ list_any-append (nat_eq y) (take i numbers) (x ∷ []))))))
+
+-- one range more of those that begin in order
+
+pub piece_more : (pieces rs rs' : List (ℕ × ℕ)) (i y e f : ℕ) → i < length pieces → in_ranges rs' y ≡ (in_ranges rs y || is_within y (e, f))
+    → in_ranges rs y ≡ in_ranges (take i pieces) y → e ≡ (get_or pieces i (0, 0)).0 → f ≡ (get_or pieces i (0, 0)).1
+    → in_ranges rs' y ≡ in_ranges (take (i + 1) pieces) y
+piece_more pieces rs rs' i y e f lt more before first last =
+    let piece = get_or pieces i (0, 0) in
+    more
+    ∙ (ap (λ b. b || is_within y (e, f)) before
+    ∙ (ap (λ (z : ℕ). in_ranges (take i pieces) y || (nat_le z y && nat_le y f)) first
+    ∙ (ap (λ (z : ℕ). in_ranges (take i pieces) y || (nat_le (get_or pieces i (0, 0)).0 y && nat_le y z)) last
+    ∙ sym (ap (list_any (is_within y)) (take_more pieces i (0, 0) lt)
+    ∙ (list_any-append (is_within y) (take i pieces) (piece ∷ []) ∙ ap (λ b. in_ranges (take i pieces) y || b) (or-false (is_within y piece)))))))

@@ -1,5 +1,5 @@
 -- Sorted ranges, and the numbers in them.
-use Rattle.std.proofs.Common.{◌≡◌, ◌≢◌, ℕ, zero, suc, ◌+◌, ◌-◌, ◌<◌, ◌≤◌, List, [], ◌∷◌, length, get_or, set, insert, remove, refl, sym, ◌∙◌, ap, subst, Bool}
+use Rattle.std.proofs.Common.{◌≡◌, ◌≢◌, ℕ, zero, suc, ◌+◌, ◌-◌, ◌<◌, ◌≤◌, List, [], ◌∷◌, ◌++◌, length, get_or, set, insert, remove, refl, sym, ◌∙◌, ap, subst, Bool}
 use Rattle.std.proofs.Common.{true, false, ◌&&◌, ◌||◌, nat_le, nat_eq, inl, inr, arith}
 use Rattle.std.proofs.lemmas.Bool.Decides.{eqb_tells, nat_tests}
 use Rattle.std.proofs.lemmas.List.{get_or_default}
@@ -244,6 +244,14 @@ all_before rs a x i before le k d lt =
 pub put_is : (rs : List (ℕ × ℕ)) (x i : ℕ) → AreRanges rs → i ≤ length rs → ((d : ℕ × ℕ) → 0 < i → (get_or rs (i - 1) d).1 + 1 < x)
     → ((d : ℕ × ℕ) → i < length rs → x + 1 < (get_or rs i d).0) → IsPut rs (insert rs i (x, x)) x
 put_is rs x i a le before after = is_put rs (insert rs i (x, x)) x (put_from 0 x rs i (are_from rs a) (omega arith) le (all_before rs a x i before le) after)
+
+last_put : (rs : List (ℕ × ℕ)) (r : ℕ × ℕ) → insert rs (length rs) r ≡ rs ++ r ∷ []
+last_put [] r = refl
+last_put (s ∷ rs) r = ap (λ z. s ∷ z) (last_put rs r)
+
+pub put_last : (rs : List (ℕ × ℕ)) (x i : ℕ) → AreRanges rs → i ≡ length rs → ((d : ℕ × ℕ) → 0 < i → (get_or rs (i - 1) d).1 + 1 < x) → IsPut rs (rs ++ (x, x) ∷ []) x
+put_last rs x i a last before =
+    subst (λ z. IsPut rs z x) (ap (λ j. insert rs j (x, x)) last ∙ last_put rs (x, x)) (put_is rs x i a (omega (arith, last)) before (λ d lt. absurd (omega (arith, last))))
 
 pub earlier_is_put : (rs : List (ℕ × ℕ)) (x i : ℕ) (r : ℕ × ℕ) → AreRanges rs → i < length rs → x + 1 ≡ (get_or rs i r).0
     → ((d : ℕ × ℕ) → 0 < i → (get_or rs (i - 1) d).1 + 1 < x) → r ≡ get_or rs i r → IsPut rs (set rs i (x, r.1)) x

@@ -40,7 +40,7 @@ none_to has a b le h =
 
 -- numbers inside a range, and between two
 
-inside : (rs : List (ℕ × ℕ)) (i y : ℕ) (d : ℕ × ℕ) → i < length rs → (get_or rs i d).0 ≤ y → y ≤ (get_or rs i d).1 → in_ranges rs y ≡ true
+pub inside : (rs : List (ℕ × ℕ)) (i y : ℕ) (d : ℕ × ℕ) → i < length rs → (get_or rs i d).0 ≤ y → y ≤ (get_or rs i d).1 → in_ranges rs y ≡ true
 inside [] i y d lt le ge = absurd (omega arith)
 inside (r ∷ rs) zero y d lt le ge =
     let one : nat_le r.0 y ≡ true = grind (arith, nat_tests) in
@@ -66,7 +66,7 @@ EndBefore rs i y = (k : ℕ) (d : ℕ × ℕ) → k < i → (get_or rs k d).1 < 
 abbrev pub BeginAt : List (ℕ × ℕ) → ℕ → ℕ → Type 0
 BeginAt rs i y = (k : ℕ) (d : ℕ × ℕ) → i ≤ k → k < length rs → y ≤ (get_or rs k d).0
 
-between : (rs : List (ℕ × ℕ)) (i y : ℕ) → EndBefore rs i y → BeginAt rs i (y + 1) → in_ranges rs y ≡ false
+pub between : (rs : List (ℕ × ℕ)) (i y : ℕ) → EndBefore rs i y → BeginAt rs i (y + 1) → in_ranges rs y ≡ false
 between [] i y before after = refl
 between (r ∷ rs) zero y before after =
     let here : y + 1 ≤ r.0 = after 0 r (omega arith) (omega arith) in
@@ -94,7 +94,7 @@ none_first rs b after = gap_rank rs 0 0 b (omega arith) (λ k d lt. absurd (omeg
 abbrev pub IsTotal : List (ℕ × ℕ) → ℕ → ℕ → Type 0
 IsTotal rs i total = (y : ℕ) → EndBefore rs i y → BeginAt rs i y → total ≡ count_below (in_ranges rs) y
 
-starts : (rs : List (ℕ × ℕ)) → AreRanges rs → (i k : ℕ) (d e : ℕ × ℕ) → i ≤ k → k < length rs → (get_or rs i e).0 ≤ (get_or rs k d).0
+pub starts : (rs : List (ℕ × ℕ)) → AreRanges rs → (i k : ℕ) (d e : ℕ × ℕ) → i ≤ k → k < length rs → (get_or rs i e).0 ≤ (get_or rs k d).0
 starts rs a i k d e le lt =
     let same = ap (λ (r : ℕ × ℕ). r.0) (get_or_default rs i e d (omega arith)) in
     elim (eqb_tells i k) [
@@ -102,7 +102,7 @@ starts rs a i k d e le lt =
       | inr n ↦ let ne : i ≢ k = n.1 in let less : i < k = omega arith in omega (arith, same, a.0 i d (omega arith), a.1 i k d less lt)
     ]
 
-first_before : (rs : List (ℕ × ℕ)) → AreRanges rs → (i : ℕ) (e : ℕ × ℕ) → i < length rs → EndBefore rs i (get_or rs i e).0
+pub first_before : (rs : List (ℕ × ℕ)) → AreRanges rs → (i : ℕ) (e : ℕ × ℕ) → i < length rs → EndBefore rs i (get_or rs i e).0
 first_before rs a i e lt k d less =
     let same = ap (λ (r : ℕ × ℕ). r.0) (get_or_default rs i e d lt) in
     omega (arith, same, a.1 k i d less lt)
@@ -133,7 +133,7 @@ pub halves : (s t e : ℕ) → s < 2 ^ e → 0 < s → t ≤ s / 2 → (f : ℕ)
 halves s t zero h pos le = absurd (omega arith)
 halves s t (suc f) h pos le = let p = pow-suc 2 f in (f, refl, omega (arith, p))
 
-last_is : (xs : List ℕ) (x i : ℕ) → length xs ≡ i → get_or (xs ++ x ∷ []) i 0 ≡ x
+pub last_is : (xs : List ℕ) (x i : ℕ) → length xs ≡ i → get_or (xs ++ x ∷ []) i 0 ≡ x
 last_is [] x i h = let e : i ≡ 0 = omega arith in rw e refl
 last_is (y ∷ xs) x zero h = absurd (omega arith)
 last_is (y ∷ xs) x (suc i) h = last_is xs x i (omega arith)

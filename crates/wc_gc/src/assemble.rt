@@ -1,7 +1,7 @@
 //! The image of an adapter: its live items under their new indices.
 
-ghost use Rattle.std.specs.Prelude.{◌≡◌, ◌<◌, ◌^◌, ◌++◌, ℕ, length, map, true, IsTrue, IfOk, OnOk, Some};
-ghost use Rattle.std.specs.List.{slice_get};
+ghost use Rattle.std.specs.Prelude.{◌≡◌, ◌<◌, ◌^◌, ◌++◌, ◌∷◌, [], ℕ, length, map, true, IsTrue, IfOk, OnOk, Some};
+ghost use Rattle.std.specs.List.{filter_map, slice_get};
 ghost use Rattle.wc_read.specs.Exports.{export_value};
 ghost use Rattle.wc_read.specs.Inits.{init_value};
 ghost use Rattle.wc_read.specs.Items.{item_value, table_value};
@@ -10,10 +10,11 @@ ghost use Rattle.wc_read.specs.Types.{func_type_value};
 ghost use Rattle.wc_read.specs.declared.operators.Space.TheVariants.{Funcs};
 ghost use Rattle.wc_write.specs.ModuleText.{built_value_by};
 ghost use Rattle.wc_gc.specs.AddedCode.{empty_type, realloc_type};
+ghost use Rattle.wc_gc.specs.Bits.{bit_of};
 ghost use Rattle.wc_gc.specs.Decoded.{decoded_module, global_code};
 ghost use Rattle.wc_gc.specs.Edited.{only_if, types_added};
 ghost use Rattle.wc_gc.specs.EditedImage.{edited_image, edited_rank};
-ghost use Rattle.wc_gc.specs.Private.Edits.{AreCoded, edited_of, funcs_of, image_funcs, image_types, live_funcs, new_funcs, new_indices, settings_of, types_of, written_funcs};
+ghost use Rattle.wc_gc.specs.Private.Edits.{AreCoded, AreCodedAt, IsCodedAt, edited_of, funcs_at, funcs_of, image_funcs, image_types, live_funcs, new_funcs, new_indices, settings_of, types_of, written_funcs};
 ghost use Rattle.wc_gc.specs.Private.ItemCounts.{ItemCountsFitU32};
 ghost use Rattle.wc_gc.specs.Private.FuncGroups.{AreGroups};
 ghost use Rattle.wc_gc.specs.Image.{kept_items, new_export, new_global, new_table};
@@ -24,7 +25,7 @@ ghost use Rattle.wc_gc.specs.InRange.{is_item_in_range};
 
 use crate::edit::{Edit, EditSource, NewFunc};
 use crate::func_groups::FuncGroups;
-use crate::live::LiveSet;
+use crate::live::{BitVec, LiveSet};
 use crate::live_items::exported_item;
 use crate::new_bodies::NewBody;
 use crate::new_indices::NewIndices;
@@ -152,7 +153,8 @@ fn new_funcs<'a, 'n, L: LiveSet>(
     requires imports { AreCoded (L.has groups.now.imports) funcs.now }
     requires defined { AreCoded (L.has groups.now.defined) funcs.now }
     ensures { let g = groups.now in IfOk result (λ v. written_funcs v.items ≡ image_funcs
-        edit.entry (L.has g.imports) (L.has g.defined) (L.has g.exported) funcs.now) }
+        edit.entry (L.has g.imports) (L.has g.defined)
+        (bit_of g.exported.words.items) funcs.now) }
 {
     let mut items = Vec::new(alloc);
     append_funcs(&mut items, funcs, &groups.imports, &groups.exported, edit)?;
@@ -167,31 +169,57 @@ fn append_funcs<'a, 'n, L: LiveSet>(
     items: &mut Vec<NewFunc<'a, 'n>>,
     funcs: &[Func<'a>],
     kept: &L,
-    exported: &L,
+    exported: &BitVec,
     edit: Edit<'a, 'n>,
 ) -> Result<(), AllocError>
     requires bounded { length funcs.now < 2 ^ 32 }
     requires coded { AreCoded (L.has kept.now) funcs.now }
     ensures { OnOk result (written_funcs items.new.items ≡ written_funcs items.old.items
-        ++ live_funcs edit.entry (L.has kept.now) (L.has exported.now) funcs.now) }
+        ++ live_funcs edit.entry (L.has kept.now) (bit_of exported.now.words.items) funcs.now) }
 {
-    for index in 0..funcs.len() {
-        if kept.contains(index as u32) {
-            let func = func_at(funcs, index);
-            let exported = exported.contains(index as u32);
-            items.push(edit.edited_func(&func, exported))?;
-        }
+    let indices = kept.numbers_below(*items.allocator(), funcs.len() as u32)?;
+    append_funcs_at(items, funcs, &indices, exported, edit)
+}
+
+/// Appends the functions of these indices, in their order.
+fn append_funcs_at<'a, 'n>(
+    items: &mut Vec<NewFunc<'a, 'n>>,
+    funcs: &[Func<'a>],
+    indices: &[u32],
+    exported: &BitVec,
+    edit: Edit<'a, 'n>,
+) -> Result<(), AllocError>
+    requires { AreCodedAt indices.now funcs.now }
+    ensures { OnOk result (written_funcs items.new.items ≡ written_funcs items.old.items
+        ++ funcs_at edit.entry (bit_of exported.now.words.items) funcs.now indices.now) }
+{
+    for index in indices {
+        append_func_at(items, funcs, *index, exported, edit)?;
     }
     Ok(())
 }
 
-/// The function of an index.
-#[tactic(auto, using(crate::proofs::ImageLemmas::item_read))]
-fn func_at<'a>(funcs: &[Func<'a>], index: usize) -> Func<'a>
-    requires { index < length funcs.now }
-    ensures { slice_get funcs.now index ≡ Some result }
+/// Appends the function of an index, where there is one.
+#[inline(always)]
+fn append_func_at<'a, 'n>(
+    items: &mut Vec<NewFunc<'a, 'n>>,
+    funcs: &[Func<'a>],
+    index: u32,
+    exported: &BitVec,
+    edit: Edit<'a, 'n>,
+) -> Result<(), AllocError>
+    requires { IsCodedAt funcs.now index }
+    ensures { OnOk result (written_funcs items.new.items ≡ written_funcs items.old.items
+        ++ funcs_at edit.entry (bit_of exported.now.words.items) funcs.now (index ∷ [])) }
 {
-    funcs[index]
+    match funcs.get(index as usize) {
+        Some(func) => {
+            let is_exported = exported.contains(index);
+            items.push(edit.edited_func(func, is_exported))?;
+            Ok(())
+        }
+        None => Ok(()),
+    }
 }
 
 /// The items whose indices are in a set, in their order.
@@ -204,13 +232,34 @@ fn kept_items<T: Copy, L: LiveSet>(
     ensures { IfOk result (λ v. v.items
         ≡ kept_items (L.has live.now) (length items.now) items.now) }
 {
-    let mut kept = Vec::new(alloc);
-    for index in 0..items.len() {
-        if live.contains(index as u32) {
-            kept.push(items[index])?;
-        }
+    let indices = live.numbers_below(alloc, items.len() as u32)?;
+    items_at(alloc, items, &indices)
+}
+
+/// The items of these indices, in their order.
+fn items_at<T: Copy>(alloc: Global, items: &[T], indices: &[u32]) -> Result<Vec<T>, AllocError>
+    ensures { IfOk result (λ v. v.items ≡ filter_map (slice_get items.now) indices.now) }
+{
+    let mut found = Vec::with_capacity(alloc, indices.len())?;
+    for index in indices {
+        append_item_at(&mut found, items, *index)?;
     }
-    Ok(kept)
+    Ok(found)
+}
+
+/// Appends the item of an index, where there is one.
+#[inline(always)]
+fn append_item_at<T: Copy>(found: &mut Vec<T>, items: &[T], index: u32) -> Result<(), AllocError>
+    ensures { OnOk result (found.new.items
+        ≡ found.old.items ++ filter_map (slice_get items.now) (index ∷ [])) }
+{
+    match items.get(index as usize) {
+        Some(item) => {
+            found.push(*item)?;
+            Ok(())
+        }
+        None => Ok(()),
+    }
 }
 
 /// The function types whose indices are in a set, in their order, under new indices.
@@ -225,13 +274,48 @@ fn kept_types<L: LiveSet>(
         ≡ map (renumber_func_type (new_of new.now))
         (kept_items (L.has live.now) (length types.now) (map func_type_value types.now))) }
 {
-    let mut kept = Vec::new(alloc);
-    for index in 0..types.len() {
-        if live.contains(index as u32) {
-            kept.push(new.func_type(alloc, &types[index])?)?;
-        }
+    let indices = live.numbers_below(alloc, types.len() as u32)?;
+    types_at(alloc, types, &indices, new)
+}
+
+/// The function types of these indices, in their order, under new indices.
+fn types_at(
+    alloc: Global,
+    types: &[FuncType],
+    indices: &[u32],
+    new: &NewIndices,
+) -> Result<Vec<FuncType>, AllocError>
+    ensures { IfOk result (λ v. map func_type_value v.items
+        ≡ map (renumber_func_type (new_of new.now))
+        (filter_map (slice_get (map func_type_value types.now)) indices.now)) }
+{
+    let mut found = Vec::with_capacity(alloc, indices.len())?;
+    for index in indices {
+        append_type_at(&mut found, types, *index, new)?;
     }
-    Ok(kept)
+    Ok(found)
+}
+
+/// Appends the function type of an index, where there is one, under new indices.
+#[inline(always)]
+fn append_type_at(
+    kept: &mut Vec<FuncType>,
+    types: &[FuncType],
+    index: u32,
+    new: &NewIndices,
+) -> Result<(), AllocError>
+    ensures { OnOk result (map func_type_value kept.new.items
+        ≡ map func_type_value kept.old.items ++ map (renumber_func_type (new_of new.now))
+        (filter_map (slice_get (map func_type_value types.now)) (index ∷ []))) }
+{
+    match types.get(index as usize) {
+        Some(ty) => {
+            let ty = new.func_type(*kept.allocator(), ty)?;
+            kept.push(ty)?;
+            Ok(())
+        }
+        None => Ok(()),
+    }
 }
 
 /// Puts the new types of tables in place of their old ones.

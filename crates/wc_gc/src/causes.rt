@@ -1,8 +1,7 @@
 //! Why an adapter is not trimmed, by what is found among its live items.
 
-ghost use Rattle.std.specs.Prelude.{◌≡◌, ◌<◌, ◌≤◌, not, ◌&&◌, Bool, IfErr, IsOk};
+ghost use Rattle.std.specs.Prelude.{◌≡◌, ◌<◌, ◌&&◌, IfErr, IsOk};
 ghost use Rattle.std.specs.List.{list_all, list_any};
-ghost use Rattle.wc_read.specs.Items.{memory_value};
 ghost use Rattle.wc_read.specs.Types.{func_type_value};
 ghost use Rattle.wc_gc.specs.Causes.{IsFoundCause, called_reallocs, grows_memory, has_page_size, has_page_size_at, has_realloc_type, is_realloc_type_at};
 ghost use Rattle.wc_gc.specs.Decoded.{decoded_module};

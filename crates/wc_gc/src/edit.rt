@@ -1,6 +1,6 @@
 //! The functions of an adapter that are edited, and those that are added, under new indices.
 
-ghost use Rattle.std.specs.Prelude.{◌≡◌, ◌+◌, ◌++◌, ◌∷◌, [], true, Some, length, OnOk, is_some};
+ghost use Rattle.std.specs.Prelude.{◌≡◌, ◌+◌, ◌++◌, true, Some, length, OnOk, is_some};
 ghost use Rattle.std.specs.Option.{option_map};
 ghost use Rattle.wc_read.specs.Decoding.{body_in};
 ghost use Rattle.wc_read.specs.Items.{def_value, item_value};
@@ -26,7 +26,7 @@ use wc_read::{Def, Export, Func, Item, Module, Space};
 /// A function of the image.
 pub type NewFunc<'a, 'n> = Item<'a, u32, NewBody<'a, 'n>>;
 
-/// What is edited: an adapter, the exports that are kept of it, and the items that these reach.
+/// An adapter to be edited, the exports that are kept of it, and the items that these reach.
 #[derive(Drop)]
 pub struct EditSource<'m, 'a, L: LiveSet> {
     pub adapter: &'m Module<'a>,
@@ -34,7 +34,7 @@ pub struct EditSource<'m, 'a, L: LiveSet> {
     pub live: &'m LiveSets<L>,
 }
 
-/// What functions are edited and added by.
+/// The settings, parts and live items by which functions are edited and added.
 #[derive(Clone, Copy)]
 pub struct Edit<'a, 'n> {
     pub settings: Settings<'a>,
@@ -72,7 +72,7 @@ impl<'a, 'n> Edit<'a, 'n> {
         Item { ty, def }
     }
 
-    /// What an imported realloc becomes.
+    /// The definition that an imported realloc gets.
     fn replaced(self) -> Def<'a, NewBody<'a, 'n>>
         ensures { def_value body_written result ≡ def_seen (new_body (new_indices self.entry))
             (replaced (settings_of self.entry) (found_of self.entry)) }

@@ -29,7 +29,7 @@ pub struct Roots<'a> {
     pub exports: Vec<&'a str>,
 }
 
-/// What a search found, in the order in which it was found, and for each the position of its finder. What the search
+/// Items in the order in which a search found them, and for each the position of its finder. An item that the search
 /// began with has its own.
 #[derive(Drop)]
 pub struct Finders {

@@ -1,9 +1,9 @@
-//! What is found among live items.
+//! Stack pointers, states, reallocs, tables, memories and types among live items.
 
 ghost use Rattle.std.specs.Prelude.{◌≡◌, ◌&&◌, ◌<◌, ◌^◌, length, filter, IfOk};
 ghost use Rattle.std.specs.List.{range_with_len};
 ghost use Rattle.wc_gc.specs.Decoded.{decoded_module};
-ghost use Rattle.wc_gc.specs.Found.{allocation_state, found_in, found_value, has_name, indices_where, is_empty_type, is_empty_type_at, is_mutable_i32, is_mutable_i32_at, is_named_at, is_realloc, is_realloc_at, is_realloc_name, main_module, stack_pointer};
+ghost use Rattle.wc_gc.specs.Found.{allocation_state, found_in, found_value, has_name, is_empty_type, is_empty_type_at, is_mutable_i32, is_mutable_i32_at, is_named_at, is_realloc, is_realloc_at, is_realloc_name};
 ghost use Rattle.wc_gc.specs.LiveSets.{has_item};
 ghost use Rattle.wc_gc.specs.Private.ItemCounts.{ItemCountsFitU32};
 ghost use Rattle.wc_read.specs.Items.{def_value};
@@ -41,7 +41,7 @@ pub struct Found {
     pub empties: Vec<u32>,
 }
 
-/// What is found among live items.
+/// The live items that trimming goes by.
 pub fn find_parts<L: LiveSet>(
     alloc: Global,
     adapter: &Module<'_>,
@@ -67,9 +67,7 @@ fn live_indices<L: LiveSet>(alloc: Global, live: &L, size: usize) -> Result<Vec<
     ensures { IfOk result (λ v. v.items
         ≡ filter (λ n. L.has live.now n) (range_with_len 0 size)) }
 {
-    (0..size as u32)
-        .filter(|index| live.contains(*index))
-        .collect(alloc)
+    live.numbers_below(alloc, size as u32)
 }
 
 /// The live mutable globals of type i32 that have a name.

@@ -1,14 +1,16 @@
 //! The live functions of an edited adapter: those that are imported, and those that are defined.
 
-ghost use Rattle.std.specs.Prelude.{◌≡◌, ◌<◌, ◌^◌, ℕ, ◌&&◌, map, length, IfOk};
+ghost use Rattle.std.specs.Prelude.{◌≡◌, ◌<◌, ◌^◌, ℕ, ◌&&◌, map, nat_eq, length, IfOk};
+ghost use Rattle.std.specs.List.{list_any};
 ghost use Rattle.wc_read.specs.Exports.{export_value};
+ghost use Rattle.wc_gc.specs.Bits.{bit_of};
 ghost use Rattle.wc_gc.specs.Decoded.{func_code};
 ghost use Rattle.wc_gc.specs.Edited.{is_exported_func, is_func};
 ghost use Rattle.wc_gc.specs.Private.FuncGroups.{AreGroups, has_func, is_import_after, is_in_group};
 ghost use Rattle.wc_gc.specs.Parts.{settings_value};
 
 use crate::found::imports_realloc;
-use crate::live::{LiveSet, insert_if};
+use crate::live::{BitVec, LiveSet, insert_if};
 use crate::settings::Settings;
 use std::alloc::{AllocError, Global};
 use wc_read::{Def, Export, ExportKind, Func};
@@ -20,8 +22,8 @@ pub struct FuncGroups<L> {
     pub imports: L,
     /// Those that are defined: imported reallocs that become growing reallocs among them.
     pub defined: L,
-    /// Functions that an export names.
-    pub exported: L,
+    /// Functions that an export names, as bits: exports come in any order.
+    pub exported: BitVec,
 }
 
 impl<L: LiveSet> FuncGroups<L> {
@@ -37,46 +39,32 @@ impl<L: LiveSet> FuncGroups<L> {
         ensures { IfOk result (AreGroups L.has (settings_value settings.entry)
             funcs.now (L.has live.now) (map export_value exports.now)) }
     {
+        let live = live.numbers_below(alloc, funcs.len() as u32)?;
         Ok(FuncGroups {
-            imports: group(alloc, funcs, live, settings, true)?,
-            defined: group(alloc, funcs, live, settings, false)?,
+            imports: group(alloc, funcs, &live, settings, true)?,
+            defined: group(alloc, funcs, &live, settings, false)?,
             exported: exported_funcs(alloc, exports)?,
         })
     }
 }
 
-/// The live functions that are imported after the edit, or those that are not.
+/// Of functions, by their indices, those that are imported after the edit, or those that are not.
 fn group<L: LiveSet>(
     alloc: Global,
     funcs: &[Func<'_>],
-    live: &L,
+    indices: &[u32],
     settings: Settings<'_>,
     imported: bool,
 ) -> Result<L, AllocError>
-    requires { length funcs.now < 2 ^ 32 }
-    ensures { IfOk result (λ r. (n : ℕ) → L.has r n ≡ (L.has live.now n
+    ensures { IfOk result (λ r. (n : ℕ) → L.has r n ≡ (list_any (nat_eq n) indices.now
         && has_func (is_in_group (settings_value settings.entry) imported) funcs.now n)) }
 {
     let mut set = L::new(alloc);
-    for index in 0..funcs.len() {
-        let member = is_live_in_group(live, funcs, index as u32, settings, imported);
-        insert_if(&mut set, index as u32, member)?;
+    for index in indices {
+        let member = has_func_in_group(funcs, *index, settings, imported);
+        insert_if(&mut set, *index, member)?;
     }
     Ok(set)
-}
-
-/// Whether a function is live, and imported after the edit or not.
-fn is_live_in_group<L: LiveSet>(
-    live: &L,
-    funcs: &[Func<'_>],
-    index: u32,
-    settings: Settings<'_>,
-    imported: bool,
-) -> bool
-    ensures { result ≡ (L.has live.now index
-        && has_func (is_in_group (settings_value settings.entry) imported) funcs.now index) }
-{
-    has_func_in_group(funcs, index, settings, imported) && live.contains(index)
 }
 
 /// Whether the function of an index is imported after the edit, or whether it is not.
@@ -91,11 +79,11 @@ fn has_func_in_group(funcs: &[Func<'_>], index: u32, settings: Settings<'_>, imp
 }
 
 /// The functions that exports name.
-fn exported_funcs<L: LiveSet>(alloc: Global, exports: &[Export<'_>]) -> Result<L, AllocError>
-    ensures { IfOk result (λ r. (n : ℕ) →
-        L.has r n ≡ is_exported_func (map export_value exports.now) n) }
+fn exported_funcs(alloc: Global, exports: &[Export<'_>]) -> Result<BitVec, AllocError>
+    ensures { IfOk result (λ r. (n : ℕ) → bit_of r.words.items n
+        ≡ is_exported_func (map export_value exports.now) n) }
 {
-    let mut funcs = L::new(alloc);
+    let mut funcs = BitVec::new(alloc);
     for export in exports {
         insert_if(&mut funcs, export.index, is_func(export.kind))?;
     }

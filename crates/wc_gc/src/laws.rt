@@ -38,7 +38,7 @@ pub fn ranks_are_ordered()
     ensures order { (e : EditedModule) → RanksKeepOrder e }
 {}
 
-/// What `run` answers with Ok is read back: it spells the image that it is the text of, and no other module; the text of
+/// The text that `run` answers with Ok is read back: it spells the image that it is the text of, and no other module; the text of
 /// each of the image's bodies and initialisers spells it and no other (`wc_write::laws::text_read`; WebAssembly core
 /// specification, 5.5).
 pub fn trimmed_read()
@@ -57,8 +57,8 @@ pub fn image_unfolds()
     ensures { ImageUnfolds }
 {}
 
-/// What the image of an adapter that `run` trims has is there, is code and names such items alone. So each kept or added
-/// item unfolds in the image as it does in the edited adapter, at every depth.
+/// Each item that the image of an adapter has that `run` trims is there, is code and names such items alone. So each kept
+/// or added item unfolds in the image as it does in the edited adapter, at every depth.
 pub fn trimmed_unfolds()
     ensures closed { TrimmedIsClosed }
     ensures unfolds { TrimmedUnfolds }

@@ -1,6 +1,8 @@
 //! Sets of live items.
 
-ghost use Rattle.std.specs.Prelude.{◌≡◌, ◌≤◌, ◌<◌, ◌&&◌, ◌||◌, nat_eq, ◌/◌, ◌^◌, ℕ, Bool, not, false, true, length, slice_index, IfOk, IsOk, OnOk, OnErr};
+ghost use Rattle.std.specs.Prelude.{◌≡◌, ◌≤◌, ◌<◌, ◌+◌, ◌*◌, ◌&&◌, ◌||◌, nat_eq, nat_lt, ◌/◌, ◌%◌, ◌==◌, ◌^◌, ℕ, Bool, not, false, true, length, filter, slice_index, IfOk, IsOk, OnOk, OnErr};
+ghost use Rattle.std.specs.Int.{bit_at};
+ghost use Rattle.std.specs.List.{range_with_len};
 ghost use Rattle.wc_gc.specs.Decoded.{ItemIndex};
 ghost use Rattle.wc_gc.specs.Bits.{bit_of};
 ghost use Rattle.wc_gc.specs.Counts.{count_below};
@@ -35,6 +37,14 @@ pub trait LiveSet: Sized + Drop {
     /// Whether a number is in the set.
     fn contains(&self, x: u32) -> bool
         ensures { result ≡ has self.now x };
+
+    /// The numbers of the set that are below a bound, in their order.
+    ///
+    /// # Errors
+    ///
+    /// `AllocError`: an allocation failed.
+    fn numbers_below(&self, alloc: Global, bound: u32) -> Result<Vec<u32>, AllocError>
+        ensures { IfOk result (λ v. v.items ≡ filter (has self.now) (range_with_len 0 bound)) };
 
     /// How many numbers of the set are below each number.
     ///
@@ -72,20 +82,24 @@ impl LiveSet for BitVec {
         has_bit(&self.words, x)
     }
 
+    fn numbers_below(&self, alloc: Global, bound: u32) -> Result<Vec<u32>, AllocError> {
+        (0..bound).filter(|x| self.contains(*x)).collect(alloc)
+    }
+
     fn ranks(&self, alloc: Global) -> Result<Ranks, AllocError> {
-        let ranges = RangeSet::of_bits(alloc, &self.words)?;
+        let ranges = self.in_set::<RangeSet>(alloc)?;
         ranges.ranks(alloc)
     }
 }
 
 impl BitVec {
-    /// The same numbers in a set of any kind. They are put in in ascending order.
+    /// The numbers of the bits in a set of any kind. They are put in in one pass, in ascending order.
     pub(crate) fn in_set<L: LiveSet>(&self, alloc: Global) -> Result<L, AllocError>
         ensures { IfOk result (λ s. (y : ℕ) → L.has s y ≡ bit_of self.now.words.items y) }
     {
         let mut set = L::new(alloc);
-        for x in 0..self.words.len() * 64 {
-            insert_if(&mut set, x as u32, has_bit(&self.words, x as u32))?;
+        for index in 0..self.words.len() {
+            insert_word(&mut set, &self.words, index)?;
         }
         Ok(set)
     }
@@ -169,6 +183,23 @@ impl<L: LiveSet> LiveSets<L> {
         }
     }
 
+    /// The items of sets of bits, in sets of any kind.
+    pub(crate) fn of_bits(
+        alloc: Global,
+        found: &LiveSets<BitVec>,
+    ) -> Result<LiveSets<L>, AllocError>
+        ensures { IfOk result (λ s. (x : ItemIndex) → has_item L.has s x
+            ≡ has_item (λ b. bit_of b.words.items) found.now x) }
+    {
+        Ok(LiveSets {
+            types: found.types.in_set(alloc)?,
+            funcs: found.funcs.in_set(alloc)?,
+            tables: found.tables.in_set(alloc)?,
+            memories: found.memories.in_set(alloc)?,
+            globals: found.globals.in_set(alloc)?,
+        })
+    }
+
     /// Whether an item is in the set of its space.
     pub fn contains(&self, item: (Space, u32)) -> bool
         ensures { result ≡ has_item L.has self.now item }
@@ -193,7 +224,35 @@ pub fn has_bit(words: &[u64], x: u32) -> bool
     }
 }
 
+/// Puts the numbers of a word into a set that has those of the words before it.
+fn insert_word<L: LiveSet>(set: &mut L, words: &[u64], index: usize) -> Result<(), AllocError>
+    requires within { index < length words.now }
+    requires bounded { length words.now ≤ 2 ^ 26 }
+    requires before { (y : ℕ) →
+        L.has set.old y ≡ (nat_lt y (index * 64) && bit_of words.now y) }
+    ensures { OnOk result ((y : ℕ) →
+        L.has set.new y ≡ (nat_lt y (index * 64 + 64) && bit_of words.now y)) }
+{
+    let word = words[index];
+    if word == 0 {
+        return Ok(());
+    }
+    for x in index * 64..index * 64 + 64 {
+        insert_if(set, x as u32, is_set(word, x))?;
+    }
+    Ok(())
+}
+
+/// Whether the bit of a number is set, in its word.
+#[inline(always)]
+fn is_set(word: u64, x: usize) -> bool
+    ensures { result ≡ (bit_at word (x % 64) == 1) }
+{
+    (word >> (x % 64)) & 1 == 1
+}
+
 /// Puts a number in, if a condition holds.
+#[inline(always)]
 pub fn insert_if<L: LiveSet>(set: &mut L, index: u32, condition: bool) -> Result<(), AllocError>
     ensures { OnOk result ((n : ℕ) →
         L.has set.new n ≡ (L.has set.old n || (condition && nat_eq n index))) }

@@ -79,7 +79,7 @@ pub fn why_imports<'a>(
     Ok(chains)
 }
 
-/// The same for a module that was read.
+/// The chains to what a module imports that was read.
 fn chains_in<'a>(
     alloc: Global,
     adapter: &Module<'_>,

@@ -3,8 +3,7 @@
 ghost use Rattle.std.specs.Prelude.{◌≡◌, map, IsTrue, IsOk, IfOk, IfErr, ◌↔◌};
 ghost use Rattle.wc_read.specs.Exports.{export_value};
 ghost use Rattle.wc_read.specs.Modules.{IsModule, module_value};
-ghost use Rattle.wc_gc.specs.Bits.{bit_of};
-ghost use Rattle.wc_gc.specs.Decoded.{ItemIndex, exported_item};
+ghost use Rattle.wc_gc.specs.Decoded.{exported_item};
 ghost use Rattle.wc_gc.specs.KeptExports.{kept_exports};
 ghost use Rattle.wc_gc.specs.LiveSets.{has_item};
 ghost use Rattle.wc_gc.specs.Liveness.{HasUnsupported, IsLivenessCause, IsFault, IsFaultOf, IsLiveness, IsLivenessOf, IsSupported, names_of, trim_input};
@@ -54,41 +53,23 @@ pub fn liveness_counted(
     ensures no_cause { IsOk result →
         (f : GcFault) → ¬ (IsLivenessCause (trim_input wasm.now required.now.keys) f) }
 {
-    find_live::<RangeSet>(alloc, wasm, required)
-}
-
-/// The same in sets of any kind.
-fn find_live<L: LiveSet>(
-    alloc: Global,
-    wasm: &[u8],
-    required: &Set<String>,
-) -> Result<Liveness<L>, GcFault>
-    ensures live { IfOk result (λ l.
-        IsLiveness (trim_input wasm.now required.now.keys) (has_item L.has l.live) l.turns) }
-    ensures fault { IfErr result (IsFault (trim_input wasm.now required.now.keys)) }
-    ensures no_cause { IsOk result →
-        (f : GcFault) → ¬ (IsLivenessCause (trim_input wasm.now required.now.keys) f) }
-{
     let adapter = read_module(alloc, wasm)?;
     let (_, found) = find_live_in(alloc, &adapter, required)?;
-    let live = settled(alloc, &found.live)?;
-    Ok(Liveness {
-        live,
-        turns: found.turns,
-    })
+    Ok(found)
 }
 
-/// The exports that are kept of a module that was read, and its live items.
-pub fn find_live_in<'a>(
+/// The exports that are kept of a module that was read, and its live items, in sets of any kind. The search marks what it
+/// finds by bits.
+pub fn find_live_in<'a, L: LiveSet>(
     alloc: Global,
     adapter: &Module<'a>,
     required: &Set<String>,
-) -> Result<(Vec<Export<'a>>, Liveness<BitVec>), GcFault>
+) -> Result<(Vec<Export<'a>>, Liveness<L>), GcFault>
     requires { IsModule (module_value adapter.now) }
     ensures kept { IfOk result (λ r. map export_value r.0.items
         ≡ kept_exports (names_of required.now.keys) (module_value adapter.now).exports) }
     ensures live { IfOk result (λ r. IsLivenessOf (names_of required.now.keys)
-        (module_value adapter.now) (has_item (λ b. bit_of b.words.items) r.1.live) r.1.turns) }
+        (module_value adapter.now) (has_item L.has r.1.live) r.1.turns) }
     ensures fault { IfErr result
         (IsFaultOf (names_of required.now.keys) (module_value adapter.now)) }
 {
@@ -96,22 +77,8 @@ pub fn find_live_in<'a>(
     let roots = exported_items(alloc, &exports)?;
     let mut search = Search::<BitVec>::new(alloc);
     let turns = search.reach_all(alloc, adapter, &roots)?;
-    let live = search.live;
+    let live = LiveSets::of_bits(alloc, &search.live)?;
     Ok((exports, Liveness { live, turns }))
-}
-
-/// The same items in sets of any kind.
-fn settled<L: LiveSet>(alloc: Global, found: &LiveSets<BitVec>) -> Result<LiveSets<L>, AllocError>
-    ensures { IfOk result (λ s. (x : ItemIndex) → has_item L.has s x
-        ≡ has_item (λ b. bit_of b.words.items) found.now x) }
-{
-    Ok(LiveSets {
-        types: found.types.in_set(alloc)?,
-        funcs: found.funcs.in_set(alloc)?,
-        tables: found.tables.in_set(alloc)?,
-        memories: found.memories.in_set(alloc)?,
-        globals: found.globals.in_set(alloc)?,
-    })
 }
 
 /// The exports that are kept, where there is nothing that is not supported.

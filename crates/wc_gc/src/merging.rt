@@ -1,40 +1,60 @@
-//! The numbers of bits as sorted ranges.
+//! Ranges in any order as sorted ranges.
 
-ghost use Rattle.std.specs.Prelude.{◌≡◌, ◌≤◌, ◌<◌, ◌+◌, ◌-◌, ◌^◌, ℕ, ◌&&◌, ◌||◌, IsTrue, false, nat_eq, length, slice_index_or, ◌↔◌, IfOk, OnOk};
-ghost use Rattle.wc_gc.specs.Bits.{bit_of};
+ghost use Rattle.std.specs.Prelude.{◌≡◌, ◌≤◌, ◌<◌, ◌+◌, ◌-◌, ℕ, ◌||◌, IsTrue, false, nat_eq, length, slice_index_or, ◌↔◌, IfOk, OnOk};
+ghost use Rattle.std.specs.List.{list_any};
 ghost use Rattle.wc_gc.specs.Ranges.{AreRanges, in_ranges, is_within};
-ghost use Rattle.wc_gc.specs.Private.Merging.{BeginBy, lengthened};
+ghost use Rattle.wc_gc.specs.Private.Merging.{AreFilled, BeginBy, BeginInOrder, lengthened};
 
-use crate::live::has_bit;
+use crate::ranks::{first_of, last_of};
 use std::alloc::{AllocError, Global};
 
-/// The numbers of bits, as ranges.
-pub fn ranges_of_bits(alloc: Global, words: &[u64]) -> Result<Vec<(u32, u32)>, AllocError>
-    requires { length words.now ≤ 2 ^ 26 }
+/// The numbers that are in ranges or in a list, as sorted ranges.
+pub fn with_numbers(
+    alloc: Global,
+    ranges: &[(u32, u32)],
+    numbers: &[u32],
+) -> Result<Vec<(u32, u32)>, AllocError>
+    requires { AreFilled ranges.now }
     ensures sorted { IfOk result (λ v. AreRanges v.items) }
-    ensures has { IfOk result (λ v. (y : ℕ) → in_ranges v.items y ≡ bit_of words.now y) }
+    ensures has { IfOk result (λ v. (y : ℕ) → in_ranges v.items y
+        ≡ (in_ranges ranges.now y || list_any (nat_eq y) numbers.now)) }
 {
-    let mut ranges = Vec::new(alloc);
-    for x in 0..words.len() * 64 {
-        append_if(&mut ranges, x as u32, has_bit(words, x as u32))?;
-    }
-    Ok(ranges)
+    let mut pieces = pieces_of(alloc, ranges, numbers)?;
+    pieces.sort_unstable_by_key(|piece| piece.0);
+    let merged = merge(alloc, &pieces)?;
+    Ok(merged)
 }
 
-/// Appends a number, if a condition holds.
-fn append_if(ranges: &mut Vec<(u32, u32)>, x: u32, condition: bool) -> Result<(), AllocError>
-    requires sorted { AreRanges ranges.old.items }
-    requires begun { BeginBy x ranges.old.items }
-    ensures sorted { OnOk result (AreRanges ranges.new.items) }
-    ensures begun { OnOk result (BeginBy x ranges.new.items) }
-    ensures has { OnOk result ((y : ℕ) → in_ranges ranges.new.items y
-        ≡ (in_ranges ranges.old.items y || (condition && nat_eq y x))) }
+/// Ranges, and each number of a list as a range of its own.
+fn pieces_of(
+    alloc: Global,
+    ranges: &[(u32, u32)],
+    numbers: &[u32],
+) -> Result<Vec<(u32, u32)>, AllocError>
+    requires { AreFilled ranges.now }
+    ensures filled { IfOk result (λ v. AreFilled v.items) }
+    ensures has { IfOk result (λ v. (y : ℕ) → in_ranges v.items y
+        ≡ (in_ranges ranges.now y || list_any (nat_eq y) numbers.now)) }
 {
-    if !condition {
-        return Ok(());
+    let mut pieces = Vec::from_slice(alloc, ranges)?;
+    for number in numbers {
+        pieces.push((*number, *number))?;
     }
-    append_range(ranges, x, x)?;
-    Ok(())
+    Ok(pieces)
+}
+
+/// The numbers of ranges that begin in order, as ranges that neither overlap nor touch.
+fn merge(alloc: Global, pieces: &[(u32, u32)]) -> Result<Vec<(u32, u32)>, AllocError>
+    requires filled { AreFilled pieces.now }
+    requires ordered { BeginInOrder pieces.now }
+    ensures sorted { IfOk result (λ v. AreRanges v.items) }
+    ensures has { IfOk result (λ v. (y : ℕ) → in_ranges v.items y ≡ in_ranges pieces.now y) }
+{
+    let mut merged = Vec::new(alloc);
+    for piece in pieces {
+        append_range(&mut merged, first_of(piece), last_of(piece))?;
+    }
+    Ok(merged)
 }
 
 /// Appends a range, as one with the last if they overlap or touch.

@@ -314,7 +314,8 @@ impl NewIndices {
         }
     }
 
-    fn index(&self, index: Index) -> Index
+    /// An index that an operator names, under the new indices.
+    pub fn index(&self, index: Index) -> Index
         ensures { result ≡ renumber_index (new_of self.now) index }
     {
         match index.kind {

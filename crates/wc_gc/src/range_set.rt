@@ -1,17 +1,23 @@
 //! Sets of numbers as sorted ranges.
 
-ghost use Rattle.std.specs.Prelude.{◌≡◌, ◌≤◌, ◌<◌, ◌+◌, ◌-◌, ◌^◌, ℕ, IsTrue, not, false, length, slice_index_or, IfOk, OnOk, OnErr};
-ghost use Rattle.wc_gc.specs.Bits.{bit_of};
+ghost use Rattle.std.specs.Prelude.{◌≡◌, ◌≤◌, ◌<◌, ◌+◌, ◌-◌, ◌++◌, ◌||◌, ℕ, IsTrue, nat_eq, false, length, filter, min, slice_index_or, IfOk, OnOk, OnErr};
+ghost use Rattle.std.specs.List.{list_any, range_with_len};
 ghost use Rattle.wc_gc.specs.Ranges.{AreRanges, in_ranges};
 ghost use Rattle.wc_gc.specs.LiveSets.{Inserts};
 ghost use Rattle.wc_gc.specs.Private.Positions.{IsCut, joined_at};
 
 use crate::live::LiveSet;
-use crate::merging::ranges_of_bits;
-use crate::ranks::Ranks;
+use crate::merging::with_numbers;
+use crate::ranks::{Ranks, first_of, last_of};
 use std::alloc::{AllocError, Global};
 
 /// A set of numbers as sorted ranges, each from its first number to its last, that neither overlap nor touch.
+///
+/// The ranges lie one after another in memory. `insert` takes the same time for each number that is past all others, so
+/// it takes time in proportion to `n` for `n` numbers in ascending order. Any other number takes a search, and moves the
+/// ranges after it by one place, or back where two become one: `n` numbers that do not touch take `n * n / 2` moves of
+/// eight bytes in descending order, and half of that in random order. `extend` puts in many numbers in any order, by a
+/// sort: its time grows as `n * log n`, where `n` is the number of ranges and of numbers together.
 #[derive(Debug, Drop)]
 pub struct RangeSet {
     ranges: Vec<(u32, u32)>,
@@ -28,7 +34,11 @@ impl LiveSet for RangeSet {
     }
 
     fn insert(&mut self, x: u32) -> Result<bool, AllocError> {
-        let index = range_near(&self.ranges, x);
+        if all_end_before(&self.ranges, x) {
+            append_number(&mut self.ranges, x)?;
+            return Ok(true);
+        }
+        let index = range_from(&self.ranges, x);
         if has_at(&self.ranges, index, x) {
             return Ok(false);
         }
@@ -41,19 +51,30 @@ impl LiveSet for RangeSet {
         has_at(&self.ranges, index, x)
     }
 
+    fn numbers_below(&self, alloc: Global, bound: u32) -> Result<Vec<u32>, AllocError> {
+        numbers_in(alloc, &self.ranges, bound)
+    }
+
     fn ranks(&self, alloc: Global) -> Result<Ranks, AllocError> {
         Ranks::of_ranges(alloc, &self.ranges)
     }
 }
 
 impl RangeSet {
-    /// The numbers of bits.
-    pub(crate) fn of_bits(alloc: Global, words: &[u64]) -> Result<RangeSet, AllocError>
-        requires { length words.now ≤ 2 ^ 26 }
-        ensures { IfOk result (λ s. (y : ℕ) → in_ranges s.ranges.items y ≡ bit_of words.now y) }
+    /// Puts numbers in, in any order, by one sort of them and of the ranges.
+    ///
+    /// # Errors
+    ///
+    /// `AllocError`: an allocation failed. The set is as before.
+    pub fn extend(&mut self, numbers: &[u32]) -> Result<(), AllocError>
+        ensures extends { OnOk result ((x : ℕ) → ⟦<RangeSet as LiveSet>⟧.has self.new x
+            ≡ (⟦<RangeSet as LiveSet>⟧.has self.old x || list_any (nat_eq x) numbers.now)) }
+        ensures err { OnErr result ((x : ℕ) → ⟦<RangeSet as LiveSet>⟧.has self.new x
+            ≡ ⟦<RangeSet as LiveSet>⟧.has self.old x) }
     {
-        let ranges = ranges_of_bits(alloc, words)?;
-        Ok(RangeSet { ranges })
+        let ranges = with_numbers(*self.ranges.allocator(), &self.ranges, numbers)?;
+        self.ranges = ranges;
+        Ok(())
     }
 
     /// The ranges, in their order.
@@ -80,6 +101,7 @@ fn range_near(ranges: &[(u32, u32)], x: u32) -> usize
 }
 
 /// Whether all ranges end before a number.
+#[inline(always)]
 fn all_end_before(ranges: &[(u32, u32)], x: u32) -> bool
     requires { AreRanges ranges.now }
     ensures { IsTrue result → IsCut x ranges.now (length ranges.now) }
@@ -105,6 +127,60 @@ pub(crate) fn range_from(ranges: &[(u32, u32)], x: u32) -> usize
         }
     }
     low
+}
+
+/// The numbers in ranges that are below a bound, in their order.
+fn numbers_in(alloc: Global, ranges: &[(u32, u32)], bound: u32) -> Result<Vec<u32>, AllocError>
+    requires { AreRanges ranges.now }
+    ensures { IfOk result (λ v. v.items
+        ≡ filter (in_ranges ranges.now) (range_with_len 0 bound)) }
+{
+    let mut numbers = Vec::new(alloc);
+    for range in ranges {
+        let end = end_below(last_of(range), bound);
+        append_numbers(&mut numbers, first_of(range), end)?;
+    }
+    Ok(numbers)
+}
+
+/// One past a number, or a bound, if that is less.
+fn end_below(last: u32, bound: u32) -> u32
+    ensures { result ≡ min (last + 1) bound }
+{
+    if last < bound { last + 1 } else { bound }
+}
+
+/// Appends the numbers from one on that are before another.
+#[inline(always)]
+fn append_numbers(numbers: &mut Vec<u32>, first: u32, end: u32) -> Result<(), AllocError>
+    ensures { OnOk result (numbers.new.items
+        ≡ numbers.old.items ++ range_with_len first (end - first)) }
+{
+    for x in first..end {
+        numbers.push(x)?;
+    }
+    Ok(())
+}
+
+/// Puts in a number that is past all ranges.
+#[inline(always)]
+fn append_number(ranges: &mut Vec<(u32, u32)>, x: u32) -> Result<(), AllocError>
+    requires sorted { AreRanges ranges.old.items }
+    requires cut { IsCut x ranges.old.items (length ranges.old.items) }
+    ensures absent { in_ranges ranges.old.items x ≡ false }
+    ensures sorted { OnOk result (AreRanges ranges.new.items) }
+    ensures inserts { OnOk result
+        (Inserts (in_ranges ranges.old.items) (in_ranges ranges.new.items) x) }
+    ensures err { OnErr result (ranges.new.items ≡ ranges.old.items) }
+{
+    let count = ranges.len();
+    if ends_before(ranges, count, x) {
+        ranges[count - 1].1 = x;
+        Ok(())
+    } else {
+        ranges.push((x, x))?;
+        Ok(())
+    }
 }
 
 /// Puts in a number that is in no range, before the ranges that end after it.

@@ -1,8 +1,9 @@
 //! Ranks of numbers in a set: how many of its numbers are below one.
 
-ghost use Rattle.std.specs.Prelude.{◌≡◌, ◌≤◌, ◌<◌, ◌+◌, ◌^◌, ℕ, All, length, slice_index, slice_index_or, IsTrue, IfOk, IfSome};
+ghost use Rattle.std.specs.Prelude.{◌≡◌, ◌≤◌, ◌<◌, ◌+◌, ◌-◌, ◌*◌, ◌/◌, ◌^◌, ℕ, All, false, true, length, slice_index, slice_index_or, IsSome, IsTrue, IfOk, IfSome, OnOk};
 ghost use Rattle.wc_gc.specs.Ranges.{AreRanges, in_ranges};
 ghost use Rattle.wc_gc.specs.Counts.{count_below};
+ghost use Rattle.wc_gc.specs.Private.Positions.{AreStarts, IsCut};
 
 use crate::range_set::{has_at, range_from};
 use std::alloc::{AllocError, Global};
@@ -30,6 +31,7 @@ pub struct Ranks {
     ghost whole: { (x : ℕ) → All (λ r. r.1 < x) ranges.items
         → total ≡ count_below (in_ranges ranges.items) x },
     ghost filled: { 0 < block },
+    ghost begins: { AreStarts block ranges.items starts.items },
 }
 
 impl Ranks {
@@ -79,27 +81,54 @@ impl Ranks {
     pub fn rank(&self, x: u32) -> u32
         ensures { result ≡ rank_of self.now x }
     {
-        match self.rank_at(self.place(x), x) {
-            Some(rank) => rank,
-            None => self.rank_counted(x).0,
+        self.rank_near(x).0
+    }
+
+    /// The rank of a number, and with how many ranges it was compared: of one in the set with those that end before it in
+    /// its block, and twice with its own, if they are few.
+    #[inline(always)]
+    fn rank_near(&self, x: u32) -> (u32, u32)
+        ensures rank { result.0 ≡ rank_of self.now x }
+        ensures near { has_number self.now x ≡ true → (s i : ℕ)
+            → IsCut (x / self.now.block * self.now.block) self.now.ranges.items s
+            → IsCut x self.now.ranges.items i → i < s + NEAR → result.1 ≤ i - s + 2 }
+        ensures most { (digits : ℕ) → length self.now.ranges.items < 2 ^ digits
+            → result.1 ≤ NEAR + 1 + digits }
+    {
+        let (index, probes) = self.place(self.start(x), x);
+        match self.rank_at(index, x) {
+            Some(rank) => (rank, probes + 1),
+            None => {
+                let (rank, more) = self.rank_counted(x);
+                (rank, probes + 1 + more)
+            }
         }
     }
 
-    /// The index of the range of a number, if it is one of the first of its block.
-    fn place(&self, x: u32) -> usize {
-        let mut index = self.start(x);
-        for _ in 0..NEAR {
+    /// From the start of its block on the index of the first range that does not end before a number, if it is one of the
+    /// next, and with how many ranges the number was compared.
+    #[inline(always)]
+    fn place(&self, start: usize, x: u32) -> (usize, u32)
+        requires { IsCut (x / self.now.block * self.now.block) self.now.ranges.items start }
+        ensures near { (i : ℕ) → IsCut x self.now.ranges.items i → i < start + NEAR
+            → (result.0 ≡ i) × (result.1 ≡ i - start + 1) }
+        ensures most { result.1 ≤ NEAR }
+    {
+        let mut index = start;
+        for passed in 0..NEAR {
             if ends_before(&self.ranges, index, x) {
                 index += 1;
             } else {
-                return index;
+                return (index, passed as u32 + 1);
             }
         }
-        index
+        (index, NEAR as u32)
     }
 
-    /// Where the range of a number may be.
-    fn start(&self, x: u32) -> usize {
+    /// The first range that ends in the block of a number or later.
+    fn start(&self, x: u32) -> usize
+        ensures { IsCut (x / self.now.block * self.now.block) self.now.ranges.items result }
+    {
         match self.starts.get(x as usize / self.block) {
             Some(start) => *start,
             None => self.ranges.len(),
@@ -108,7 +137,9 @@ impl Ranks {
 
     /// The rank of a number, if it is in the range at an index.
     fn rank_at(&self, index: usize, x: u32) -> Option<u32>
-        ensures { IfSome result (λ rank. rank ≡ rank_of self.now x) }
+        ensures rank { IfSome result (λ rank. rank ≡ rank_of self.now x) }
+        ensures found { IsCut x self.now.ranges.items index → has_number self.now x ≡ true
+            → IsSome result }
     {
         if index >= self.ranges.len() {
             return None;
@@ -182,7 +213,9 @@ fn block_of(ranges: &[(u32, u32)]) -> usize
 
 /// For each block of numbers the index of the first range that ends in it or later.
 fn starts_of(alloc: Global, ranges: &[(u32, u32)], block: usize) -> Result<Vec<usize>, AllocError>
-    requires { 0 < block }
+    requires sorted { AreRanges ranges.now }
+    requires filled { 0 < block }
+    ensures { IfOk result (λ v. AreStarts block ranges.now v.items) }
 {
     let mut starts = Vec::new(alloc);
     for index in 0..ranges.len() {
@@ -192,20 +225,26 @@ fn starts_of(alloc: Global, ranges: &[(u32, u32)], block: usize) -> Result<Vec<u
 }
 
 /// Appends an index for each block up to one that has none.
-fn append_starts(starts: &mut Vec<usize>, block: usize, index: usize) -> Result<(), AllocError> {
-    if starts.len() > block {
-        return Ok(());
-    }
-    for _ in starts.len()..block {
+fn append_starts(starts: &mut Vec<usize>, block: usize, index: usize) -> Result<(), AllocError>
+    requires { block < 2 ^ 32 }
+    ensures kept { OnOk result ((b : ℕ) → b < length starts.old.items
+        → slice_index starts.new.items b ≡ slice_index starts.old.items b) }
+    ensures added { OnOk result ((b : ℕ) → length starts.old.items ≤ b
+        → b < length starts.new.items → (slice_index starts.new.items b ≡ index) × (b ≤ block)) }
+    ensures past { OnOk result (block < length starts.new.items) }
+{
+    for _ in starts.len()..block + 1 {
         starts.push(index)?;
     }
-    starts.push(index)?;
     Ok(())
 }
 
 /// Whether there is a range at an index that ends before a number.
 fn ends_before(ranges: &[(u32, u32)], index: usize, x: u32) -> bool
-    ensures { IsTrue result → index < length ranges.now }
+    ensures ends { IsTrue result
+        → (index < length ranges.now) × ((slice_index_or ranges.now index (0, 0)).1 < x) }
+    ensures reaches { result ≡ false → index < length ranges.now
+        → x ≤ (slice_index_or ranges.now index (0, 0)).1 }
 {
     match ranges.get(index) {
         Some(range) => range.1 < x,
@@ -214,14 +253,14 @@ fn ends_before(ranges: &[(u32, u32)], index: usize, x: u32) -> bool
 }
 
 /// The first number of a range.
-fn first_of(range: &(u32, u32)) -> u32
+pub(crate) fn first_of(range: &(u32, u32)) -> u32
     ensures { result ≡ range.now.0 }
 {
     range.0
 }
 
 /// The last number of a range.
-fn last_of(range: &(u32, u32)) -> u32
+pub(crate) fn last_of(range: &(u32, u32)) -> u32
     ensures { result ≡ range.now.1 }
 {
     range.1

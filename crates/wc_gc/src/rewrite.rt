@@ -1,9 +1,9 @@
 //! Code under new indices.
 
-ghost use Rattle.std.specs.Prelude.{◌≡◌, ◌++◌, [], map, is_some, unwrap_or, true, IfOk, IfSome, OnOk, ◌<◌, ◌≤◌};
+ghost use Rattle.std.specs.Prelude.{◌≡◌, ◌++◌, map, is_some, true, IfOk, IfSome, OnOk, ◌<◌, ◌≤◌};
 ghost use Rattle.std.specs.List.{flat_map};
 ghost use Rattle.std.specs.Option.{option_map};
-ghost use Rattle.wc_read.specs.Operators.{instr_value, instr_values};
+ghost use Rattle.wc_read.specs.Operators.{WithIndex, instr_value, instr_values};
 ghost use Rattle.wc_read.specs.Inits.{init_value};
 ghost use Rattle.wc_read.specs.Renumbering.{Renumbering, renumber_instr};
 ghost use Rattle.wc_read.specs.Decoding.{body_in, body_of, bytes_left, init_in, KeepsLocals, locals_read, next_and_left, operators_left};
@@ -124,7 +124,25 @@ fn append_renumbered(
     if names_no_item(&operator) {
         return append_operator(out, &operator);
     }
-    append_operator(out, &new.operator(operator))
+    match &operator.immediates {
+        Immediates::Index(index) => append_index(out, operator.opcode, new.index(*index)),
+        _ => append_operator(out, &new.operator(operator)),
+    }
+}
+
+/// Appends an operator that has one index.
+#[inline(always)]
+fn append_index(out: &mut Vec<u8>, opcode: Opcode, index: Index) -> Result<(), AllocError>
+    ensures { OnOk result (out.new.items ≡ out.old.items
+        ++ instr_text (record { opcode = opcode; immediates = WithIndex index })) }
+{
+    append_operator(
+        out,
+        &Instr {
+            opcode,
+            immediates: Immediates::Index(index),
+        },
+    )
 }
 
 /// Whether an operator is one of the frequent ones that name no item, and so are the same under all indices.

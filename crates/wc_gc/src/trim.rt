@@ -25,6 +25,7 @@ use crate::fault::GcFault;
 use crate::found::find_parts;
 use crate::live::{LiveSet, LiveSets};
 use crate::live_items::find_live_in;
+use crate::range_set::RangeSet;
 use crate::settings::Settings;
 use std::alloc::Global;
 use wc_maps::Set;
@@ -94,11 +95,11 @@ pub fn run(
         realloc: main_module_realloc,
         page_size_log2,
     };
-    trim(alloc, wasm, required, settings)
+    trim::<RangeSet>(alloc, wasm, required, settings)
 }
 
-/// Trims an adapter under settings.
-fn trim(
+/// Trims an adapter under settings, with live items in sets of any kind.
+fn trim<L: LiveSet>(
     alloc: Global,
     wasm: &[u8],
     required: &Set<String>,
@@ -112,11 +113,11 @@ fn trim(
     // So a vector has fewer than 2^32 items.
     slices_are_bytes(wasm);
     let adapter = read_module(alloc, wasm)?;
-    trim_module(alloc, &adapter, required, settings)
+    trim_module::<L>(alloc, &adapter, required, settings)
 }
 
 /// Trims a module that was read.
-fn trim_module(
+fn trim_module<L: LiveSet>(
     alloc: Global,
     adapter: &Module<'_>,
     required: &Set<String>,
@@ -132,7 +133,7 @@ fn trim_module(
         (settings_value settings.entry) (trim_input bytes required.now.keys) f) }
 {
     settings_are_valid(settings);
-    let (exports, found) = find_live_in(alloc, adapter, required)?;
+    let (exports, found) = find_live_in::<L>(alloc, adapter, required)?;
     image_text(alloc, adapter, &exports, &found.live, settings)
 }
 

@@ -1,4 +1,4 @@
-//! What faults of trimming are about: the section or the body that their cause is in.
+//! The section or the body that the cause of a fault of trimming is in.
 
 ghost use Rattle.std.specs.Prelude.{◌≡◌, ◌↔◌, map, slice_get, IfOk, IfSome, IsSome, None, Some};
 ghost use Rattle.wc_read.specs.Exports.{export_value};
@@ -23,7 +23,7 @@ use wc_read::{Export, Module, ReadFault, read_module};
 /// The id of the section of the start function.
 const START_ID: u8 = 8;
 
-/// What a fault of trimming is about.
+/// The part of an adapter that a fault of trimming is about.
 #[derive(Clone, Copy, Debug, PartialEq, Eq)]
 pub enum TrimPlace {
     /// A section.
@@ -66,8 +66,8 @@ impl fmt::Display for TrimPlace {
     }
 }
 
-/// What a fault is about that `run` answered for the same bytes and names. What `run` does is repeated up to the
-/// cause:
+/// The part of an adapter that a fault is about, which `run` answered for the same bytes and names. The work of `run` is
+/// repeated up to the cause:
 ///
 /// - `UnsupportedSection` is about the first section, in the order of the bytes, that is of the start function (its id
 ///   is 8), of elements (9), of a data count (12) or of data (11);

@@ -14,7 +14,7 @@ use std::alloc::{AllocError, Global};
 use wc_maps::{Map, Seed};
 use wc_resolve::{Package, PackageId, Parts, World, WorldId};
 
-/// What a text has: the parts of a `Resolve`, and which package each world is of, which has no place
+/// The content of a text: the parts of a `Resolve`, and which package each world is of, which has no place
 /// in them. A world is found as `namespace:package/world` by the package's name in
 /// `parts.packages`, at whose index `package_worlds` has the world's id.
 #[derive(Drop)]
@@ -30,7 +30,7 @@ pub struct Document {
     pub package_worlds: Vec<Map<String, WorldId>>,
 }
 
-/// The first of each pair, and the second of each.
+/// Splits pairs into two lists, each in their order.
 fn unzip<A: Drop, B: Drop>(
     alloc: Global,
     pairs: Vec<(A, B)>,
@@ -48,7 +48,8 @@ fn unzip<A: Drop, B: Drop>(
     Ok((first, second))
 }
 
-/// The document that a JSON value is.
+/// Reads the members `worlds`, `interfaces`, `types` and `packages` of an object in this order. The
+/// first that is wrong is the fault.
 fn document_of(alloc: Global, seed: Seed, value: &Value<'_>) -> Result<Document, JsonFault>
     ensures { Reads document_view result (document_of (value_view value.now)) }
 {

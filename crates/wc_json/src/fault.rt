@@ -7,7 +7,7 @@ use std::alloc::{AllocError, AllocFailed};
 use std::error::Error as StdError;
 use std::fmt;
 
-/// What is wrong with a JSON value, or with a member that isn't there.
+/// The problem with a JSON value, or with a member that isn't there.
 #[derive(Clone, Copy, Debug, PartialEq, Eq)]
 pub enum Problem {
     /// An object has no member of a name that has to be there.

@@ -16,12 +16,12 @@ use wc_maps::Seed;
 
 /// A type whose values are read from JSON values.
 pub trait FromJson: Drop {
-    // What contracts see of a value of this type.
+    // The view that contracts have of a value of this type.
     ghost View: { Type 0 };
 
     ghost view: { Self → View };
 
-    // What a JSON value is read as, or the first fault in it.
+    // The view that a JSON value is read as, or the first fault in it.
     ghost reading: { Json → Reading View };
 
     /// Reads a value. `seed`: the seed of the maps that are made.

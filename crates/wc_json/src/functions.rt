@@ -14,7 +14,7 @@ use std::alloc::Global;
 use wc_maps::Seed;
 use wc_resolve::{Function, FunctionKind, TypeId};
 
-/// The kind of this name of a function that belongs to no resource.
+/// `freestanding` or `async-freestanding`: a kind that JSON has as its name alone.
 fn kind_without_resource(alloc: Global, name: &str) -> Result<FunctionKind, JsonFault>
     ensures reads { Reads (λ k. k) result (kind_without_resource name.now) }
     ensures no_memory { NeedsNoMemory result }
@@ -26,7 +26,8 @@ fn kind_without_resource(alloc: Global, name: &str) -> Result<FunctionKind, Json
     }
 }
 
-/// The kind of this name of a function that belongs to a resource.
+/// A kind that JSON has as an object with one member, whose name is the kind's and whose value is
+/// the resource's id.
 fn kind_of_resource(alloc: Global, name: &str, resource: TypeId) -> Result<FunctionKind, JsonFault>
     ensures reads { Reads (λ k. k) result (kind_of_resource name.now resource.0) }
     ensures no_memory { NeedsNoMemory result }

@@ -13,7 +13,7 @@ use std::alloc::{AllocError, Global};
 use wc_maps::Seed;
 use wc_resolve::{InterfaceId, WorldItem, WorldKey};
 
-/// What comes after a prefix.
+/// The rest of a text after a prefix; `None` where it doesn't begin so.
 fn rest_after<'a>(text: &'a str, prefix: &str) -> Option<&'a str>
     ensures { option_map (λ rest. rest.now) result ≡ rest_after prefix.now text.now }
 {

@@ -75,7 +75,7 @@ impl FromJson for Handle {
     }
 }
 
-/// The handle of this kind, of the resource that the value names.
+/// `own` or `borrow`, of the resource whose id the value is. Any other kind is Unknown.
 fn handle_of(
     alloc: Global,
     seed: Seed,
@@ -104,7 +104,8 @@ fn plain_kind(alloc: Global, name: &str) -> Result<TypeDefKind, JsonFault>
     }
 }
 
-/// The kind of this name, which is made of what the value has.
+/// A kind that JSON has as an object with one member; `type` is an alias. Lists of fixed length and
+/// maps are LeftOut, any other name is Unknown.
 fn kind_of(
     alloc: Global,
     seed: Seed,

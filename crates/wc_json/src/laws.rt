@@ -3,8 +3,9 @@
 ghost use Rattle.wc_json.specs.Laws.{DocumentsReadBack, TextsReadBack};
 
 /// A document that is written as a JSON value, in the form in which wit-parser writes it, is read
-/// back as the same document: its ids are below 2^32, no two keys of a map are spelled alike, and no
-/// plain key is spelled as the id of its own interface. So the definition of what is read loses nothing of a document.
+/// back as the same document. Its ids have to be below 2^32, no two keys of a map spelled alike, an id that is a key
+/// that of its item, no plain key spelled as the id of its own interface, and the name of a package cut where it was put
+/// together. So the definition of what is read loses nothing of a document.
 /// It does nothing when it runs.
 pub fn documents_read_back()
     ensures { DocumentsReadBack }

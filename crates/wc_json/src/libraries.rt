@@ -17,7 +17,7 @@ use wc_encoder::{Instance, Item, LibraryInfo, MainOrAdapter};
 use wc_maps::Seed;
 use wc_read::ExportKind;
 
-/// The kind of exports of this name.
+/// `func`, `table`, `memory` or `global`. Any other name is Unknown.
 fn export_kind_of(alloc: Global, name: &str) -> Result<ExportKind, JsonFault>
     ensures reads { Reads (λ k. k) result (export_kind_of name.now) }
     ensures no_memory { NeedsNoMemory result }
@@ -53,7 +53,7 @@ impl FromJson for ExportKind {
     }
 }
 
-/// What has this kind: the main module, or the adapter of the name that the value has.
+/// The module of this kind: the main module, or the adapter of the name that the value has.
 fn which_of_kind(
     alloc: Global,
     seed: Seed,
@@ -111,7 +111,7 @@ impl FromJson for Item {
     }
 }
 
-/// What has this kind: all exports of a module, or items.
+/// The instance of this kind: all exports of a module, or items.
 fn instance_of_kind(
     alloc: Global,
     seed: Seed,
@@ -127,7 +127,7 @@ fn instance_of_kind(
     }
 }
 
-/// What a library gets under the name of a module.
+/// The instance that a library gets under the name of a module.
 impl FromJson for Instance {
     ghost use Rattle.wc_adapters.specs.Adapters.{InstanceView, instance_view};
     ghost use Rattle.wc_json.specs.Libraries.{instance};

@@ -18,7 +18,8 @@ use json::Value;
 use std::alloc::Global;
 use wc_maps::Seed;
 
-/// The member of this name of an object, if it has one.
+/// The value under a name; `None` where the object has no such member. A value of another kind is
+/// NotAnObject.
 pub(crate) fn find_member<'v, 'a>(
     alloc: Global,
     object: &'v Value<'a>,
@@ -35,6 +36,12 @@ pub(crate) fn find_member<'v, 'a>(
 }
 
 /// Reads the member of this name of an object, which has to be there. `seed`: the seed of the maps that are made.
+///
+/// # Errors
+///
+/// - `Wrong`: the value is no object, by the empty path; or it lacks the member, or the member has a fault, by a path that
+///   begins with the name.
+/// - `Memory`: an allocation failed, for a value that is an object.
 pub fn required_member<T: FromJson>(
     alloc: Global,
     seed: Seed,
@@ -53,6 +60,11 @@ pub fn required_member<T: FromJson>(
 
 /// Reads the member of this name of an object; `None` where it is missing or null. `seed`: the seed of the maps that
 /// are made.
+///
+/// # Errors
+///
+/// - `Wrong`: the value is no object, by the empty path; or the member has a fault, by a path that begins with the name.
+/// - `Memory`: an allocation failed, for a member that is there and isn't null.
 pub fn optional_member<T: FromJson>(
     alloc: Global,
     seed: Seed,

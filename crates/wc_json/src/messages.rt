@@ -180,7 +180,7 @@ impl FromJson for OptionsMessage {
     }
 }
 
-/// What a component is encoded from, but for the bytes of its modules. Nothing says that it is well-formed.
+/// The parts that a component is encoded from, but for the bytes of its modules. They need not be well-formed.
 #[derive(Drop)]
 pub struct Message {
     /// The worlds, interfaces, types and packages.

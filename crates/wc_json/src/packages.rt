@@ -26,7 +26,7 @@ fn split_once(text: &str, separator: char) -> Option<(&str, &str)>
     text.split_once(separator)
 }
 
-/// The semantic version that a text is.
+/// Parses a semantic version. A text that is none makes the package's name wrong: NotAPackageName.
 fn version(alloc: Global, text: &str) -> Result<Version, JsonFault>
     ensures { Reads parts_of result (version text.now) }
 {

@@ -33,7 +33,8 @@ fn join(alloc: Global, step: &str, path: &str) -> Result<String, AllocError>
     }
 }
 
-/// A fault with a step before its path.
+/// Puts a step before the path of a fault. Memory has no path, and comes where the longer one can't
+/// be allocated.
 fn fault_at(alloc: Global, step: &str, fault: JsonFault) -> JsonFault
     ensures { IsFaultAt step.now fault result }
 {
@@ -46,7 +47,7 @@ fn fault_at(alloc: Global, step: &str, fault: JsonFault) -> JsonFault
     }
 }
 
-/// A fault of the member of this name.
+/// Puts a member's name before the path of a fault.
 #[cold]
 pub(crate) fn fault_at_member(alloc: Global, name: &str, fault: JsonFault) -> JsonFault
     ensures { IsFaultAt name.now fault result }
@@ -54,7 +55,7 @@ pub(crate) fn fault_at_member(alloc: Global, name: &str, fault: JsonFault) -> Js
     fault_at(alloc, name, fault)
 }
 
-/// A fault of the item at this index.
+/// Puts `[INDEX]` before the path of a fault.
 #[cold]
 fn fault_at_index(alloc: Global, index: usize, fault: JsonFault) -> JsonFault
     ensures { IsFaultAt (index_step index) fault result }
@@ -119,7 +120,7 @@ fn fault_at_variant(alloc: Global, name: &str, fault: JsonFault) -> JsonFault
     }
 }
 
-/// What the member of this name was read as.
+/// The result of reading a member. Of a fault, the member's name comes before the path.
 #[inline(always)]
 pub fn at_member<T>(alloc: Global, name: &str, read: Result<T, JsonFault>) -> Result<T, JsonFault>
     ensures { IsReadAt name.now read result }
@@ -130,7 +131,7 @@ pub fn at_member<T>(alloc: Global, name: &str, read: Result<T, JsonFault>) -> Re
     }
 }
 
-/// What the only member, of this name, was read as.
+/// The reading of the only member, of this name, with its name before the path of a fault.
 #[inline(always)]
 pub(crate) fn at_variant<T>(
     alloc: Global,
@@ -145,7 +146,7 @@ pub(crate) fn at_variant<T>(
     }
 }
 
-/// What the item at this index of a list was read as.
+/// The reading of the item at this index of a list, with the index before the path of a fault.
 #[inline(always)]
 pub(crate) fn at_index<T>(
     alloc: Global,
@@ -160,7 +161,7 @@ pub(crate) fn at_index<T>(
     }
 }
 
-/// What the entry under this key of a map was read as.
+/// The reading of the entry under this key of a map, with the key before the path of a fault.
 #[inline(always)]
 pub(crate) fn at_key<T>(
     alloc: Global,

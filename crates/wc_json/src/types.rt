@@ -33,7 +33,7 @@ impl FromJson for TypeOwner {
     }
 }
 
-/// The owner of this kind, whose id the value is.
+/// `world` or `interface`, with its id. Any other kind is Unknown.
 fn owner_of(alloc: Global, seed: Seed, kind: &str, id: &Value<'_>) -> Result<TypeOwner, JsonFault>
     ensures reads { Reads (λ o. o) result (owner_of kind.now (value_view id.now)) }
     ensures no_memory { NeedsNoMemory result }

@@ -15,7 +15,7 @@ use std::alloc::Global;
 use wc_maps::Seed;
 use wc_resolve::{TypeId, WitType};
 
-/// The primitive type of this name.
+/// A type that JSON has as its name, without an id. Any other name is Unknown.
 fn primitive(alloc: Global, name: &str) -> Result<WitType, JsonFault>
     ensures reads { Reads (λ t. t) result (primitive name.now) }
     ensures no_memory { NeedsNoMemory result }

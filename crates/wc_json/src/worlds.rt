@@ -45,7 +45,7 @@ fn type_item_of(alloc: Global, seed: Seed, value: &Value<'_>) -> Result<WorldIte
     })
 }
 
-/// The item of this kind, which is made of what the value has.
+/// An interface, a function or a type. Any other kind is Unknown.
 fn item_of(alloc: Global, seed: Seed, kind: &str, value: &Value<'_>) -> Result<WorldItem, JsonFault>
     ensures { Reads item_view result (item_of kind.now (value_view value.now)) }
 {
@@ -73,7 +73,7 @@ impl FromJson for WorldItem {
     }
 }
 
-/// What a world imports or exports, by its keys, in the order of the object's members.
+/// The imports or exports of a world, by their keys, in the order of the object's members.
 #[derive(Drop)]
 struct Items(Map<WorldKey, WorldItem>);
 

@@ -69,7 +69,7 @@ const KINDS: [(&str, Kind); 4] = [
     ("global", Kind::Global),
 ];
 
-/// The type that a text describes.
+/// Parses a kind and a type of it, as ROWS writes them; `None` where the text is neither.
 pub fn parse_import_type(text: &str) -> Option<ImportType> {
     let (kind, rest) = text.split_once(' ')?;
     match named(&KINDS, kind)? {

@@ -29,7 +29,7 @@ impl<T: Drop> From<AllocFailed<T>> for Stop {
     }
 }
 
-/// What is wrong with a row, and the text that is.
+/// The flaw of a row, and the text that has it.
 #[derive(Clone, Copy)]
 struct Flaw<'a> {
     what: &'a str,

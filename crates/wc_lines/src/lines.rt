@@ -13,6 +13,7 @@ pub struct Lines {
 }
 
 impl Lines {
+    /// Lines without text.
     pub fn new(alloc: Global) -> Lines {
         Lines {
             text: String::new(alloc),
@@ -21,6 +22,7 @@ impl Lines {
         }
     }
 
+    /// Appends a text.
     pub fn push_str(&mut self, text: &str) {
         if self.is_ended {
             return;
@@ -29,6 +31,7 @@ impl Lines {
         let _ = self.keep(pushed);
     }
 
+    /// Appends a character.
     pub fn push(&mut self, character: char) {
         if self.is_ended {
             return;
@@ -37,7 +40,7 @@ impl Lines {
         let _ = self.keep(pushed);
     }
 
-    /// What `write!` and `writeln!` call.
+    /// Puts a value's text; `write!` and `writeln!` call it.
     pub fn write_fmt<D: Display + Drop>(&mut self, value: D) {
         if self.is_ended {
             return;
@@ -46,13 +49,13 @@ impl Lines {
         let _ = self.keep(written);
     }
 
-    /// A word, and a number after it.
+    /// Appends a word and, right after it, a number in decimal.
     pub fn number(&mut self, word: &str, number: u64) {
         self.push_str(word);
         write!(self, "{number}");
     }
 
-    /// A word, and a text in quotes after it.
+    /// Appends a word and, right after it, a text as `Debug` shows it.
     pub fn quoted(&mut self, word: &str, text: &str) {
         self.push_str(word);
         write!(self, "{text:?}");
@@ -70,7 +73,7 @@ impl Lines {
         write!(self, "{byte:02x}");
     }
 
-    /// The end of a line.
+    /// Appends a line feed.
     pub fn end(&mut self) {
         self.push('\n');
     }

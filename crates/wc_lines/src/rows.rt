@@ -17,7 +17,7 @@ use std::mem;
 /// A row: a call, what it is asked with, and the answer that is wanted.
 #[derive(Drop)]
 pub struct Row<'a> {
-    /// What the row shows.
+    /// The name of the row, which says what it shows.
     pub name: &'a str,
     /// The name of the call.
     pub call: &'a str,
@@ -41,7 +41,7 @@ impl<'a> Row<'a> {
     }
 }
 
-/// What is wrong with a paragraph.
+/// The flaw of a paragraph.
 #[derive(Clone, Copy)]
 pub enum Flaw<'a> {
     /// A line begins with no word of the format.
@@ -59,7 +59,7 @@ pub struct Paragraph<'a> {
     is_fixture: bool,
 }
 
-/// What a line of a paragraph says.
+/// The part of a row that a line of a paragraph is.
 #[derive(Clone, Copy)]
 enum Part {
     Row,
@@ -160,7 +160,7 @@ pub struct Rows<'a> {
 }
 
 impl<'a> Rows<'a> {
-    /// Reads the text of a file.
+    /// Splits the text of a file into its rows and fixtures.
     pub fn read(alloc: Global, text: &'a str) -> Result<Rows<'a>, AllocError> {
         let mut rows = Rows {
             rows: Vec::new(alloc),

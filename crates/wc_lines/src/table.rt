@@ -1,6 +1,6 @@
 //! Values by their words.
 
-/// The value that a table has for a word.
+/// The value of the first entry of this word; `None` where there is no such entry.
 pub fn named<T: Copy>(table: &[(&str, T)], word: &str) -> Option<T> {
     for entry in table {
         if entry.0 == word {

@@ -14,7 +14,7 @@ pub fn put_fault(out: &mut Lines, fault: impl Display + Drop) {
     writeln!(out, "{fault}");
 }
 
-/// What a fault is about, or `none`.
+/// Puts the place of a fault, or `none`.
 pub fn put_place<P: Display + Drop>(out: &mut Lines, place: Result<Option<P>, AllocError>) {
     match place {
         Ok(Some(place)) => writeln!(out, "{place}"),
@@ -30,7 +30,7 @@ pub fn put_bytes(out: &mut Lines, bytes: &[u8]) {
     }
 }
 
-/// A line of bytes in hex.
+/// Appends a word, bytes in hex and a line feed.
 pub fn put_bytes_line(out: &mut Lines, word: &str, bytes: &[u8]) {
     out.push_str(word);
     put_bytes(out, bytes);
@@ -92,6 +92,7 @@ fn put_bounds(out: &mut Lines, initial: u64, maximum: Option<u64>) {
     }
 }
 
+/// Appends ` TYPE` of a table's elements, and its limits.
 pub fn put_table_type(out: &mut Lines, ty: &TableType) {
     out.push_str(" ");
     put_val_type(out, ty.element_type);
@@ -106,6 +107,8 @@ pub fn put_table_limits(out: &mut Lines, ty: &TableType) {
     put_bounds(out, ty.initial, ty.maximum);
 }
 
+/// Appends ` 64` and ` shared` of a memory that is so, its limits, and ` page EXPONENT` if it has
+/// one.
 pub fn put_memory_type(out: &mut Lines, ty: &MemoryType) {
     if ty.memory64 {
         out.push_str(" 64");
@@ -120,6 +123,7 @@ pub fn put_memory_type(out: &mut Lines, ty: &MemoryType) {
     }
 }
 
+/// Appends ` TYPE` of a global's value, and whether it is mutable.
 pub fn put_global_type(out: &mut Lines, ty: &GlobalType) {
     out.push_str(" ");
     put_val_type(out, ty.content_type);
@@ -159,6 +163,7 @@ pub fn put_import(out: &mut Lines, import: &Import<'_>) {
     put_import_type(out, &import.ty);
 }
 
+/// Appends a line for each import.
 pub fn put_imports(out: &mut Lines, imports: &[Import<'_>]) {
     for import in imports {
         put_import(out, import);
@@ -176,6 +181,7 @@ fn kind_name(kind: ExportKind) -> &'static str {
     }
 }
 
+/// Appends a line for each export: its name in quotes, its kind and its index.
 pub fn put_exports(out: &mut Lines, exports: &[Export<'_>]) {
     for export in exports {
         out.quoted("export ", export.name);

@@ -31,7 +31,7 @@ impl Seed {
     ///
     /// # Errors
     ///
-    /// That of the source.
+    /// The seed of two numbers that the source draws. The fault is the source's.
     pub fn drawn(source: &impl RandomSource) -> io::Result<Seed> {
         let mut bytes = [0; 16];
         source.fill_bytes(&mut bytes)?;

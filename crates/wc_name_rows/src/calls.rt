@@ -26,7 +26,7 @@ pub enum Call {
     PayloadInfos,
 }
 
-/// The answers of all lines.
+/// Answers a call on the name of each line, up to the first bad one.
 fn put_names<'a, N: NameMangling>(
     alloc: Global,
     scheme: &N,
@@ -61,7 +61,7 @@ fn put_script<'a, N: NameIndexes>(
     put_world_lines(&script, scheme, &row.input, out)
 }
 
-/// What each line of a script asks, and of what.
+/// The question that each line of a script asks, and of what.
 #[derive(Clone, Copy)]
 struct Script<'a> {
     alloc: Global,
@@ -87,7 +87,7 @@ fn put_world_lines<'a, N: NameIndexes>(
     Ok(())
 }
 
-/// The answer of a call by a scheme.
+/// Answers in a world, on names, or with the texts of the scheme.
 fn answer_by<'a, N: NameIndexes>(
     alloc: Global,
     scheme: &N,

@@ -1,4 +1,4 @@
-//! What names of a world or of an interface are looked up in.
+//! Contexts that names of a world or of an interface are looked up in.
 
 ghost use Rattle.std.specs.Prelude.{◌<◌, IfOk, length};
 ghost use Rattle.std.specs.Option.{ForSome, IfSome};
@@ -17,7 +17,7 @@ use wc_lines::lines::Lines;
 use wc_names::{NameMangling, PayloadLookupContext};
 use wc_resolve::{Function, InterfaceId, Resolve, TypeId, World, WorldId, WorldKey};
 
-/// `imports` or `exports`.
+/// Takes `imports`, which is true, or `exports`.
 pub(crate) fn is_imported(words: &mut Words) -> Result<bool, Bad> {
     if words.take("imports") {
         return Ok(true);
@@ -26,7 +26,7 @@ pub(crate) fn is_imported(words: &mut Words) -> Result<bool, Bad> {
     Ok(false)
 }
 
-/// `of INTERFACE`, if it is there.
+/// Takes `of ID`, if `of` is next. The line is bad where no interface has this id.
 fn optional_interface(resolve: &Resolve, words: &mut Words) -> Result<Option<InterfaceId>, Bad>
     ensures { IfOk result (λ id. ForSome id (λ i. i.0 < length resolve.now.interfaces)) }
 {
@@ -49,7 +49,7 @@ fn optional_key(words: &mut Words) -> Result<Option<WorldKey>, Bad> {
     Ok(None)
 }
 
-/// The world of index 0.
+/// The world of index 0, if there is any.
 pub(crate) fn first_world(resolve: &Resolve) -> Option<&World>
     ensures { IfSome result (λ w. IsWorldIn resolve.now (world_view w.now)) }
 {
@@ -94,7 +94,7 @@ fn put_lookups(
     Ok(())
 }
 
-/// What a name means in a context, by a scheme.
+/// Appends the built-in with a payload that a name means.
 fn put_meaning<N: NameMangling>(
     alloc: Global,
     scheme: &N,

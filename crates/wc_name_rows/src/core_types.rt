@@ -23,7 +23,7 @@ fn core_types(words: &mut Words) -> Result<Vec<ValType>, Bad> {
     Ok(types)
 }
 
-/// `PARAM.. -> RESULT..`.
+/// Takes `PARAM.. -> RESULT..`.
 pub fn func_type(words: &mut Words) -> Result<FuncType, Bad> {
     let params = core_types(words)?;
     words.expect("->", "`->` is missing")?;

@@ -1,4 +1,4 @@
-//! What the functions of a scheme say of a name.
+//! Meanings of a name by the functions of a scheme.
 
 use crate::core_types::func_type;
 use crate::shown_imports::{put_if_found, put_shown};
@@ -14,11 +14,11 @@ use wc_resolve::AbiVariant;
 /// The calls on names alone.
 #[derive(Clone, Copy)]
 pub enum OnName {
-    /// What each function of a scheme says of a name.
+    /// The answer of each function of a scheme to a name.
     Meanings,
     /// The functions that a name is of.
     Functions,
-    /// What a name means in the module `env`.
+    /// The meaning of a name in the module `env`.
     Environment,
 }
 
@@ -63,7 +63,7 @@ fn put_others<N: NameMangling>(scheme: &N, name: &str, out: &mut Lines) {
     );
 }
 
-/// The built-in for threads.
+/// Appends `thread_intrinsic` with its meaning, if the name is that of one.
 fn put_thread<N: NameMangling>(alloc: Global, scheme: &N, name: &str, out: &mut Lines) {
     let found = scheme.thread_intrinsic(name);
     put_if_found(alloc, " thread_intrinsic ", found, out);
@@ -88,7 +88,7 @@ fn put_subjects<N: NameMangling>(scheme: &N, name: &str, out: &mut Lines) {
     put_found(out, " task_return_name", scheme.task_return_name(name));
 }
 
-/// The export in the name of another one.
+/// Appends the function that a name of a callback, a lift or a post-return is about.
 fn put_exported<N: NameMangling>(scheme: &N, name: &str, out: &mut Lines) {
     put_found(
         out,
@@ -114,7 +114,7 @@ fn put_meanings<N: NameMangling>(alloc: Global, scheme: &N, name: &str, out: &mu
     put_exported(scheme, name, out);
 }
 
-/// What a name means, or ` none`.
+/// Puts the meaning of a name, or ` none`.
 fn meanings<N: NameMangling>(alloc: Global, scheme: &N, name: &str, out: &mut Lines) {
     let mut found = Lines::new(alloc);
     put_meanings(alloc, scheme, name, &mut found);
@@ -138,7 +138,7 @@ fn functions<N: NameMangling>(scheme: &N, name: &str, out: &mut Lines) {
     put_function(out, " interface ", own, abi);
 }
 
-/// What a name means in the module `env`, with the type after it.
+/// Puts the meaning of a name in the module `env`, with the type after it.
 fn environment<N: NameMangling>(
     scheme: &N,
     words: &mut Words,
@@ -151,7 +151,7 @@ fn environment<N: NameMangling>(
     Ok(())
 }
 
-/// A name, and what a call says of it: a line.
+/// Takes a name, and answers a call on it in one line.
 pub(crate) fn put_name_line<N: NameMangling>(
     scheme: &N,
     call: OnName,

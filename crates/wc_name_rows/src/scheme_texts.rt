@@ -10,7 +10,7 @@ fn put_text(out: &mut Lines, word: &str, text: &str) {
     out.push('\n');
 }
 
-/// The texts of a scheme, a line each.
+/// A line for each text of a scheme; those that it may lack come last.
 pub(crate) fn put_scheme<N: NameMangling>(scheme: &N, out: &mut Lines) {
     let texts = [
         ("import_root ", scheme.import_root()),

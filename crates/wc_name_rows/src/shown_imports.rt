@@ -60,7 +60,7 @@ pub(crate) fn put_if_found<T: Shown + Drop>(
     }
 }
 
-/// The copy of an import.
+/// Appends the clone of an import.
 pub fn put_copy(alloc: Global, import: &Import, out: &mut Lines) {
     match import.clone(alloc) {
         Ok(copy) => put_last(out, copy),

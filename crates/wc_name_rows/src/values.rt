@@ -1,4 +1,4 @@
-//! What is recorded of futures and streams: copies, equality and what they carry.
+//! Records of futures and streams: copies, equality and what they carry.
 
 ghost use Rattle.std.specs.Prelude.{IsTrue, ℕ, List};
 ghost use Rattle.wc_names.specs.Payloads.{HasPayload};

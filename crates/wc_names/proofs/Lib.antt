@@ -16,6 +16,7 @@ pub mod KeyLemmas
 pub mod InterfaceLemmas
 pub mod InterfaceIndexLemmas
 pub mod ExportNameLemmas
+pub mod FirstMemberLemmas
 pub mod ExportIndexLemmas
 pub mod ExportMeaningLemmas
 pub mod ExportRangeLemmas

@@ -17,6 +17,7 @@ pub mod Imports
 pub mod SameButIndices
 pub mod ExportNames
 pub mod ExportViews
+pub mod FirstMembers
 pub mod ExportIndex
 pub mod Exports
 pub mod Laws

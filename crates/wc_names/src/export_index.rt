@@ -13,7 +13,8 @@ ghost use Rattle.wc_names.specs.First.{FirstOf};
 ghost use Rattle.wc_names.specs.Keys.{as_function, item_under};
 
 use crate::export_names::{ExportSyntax, destructed_resource, export_parts};
-use crate::keys::{function_under, if_resource, item, type_under};
+use crate::first_members::{FirstMembers, interface_function, members_by_text};
+use crate::keys::{if_resource, item, type_under};
 use std::alloc::{AllocError, Global};
 use std::marker::Model;
 use wc_maps::{Map, Set};
@@ -128,7 +129,7 @@ pub(crate) fn first_alone<'s, 'a>(list: &'s [ExportedInterface<'a>]) -> &'s [Exp
     if list.len() > 1 { &list[..1] } else { list }
 }
 
-/// The function of this name that an interface has, in the first of these that has one.
+/// The function of this name, of the first of these interfaces that has one.
 pub(crate) fn function_in<'a>(
     resolve: &'a Resolve,
     interfaces: &[ExportedInterface<'a>],
@@ -139,8 +140,7 @@ pub(crate) fn function_in<'a>(
         (map exported_interface_view interfaces.now)) }
 {
     for exported in interfaces {
-        let interface = resolve.interface(exported.id);
-        if let Some(function) = function_under(&interface.functions, name) {
+        if let Some(function) = interface_function(resolve, exported.id, name) {
             return Some((exported.key, Some(exported.id), function));
         }
     }
@@ -148,7 +148,7 @@ pub(crate) fn function_in<'a>(
 }
 
 /// The resource of this name that an interface has.
-fn interface_resource(resolve: &Resolve, id: InterfaceId, name: &str) -> Option<TypeId>
+pub(crate) fn interface_resource(resolve: &Resolve, id: InterfaceId, name: &str) -> Option<TypeId>
     requires { id.0 < length resolve.now.interfaces }
     ensures { option_map id_index result ≡ interface_resource resolve.now id.0 name.now }
 {
@@ -157,7 +157,7 @@ fn interface_resource(resolve: &Resolve, id: InterfaceId, name: &str) -> Option<
     if_resource(resolve, id)
 }
 
-/// The resource of this name that an interface has, in the first of these that has one.
+/// The resource of this name, of the first of these interfaces that has one.
 pub(crate) fn resource_in(
     resolve: &Resolve,
     interfaces: &[ExportedInterface<'_>],
@@ -231,12 +231,15 @@ pub struct ExportNames<'a> {
     keys: &'a Set<WorldKey>,
     /// The interfaces of the set by their texts.
     interfaces: Map<String, Vec<ExportedInterface<'a>>>,
+    /// The functions and resources of the interfaces of a text, where these are more than a few.
+    members: Map<String, FirstMembers<'a>>,
 }
 
 impl<'a> Model for ExportNames<'a> {
     ghost use Rattle.std.specs.Prelude.{map};
     ghost use Rattle.wc_resolve.specs.Views.{key_view, world_entry};
-    ghost use Rattle.wc_names.specs.ExportIndex.{ExportNamesView, IsExportIndex, names_view};
+    ghost use Rattle.wc_names.specs.ExportIndex.{ExportNamesView, IsExportIndex, listed, names_view};
+    ghost use Rattle.wc_names.specs.FirstMembers.{AreMembersOf};
 
     ghost Value = { ExportNamesView };
 
@@ -245,7 +248,8 @@ impl<'a> Model for ExportNames<'a> {
 
     ghost invariant = { λ n. IsExportIndex n.syntax n.resolve.now
         (map world_entry n.exports.now.entries) (map key_view n.keys.now.keys)
-        n.interfaces.entries };
+        n.interfaces.entries
+        × AreMembersOf n.syntax n.resolve.now (listed n.interfaces.entries) n.members.entries };
 }
 
 impl<'a> ExportNames<'a> {
@@ -270,12 +274,14 @@ impl<'a> ExportNames<'a> {
         resolve.well_formedness();
         let exports = &resolve.world(world).exports;
         let interfaces = interfaces_by_text(alloc, syntax, resolve, exports, keys)?;
+        let members = members_by_text(alloc, syntax, resolve, &interfaces)?;
         Ok(ExportNames {
             syntax,
             resolve,
             exports,
             keys,
             interfaces,
+            members,
         })
     }
 
@@ -288,6 +294,38 @@ impl<'a> ExportNames<'a> {
         match self.syntax {
             ExportSyntax::Standard => Some(first_alone(interfaces)),
             ExportSyntax::Legacy => Some(interfaces),
+        }
+    }
+
+    /// The function of this name, of the first interface with this text that has one.
+    fn function_of_text(
+        &self,
+        text: &str,
+        name: &str,
+    ) -> Option<(&'a WorldKey, Option<InterfaceId>, &'a Function)>
+        ensures { Finds (option_map export_target result)
+            (FirstOf (HasFunction self.now.resolve name.now) (searched_in self.now text.now)) }
+    {
+        if let Some(members) = self.members.get(text) {
+            return members.functions.get(name).copied();
+        }
+        match self.searched(text) {
+            Some(interfaces) => function_in(self.resolve, interfaces, name),
+            None => None,
+        }
+    }
+
+    /// The resource of this name, of the first interface with this text that has one.
+    fn resource_of_text(&self, text: &str, name: &str) -> Option<TypeId>
+        ensures { Finds (option_map id_index result)
+            (FirstOf (HasResource self.now.resolve name.now) (searched_in self.now text.now)) }
+    {
+        if let Some(members) = self.members.get(text) {
+            return members.resources.get(name).copied();
+        }
+        match self.searched(text) {
+            Some(interfaces) => resource_in(self.resolve, interfaces, name),
+            None => None,
         }
     }
 
@@ -310,10 +348,7 @@ impl<'a> ExportNames<'a> {
             return Ok(None);
         };
         match parts.interface {
-            Some(text) => match self.searched(text) {
-                Some(interfaces) => Ok(function_in(self.resolve, interfaces, parts.member)),
-                None => Ok(None),
-            },
+            Some(text) => Ok(self.function_of_text(text, parts.member)),
             None => world_function(alloc, self.exports, self.keys, parts.member),
         }
     }
@@ -333,9 +368,6 @@ impl<'a> ExportNames<'a> {
         let Some(resource) = destructed_resource(self.syntax, parts.member) else {
             return None;
         };
-        match self.searched(text) {
-            Some(interfaces) => resource_in(self.resolve, interfaces, resource),
-            None => None,
-        }
+        self.resource_of_text(text, resource)
     }
 }

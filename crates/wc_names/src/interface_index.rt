@@ -22,7 +22,7 @@ use std::marker::Model;
 use wc_maps::Map;
 use wc_resolve::{InterfaceId, PackageName, Resolve, WorldItem, WorldKey};
 
-/// What the ids of interfaces share whose versions are of one track.
+/// The part that ids of interfaces share whose versions are of one track.
 #[derive(PartialEq, Eq, Hash, Drop)]
 pub struct TrackName {
     pub namespace: String,
@@ -32,7 +32,7 @@ pub struct TrackName {
 }
 
 /// Keeps a value under a key, if there is none yet.
-fn keep_first<K: Hash + Eq + Drop, V: Drop>(
+pub(crate) fn keep_first<K: Hash + Eq + Drop, V: Drop>(
     kept: &mut Map<K, V>,
     key: K,
     value: V,
@@ -123,7 +123,7 @@ pub(crate) fn first_clones(
     Ok(first)
 }
 
-/// What an interface of this name shares with the others on its track, if its package has a version.
+/// The track of an interface of this name, if its package has a version.
 pub(crate) fn track_name(
     alloc: Global,
     package: &PackageName,

@@ -47,6 +47,7 @@ mod environment;
 mod export_index;
 mod export_names;
 mod exports;
+mod first_members;
 mod imports;
 mod interface_index;
 mod interfaces;

@@ -15,7 +15,8 @@ use wc_resolve::{AbiVariant, Resolve};
 /// name, and how it is called.
 pub(crate) type Call = (Option<String>, (String, AbiVariant));
 
-/// The function that an import is, if it is one.
+/// The interface's name, the function's name and the variant; `None` of an import that is no
+/// function of the world.
 pub(crate) fn call_of(
     alloc: Global,
     resolve: &Resolve,

@@ -24,7 +24,8 @@ use wc_world::{ComponentWorld, ImportOptions};
 ///
 /// `World` is before all others. `Memory` may come in place of any.
 ///
-/// - `World`: `ComponentWorld::new` answers this fault. Where there is such a world, it is that an allocation failed.
+/// - `World`: `ComponentWorld::new` answers this fault, which is not its `Memory`. Where there is such a world, it is that
+///   an allocation failed.
 /// - `NoMemory`, `NoRealloc`: as of `plan`. `NoLowering` is never answered.
 /// - `Memory`: an allocation failed.
 pub fn plan_encoder<O: ImportOptions>(

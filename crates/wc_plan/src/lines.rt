@@ -48,7 +48,7 @@ fn put_uses<S: Sink>(out: &mut S, uses: &[Use]) -> Result<(), PutFailed>
     Ok(())
 }
 
-/// Puts the line of a use.
+/// Puts a line: the module, the function that it calls, and what the call needs.
 fn put_use<S: Sink>(out: &mut S, one: &Use) -> Result<(), PutFailed>
     ensures { Puts S.written S.is_failed out.old out.new (use_line (use_view one.now)) result }
 {
@@ -95,7 +95,7 @@ fn put_needs<S: Sink>(out: &mut S, one: &Use) -> Result<(), PutFailed>
     out.put(LINE_FEED)
 }
 
-/// Puts a slot, or `-`.
+/// Puts the number of a slot in decimal, or `-`.
 fn put_slot<S: Sink>(out: &mut S, slot: Option<u64>) -> Result<(), PutFailed>
     ensures { Puts S.written S.is_failed out.old out.new (slot_text slot) result }
 {
@@ -108,7 +108,7 @@ fn put_slot<S: Sink>(out: &mut S, slot: Option<u64>) -> Result<(), PutFailed>
     }
 }
 
-/// The text, or what stands for none.
+/// A text, or what a line has where there is none.
 fn text_or<'a>(text: &'a Option<String>, none: &'a str) -> &'a str
     ensures { result.now ≡ unwrap_or (option_map string_bytes text.now) none.now }
 {

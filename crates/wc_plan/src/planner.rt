@@ -56,7 +56,7 @@ fn has_memory(main: &ValidatedModule) -> bool
     main.imports.imported_memory().is_some() || main.exports.memory().is_some()
 }
 
-/// The owner of this name.
+/// The adapter of this name; without a name, the main module.
 fn owner_of(alloc: Global, name: Option<&str>) -> Result<Owner, AllocError>
     ensures { IfOk result (λ o. owner_view o ≡ owner_in name.entry) }
 {
@@ -66,7 +66,7 @@ fn owner_of(alloc: Global, name: Option<&str>) -> Result<Owner, AllocError>
     }
 }
 
-/// The same function again.
+/// A copy of an interface's name, of its function's name and of the variant.
 fn copy_of(alloc: Global, call: &Call) -> Result<Call, AllocError>
     ensures { (owner : OwnerView) → IfOk result (λ c. call_view owner c
         ≡ call_view owner call.now) }
@@ -97,7 +97,7 @@ fn realloc_for(
     }
 }
 
-/// What a function needs, after so many that others stand in for.
+/// The use of a function, after so many that others stand in for.
 fn use_of(
     alloc: Global,
     context: Context<'_, '_>,
@@ -277,8 +277,8 @@ fn add_modules<'a>(
     add_adapters(alloc, context, planner)
 }
 
-/// What each function that the main module and the adapters of a component's world import needs: first those of the main
-/// module, and then those of each adapter, in order. A function that a module imports twice, of one interface and called
+/// The uses of all functions that the main module and the adapters of a component's world import: first those of the
+/// main module, and then those of each adapter, in order. A function that a module imports twice, of one interface and called
 /// in one way, is there once.
 ///
 /// The interfaces of these functions must be in range and have names (`Resolve::name_world_key`); those of a world that

@@ -14,10 +14,10 @@ pub trait FileStore {
     // The bytes of the file of each path, where they are known: `None` where there is no file.
     ghost held: { Self → Option (List ℕ → Option (List ℕ)) };
 
-    // What is known of a read that failed: of the files, the path, and the kind of the error.
+    // Known of a read that failed: of the files, the path, and the kind of the error.
     ghost read_fails: { Self → List ℕ → ErrorKind → Type 0 } = { λ _ _ _. ⊤ };
 
-    // What is known of a write that failed: of the files before it and after it, the path, and the
+    // Known of a write that failed: of the files before it and after it, the path, and the
     // bytes.
     ghost write_fails: { Self → Self → List ℕ → List ℕ → Type 0 } = { λ _ _ _ _. ⊤ };
 
@@ -48,7 +48,7 @@ pub trait DirectoryStore: FileStore {
     // The directory of this path could be made in a store.
     ghost makes: { Self → List ℕ → Type 0 };
 
-    // What is known of a directory that could not be made: of the store before and after, and the path.
+    // Known of a directory that could not be made: of the store before and after, and the path.
     ghost make_fails: { Self → Self → List ℕ → Type 0 } = { λ _ _ _. ⊤ };
 
     /// Makes the directory of this path, and those that it is in, where they are not there. All files stay the same.
@@ -93,7 +93,7 @@ pub enum ReadProblem {
     Other,
 }
 
-/// What is printed after the path of the file: `: `, and why it could not be read; nothing for `Other`.
+/// The text after the path of the file: `: `, and why it could not be read; nothing for `Other`.
 impl Printable for ReadProblem {
     ghost text = { problem_text };
 
@@ -131,7 +131,7 @@ pub fn read_file<F: FileStore>(files: &F, path: &str) -> Result<Vec<u8>, ReadPro
     }
 }
 
-/// The problem that an error stands for, by its kind.
+/// The ReadProblem of an error's kind; Other, where there is none of its own.
 fn problem_of(e: &io::Error) -> ReadProblem
     ensures { IsProblemOf (error_kind e.now) result }
 {

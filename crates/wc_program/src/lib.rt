@@ -1,4 +1,4 @@
-//! What a program of the command line is run on and by: files, outputs, arguments and exit statuses. `wctrim_command` and
+//! The shell of a program of the command line: files, outputs, arguments and exit statuses. `wctrim_command` and
 //! `wcplan_command` stand on it.
 //!
 //! A `Shell` has what a program needs: files (`FileStore`, `DirectoryStore`) and outputs (`Output`, `Screen`). `run` runs

@@ -31,11 +31,11 @@ impl Printable for &[u8] {
 /// A text with bytes before it and after it.
 #[derive(Clone, Copy)]
 pub struct Message<'a, T> {
-    /// What comes before the text.
+    /// The bytes before the text.
     pub before: &'a [u8],
     /// The text.
     pub text: &'a T,
-    /// What comes after it.
+    /// The bytes after the text.
     pub after: &'a [u8],
 }
 

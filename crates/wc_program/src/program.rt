@@ -35,10 +35,10 @@ pub enum NoArguments {
 
 /// A program, by what it does with its arguments in a shell.
 pub trait Program<F, O, E> {
-    // What it does with arguments: of these, the shell before and after, and the exit status.
+    // Its run with arguments: of these, the shell before and after, and the exit status.
     ghost ends_with: { List (List ℕ) → Shell F O E → Shell F O E → ℕ → Type 0 };
 
-    // What it does without arguments.
+    // Its run without arguments.
     ghost ends_without: { NoArguments → Shell F O E → Shell F O E → ℕ → Type 0 };
 
     /// Runs the program with these arguments, the first of them the one after its name. The answer is the exit status.
@@ -76,7 +76,7 @@ pub fn run<F, O, E, P: Program<F, O, E>>(
     }
 }
 
-/// Runs a program whose arguments are known.
+/// Runs a program on the system's arguments. A list without any is [`NoArguments::Empty`].
 fn run_known<F, O, E, P: Program<F, O, E>>(
     program: &P,
     arguments: &[String],

@@ -8,7 +8,7 @@ use wc_write::PutFailed;
 
 /// An output that prints a whole text in one call. Every `Output` is one.
 pub trait Screen {
-    // What is known of an output before a call that printed this text and handed it on, or else failed; and after it.
+    // Known of an output before a call that printed this text and handed it on, or else failed; and after it.
     ghost ends: { Self → Self → Option (List ℕ) → Type 0 };
 
     /// Prints a text, and hands it on.

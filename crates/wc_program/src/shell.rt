@@ -1,12 +1,12 @@
-//! What a program runs in.
+//! The shell that a program runs in.
 
 use std::alloc::Global;
 use wc_maps::Seed;
 
-/// What a program is run in: its files and its outputs, and what it makes maps by.
+/// The files and the outputs of a program, and the seed of its maps.
 #[derive(Drop)]
 pub struct Shell<F, O, E> {
-    /// What memory is taken from.
+    /// The heap that memory is taken from.
     pub alloc: Global,
     /// The seed of the maps that are made.
     pub seed: Seed,

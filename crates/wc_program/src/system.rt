@@ -9,7 +9,7 @@ use crate::shell::Shell;
 use std::alloc::{AllocError, Global};
 use std::env;
 use std::fs::{self, File};
-use std::io::{self, BufWriter, ErrorKind, Write};
+use std::io::{self, BufWriter, ErrorKind, Read, Write};
 use std::process::ExitCode;
 use std::random::RandomSource;
 use std::rt::{Env, Files};
@@ -24,8 +24,15 @@ pub struct SystemFiles<'r, R> {
 impl<R: Files + AllocGlobal> FileStore for SystemFiles<'_, R> {
     ghost held = { λ _. None };
 
+    /// Room for the file's size is taken before its bytes are read, which are then not moved any more.
     fn read(&self, path: &str) -> io::Result<Vec<u8>> {
-        fs::read(self.rt, path)
+        let mut file = File::open(self.rt, path)?;
+        let mut bytes = Vec::new(self.rt.alloc());
+        if let Ok(metadata) = fs::metadata(self.rt, path) {
+            bytes.reserve(metadata.len().min(MOST_ROOM) as usize)?;
+        }
+        file.read_to_end(&mut bytes)?;
+        Ok(bytes)
     }
 
     fn write(&mut self, path: &str, bytes: &[u8]) -> io::Result<()> {
@@ -55,6 +62,9 @@ impl<R: Files + AllocGlobal> DirectoryStore for SystemFiles<'_, R> {
         replaced
     }
 }
+
+/// How many bytes of room are taken at most for a file before it is read: 64 MiB.
+const MOST_ROOM: u64 = 1 << 26;
 
 /// How many files `.new-N` may be in one directory.
 const MOST_NEW_FILES: u32 = 1000;
@@ -123,7 +133,7 @@ pub fn system_shell<R: Files + Print + RandomSource + AllocGlobal, E: Drop>(
     })
 }
 
-/// The exit code with this status.
+/// The value that `main` returns to the system for an exit status.
 pub fn exit_code(status: u8) -> ExitCode
     ensures { exit_status result ≡ status }
 {

@@ -4,7 +4,7 @@ use Rattle.std.specs.Prelude.{if◌then◌else◌}
 use Rattle.std.specs.List.{flat_map}
 use Rattle.std.specs.Option.{option_map}
 use Rattle.std.proofs.lemmas.Bool.Decides.{nat_tests}
-use Rattle.std.proofs.lemmas.List.{length-append}
+use Rattle.std.proofs.lemmas.List.{length-append, length-drop}
 use Rattle.std.proofs.Math.Seq.{drop-append_seam, take-append_seam}
 use Rattle.wc_read.specs.Operators.{byte_form, SpellsInstr, InstrValue, ImmediatesValue, WithNone, WithBlock, WithIndex, WithMemArg, WithI32, WithI64, WithBytes, index_of}
 use Rattle.wc_read.specs.Refs.{refs_of, type_refs_of, one_ref, names_segment}
@@ -18,7 +18,7 @@ use Rattle.wc_read.specs.Reading.Operators.{immediates_at, instr_of, instr_at}
 use Rattle.wc_read.specs.Reading.Nesting.{step}
 use Rattle.wc_read.specs.PassKinds.{pass_kind, short_size}
 use Rattle.wc_read.specs.Private.TextSizes.{IsTextSize, SizesMemArg, SizesMemoryIndex}
-use Rattle.wc_read.specs.Passing.{ArePassable, IsPassable, IsPassableCode, run_and_left, PassesBlockStart, IsOperatorPassed, PassesOperator, AreOperatorsPassed, SizesShort}
+use Rattle.wc_read.specs.Passing.{ArePassable, IsPassable, IsPassableCode, run_and_left, PassesBlockStart, IsOperatorPassed, PassesOperator, PassesRun, AreOperatorsPassed, SizesShort}
 use Rattle.wc_read.specs.Blocks.{BeginsElse, Closes, Pops}
 use Rattle.wc_read.specs.declared.operators.Opcode.TheVariants.{Byte}
 use Rattle.wc_read.specs.declared.operators.Space.TheVariants.{Memories}
@@ -295,3 +295,35 @@ passed_text memory old new input left s =
     let parts : length input ≡ length (flat_map instr_text s.operators) + length left = ap length s.cut ∙ length-append (flat_map instr_text s.operators) left in
     let size : length input - length left ≡ length (flat_map instr_text s.operators) = omega arith in
     rw size (ap (λ (z : List ℕ). take (length (flat_map instr_text s.operators)) z) s.cut ∙ take-append_seam (flat_map instr_text s.operators) left)
+
+passed_cut : (memory : Bool) (old new : List Bool) (input left : List ℕ) → AreOperatorsPassed memory old input new left → drop (length input - length left) input ≡ left
+passed_cut memory old new input left s =
+    let parts : length input ≡ length (flat_map instr_text s.operators) + length left = ap length s.cut ∙ length-append (flat_map instr_text s.operators) left in
+    let size : length input - length left ≡ length (flat_map instr_text s.operators) = omega arith in
+    ap (λ (n : ℕ). drop n input) size ∙ (ap (λ (z : List ℕ). drop (length (flat_map instr_text s.operators)) z) s.cut ∙ drop-append_seam (flat_map instr_text s.operators) left)
+
+-- operators of so many bytes
+
+pub run_of_size : (memory : Bool) (old new : List Bool) (input : List ℕ) (size : ℕ) → IsOperatorPassed memory old input new size → PassesRun memory old input new (Some size)
+run_of_size memory old new input size o = (
+  passed_more memory old old new input input size (drop size input) (passed_none memory old input) o refl,
+  some_bytes,
+  size_within memory old new input size o,
+)
+  where
+    some_bytes : 0 < size
+    some_bytes =
+        let less = passes_shorter memory old new input size (drop size input) o refl in
+        let left = length-drop size input in
+        omega (arith, less, left)
+
+pub run_of_passed : (memory : Bool) (old new : List Bool) (input left : List ℕ) → AreOperatorsPassed memory old input new left → 0 < length input - length left → PassesRun memory old input new (Some (length input - length left))
+run_of_passed memory old new input left all some = (
+  rw (passed_cut memory old new input left all) all,
+  some,
+  (let within : length input - length left ≤ length input = omega arith in within),
+)
+
+pub passed_run : (memory : Bool) (old mid new : List Bool) (input rest after : List ℕ) (size : ℕ) → AreOperatorsPassed memory old input mid rest → PassesRun memory mid rest new (Some size) → after ≡ drop size rest
+    → AreOperatorsPassed memory old input new after
+passed_run memory old mid new input rest after size s o e = rw e (passed_then memory old mid new input rest (drop size rest) s o.0)

@@ -1,6 +1,6 @@
 -- Operators that are passed over: they name no segment and no item but memory 0, and the bytes that spell them are their
 -- text.
-use Rattle.std.specs.Prelude.{◌≡◌, ◌≢◌, ◌⊎◌, ℕ, List, [], ◌∷◌, ◌++◌, length, Bool, true, false, Option, Some, None}
+use Rattle.std.specs.Prelude.{◌≡◌, ◌≢◌, ◌⊎◌, ℕ, ◌<◌, ◌≤◌, List, [], ◌∷◌, ◌++◌, length, drop, Bool, true, false, Option, Some, None}
 use Rattle.std.specs.List.{flat_map}
 use Rattle.std.specs.Option.{option_map}
 use Rattle.wc_read.specs.Operators.{InstrValue, WithBlock}
@@ -77,3 +77,8 @@ pub record AreOperatorsPassed (memory : Bool) (old : List Bool) (bytes : List �
   pub cut : bytes ≡ flat_map instr_text operators ++ left
   pub passable : IsPassableCode memory operators
   pub same : operators_in old bytes ≡ run_and_left operators (operators_in new left)
+
+-- operators of so many bytes are passed over, and the blocks go past them; or nothing was done
+abbrev pub PassesRun : Bool → List Bool → List ℕ → List Bool → Option ℕ → Type 0
+PassesRun memory old bytes new None = new ≡ old
+PassesRun memory old bytes new (Some size) = AreOperatorsPassed memory old bytes new (drop size bytes) × (0 < size) × (size ≤ length bytes)

@@ -1,9 +1,9 @@
 //! Operators that are passed over: they name no segment and no item but memory 0, and the bytes that spell them are
 //! their text.
 
-ghost use Rattle.std.specs.Prelude.{◌≡◌, ◌≢◌, Bool, List, [], true, Some, None, if◌then◌else◌};
+ghost use Rattle.std.specs.Prelude.{◌≡◌, ◌≢◌, Bool, List, [], length, true, Some, None, if◌then◌else◌};
 ghost use Rattle.wc_read.specs.Blocks.{open_blocks};
-ghost use Rattle.wc_read.specs.Passing.{IsPlainType, PassesBlockStart, PassesOperator, AreOperatorsPassed, SizesShort};
+ghost use Rattle.wc_read.specs.Passing.{IsPlainType, PassesBlockStart, PassesOperator, PassesRun, AreOperatorsPassed, SizesShort};
 
 use crate::blocks::Blocks;
 use crate::codes::{EMPTY_BLOCK, MORE_BYTES};
@@ -27,7 +27,7 @@ pub fn pass_operators<'a>(blocks: &mut Blocks, input: &'a [u8], memory: bool) ->
     }
 }
 
-/// The same for any operators.
+/// Goes past operators of any kind, as `pass_operators` does.
 #[inline(never)]
 fn pass_run<'a>(blocks: &mut Blocks, input: &'a [u8], memory: bool) -> &'a [u8]
     ensures { AreOperatorsPassed memory
@@ -55,11 +55,88 @@ fn pass_inside<'a>(blocks: &mut Blocks, input: &'a [u8], memory: bool) -> &'a [u
     ensures inside { open_blocks blocks.new ≢ [] }
 {
     let mut rest = pass_short(input);
-    while let Some(size) = pass_operator(blocks, rest, memory) {
+    while let Some(size) = pass_next(blocks, rest, memory) {
         let (_, left) = rest.split_at(size);
         rest = pass_short(left);
     }
     rest
+}
+
+/// Goes past an operator, or past several that open blocks, close them or begin an `else`, and answers how many bytes
+/// they have; `None`, and the same blocks, where the first is not passed over. A block is left open.
+#[inline(always)]
+fn pass_next(blocks: &mut Blocks, input: &[u8], memory: bool) -> Option<usize>
+    requires { open_blocks blocks.old ≢ [] }
+    ensures passed { PassesRun memory
+        (open_blocks blocks.old) input.now (open_blocks blocks.new) result }
+    ensures inside { open_blocks blocks.new ≢ [] }
+{
+    let (first, rest) = input.split_first()?;
+    match pass_kind(*first) {
+        PassKind::Never => None,
+        PassKind::CodeOnly => Some(1),
+        PassKind::Index => Some(1 + number_size(rest, 32)?),
+        PassKind::I32 => Some(1 + signed_size(rest, 32)?),
+        PassKind::I64 => Some(1 + signed_size(rest, 64)?),
+        PassKind::FourBytes => Some(1 + bytes_size(rest, 4)?),
+        PassKind::EightBytes => Some(1 + bytes_size(rest, 8)?),
+        PassKind::MemArg => Some(1 + mem_arg_size(rest, memory)?),
+        PassKind::Memory => Some(1 + memory_index_size(rest, memory)?),
+        PassKind::Block | PassKind::If | PassKind::Else | PassKind::End => {
+            pass_nesting_run(blocks, input)
+        }
+    }
+}
+
+/// Goes past operators that open blocks, close them or begin an `else`, and answers how many bytes they have; `None`,
+/// and the same blocks, where the first is not passed over. Often several of them follow each other.
+#[inline(always)]
+fn pass_nesting_run(blocks: &mut Blocks, input: &[u8]) -> Option<usize>
+    requires { open_blocks blocks.old ≢ [] }
+    ensures passed { (memory : Bool) → PassesRun memory
+        (open_blocks blocks.old) input.now (open_blocks blocks.new) result }
+    ensures inside { open_blocks blocks.new ≢ [] }
+{
+    let rest = pass_nesting(blocks, input);
+    let size = input.len() - rest.len();
+    if size == 0 { None } else { Some(size) }
+}
+
+/// Goes past operators that open blocks, close them or begin an `else`, as far as it can.
+#[inline(always)]
+fn pass_nesting<'a>(blocks: &mut Blocks, input: &'a [u8]) -> &'a [u8]
+    requires { open_blocks blocks.old ≢ [] }
+    ensures passed { (memory : Bool) → AreOperatorsPassed memory
+        (open_blocks blocks.old) input.now (open_blocks blocks.new) result.now }
+    ensures kept { length result.now ≡ length input.now →
+        open_blocks blocks.new ≡ open_blocks blocks.old }
+    ensures inside { open_blocks blocks.new ≢ [] }
+{
+    let mut rest = input;
+    while let Some(size) = pass_nesting_operator(blocks, rest) {
+        let (_, left) = rest.split_at(size);
+        rest = left;
+    }
+    rest
+}
+
+/// Goes past an operator that opens a block, closes one and leaves another open, or begins an `else`, and answers how
+/// many bytes it has; `None`, and the same blocks, where it is not passed over.
+#[inline(always)]
+fn pass_nesting_operator(blocks: &mut Blocks, input: &[u8]) -> Option<usize>
+    requires { open_blocks blocks.old ≢ [] }
+    ensures passed { (memory : Bool) → PassesOperator memory
+        (open_blocks blocks.old) input.now (open_blocks blocks.new) result }
+    ensures inside { open_blocks blocks.new ≢ [] }
+{
+    let (first, rest) = input.split_first()?;
+    match pass_kind(*first) {
+        PassKind::Block => pass_block_start(blocks, rest, false),
+        PassKind::If => pass_block_start(blocks, rest, true),
+        PassKind::Else => one_byte_if(blocks.begin_else_in_word()),
+        PassKind::End => one_byte_if(blocks.close_in_word()),
+        _ => None,
+    }
 }
 
 /// Goes past operators that are their code alone, or have one number of one byte, as far as it can; but not past the
@@ -93,33 +170,6 @@ fn short_operator_size(input: &[u8]) -> Option<usize>
         return None;
     }
     Some(usize::from(size))
-}
-
-/// Goes past an operator that leaves a block open, and answers how many bytes it has; `None`, and the same blocks,
-/// where it is not passed over.
-#[inline(always)]
-fn pass_operator(blocks: &mut Blocks, input: &[u8], memory: bool) -> Option<usize>
-    requires { open_blocks blocks.old ≢ [] }
-    ensures passed { PassesOperator memory
-        (open_blocks blocks.old) input.now (open_blocks blocks.new) result }
-    ensures inside { open_blocks blocks.new ≢ [] }
-{
-    let (first, rest) = input.split_first()?;
-    match pass_kind(*first) {
-        PassKind::Never => None,
-        PassKind::CodeOnly => Some(1),
-        PassKind::Index => Some(1 + number_size(rest, 32)?),
-        PassKind::I32 => Some(1 + signed_size(rest, 32)?),
-        PassKind::I64 => Some(1 + signed_size(rest, 64)?),
-        PassKind::FourBytes => Some(1 + bytes_size(rest, 4)?),
-        PassKind::EightBytes => Some(1 + bytes_size(rest, 8)?),
-        PassKind::MemArg => Some(1 + mem_arg_size(rest, memory)?),
-        PassKind::Memory => Some(1 + memory_index_size(rest, memory)?),
-        PassKind::Block => pass_block_start(blocks, rest, false),
-        PassKind::If => pass_block_start(blocks, rest, true),
-        PassKind::Else => one_byte_if(blocks.begin_else_in_word()),
-        PassKind::End => one_byte_if(blocks.close_in_word()),
-    }
 }
 
 /// The size of an operator that is its code alone, where it was passed over.

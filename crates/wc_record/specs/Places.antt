@@ -68,3 +68,12 @@ part_json (part.World i) = part_of_kind (codes "world") i
 part_json (part.Interface i) = part_of_kind (codes "interface") i
 part_json (part.TypeDef i) = part_of_kind (codes "type") i
 part_json (part.Package i) = part_of_kind (codes "package") i
+
+-- how long a page is, in bytes, of an adapter's memory and of the main module's; and a function, by its name
+
+abbrev pub page_sizes_json : List ℕ → ℕ → ℕ → Json
+page_sizes_json adapter own main =
+    object_of_kind (codes "page-sizes") ((codes "adapter", string adapter) ∷ (codes "own", number_json own) ∷ (codes "main", number_json main) ∷ [])
+
+abbrev pub function_json : List ℕ → Json
+function_json name = object_of_kind (codes "function") ((codes "name", string name) ∷ [])

@@ -34,7 +34,7 @@ impl ToJson for Space {
     }
 }
 
-/// Writes an item.
+/// Writes `{"space": SPACE, "index": INDEX}`.
 fn put_item(out: &mut Writer, space: Space, index: u32) -> Result<(), AllocError>
     ensures { OnOk result (PutsJson out.old out.new (item_json (space, index))) }
 {

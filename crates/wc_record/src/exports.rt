@@ -1,4 +1,4 @@
-//! What core modules export.
+//! The exports of core modules.
 
 ghost use Rattle.std.specs.Prelude.{OnOk};
 ghost use Rattle.wc_resolve.specs.Views.{key_view};

@@ -1,4 +1,4 @@
-//! What core modules import.
+//! The imports of core modules.
 
 ghost use Rattle.std.specs.Prelude.{OnOk};
 ghost use Rattle.std.specs.Option.{option_map};
@@ -19,7 +19,7 @@ use wc_names::{Import, PayloadInfo, PayloadType};
 use wc_read::{ExportKind, FuncType, ValType};
 use wc_resolve::{AbiVariant, InterfaceId, TypeId, WorldKey};
 
-/// Writes a function of the world.
+/// Writes `{"kind": "world-func", ..}`: a function that the world imports under its own key.
 pub(crate) fn put_world_function(
     out: &mut Writer,
     key: &WorldKey,
@@ -37,7 +37,7 @@ pub(crate) fn put_world_function(
     end_object(out)
 }
 
-/// Writes a function of an interface.
+/// Writes `{"kind": "interface-func", ..}`: a function, under the key and the id of its interface.
 pub(crate) fn put_interface_function(
     out: &mut Writer,
     key: &WorldKey,

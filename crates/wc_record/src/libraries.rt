@@ -62,7 +62,7 @@ impl ToJson for Instance {
     }
 }
 
-/// What a library gets under the name of a module.
+/// The instance that a library gets under the name of a module.
 impl ToJson for (String, Instance) {
     ghost use Rattle.std.specs.Prelude.{List, ℕ};
     ghost use Rattle.wc_adapters.specs.Adapters.{InstanceView, argument_view};

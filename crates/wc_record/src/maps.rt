@@ -12,7 +12,7 @@ use std::hash::{BuildHasher, Hash};
 
 /// A type of values of maps that are written with their keys, of type `K`.
 pub(crate) trait EntryToJson<K> {
-    // What contracts see of an entry.
+    // The view that contracts have of an entry.
     ghost EntryView: { Type 0 };
 
     ghost entry_view: { K → Self → EntryView };

@@ -1,4 +1,4 @@
-//! What is recorded of core modules.
+//! The records of core modules.
 
 use crate::maps::EntryToJson;
 use crate::objects::{begin_object, end_object, put_kind_with, put_member};
@@ -47,7 +47,7 @@ impl ToJson for ImportInstance {
     }
 }
 
-/// What is imported from the module of this name.
+/// The imports from the module of this name.
 impl EntryToJson<String> for ImportInstance {
     ghost use Rattle.std.specs.Prelude.{List, ℕ, string_bytes};
     ghost use Rattle.wc_validate.specs.Imports.Entries.{InstanceRecord};

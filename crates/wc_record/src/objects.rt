@@ -10,21 +10,21 @@ use crate::to_json::{ToJson, put_list};
 use json::Writer;
 use std::alloc::AllocError;
 
-/// Opens an object.
+/// Writes `{`: the writer's call, with a contract in this crate's words.
 pub(crate) fn begin_object(out: &mut Writer) -> Result<(), AllocError>
     ensures { OnOk result (Puts out.old out.new (begin_object ∷ [])) }
 {
     out.begin_object()
 }
 
-/// Closes an object.
+/// Writes `}`: the writer's call, with a contract in this crate's words.
 pub(crate) fn end_object(out: &mut Writer) -> Result<(), AllocError>
     ensures { OnOk result (Puts out.old out.new (end_object ∷ [])) }
 {
     out.end_object()
 }
 
-/// Writes a member of an object.
+/// Writes `"NAME": VALUE`.
 pub(crate) fn put_member<T: ToJson>(
     out: &mut Writer,
     name: &str,
@@ -36,7 +36,7 @@ pub(crate) fn put_member<T: ToJson>(
     value.write(out)
 }
 
-/// Writes a member of an object, which is a list.
+/// Writes `"NAME": [..]`, the items in their order.
 pub(crate) fn put_list_member<T: ToJson>(
     out: &mut Writer,
     name: &str,

@@ -1,11 +1,11 @@
-//! What faults are about: places in the modules of a component, and parts of worlds.
+//! Places that faults are about: in the modules of a component, and parts of worlds.
 
 ghost use Rattle.std.specs.Prelude.{◌≡◌, IfOk, None, OnOk, string_bytes};
 ghost use Rattle.std.specs.Option.{option_map};
 ghost use Rattle.std.specs.Str.{IsUtf8};
 ghost use Rattle.wc_gc.specs.declared.trim_place.TrimPlace.TheVariants.{Body, Section};
 ghost use Rattle.wc_validate.specs.PlaceViews.{an_import, difference_view, missing_function, subject_view};
-ghost use Rattle.wc_record.specs.Places.{named_json, part_json, trim_place_json, world_place_json};
+ghost use Rattle.wc_record.specs.Places.{function_json, named_json, page_sizes_json, part_json, trim_place_json, world_place_json};
 ghost use Rattle.wc_record.specs.Private.Contexts.{json_in};
 ghost use Rattle.wc_record.specs.Shapes.{PutsJson};
 ghost use Rattle.wc_record.specs.Texts.{text_of};
@@ -37,7 +37,7 @@ impl ToJson for TypeDifference {
     }
 }
 
-/// What the members say that all subjects of faults of validation have.
+/// The members that all subjects of faults of validation have.
 #[derive(Clone, Copy)]
 struct Context<'a> {
     /// The name of the adapter or the library; `None` for the main module.
@@ -46,7 +46,8 @@ struct Context<'a> {
     types: &'a Option<TypeDifference>,
 }
 
-/// Writes an import.
+/// Writes a place of kind `import`: an import by its names and its index, and the types that
+/// differ.
 fn put_import(
     out: &mut Writer,
     about: Context<'_>,
@@ -119,7 +120,7 @@ fn put_subject(out: &mut Writer, about: Context<'_>, subject: &Subject) -> Resul
     }
 }
 
-/// Writes a section.
+/// Writes a place of kind `section`: the id of a section of an adapter.
 fn put_section(out: &mut Writer, adapter: &Option<String>, id: u8) -> Result<(), AllocError>
     ensures { OnOk result (PutsJson out.old out.new
         (trim_place_json (option_map string_bytes adapter.now) (Section id))) }
@@ -131,7 +132,7 @@ fn put_section(out: &mut Writer, adapter: &Option<String>, id: u8) -> Result<(),
     end_object(out)
 }
 
-/// Writes the body of a function.
+/// Writes a place of kind `body`: a function of an adapter, and the operator in it by its position.
 fn put_body(
     out: &mut Writer,
     adapter: &Option<String>,
@@ -206,7 +207,19 @@ impl ToJson for Part {
     }
 }
 
-/// What a fault of a component's world is about, as JSON: an object whose first member, `kind`, says what it is.
+/// Writes how long pages are.
+fn put_page_sizes(out: &mut Writer, adapter: &str, own: u64, main: u64) -> Result<(), AllocError>
+    ensures { OnOk result (PutsJson out.old out.new (page_sizes_json adapter.now own main)) }
+{
+    begin_object(out)?;
+    put_kind(out, "page-sizes")?;
+    put_member(out, "adapter", &adapter)?;
+    put_member(out, "own", &own)?;
+    put_member(out, "main", &main)?;
+    end_object(out)
+}
+
+/// The place of a fault of a component's world, as JSON: an object whose first member, `kind`, says what it is.
 ///
 /// - `import`: with `adapter`, `module`, `name`, `index` among all imports, and `types`;
 /// - `export`, `missing-export`: with `adapter`, `name` and `types`;
@@ -229,7 +242,7 @@ pub fn world_place_to_json(alloc: Global, place: &WorldPlace) -> Result<Vec<u8>,
     Ok(out.into_inner())
 }
 
-/// What a fault of trimming is about, as JSON: as of `world_place_to_json`, and `adapter` is null.
+/// The place of a fault of trimming, as JSON: as of `world_place_to_json`, and `adapter` is null.
 ///
 /// # Errors
 ///
@@ -243,7 +256,7 @@ pub fn trim_place_to_json(alloc: Global, place: TrimPlace) -> Result<Vec<u8>, Al
     Ok(out.into_inner())
 }
 
-/// What a fault of worlds, interfaces, types and packages is about, as JSON: an object with `kind`, which is `world`,
+/// The place of a fault of worlds, interfaces, types and packages, as JSON: an object with `kind`, which is `world`,
 /// `interface`, `type` or `package`, and with `index`, the index in its list.
 ///
 /// # Errors
@@ -255,5 +268,40 @@ pub fn part_to_json(alloc: Global, part: Part) -> Result<Vec<u8>, AllocError>
 {
     let mut out = Writer::new(Vec::new(alloc));
     part.write(&mut out)?;
+    Ok(out.into_inner())
+}
+
+/// How long pages are, in bytes, of the memory of an adapter and of the main module's, as JSON: an object with `kind`, which
+/// is `page-sizes`, and with `adapter`, the adapter's name, `own` and `main`.
+///
+/// # Errors
+///
+/// `AllocError`: an allocation failed.
+pub fn page_sizes_to_json(
+    alloc: Global,
+    adapter: &str,
+    own: u64,
+    main: u64,
+) -> Result<Vec<u8>, AllocError>
+    ensures text { IfOk result (λ bytes. bytes.items
+        ≡ text_of (page_sizes_json adapter.now own main)) }
+    ensures utf8 { IfOk result (λ bytes. IsUtf8 bytes.items) }
+{
+    let mut out = Writer::new(Vec::new(alloc));
+    put_page_sizes(&mut out, adapter, own, main)?;
+    Ok(out.into_inner())
+}
+
+/// A function, as JSON: an object with `kind`, which is `function`, and with `name`, its name.
+///
+/// # Errors
+///
+/// `AllocError`: an allocation failed.
+pub fn function_to_json(alloc: Global, name: &str) -> Result<Vec<u8>, AllocError>
+    ensures text { IfOk result (λ bytes. bytes.items ≡ text_of (function_json name.now)) }
+    ensures utf8 { IfOk result (λ bytes. IsUtf8 bytes.items) }
+{
+    let mut out = Writer::new(Vec::new(alloc));
+    put_kind_with(&mut out, "function", "name", &name)?;
     Ok(out.into_inner())
 }

@@ -11,7 +11,7 @@ use std::alloc::AllocError;
 
 /// A type whose values are written as JSON values.
 pub(crate) trait ToJson {
-    // What contracts see of a value of this type.
+    // The view that contracts have of a value of this type.
     ghost View: { Type 0 };
 
     ghost view: { Self → View };

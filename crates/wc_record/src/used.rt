@@ -15,9 +15,8 @@ use crate::objects::{begin_object, end_object, put_member};
 use crate::to_json::ToJson;
 use json::Writer;
 use std::alloc::{AllocError, Global};
-use std::collections::{HashMap, HashSet};
 use wc_encoder::ComponentEncoder;
-use wc_maps::Map;
+use wc_maps::{Map, Set};
 use wc_resolve::{InterfaceId, WorldItem, WorldKey};
 
 /// An exported interface, and the exported interfaces that it uses.
@@ -45,7 +44,7 @@ impl ToJson for UsedInterfaces {
     }
 }
 
-/// Adds the interface that an item is, if it is one.
+/// Appends the id of an item that is an interface. Any other leaves the list as it is.
 fn add_interface(interfaces: &mut Vec<InterfaceId>, item: &WorldItem) -> Result<(), AllocError>
     ensures { OnOk result (interface_ids interfaces.new.items ≡ interface_ids interfaces.old.items
         ++ cons_option (item_interface (item_view item.now)) []) }
@@ -58,7 +57,7 @@ fn add_interface(interfaces: &mut Vec<InterfaceId>, item: &WorldItem) -> Result<
     Ok(())
 }
 
-/// The interfaces among what a world exports, in order.
+/// The ids of the interfaces that a world exports, in the order of its exports.
 fn interfaces_among(
     alloc: Global,
     exports: &Map<WorldKey, WorldItem>,
@@ -86,10 +85,10 @@ fn exported_interfaces(
     interfaces_among(alloc, &metadata.resolve.world(metadata.world).exports)
 }
 
-/// Adds an interface, if it is in a set.
+/// Appends an id that the set has. Any other leaves the list as it is.
 fn add_member(
     members: &mut Vec<InterfaceId>,
-    set: &HashSet<InterfaceId>,
+    set: &Set<InterfaceId>,
     id: InterfaceId,
 ) -> Result<(), AllocError>
     ensures { OnOk result (interface_ids members.new.items ≡ interface_ids members.old.items
@@ -101,10 +100,10 @@ fn add_member(
     Ok(())
 }
 
-/// The interfaces of a list that are in a set.
+/// The ids that the set has, in the order of the list.
 fn members_of(
     alloc: Global,
-    set: &HashSet<InterfaceId>,
+    set: &Set<InterfaceId>,
     interfaces: &[InterfaceId],
 ) -> Result<Vec<InterfaceId>, AllocError>
     ensures { IfOk result (λ ids. interface_ids ids.items
@@ -117,12 +116,12 @@ fn members_of(
     Ok(members)
 }
 
-/// Adds an interface with those of a list that are in its set, if it has one.
+/// Appends an interface that the map has, with those of the exported interfaces that it uses.
 fn add_used(
     alloc: Global,
     list: &mut Vec<UsedInterfaces>,
     interfaces: &[InterfaceId],
-    used: &HashMap<InterfaceId, HashSet<InterfaceId>>,
+    used: &Map<InterfaceId, Set<InterfaceId>>,
     id: InterfaceId,
 ) -> Result<(), AllocError>
     ensures { OnOk result (map used_interface_view list.new.items
@@ -139,11 +138,11 @@ fn add_used(
     Ok(())
 }
 
-/// Of each interface of a list that has a set, those of the list that are in it.
+/// The exported interfaces that the map has, each with those of them that it uses.
 fn used_among(
     alloc: Global,
     interfaces: &[InterfaceId],
-    used: &HashMap<InterfaceId, HashSet<InterfaceId>>,
+    used: &Map<InterfaceId, Set<InterfaceId>>,
 ) -> Result<Vec<UsedInterfaces>, AllocError>
     ensures { IfOk result (λ list. map used_interface_view list.items
         ≡ used_interfaces (interface_ids interfaces.now) (used_view used.now)) }
@@ -160,7 +159,7 @@ fn used_among(
 pub(crate) fn used_interfaces(
     alloc: Global,
     encoder: &ComponentEncoder,
-    used: &HashMap<InterfaceId, HashSet<InterfaceId>>,
+    used: &Map<InterfaceId, Set<InterfaceId>>,
 ) -> Result<Vec<UsedInterfaces>, AllocError>
     ensures { IfOk result (λ list. map used_interface_view list.items
         ≡ used_interfaces (exported_interfaces (world_exports encoder.now)) (used_view used.now)) }

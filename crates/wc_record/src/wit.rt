@@ -148,7 +148,7 @@ impl ToJson for WasmSignature {
     }
 }
 
-/// The name of an encoding of texts.
+/// `utf8`, `utf16` or `compact-utf16`.
 fn encoding_text(encoding: StringEncoding) -> &'static str
     ensures { result.now ≡ encoding_text encoding }
 {

@@ -22,10 +22,10 @@ use crate::objects::{
 use crate::to_json::ToJson;
 use crate::used::used_interfaces;
 use bitflags::Flags;
-use indexmap::IndexSet;
 use json::Writer;
 use std::alloc::{AllocError, Global};
 use wc_dedupe::{ModuleImportMap, Rename};
+use wc_maps::Set;
 use wc_resolve::{AbiVariant, InterfaceId, TypeId, WasmSignature};
 use wc_uses::Plan;
 use wc_world::{ComponentWorld, ImportedInterface, Lowering, RequiredOptions, WorldAdapter};
@@ -156,7 +156,7 @@ impl EntryToJson<(String, AbiVariant)> for Lowering {
     }
 }
 
-/// What is imported of an interface, under its name.
+/// The imports from an interface, under its name.
 impl EntryToJson<Option<String>> for ImportedInterface {
     ghost use Rattle.std.specs.Prelude.{List, Option, string_bytes, ℕ};
     ghost use Rattle.std.specs.Option.{option_map};
@@ -182,7 +182,7 @@ impl EntryToJson<Option<String>> for ImportedInterface {
 }
 
 /// The live types of an interface.
-impl EntryToJson<InterfaceId> for IndexSet<TypeId> {
+impl EntryToJson<InterfaceId> for Set<TypeId> {
     ghost use Rattle.std.specs.Prelude.{List, ℕ};
     ghost use Rattle.wc_resolve.specs.Roots.{indices};
     ghost use Rattle.wc_record.specs.Worlds.{live_entry_json};

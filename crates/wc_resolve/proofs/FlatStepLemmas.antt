@@ -2,7 +2,7 @@
 use Rattle.std.proofs.Common.{◌≡◌, ℕ, zero, suc, ◌+◌, ◌-◌, ◌<◌, ◌≤◌, min, List, [], ◌∷◌, ◌++◌, map, length, take, drop, set, get_or, replicate, Option, refl, sym, ap, ◌∙◌, arith, add-one}
 use Rattle.std.specs.List.{fold}
 use Rattle.std.proofs.lemmas.Grind.{flat_map-append}
-use Rattle.std.proofs.lemmas.List.{take_more, take_min, take_all, append-nil, length-map, length-take, get_or-map}
+use Rattle.std.proofs.lemmas.List.{take_more, take_min, take_all, take-append-drop, take-append-le, append-nil, length-map, length-take, get_or-map}
 use Rattle.std.proofs.lemmas.List.Sums.{fold_more}
 use Rattle.std.proofs.Math.Nat.{min-zero, zero-min, suc-min-suc}
 use Rattle.std.proofs.Math.Seq.{take-append-add}
@@ -26,6 +26,15 @@ types_more flat types i d old new more small was read made =
     let plain : flatten_types flat (take (i + 1) types) ≡ front ++ more = next ∙ ap (λ z. front ++ z) (append-nil (flatten_type flat (get_or types i d)) ∙ sym read) in
     let agree : AgreeAtFront flat_types_kept (old ++ more) (front ++ more) = agree_append flat_types_kept old front more more (ap (λ z. take flat_types_kept z) was ∙ agree_cut flat_types_kept front) refl in
     made ∙ agree ∙ ap (λ z. take flat_types_kept z) (sym plain)
+
+-- as many as are kept are those of all types
+pub kept_all : (flat : ℕ → List WasmType) (types : List WitType) (i : ℕ) (now : List WasmType) → now ≡ take flat_types_kept (flatten_types flat (take i types)) → flat_types_kept ≤ length now → now ≡ take flat_types_kept (flatten_types flat types)
+kept_all flat types i now was full =
+    let front : List WasmType = flatten_types flat (take i types) in
+    let split : flatten_types flat types ≡ front ++ flatten_types flat (drop i types) =
+    ap (flatten_types flat) (sym (take-append-drop i types)) ∙ flat_map-append (flatten_type flat) (take i types) (drop i types) in
+    let long : flat_types_kept ≤ length front = omega (arith, full, ap (λ z. length z) was, length-take flat_types_kept front) in
+    was ∙ sym (ap (λ z. take flat_types_kept z) split ∙ take-append-le flat_types_kept front (flatten_types flat (drop i types)) long)
 
 pub shared_more : (flat : ℕ → List WasmType) (payloads : List (Option WitType)) (i : ℕ) (d : Option WitType) (old new more : List WasmType) → i < length payloads
     → old ≡ fold (λ shared t. join_flats shared (flat_payload flat t)) [] (take i payloads) → more ≡ flat_payload flat (get_or payloads i d) → new ≡ join_flats old more

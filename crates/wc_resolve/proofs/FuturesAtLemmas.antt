@@ -1,9 +1,10 @@
 -- The future or stream at an index of a list that is not made: what the search keeps.
-use Rattle.std.proofs.Common.{◌≡◌, ℕ, zero, suc, ◌+◌, ◌-◌, ◌<◌, ◌≤◌, ◌^◌, min, Bool, true, false, String, List, [], ◌∷◌, ◌++◌, length, drop, get_or, Option, Some, refl, sym, ap, ◌∙◌, inl, inr, arith, add-one, append_assoc, append-nil, drop-cons, length-append}
+use Rattle.std.proofs.Common.{◌≡◌, ℕ, zero, suc, ◌+◌, ◌-◌, ◌<◌, ◌≤◌, ◌^◌, min, Bool, true, false, String, List, [], ◌∷◌, ◌++◌, length, drop, get_or, Option, Some, refl, sym, ap, ◌∙◌, inl, inr, arith, add-one, append_assoc, append-nil, drop-cons, length-append, subst, take}
 use Rattle.std.specs.List.{All, Contains, flat_map, slice_get}
 use Rattle.std.specs.Option.{IfSome, option_map_or}
 use Rattle.std.specs.declared.alloc.Global.{Global}
 use Rattle.std.proofs.Math.ListN.{drop_of_length-le}
+use Rattle.std.proofs.lemmas.List.{take_all}
 use Rattle.std.proofs.lemmas.Grind.{flat_map-append}
 use Rattle.std.proofs.lemmas.List.Folds.{flat_map-map}
 use Rattle.std.proofs.lemmas.Option.{slice_get-get_or, slice_get_within}
@@ -15,7 +16,7 @@ use Rattle.wc_resolve.specs.Views.{FunctionView, TypeView, function_view, named_
 use Rattle.wc_resolve.specs.World.{SignatureHasOnly}
 use Rattle.wc_resolve.specs.Roots.{indices, param_roots, passed_roots, type_roots}
 use Rattle.wc_resolve.specs.Live.{listing_of}
-use Rattle.wc_resolve.specs.Futures.{EntryView, IsFuturesEntry, futures_from, futures_of, itself}
+use Rattle.wc_resolve.specs.Futures.{EntryView, IsFuturesEntry, IsPartWith, ends_of, futures_from, futures_of, itself}
 use Rattle.wc_resolve.proofs.SearchLemmas.{contains_none, contains_cons, contains_head, contains_tail}
 use Rattle.wc_resolve.proofs.ViewedLemmas.{all_unviewed}
 
@@ -58,21 +59,12 @@ passed_left all rest n left p = let at = p.at in omega (arith, at)
 pub passed_rest : (all rest : List ℕ) (n left : ℕ) → IsPassed all rest n left → slice_get all n ≡ slice_get rest left
 passed_rest all rest n left p = ap (λ z. slice_get z n) p.split ∙ ap (slice_get (p.front ++ rest)) p.at ∙ slice_get_after p.front rest left
 
-pub passed_end : (all rest : List ℕ) (n left : ℕ) → IsPassed all rest n left → rest ≡ [] → length all ≤ n
-passed_end all rest n left p none =
-    let full : length all ≡ length p.front = ap length (p.split ∙ ap (λ z. p.front ++ z) none ∙ append-nil p.front) in
-    let at = p.at in
-    omega (arith, full, at)
-
 -- a count that is small enough is the length
 pub counted_more : (count m left : ℕ) → count ≡ min m (2 ^ 64 - 1) → left < 2 ^ 32 → count ≤ left → count ≡ m
 counted_more count m left e small past = omega (arith, e, small, past)
 
 pub counted_less : (count m left : ℕ) → count ≡ min m (2 ^ 64 - 1) → left < count → left < m
 counted_less count m left e less = omega (arith, e, less)
-
-pub counted_past : (count m left : ℕ) → count ≡ min m (2 ^ 64 - 1) → left < 2 ^ 32 → count ≤ left → m ≤ left
-counted_past count m left e small past = omega (arith, e, small, past)
 
 -- from a type to one of its parts
 pub part_entered : (types : List TypeView) (x part n m : ℕ) (entry : EntryView) → IsFuturesEntry types x entry → slice_get (futures_from types (indices entry.parts)) n ≡ slice_get (futures_of types part) m
@@ -123,8 +115,94 @@ pub parts_next : (types : List TypeView) (parts : List TypeId) (i : ℕ) (d : Ty
     → futures_from types (indices (drop i parts)) ≡ futures_of types (get_or parts i d).0 ++ futures_from types (indices (drop (i + 1) parts))
 parts_next types parts i d small = rw (add-one i) (ap (λ z. futures_from types (indices z)) (drop-cons parts i d small))
 
-pub parts_none : (types : List TypeView) (parts : List TypeId) (i : ℕ) → length parts ≤ i → futures_from types (indices (drop i parts)) ≡ []
-parts_none types parts i past = ap (λ z. futures_from types (indices z)) (drop_of_length-le parts past)
+-- parts by how many there are up to each
+
+parts_split : (types : List TypeView) (i : ℕ) (parts : List TypeId) → futures_from types (indices parts) ≡ futures_from types (indices (take i parts)) ++ futures_from types (indices (drop i parts))
+parts_split types zero parts = refl
+parts_split types (suc i) [] = refl
+parts_split types (suc i) (p ∷ parts) =
+    ap (λ z. futures_of types p.0 ++ z) (parts_split types i parts)
+    ∙ sym (append_assoc (futures_of types p.0) (futures_from types (indices (take i parts))) (futures_from types (indices (drop i parts))))
+
+-- how many there are before a part
+abbrev pub passed_length : List TypeView → List TypeId → ℕ → ℕ
+passed_length types parts i = length (futures_from types (indices (take i parts)))
+
+end_at : (types : List TypeView) (parts : List TypeId) (i b c : ℕ) → c ≡ min b (2 ^ 64 - 1) → i ≤ length parts → get_or (c ∷ ends_of types b parts) i 0 ≡ min (b + passed_length types parts i) (2 ^ 64 - 1)
+end_at types parts zero b c e small = omega (arith, e)
+end_at types [] (suc i) b c e small = absurd (omega (arith, small))
+end_at types (p ∷ parts) (suc i) b c e small =
+    let l = length (futures_of types p.0) in
+    let rest : get_or (min (b + l) (2 ^ 64 - 1) ∷ ends_of types (b + l) parts) i 0 ≡ min ((b + l) + passed_length types parts i) (2 ^ 64 - 1) =
+    end_at types parts i (b + l) (min (b + l) (2 ^ 64 - 1)) refl (omega (arith, small)) in
+    let both = length-append (futures_of types p.0) (futures_from types (indices (take i parts))) in
+    rest ∙ ap (λ z. min z (2 ^ 64 - 1)) (let sum : (b + l) + passed_length types parts i ≡ b + passed_length types (p ∷ parts) (suc i) = omega (arith, both) in sum)
+
+passed_next : (types : List TypeView) (parts : List TypeId) (i : ℕ) (d : TypeId) → i < length parts → passed_length types parts (suc i) ≡ passed_length types parts i + length (futures_of types (get_or parts i d).0)
+passed_next types [] i d small = absurd (omega (arith, small))
+passed_next types (p ∷ parts) zero d small = (let both = length-append (futures_of types p.0) [] in omega (arith, both))
+passed_next types (p ∷ parts) (suc i) d small =
+    let rest = passed_next types parts i d (omega (arith, small)) in
+    let one = length-append (futures_of types p.0) (futures_from types (indices (take i parts))) in
+    let more = length-append (futures_of types p.0) (futures_from types (indices (take (suc i) parts))) in
+    omega (arith, rest, one, more)
+
+uncapped : (c m n : ℕ) → c ≡ min (0 + m) (2 ^ 64 - 1) → c ≤ n → n < 2 ^ 32 → c ≡ m
+uncapped c m n e low small = omega (arith, e, low, small)
+
+below_cap : (c m n : ℕ) → c ≡ min (0 + m) (2 ^ 64 - 1) → n < c → n < m
+below_cap c m n e more = omega (arith, e, more)
+
+-- how many there are before a part, by the ends
+pub end_passed : (types : List TypeView) (parts : List TypeId) (ends : List ℕ) (i n : ℕ) → ends ≡ ends_of types 0 parts → i ≤ length parts → get_or (0 ∷ ends) i 0 ≤ n → n < 2 ^ 32
+    → get_or (0 ∷ ends) i 0 ≡ passed_length types parts i
+end_passed types parts ends i n ended small low bound =
+    uncapped (get_or (0 ∷ ends) i 0) (passed_length types parts i) n (ap (λ (z : List ℕ). get_or (0 ∷ z) i 0) ended ∙ end_at types parts i 0 0 refl small) low bound
+
+pub ends_length : (types : List TypeView) (parts : List TypeId) (b : ℕ) → length (ends_of types b parts) ≡ length parts
+ends_length types [] b = refl
+ends_length types (p ∷ parts) b = ap suc (ends_length types parts (b + length (futures_of types p.0)))
+
+-- the part that has an index
+pub part_found : (types : List TypeView) (x : ℕ) (entry : EntryView) (i n left : ℕ) (part : TypeId) → IsFuturesEntry types x entry → i < length entry.parts → part ≡ get_or entry.parts i part → n < 2 ^ 32
+    → get_or (0 ∷ entry.ends) i 0 ≤ n → n < get_or entry.ends i 0 → left ≡ n - get_or (0 ∷ entry.ends) i 0 → IsPartWith types x n part.0 left
+part_found types x entry i n left part kept small read bound low next left_is =
+    let parts = entry.parts in
+    let before : get_or (0 ∷ entry.ends) i 0 ≡ passed_length types parts i = end_passed types parts entry.ends i n kept.ended (omega (arith, small)) low bound in
+    let end : get_or entry.ends i 0 ≡ min (0 + passed_length types parts (suc i)) (2 ^ 64 - 1) =
+    ap (λ (z : List ℕ). get_or (0 ∷ z) (suc i) 0) kept.ended ∙ end_at types parts (suc i) 0 0 refl (omega (arith, small)) in
+    let above : n < passed_length types parts (suc i) = below_cap (get_or entry.ends i 0) (passed_length types parts (suc i)) n end next in
+    let grown : passed_length types parts (suc i) ≡ passed_length types parts i + length (futures_of types part.0) =
+    passed_next types parts i part small ∙ ap (λ (z : TypeId). passed_length types parts i + length (futures_of types z.0)) (sym read) in
+    let more : left < length (futures_of types part.0) = omega (arith, before, above, grown, left_is, low) in
+    let there : Contains (indices parts) part.0 = subst (λ (z : TypeId). Contains (indices parts) z.0) (sym read) (part_there parts i part small) in
+    let passed : IsPassed (futures_from types (indices parts)) (futures_from types (indices (drop i parts))) n left = record {
+      front = futures_from types (indices (take i parts));
+      split = parts_split types i parts;
+      at = omega (arith, before, left_is, low);
+    } in
+    let rest : futures_from types (indices (drop i parts)) ≡ futures_of types part.0 ++ futures_from types (indices (drop (i + 1) parts)) =
+    parts_next types parts i part small ∙ ap (λ (z : TypeId). futures_of types z.0 ++ futures_from types (indices (drop (i + 1) parts))) (sym read) in
+    let found : slice_get (futures_from types (indices parts)) n ≡ slice_get (futures_of types part.0) left =
+    passed_found (futures_from types (indices parts)) (futures_from types (indices (drop i parts))) (futures_of types part.0) (futures_from types (indices (drop (i + 1) parts))) n left passed rest more in
+    record {
+      within = kept.within part.0 there;
+      shorter = part_shorter types x part.0 entry kept there;
+      low = omega (arith, left_is);
+      more = more;
+      same = part_entered types x part.0 n left entry kept found more;
+    }
+
+-- all parts are passed
+pub parts_passed : (types : List TypeView) (x : ℕ) (entry : EntryView) (i n : ℕ) → IsFuturesEntry types x entry → i ≤ length entry.ends → length entry.parts ≤ i → n < 2 ^ 32
+    → get_or (0 ∷ entry.ends) i 0 ≤ n → n < length (futures_of types x) → slice_get (futures_of types x) n ≡ Some x
+parts_passed types x entry i n kept within past bound low small =
+    let parts = entry.parts in
+    let same : length entry.ends ≡ length parts = ap (λ (z : List ℕ). length z) kept.ended ∙ ends_length types parts 0 in
+    let inside : i ≤ length parts = omega (arith, same, within) in
+    let before : get_or (0 ∷ entry.ends) i 0 ≡ passed_length types parts i = end_passed types parts entry.ends i n kept.ended inside low bound in
+    let all : passed_length types parts i ≡ length (futures_from types (indices parts)) = ap (λ (z : List TypeId). length (futures_from types (indices z))) (take_all i parts past) in
+    type_reached types x n entry kept (omega (arith, before, all, low)) small
 
 -- parameters that are left, and a result after them
 

@@ -17,7 +17,7 @@ use Rattle.wc_resolve.specs.Tables.{IsOrder}
 use Rattle.wc_resolve.specs.TypeRules.{Follows}
 use Rattle.wc_resolve.specs.Roots.{indices}
 use Rattle.wc_resolve.specs.Live.{listing_from, listing_of, listing_rule}
-use Rattle.wc_resolve.specs.Futures.{AreFuturesEntries, EntryView, IsEntryFor, IsFuturesEntry, carried_indices, count_of, entry_at, entry_view, futures_from}
+use Rattle.wc_resolve.specs.Futures.{AreFuturesEntries, EntryView, IsEntryFor, IsFuturesEntry, carried_indices, count_of, ends_from, ends_of, entry_at, entry_view, futures_from}
 use Rattle.wc_resolve.specs.Futures.{futures_of, futures_rule, is_carrier, itself, max_count, no_futures, only_part, part_for}
 use Rattle.wc_resolve.proofs.KeyLemmas.{nat_from}
 use Rattle.wc_resolve.proofs.SearchLemmas.{contains_none, contains_head, contains_tail, contains_cons}
@@ -141,6 +141,39 @@ counts_right types entries (id ∷ ids) right =
     (length (futures_of types id.0)) rest first.1.counted
     ∙ ap (λ n. min n max_count) (sym (length-append (futures_of types id.0) (futures_from types (indices ids))))
 
+capped_end : (before count b l : ℕ) → before ≡ min b (2 ^ 64 - 1) → count ≡ min l (2 ^ 64 - 1) → min (before + count) (2 ^ 64 - 1) ≡ min (b + l) (2 ^ 64 - 1)
+capped_end before count b l e f = omega (arith, e, f)
+
+ends_more : (types : List TypeView) (entries : List EntryView) (ids parts : List TypeId) (id part : TypeId) (b before count : ℕ) (none : Bool)
+    → before ≡ min b max_count → count ≡ min (length (futures_of types id.0)) max_count → (none ≡ false → futures_of types part.0 ≡ futures_of types id.0)
+    → ((c end : ℕ) → end ≡ min c max_count → ends_from entries end ids ≡ ends_of types c parts)
+    → (if none then ends_from entries before ids else (min (before + count) max_count ∷ ends_from entries (min (before + count) max_count) ids))
+    ≡ ends_of types b (cons_option (if none then None else Some part) parts)
+ends_more types entries ids parts id part b before count true e counted same rest = rest b before e
+ends_more types entries ids parts id part b before count false e counted same rest =
+    let l : length (futures_of types id.0) ≡ length (futures_of types part.0) = ap length (sym (same refl)) in
+    let end : min (before + count) (2 ^ 64 - 1) ≡ min (b + length (futures_of types part.0)) (2 ^ 64 - 1) =
+    capped_end before count b (length (futures_of types part.0)) e (counted ∙ ap (λ z. min z max_count) l) in
+    ap (λ z. z ∷ ends_from entries (min (before + count) max_count) ids) end
+    ∙ ap (λ z. min (b + length (futures_of types part.0)) max_count ∷ z) (rest (b + length (futures_of types part.0)) (min (before + count) max_count) end)
+
+part_same : (types : List TypeView) (id : TypeId) (part : TypeId) (none : Bool) → IsPartFor types id.0 (if none then None else Some part) → none ≡ false
+    → futures_of types part.0 ≡ futures_of types id.0
+part_same types id part true is some = (let bad : ⊥ = cc some in absurd bad)
+part_same types id part false is some = is.same
+
+ends_right : (types : List TypeView) (entries : List EntryView) (ids : List TypeId) → AreRight types entries ids → (b before : ℕ) → before ≡ min b max_count
+    → ends_from entries before ids ≡ ends_of types b (filter_map (part_for entries) ids)
+ends_right types entries [] right b before e = refl
+ends_right types entries (id ∷ ids) right b before e =
+    let first = right id.0 (contains_head (indices ids) id.0) in
+    let entry = entry_at entries id.0 in
+    let none = nat_eq entry.count 0 in
+    let part = only_part entry.parts entry.is_carrier id in
+    ends_more types entries ids (filter_map (part_for entries) ids) id part b before entry.count none e first.1.counted
+    (part_same types id part none (part_right types entries id first.0 first.1))
+    (λ c end is. ends_right types entries ids (λ y h. right y (contains_tail id.0 (indices ids) y h)) c end is)
+
 capped_own : (a n m : ℕ) → a ≡ min n (2 ^ 64 - 1) → min (a + m) (2 ^ 64 - 1) ≡ min (n + m) (2 ^ 64 - 1)
 capped_own a n m e = omega (arith, e)
 
@@ -188,6 +221,7 @@ entry_right types entries x entry follows listed small right made =
     (own_length carrier x) in
     subst (IsFuturesEntry types x) (sym made.2) (record {
       made = rule ∙ ap (λ z. z ++ itself carrier x) (sym parts.same);
+      ended = ends_right types entries ids below 0 0 refl;
       counted = capped_own (count_of entries ids) (length (futures_from types (indices ids))) (if carrier then 1 else 0)
           (counts_right types entries ids below) ∙ ap (λ n. min n max_count) (sym total);
       within = parts.within;

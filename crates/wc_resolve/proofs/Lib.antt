@@ -18,11 +18,15 @@ pub mod KeyLemmas
 pub mod LookupLemmas
 pub mod WellFormedLemmas
 pub mod ListingLemmas
+pub mod BesideLemmas
+pub mod MarkLemmas
 pub mod ResourceFlagLemmas
 pub mod NamedListLemmas
 pub mod PackageNameLemmas
 pub mod PackagePositionLemmas
 pub mod PlaceLemmas
+pub mod CauseLemmas
+pub mod RefusalLemmas
 pub mod PushedLemmas
 pub mod RootsInLemmas
 pub mod SearchLemmas

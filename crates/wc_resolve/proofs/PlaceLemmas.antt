@@ -1,19 +1,16 @@
 -- What faults of parts are about.
-use Rattle.std.proofs.Common.{◌≡◌, ℕ, suc, ◌<◌, ◌+◌, ◌↔◌, Bool, true, false, IsTrue, List, map, length, take, get_or, Option, Some, None, Result, Ok, Err, refl, sym, ap, subst, ◌∙◌, arith}
-use Rattle.std.specs.Prelude.{MatchOption, IfOk}
+use Rattle.std.proofs.Common.{◌≡◌, ℕ, ◌<◌, ◌↔◌, Bool, true, false, IsTrue, List, map, length, take, get_or, Some, sym, ap, subst, ◌∙◌}
 use Rattle.std.specs.List.{All}
-use Rattle.std.proofs.lemmas.List.{take-map, take_all}
+use Rattle.std.proofs.lemmas.List.{take-map}
+use Rattle.std.proofs.lemmas.Option.{get_or_from_slice_get, slice_get_within}
 use Rattle.wc_resolve.specs.declared.fault.ResolveFault.{ResolveFault}
-use Rattle.wc_resolve.specs.declared.fault.ResolveFault.TheVariants.{Memory, IdRange, Cycle, Unnamed, KeyMismatch, NameClash, BadCharacter, ByValueResource, Empty}
+use Rattle.wc_resolve.specs.declared.fault.ResolveFault.TheVariants.{IdRange, Unnamed, KeyMismatch, BadCharacter, ByValueResource, Empty}
 use Rattle.wc_resolve.specs.declared.explain.Part.{Part}
 use Rattle.wc_resolve.specs.declared.explain.Part.TheVariants.{World, Interface, TypeDef, Package}
-use Rattle.wc_resolve.specs.declared.validate.order.OrderFault.{OrderFault}
-use Rattle.wc_resolve.specs.declared.validate.order.OrderFault.TheVariants.{Memory as NoMemory, Cycle as OnCycle}
-use Rattle.wc_resolve.specs.Places.{IsFirstBreach, IsBreach, DoAllFollow, IsExplained, IsPlaceOnCycle}
-use Rattle.wc_resolve.specs.Faults.{IsResolveCause, IsOrderCause}
+use Rattle.wc_resolve.specs.Places.{DoesWorldFollow, DoesInterfaceFollow, DoesTypeFollow, DoesPackageFollow, IsFirstBreach, IsBreach, DoAllFollow}
 use Rattle.wc_resolve.specs.Ranges.{AreIdsInRange}
-use Rattle.wc_resolve.specs.WellFormed.{AreNamed, KeysMatch, AreNamesSpelled, HasNoResourceByValue, IsFree}
-use Rattle.wc_resolve.specs.World.{ResolveView, DoAllTypesPass, Leads, children}
+use Rattle.wc_resolve.specs.WellFormed.{AreNamed, KeysMatch, AreNamesSpelled, HasNoResourceByValue, HasNoEmptyType}
+use Rattle.wc_resolve.specs.World.{ResolveView, DoAllTypesPass}
 use Rattle.wc_resolve.proofs.ViewedLemmas.{view_found}
 
 -- a loop that has found an item that is not so
@@ -26,63 +23,42 @@ breach_found f P xs i x b small read test fail before = (
   λ holds. let e : true ≡ false = sym (test.1 holds) ∙ fail in let bad : ⊥ = cc e in bad,
 )
 
-all_in_range : (r : ResolveView) → DoAllFollow r IdRange → AreIdsInRange r
+-- a part that breaks a rule, which the others then don't all follow
+breach_refutes : {X : Type 0} (P : X → Type 0) (xs : List X) (i : ℕ) → IsFirstBreach P xs i → All P xs → ⊥
+breach_refutes P xs i h all =
+    let x = h.1 in
+    let small : i < length xs = slice_get_within xs i x h.2 in
+    h.3 (subst P (get_or_from_slice_get xs i x x h.2) (all i x small))
+
+pub broken : (r : ResolveView) (f : ResolveFault) (p : Part) → IsBreach r f p → DoAllFollow r f → ⊥
+broken r f (World i) h all = breach_refutes (DoesWorldFollow r f) r.worlds i h all.0
+broken r f (Interface i) h all = breach_refutes (DoesInterfaceFollow r f) r.interfaces i h.1 all.1
+broken r f (TypeDef i) h all = breach_refutes (DoesTypeFollow r f) r.types i h.2 all.2
+broken r f (Package i) h all = breach_refutes (DoesPackageFollow r f) r.packages i h.3 all.3
+
+all_unit : {X : Type 0} (xs : List X) → All (λ x. Unit {0}) xs
+all_unit xs = λ k d small. tt
+
+-- the rule of a fault, as one of the parts together
+pub in_range_iff : (r : ResolveView) → DoAllFollow r IdRange ↔ AreIdsInRange r
 unfolding AreIdsInRange
-all_in_range r h = h
+in_range_iff r = ((λ h. h), (λ h. h))
 
-all_named : (r : ResolveView) → DoAllFollow r Unnamed → AreNamed r
+pub named_iff : (r : ResolveView) → DoAllFollow r Unnamed ↔ AreNamed r
 unfolding AreNamed
-all_named r h = (h.2, h.0, h.3)
+named_iff r = ((λ h. (h.2, h.0, h.3)), (λ h. (h.1, all_unit r.interfaces, h.0, h.2)))
 
-all_match : (r : ResolveView) → DoAllFollow r KeyMismatch → KeysMatch r
+pub match_iff : (r : ResolveView) → DoAllFollow r KeyMismatch ↔ KeysMatch r
 unfolding KeysMatch
-all_match r h = (h.0, h.1, h.3)
+match_iff r = ((λ h. (h.0, h.1, h.3)), (λ h. (h.0, h.1, all_unit r.types, h.2)))
 
-all_spelled : (r : ResolveView) → DoAllFollow r BadCharacter → AreNamesSpelled r
+pub spelled_iff : (r : ResolveView) → DoAllFollow r BadCharacter ↔ AreNamesSpelled r
 unfolding AreNamesSpelled
-all_spelled r h = h
+spelled_iff r = ((λ h. h), (λ h. h))
 
-all_free : (r : ResolveView) → DoAllFollow r ByValueResource → HasNoResourceByValue r
+pub free_iff : (r : ResolveView) → DoAllFollow r ByValueResource ↔ HasNoResourceByValue r
 unfolding DoAllTypesPass
-all_free r h = (h.0, h.1, h.2)
+free_iff r = ((λ h. (h.0, h.1, h.2)), (λ h. (h.0, h.1, h.2, all_unit r.packages)))
 
-pub range_explained : (r : ResolveView) (o : Option Part) → MatchOption o (DoAllFollow r IdRange) (IsBreach r IdRange) → IsExplained r IdRange o
-range_explained r (Some p) h = h
-range_explained r None h = λ cause. cause (all_in_range r h)
-
-pub unnamed_explained : (r : ResolveView) (o : Option Part) → MatchOption o (DoAllFollow r Unnamed) (IsBreach r Unnamed) → IsExplained r Unnamed o
-unnamed_explained r (Some p) h = h
-unnamed_explained r None h = λ cause. cause.2 (all_named r h)
-
-pub keys_explained : (r : ResolveView) (o : Option Part) → MatchOption o (DoAllFollow r KeyMismatch) (IsBreach r KeyMismatch)
-    → IsExplained r KeyMismatch o
-keys_explained r (Some p) h = h
-keys_explained r None h = λ cause. cause.3 (all_match r h)
-
-pub spelling_explained : (r : ResolveView) (o : Option Part) → MatchOption o (DoAllFollow r BadCharacter) (IsBreach r BadCharacter)
-    → IsExplained r BadCharacter o
-spelling_explained r (Some p) h = h
-spelling_explained r None h = λ cause. cause.5 (all_spelled r h)
-
-pub by_value_explained : (r : ResolveView) (o : Option Part) → MatchOption o (DoAllFollow r ByValueResource) (IsBreach r ByValueResource)
-    → IsExplained r ByValueResource o
-by_value_explained r (Some p) h = h
-by_value_explained r None h = λ cause. cause.6 (all_free r h)
-
-pub empty_explained : (r : ResolveView) (o : Option Part) → MatchOption o (DoAllFollow r Empty) (IsBreach r Empty) → IsExplained r Empty o
-empty_explained r (Some p) h = h
-empty_explained r None h = λ cause. cause.7 h.2
-
--- what is so of a result that is made
-pub ok_weaker : {A E : Type 0} (P Q : A → Type 0) → ((a : A) → P a → Q a) → (r : Result A E) → IfOk r P → IfOk r Q
-ok_weaker P Q h (Ok a) x = h a x
-ok_weaker P Q h (Err e) x = tt
-
--- a type that leads to itself is the place of the fault
-pub cycle_explained : (r : ResolveView) (f : OrderFault) (o : Option Part) → IsOrderCause r.types f → IsPlaceOnCycle f o → IsExplained r Cycle o
-cycle_explained r (OnCycle index) (Some (TypeDef i)) leads same = subst (λ x. Leads (children r.types) x x) (sym same) leads
-cycle_explained r (OnCycle index) (Some (World i)) leads same = absurd same
-cycle_explained r (OnCycle index) (Some (Interface i)) leads same = absurd same
-cycle_explained r (OnCycle index) (Some (Package i)) leads same = absurd same
-cycle_explained r (OnCycle index) None leads same = absurd same
-cycle_explained r NoMemory o leads same = absurd same
+pub filled_iff : (r : ResolveView) → DoAllFollow r Empty ↔ HasNoEmptyType r
+filled_iff r = ((λ h. h.2), (λ h. (all_unit r.worlds, all_unit r.interfaces, h, all_unit r.packages)))

@@ -1,11 +1,9 @@
 -- The loop that adds live types: its state, and its length.
-use Rattle.std.proofs.Common.{◌≡◌, ◌↔◌, Some, Result, Ok, Err, Bool, true, false, IsTrue, ℕ, ◌+◌, ◌*◌, ◌<◌, List, [], ◌∷◌, ◌++◌, map, reverse, length, refl}
+use Rattle.std.proofs.Common.{◌≡◌, Some, Result, Ok, Err, Bool, true, false, ℕ, ◌+◌, ◌*◌, ◌<◌, List, [], ◌∷◌, ◌++◌, map, reverse, length, refl}
 use Rattle.std.proofs.Common.{sym, ap, ◌∙◌, subst, inl, inr, arith, length-append, append-nil}
 use Rattle.std.specs.List.{flat_map, slice_get, Contains, list_any}
 use Rattle.std.specs.Prelude.{◌==◌, ◌||◌}
-use Rattle.std.proofs.lemmas.Bool.{cases_Bool, eqb-true}
-use Rattle.std.proofs.lemmas.Cmp.{nat_eq_equiv}
-use Rattle.std.proofs.lemmas.Map.Views.{list_any-from_Contains, Contains-from_any}
+use Rattle.std.proofs.lemmas.Bool.{cases_Bool}
 use Rattle.indexmap.specs.IndexSet.{insert_key}
 use Rattle.std.proofs.lemmas.List.{map-append, reverse-append, reverse-reverse}
 use Rattle.std.proofs.lemmas.List.Elements.{Contains-append_left, Contains-append_right, Contains-append_cases, Contains-push, Contains-push_cases}
@@ -212,12 +210,6 @@ inserted keys id =
           (let unseen : list_any (λ y. id.0 == y) (map id_index keys) ≡ false = any_index keys id.0 ∙ new in
           rw (new, unseen) (map-append id_index keys (id ∷ [])))
     ]
-
-pub found : (keys : List TypeId) (id : TypeId) → IsTrue (list_any (same_id id) keys) ↔ Contains (map id_index keys) id.0
-found keys id = (
-  (λ t. Contains-from_any eqb-true id.0 (map id_index keys) (any_index keys id.0 ∙ t)),
-  (λ h. sym (any_index keys id.0) ∙ list_any-from_Contains nat_eq_equiv id.0 (map id_index keys) h),
-)
 
 pub children_are : (types : List TypeView) (x : ℕ) (t : TypeView) (xs : List ℕ) → slice_get types x ≡ Some t → xs ≡ referenced_indices t.kind
     → xs ≡ children types x

@@ -1,5 +1,5 @@
 -- The cause of each fault: its rule is broken, and no earlier one is.
-use Rattle.std.specs.Prelude.{◌≡◌, List}
+use Rattle.std.specs.Prelude.{List}
 use Rattle.wc_resolve.specs.declared.fault.ResolveFault.{ResolveFault}
 use Rattle.wc_resolve.specs.declared.fault.ResolveFault.TheVariants.{Memory, IdRange, Cycle, Unnamed, KeyMismatch, NameClash, BadCharacter, ByValueResource, Empty}
 use Rattle.wc_resolve.specs.declared.validate.order.OrderFault.{OrderFault}
@@ -26,8 +26,3 @@ IsResolveCause r Empty =
 abbrev pub IsOrderCause : List TypeView → OrderFault → Type 0
 IsOrderCause types NoMemory = Unit {0}
 IsOrderCause types (OnCycle index) = Leads (children types) index index
-
--- the fault of parts that have no order of their types
-abbrev pub IsFaultOf : OrderFault → ResolveFault → Type 0
-IsFaultOf NoMemory e = e ≡ Memory
-IsFaultOf (OnCycle index) e = e ≡ Cycle

@@ -38,29 +38,33 @@ futures_of types = value_by_rule futures_rule [] types
 abbrev pub futures_from : List TypeView → List ℕ → List ℕ
 futures_from types roots = flat_map (futures_of types) roots
 
--- the one at index `n` among those of all roots is that of this root at index `left`
-abbrev pub IsFutureOf : List TypeView → List ℕ → ℕ → ℕ → ℕ → Type 0
-IsFutureOf types roots n root left =
-    Contains roots root × (left ≤ n) × (left < length (futures_of types root))
-    × (slice_get (futures_from types roots) n ≡ slice_get (futures_of types root) left)
+-- the one at index `n` among those of a type is the one at index `left` of this part of it, below which fewer types are
+pub record IsPartWith (types : List TypeView) (x n part left : ℕ) : Type 0 where
+  pub within : part < length types
+  pub shorter : length (listing_of types part) < length (listing_of types x)
+  pub low : left ≤ n
+  pub more : left < length (futures_of types part)
+  pub same : slice_get (futures_of types x) n ≡ slice_get (futures_of types part) left
 
 -- the futures and streams of a function's parameters and result
 abbrev pub function_futures : ResolveView → FunctionView → List ℕ
 function_futures r f = futures_from r.types (passed_roots f)
 
 -- what is kept of a type's futures and streams: the types whose futures and streams these are, one type's after
--- another's; whether the type itself comes after them; and how many they are, counted up to a limit
+-- another's; how many there are up to each of these types and with it; whether the type itself comes after them; and how
+-- many they are; counted up to a limit
 pub record EntryView : Type 0 where
   pub parts : List TypeId
+  pub ends : List ℕ
   pub is_carrier : Bool
   pub count : ℕ
 
 abbrev pub entry_view : FuturesEntry → EntryView
-entry_view e = record { parts = e.parts.items; is_carrier = e.is_carrier; count = e.count }
+entry_view e = record { parts = e.parts.items; ends = e.ends.items; is_carrier = e.is_carrier; count = e.count }
 
 -- what is kept of a type that has no futures and streams
 abbrev pub no_futures : EntryView
-no_futures = record { parts = []; is_carrier = false; count = 0 }
+no_futures = record { parts = []; ends = []; is_carrier = false; count = 0 }
 
 -- the entry of the type at an index
 abbrev pub entry_at : List EntryView → ℕ → EntryView
@@ -70,6 +74,12 @@ entry_at entries x = slice_index_or entries x no_futures
 abbrev pub max_count : ℕ
 max_count = 2 ^ 64 - 1
 
+-- how many futures and streams there are up to each of some types and with it, after so many before them all, counted up
+-- to the limit
+abbrev pub ends_of : List TypeView → ℕ → List TypeId → List ℕ
+ends_of types before [] = []
+ends_of types before (id ∷ ids) = min (before + length (futures_of types id.0)) max_count ∷ ends_of types (before + length (futures_of types id.0)) ids
+
 -- the type itself, where it is a future or a stream
 abbrev pub itself : Bool → ℕ → List ℕ
 itself carrier x = if carrier then x ∷ [] else []
@@ -77,6 +87,7 @@ itself carrier x = if carrier then x ∷ [] else []
 -- what an entry of the type at an index says; its parts are in range, and have fewer types below them
 pub record IsFuturesEntry (types : List TypeView) (x : ℕ) (entry : EntryView) : Type 0 where
   pub made : futures_of types x ≡ futures_from types (indices entry.parts) ++ itself entry.is_carrier x
+  pub ended : entry.ends ≡ ends_of types 0 entry.parts
   pub counted : entry.count ≡ min (length (futures_of types x)) max_count
   pub within : (p : ℕ) → Contains (indices entry.parts) p → p < length types
   pub shorter : length (listing_from types (indices entry.parts)) < length (listing_of types x)
@@ -101,6 +112,13 @@ part_for entries id =
 abbrev pub count_of : List EntryView → List TypeId → ℕ
 count_of entries ids = min (sum_by (λ (id : TypeId). (entry_at entries id.0).count) ids) max_count
 
+-- how many there are up to each of the types that have some, and with it, after so many before them all
+abbrev pub ends_from : List EntryView → ℕ → List TypeId → List ℕ
+ends_from entries before [] = []
+ends_from entries before (id ∷ ids) =
+    if nat_eq (entry_at entries id.0).count 0 then ends_from entries before ids else
+    (min (before + (entry_at entries id.0).count) max_count ∷ ends_from entries (min (before + (entry_at entries id.0).count) max_count) ids)
+
 abbrev pub with_itself : Bool → ℕ → ℕ
 with_itself carrier count = min (count + (if carrier then 1 else 0)) max_count
 
@@ -108,6 +126,7 @@ with_itself carrier count = min (count + (if carrier then 1 else 0)) max_count
 abbrev pub entry_from : List EntryView → List TypeId → Bool → EntryView
 entry_from entries ids carrier = record {
   parts = filter_map (part_for entries) ids;
+  ends = ends_from entries 0 ids;
   is_carrier = carrier;
   count = with_itself carrier (count_of entries ids);
 }

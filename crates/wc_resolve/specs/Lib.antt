@@ -8,8 +8,10 @@ pub mod Futures
 pub mod Tables
 pub mod Laws
 pub mod Live
+pub mod Marks
 pub mod Names
 pub mod Places
+pub mod Refusals
 pub mod ResolveParts
 pub mod Queries
 pub mod Ranges

@@ -2,8 +2,6 @@
 use Rattle.std.specs.Prelude.{◌≡◌, ℕ, ◌<◌, ◌+◌, Bool, List, length, take, Option, Some, None, slice_get, All}
 use Rattle.wc_resolve.specs.declared.fault.ResolveFault.{ResolveFault}
 use Rattle.wc_resolve.specs.declared.fault.ResolveFault.TheVariants.{Memory, IdRange, Cycle, Unnamed, KeyMismatch, NameClash, BadCharacter, ByValueResource, Empty}
-use Rattle.wc_resolve.specs.declared.validate.order.OrderFault.{OrderFault}
-use Rattle.wc_resolve.specs.declared.validate.order.OrderFault.TheVariants.{Cycle as OnCycle}
 use Rattle.wc_resolve.specs.declared.explain.Part.{Part}
 use Rattle.wc_resolve.specs.declared.explain.Part.TheVariants.{World, Interface, TypeDef, Package}
 use Rattle.wc_resolve.specs.Faults.{IsResolveCause}
@@ -77,11 +75,6 @@ abbrev pub IsOnCycle : ResolveView → Part → Type 0
 IsOnCycle r (TypeDef i) = Leads (children r.types) i i
 IsOnCycle r p = ⊥
 
--- the place of a type that leads to itself
-abbrev pub IsPlaceOnCycle : OrderFault → Option Part → Type 0
-IsPlaceOnCycle (OnCycle index) (Some (TypeDef i)) = i ≡ index
-IsPlaceOnCycle fault place = ⊥
-
 -- the first package that has the name and version of an earlier one is at an index
 abbrev pub IsRepeatAt : List PackageView → ℕ → Type 0
 IsRepeatAt packages i = (i < length packages) × HaveDistinctNames (take i packages) × ¬ HaveDistinctNames (take (i + 1) packages)
@@ -102,6 +95,7 @@ abbrev pub IsUnplaced : ResolveView → ResolveFault → Type 0
 IsUnplaced r Memory = Unit {0}
 IsUnplaced r f = ¬ IsResolveCause r f
 
+-- what a fault is about, where it is the one of these parts
 abbrev pub IsExplained : ResolveView → ResolveFault → Option Part → Type 0
-IsExplained r f (Some p) = IsPlace r f p
+IsExplained r f (Some p) = IsResolveCause r f × IsPlace r f p
 IsExplained r f None = IsUnplaced r f

@@ -12,14 +12,14 @@ use crate::PackageName;
 use itoa::Buffer;
 use semver::Version;
 
-/// What is after a text at the front.
+/// The rest of a text after another one at its front.
 fn after<'a>(text: &'a str, front: &str) -> Option<&'a str>
     ensures { IsLeftAfter text.now (λ rest. front.now ++ rest) result }
 {
     text.strip_prefix(front)
 }
 
-/// What is after two texts at the front.
+/// The rest of a text after two others at its front.
 fn after_both<'a>(text: &'a str, first: &str, second: &str) -> Option<&'a str>
     ensures { IsLeftAfter text.now (λ rest. first.now ++ (second.now ++ rest)) result }
 {
@@ -29,7 +29,7 @@ fn after_both<'a>(text: &'a str, first: &str, second: &str) -> Option<&'a str>
     }
 }
 
-/// What is after a number in decimal and a text.
+/// The rest of a text after a number in decimal and a separator at its front.
 fn after_number<'a>(text: &'a str, number: u64, separator: &str) -> Option<&'a str>
     ensures { IsLeftAfter text.now (λ rest. decimal number ++ (separator.now ++ rest)) result }
 {
@@ -45,7 +45,7 @@ fn is_number(text: &str, number: u64) -> bool
     text == digits.format(number)
 }
 
-/// What is after two numbers, each with a full stop after it.
+/// The rest of a text after two numbers in decimal, each with a full stop after it, at its front.
 fn after_two_numbers(text: &str, major: u64, minor: u64) -> Option<&str>
     ensures { IsLeftAfter text.now
         (λ rest. decimal major ++ (full_stop ∷ (decimal minor ++ (full_stop ∷ rest)))) result }
@@ -101,7 +101,7 @@ pub(crate) fn is_track(text: &str, version: &Version) -> bool
     }
 }
 
-/// What is after `namespace:package/name`.
+/// The rest of a text after `namespace:package/name` at its front.
 fn after_member<'a>(text: &'a str, package: &PackageName, name: &str) -> Option<&'a str>
     ensures { let view = package_name_view «package».now in IsLeftAfter text.now
         (λ rest. joined_id view.namespace view.name (name.now ++ rest)) result }

@@ -1,7 +1,7 @@
 //! The flat types of defined types, made once for all types, each from those of the types that it refers to.
 
-ghost use Rattle.std.specs.Prelude.{◌≡◌, ◌<◌, ◌∷◌, [], IfOk, length, map, replicate};
-ghost use Rattle.wc_resolve.specs.Flat.{AreFlattened, cut, flat_cases, flat_fields, flat_flags, flat_kind, flat_rule, flatten_types, flat_variant, flats_in, lists};
+ghost use Rattle.std.specs.Prelude.{◌≡◌, ◌<◌, ◌≤◌, ◌↔◌, ◌∷◌, [], IfOk, IsTrue, length, map, replicate};
+ghost use Rattle.wc_resolve.specs.Flat.{AreFlattened, cut, flat_cases, flat_fields, flat_flags, flat_kind, flat_rule, flat_types_kept, flatten_types, flat_variant, flats_in, lists};
 ghost use Rattle.wc_resolve.specs.Tables.{IsOrder};
 ghost use Rattle.wc_resolve.specs.Views.{kind_view, type_view};
 ghost use Rattle.wc_resolve.specs.World.{kind_at};
@@ -13,7 +13,14 @@ use std::alloc::{AllocError, Global};
 /// How many labels of flags one core type has bits for.
 const LABELS_PER_FLAG_WORD: usize = 32;
 
-/// The flat types of named types, in order.
+/// Whether there are as many core types as are kept.
+fn is_full(flat: &[WasmType]) -> bool
+    ensures { IsTrue result ↔ (flat_types_kept ≤ length flat.now) }
+{
+    flat.len() >= KEPT_FLAT_TYPES
+}
+
+/// The flat types of named types, in order. Those after the last that is kept are not looked at.
 pub(crate) fn flat_fields(
     alloc: Global,
     flats: &[Vec<WasmType>],
@@ -23,6 +30,9 @@ pub(crate) fn flat_fields(
 {
     let mut flat = Vec::new(alloc);
     for field in fields {
+        if is_full(&flat) {
+            return Ok(flat);
+        }
         put_flat(&mut flat, flatten_type(flats, field.1))?;
     }
     Ok(flat)
@@ -132,7 +142,7 @@ fn flat_at(
     flat_kind(alloc, flats, &types[index].kind)
 }
 
-/// So many empty lists.
+/// A list of so many empty lists.
 fn empty_lists(alloc: Global, count: usize) -> Result<Vec<Vec<WasmType>>, AllocError>
     ensures { IfOk result (λ flats. lists flats.items ≡ replicate count []) }
 {

@@ -7,7 +7,7 @@ ghost use Rattle.wc_resolve.specs.Queries.{core_name};
 use crate::{TypeId, WitType};
 use std::alloc::{AllocError, Global};
 
-/// What kind of function it is, and of which resource it is a method, a static function or the constructor. That the
+/// The kind of a function, and the resource of which it is a method, a static function or the constructor. Whether the
 /// id is of a resource is not checked.
 #[derive(Clone, Copy, Debug, PartialEq, Eq)]
 pub enum FunctionKind {

@@ -1,10 +1,10 @@
 //! The futures and streams that types contain.
 
-ghost use Rattle.std.specs.Prelude.{◌≡◌, ◌<◌, ◌≤◌, ◌^◌, ◌++◌, ◌∷◌, ℕ, [], All, Contains, IfNone, IfOk, IfSome, OnOk, Option, Some, String, filter_map, if◌then◌else◌, length, map, min, replicate, slice_get};
+ghost use Rattle.std.specs.Prelude.{◌≡◌, ◌<◌, ◌≤◌, ◌^◌, ◌++◌, ◌∷◌, ℕ, [], All, Contains, IfNone, IfOk, IfSome, OnOk, Option, Some, String, filter_map, if◌then◌else◌, length, map, min, replicate, slice_get, slice_index};
 ghost use Rattle.std.specs.Option.{option_map, option_map_or};
 ghost use Rattle.std.specs.declared.alloc.Global.{Global};
 ghost use Rattle.wc_resolve.specs.declared.types.WitType.{WitType};
-ghost use Rattle.wc_resolve.specs.Futures.{AreFuturesEntries, IsEntryFor, IsFutureOf, carried_indices, count_of, entry_at, entry_from, entry_view, function_futures, futures_from, futures_of, is_carrier, max_count, no_futures, only_part, part_for, with_itself};
+ghost use Rattle.wc_resolve.specs.Futures.{AreFuturesEntries, IsEntryFor, IsPartWith, carried_indices, count_of, entry_at, entry_from, entry_view, ends_from, function_futures, futures_from, futures_of, is_carrier, max_count, no_futures, only_part, part_for, with_itself};
 ghost use Rattle.wc_resolve.specs.Tables.{IsOrder};
 ghost use Rattle.wc_resolve.specs.Ranges.{IsFunctionIn, IsTypeIn};
 ghost use Rattle.wc_resolve.specs.Roots.{id_index, indices, param_roots, type_roots};
@@ -16,12 +16,14 @@ use crate::walk::{TypeStep, enter_all, enter_reversed, ids_of};
 use crate::{Function, Resolve, TypeDef, TypeDefKind, TypeId, WitType};
 use std::alloc::{AllocError, Global};
 
-/// What is kept of a type's futures and streams.
+/// A type's futures and streams, as they are kept.
 #[derive(Drop)]
 pub(crate) struct FuturesEntry {
     /// The types whose futures and streams these are, one type's after another's; each has some, and is a future or a
     /// stream or has two parts at least.
     pub(crate) parts: Vec<TypeId>,
+    /// How many there are up to each of `parts` and with it, at most `u64::MAX`.
+    pub(crate) ends: Vec<u64>,
     /// Whether the type is a future or a stream, which comes after those of its parts.
     pub(crate) is_carrier: bool,
     /// How many they are, at most `u64::MAX`.
@@ -119,6 +121,23 @@ fn parts_for(
         .collect(alloc)
 }
 
+/// How many futures and streams there are up to each of the types that have some, and with it, at most `u64::MAX`.
+fn ends_for(alloc: Global, entries: &[FuturesEntry], ids: &[TypeId]) -> Result<Vec<u64>, AllocError>
+    ensures { IfOk result
+        (λ v. v.items ≡ ends_from (map entry_view entries.now) 0 ids.now) }
+{
+    let mut ends = Vec::new(alloc);
+    let mut end = 0u64;
+    for id in ids {
+        let count = count_at(entries, *id);
+        if count != 0 {
+            end = end.saturating_add(count);
+            ends.push(end)?;
+        }
+    }
+    Ok(ends)
+}
+
 /// The entry of a type that contains these types by value, or is an alias of one.
 fn entry_from(
     alloc: Global,
@@ -130,9 +149,11 @@ fn entry_from(
         (λ e. entry_view e ≡ entry_from (map entry_view entries.now) ids.now is_carrier) }
 {
     let parts = parts_for(alloc, entries, ids)?;
+    let ends = ends_for(alloc, entries, ids)?;
     let count = with_itself(is_carrier, count_of(entries, ids));
     Ok(FuturesEntry {
         parts,
+        ends,
         is_carrier,
         count,
     })
@@ -155,7 +176,7 @@ fn entry_for(
     Ok(entry)
 }
 
-/// So many entries without futures and streams.
+/// A list of so many entries without futures and streams.
 fn empty_entries(alloc: Global, count: usize) -> Result<Vec<FuturesEntry>, AllocError>
     ensures { IfOk result (λ v. map entry_view v.items ≡ replicate count no_futures) }
 {
@@ -163,6 +184,7 @@ fn empty_entries(alloc: Global, count: usize) -> Result<Vec<FuturesEntry>, Alloc
     for _ in 0..count {
         entries.push(FuturesEntry {
             parts: Vec::new(alloc),
+            ends: Vec::new(alloc),
             is_carrier: false,
             count: 0,
         })?;
@@ -221,26 +243,50 @@ fn list(alloc: Global, resolve: &Resolve, roots: Vec<TypeId>) -> Result<Vec<Type
     Ok(found)
 }
 
-/// Of these types the one that has the future or stream at index `n` among those of all, and its index there; `None`
-/// if they have no more than `n` together.
-fn part_with(resolve: &Resolve, parts: &[TypeId], n: u64) -> Option<(TypeId, u64)>
-    requires within { (x : ℕ) → Contains (indices parts.now) x →
-        x < length resolve.now.types }
-    requires small { n < 2 ^ 32 }
-    ensures found { IfSome result (λ p. IsFutureOf resolve.now.types (indices parts.now) n
-        p.0.0 p.1) }
-    ensures past { IfNone result
-        (length (futures_from resolve.now.types (indices parts.now)) ≤ n) }
+/// How many of these numbers, in ascending order, are no more than `n`, found by halving.
+fn ends_passed(ends: &[u64], n: u64) -> usize
+    ensures within { result ≤ length ends.now }
+    ensures passed { slice_index (0 ∷ ends.now) result ≤ n }
+    ensures next { result < length ends.now → n < slice_index ends.now result }
 {
-    let mut left = n;
-    for part in parts {
-        let count = resolve.futures_entry(*part).count;
-        if left < count {
-            return Some((*part, left));
+    let mut low = 0;
+    let mut high = ends.len();
+    while low < high {
+        let middle = low + (high - low) / 2;
+        if ends[middle] <= n {
+            low = middle + 1;
+        } else {
+            high = middle;
         }
-        left -= count;
     }
-    None
+    low
+}
+
+/// How many there are before the part at an index, by how many there are up to each part.
+fn count_before(ends: &[u64], index: usize) -> u64
+    requires { index ≤ length ends.now }
+    ensures { result ≡ slice_index (0 ∷ ends.now) index }
+{
+    if index == 0 { 0 } else { ends[index - 1] }
+}
+
+/// Of the parts of a type the one that has the future or stream at index `n` of the type, and its index there; `None`
+/// if the parts have no more than `n` together.
+fn part_with(resolve: &Resolve, id: TypeId, n: u64) -> Option<(TypeId, u64)>
+    requires there { id.0 < length resolve.now.types }
+    requires small { n < 2 ^ 32 }
+    ensures found { IfSome result (λ p. IsPartWith resolve.now.types id.0 n p.0.0 p.1) }
+    ensures itself { IfNone result (n < length (futures_of resolve.now.types id.0)
+        → slice_get (futures_of resolve.now.types id.0) n ≡ Some id.0) }
+{
+    let entry = resolve.futures_entry(id);
+    let index = ends_passed(&entry.ends, n);
+    if index < entry.parts.len() {
+        let left = n - count_before(&entry.ends, index);
+        Some((entry.parts[index], left))
+    } else {
+        None
+    }
 }
 
 /// The future or stream at index `n` of a type that has more than `n`.
@@ -252,11 +298,7 @@ fn nth(resolve: &Resolve, id: TypeId, n: u64) -> TypeId
 {
     let mut found = id;
     let mut left = n;
-    'parts: while let Some((part, rest)) = part_with(
-        resolve,
-        &resolve.futures_entry(found).parts,
-        left,
-    ) {
+    'parts: while let Some((part, rest)) = part_with(resolve, found, left) {
         found = part;
         left = rest;
     }

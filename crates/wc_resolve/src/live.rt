@@ -1,42 +1,79 @@
 //! Live types: the types that items of worlds need.
 
-ghost use Rattle.std.specs.Prelude.{◌≡◌, ◌<◌, ◌↔◌, ℕ, [], ◌∷◌, Contains, IsTrue, OnErr, OnOk, length};
+ghost use Rattle.std.specs.Prelude.{◌≡◌, ◌<◌, ◌↔◌, ◌++◌, ℕ, [], ◌∷◌, Contains, IsTrue, OnErr, OnOk, length};
 ghost use Rattle.std.specs.Iterator.Adapters.{copied_source};
-ghost use Rattle.wc_resolve.specs.Live.{AddsListings, AddsPartly, Keeps};
+ghost use Rattle.std.specs.Slice.Iter.{iter_rest};
+ghost use Rattle.wc_resolve.specs.Live.{AddsListings, AddsPartly, Keeps, known_types, with_live};
 ghost use Rattle.wc_resolve.specs.Roots.{function_roots, indices, item_roots, type_roots};
 ghost use Rattle.wc_resolve.specs.Ranges.{IsFunctionIn, IsItemIn, IsTypeIn};
 ghost use Rattle.wc_resolve.specs.Views.{function_view, item_view};
 
+use crate::marks::{is_marked, make_room, unmark};
 use crate::roots::{roots_of_function, roots_of_id, roots_of_item, roots_of_type};
 use crate::walk::{TypeStep, enter_all, referenced_ids};
 use crate::{Function, Resolve, TypeId, WitType, WorldItem};
-use indexmap::IndexSet;
-use indexmap::set::Iter;
 use std::alloc::{AllocError, Global};
 use std::iter::Copied;
 use std::marker::Model;
+use std::slice::Iter;
 
-/// Adds the listings of types, without repeats.
-fn add(resolve: &Resolve, roots: Vec<TypeId>, live: &mut IndexSet<TypeId>) -> Result<(), AllocError>
+/// Whether there is a list of known types, and has a type.
+fn is_known(known: Option<&LiveTypes>, id: TypeId) -> bool
+    ensures { IsTrue result ↔ Contains (known_types known.entry) id.0 }
+{
+    match known {
+        Some(known) => known.contains(id),
+        None => false,
+    }
+}
+
+/// Whether a type is known or live.
+fn is_there(known: Option<&LiveTypes>, live: &LiveTypes, id: TypeId) -> bool
+    ensures { IsTrue result ↔ Contains (known_types known.entry ++ live.now) id.0 }
+{
+    is_known(known, id) || live.contains(id)
+}
+
+/// Adds a type, unless it is known or live.
+fn leave(known: Option<&LiveTypes>, live: &mut LiveTypes, id: TypeId) -> Result<(), AllocError>
+    ensures added { OnOk result (known_types known.entry ++ live.new
+        ≡ with_live (known_types known.entry ++ live.old) id.0) }
+    ensures kept { Keeps live.old live.new }
+    ensures err { OnErr result (live.new ≡ live.old) }
+{
+    if is_there(known, live, id) {
+        return Ok(());
+    }
+    live.push(id)?;
+    Ok(())
+}
+
+/// Adds the listings of types, without repeats, and without the types that are known.
+fn add(
+    resolve: &Resolve,
+    known: Option<&LiveTypes>,
+    roots: Vec<TypeId>,
+    live: &mut LiveTypes,
+) -> Result<(), AllocError>
     requires { (x : ℕ) → Contains (indices roots.items) x → x < length resolve.now.types }
-    ensures added { OnOk result (AddsListings resolve.now
-        (indices live.old.keys) (indices live.new.keys) (indices roots.items)) }
-    ensures begun { OnErr result (AddsPartly resolve.now
-        (indices live.old.keys) (indices live.new.keys) (indices roots.items)) }
-    ensures kept { Keeps (indices live.old.keys) (indices live.new.keys) }
+    ensures added { let known = known_types known.entry in OnOk result (AddsListings resolve.now
+        (known ++ live.old) (known ++ live.new) (indices roots.items)) }
+    ensures begun { let known = known_types known.entry in OnErr result (AddsPartly resolve.now
+        (known ++ live.old) (known ++ live.new) (indices roots.items)) }
+    ensures kept { Keeps live.old live.new }
 {
     resolve.well_formedness();
     resolve.listings_unique();
-    let alloc = *live.allocator();
+    let alloc = live.allocator();
     let mut steps = Vec::new(alloc);
     enter_all(roots, &mut steps)?;
     'steps: while let Some(step) = steps.pop() {
         match step {
             TypeStep::Leave(id) => {
-                live.insert(id)?;
+                leave(known, live, id)?;
             }
             TypeStep::Enter(id) => {
-                if !live.contains(&id) {
+                if !is_there(known, live, id) {
                     steps.push(TypeStep::Leave(id))?;
                     let ids = referenced_ids(alloc, &resolve.type_def(id).kind)?;
                     enter_all(ids, &mut steps)?;
@@ -54,6 +91,10 @@ fn add(resolve: &Resolve, roots: Vec<TypeId>, live: &mut IndexSet<TypeId>) -> Re
 /// without repeats: the types that are not there yet. What is there stays at the front, as it is. This is so where all
 /// types were added from one `Resolve`; of types from several, only what is there is sure to stay.
 ///
+/// Beside the types in order a list has one byte for each index up to the largest that was added. To ask for a type, and
+/// to append one, is one access, whatever the ids are. A call that adds types takes time linear in the references of what
+/// it adds and of the types that it appends, and in the bytes for larger indices.
+///
 /// ```ignore
 /// let mut live = LiveTypes::new(alloc);
 /// live.add_func(&resolve, &function)?;
@@ -64,16 +105,21 @@ fn add(resolve: &Resolve, roots: Vec<TypeId>, live: &mut IndexSet<TypeId>) -> Re
 /// ```
 #[derive(Drop)]
 pub struct LiveTypes {
-    types: IndexSet<TypeId>,
+    types: Vec<TypeId>,
+    /// For each index up to the largest that was added, whether its type is in the list.
+    there: Vec<bool>,
 }
 
 impl Model for LiveTypes {
     ghost use Rattle.std.specs.Prelude.{ℕ, List};
+    ghost use Rattle.wc_resolve.specs.Marks.{AreMarks};
     ghost use Rattle.wc_resolve.specs.Roots.{indices};
 
     ghost Value = { List ℕ };
 
-    ghost view = { λ live. indices live.types.keys };
+    ghost view = { λ live. indices live.types.items };
+
+    ghost invariant = { λ live. AreMarks live.there.items (indices live.types.items) };
 }
 
 impl LiveTypes {
@@ -81,23 +127,47 @@ impl LiveTypes {
     pub fn new(alloc: Global) -> LiveTypes
         ensures { result ≡ [] }
     {
-        LiveTypes {
-            types: IndexSet::new(alloc),
-        }
+        let types = Vec::new(alloc);
+        let there = Vec::new(alloc);
+        LiveTypes { types, there }
     }
 
     /// Whether the list has this type.
     pub fn contains(&self, id: TypeId) -> bool
         ensures { IsTrue result ↔ Contains self.now id.0 }
     {
-        self.types.contains(&id)
+        is_marked(&self.there, id)
     }
 
     /// The types in order.
     pub fn iter(&self) -> Copied<Iter<'_, TypeId>>
-        ensures { indices (copied_source result) ≡ self.now }
+        ensures { indices (iter_rest (copied_source result)) ≡ self.now }
     {
         self.types.iter().copied()
+    }
+
+    /// Removes all types, in time linear in how many there are. What was allocated is kept for later calls.
+    pub fn clear(&mut self)
+        ensures { self.new ≡ [] }
+    {
+        unmark(&mut self.there, &self.types);
+        self.types.clear();
+    }
+
+    /// The allocator that the list was made with.
+    fn allocator(&self) -> Global {
+        *self.types.allocator()
+    }
+
+    /// Appends a type.
+    fn push(&mut self, id: TypeId) -> Result<(), AllocError>
+        ensures ok { OnOk result (self.new ≡ self.old ++ id.0 ∷ []) }
+        ensures err { OnErr result (self.new ≡ self.old) }
+    {
+        make_room(&mut self.there, id)?;
+        self.types.push(id)?;
+        self.there[id.0 as usize] = true;
+        Ok(())
     }
 
     /// Adds a type after the types that it refers to. The id must be in range (`has_type`).
@@ -111,8 +181,8 @@ impl LiveTypes {
         ensures begun { OnErr result (AddsPartly resolve.now self.old self.new (id.0 ∷ [])) }
         ensures kept { Keeps self.old self.new }
     {
-        let roots = roots_of_id(*self.types.allocator(), id)?;
-        add(resolve, roots, &mut self.types)
+        let roots = roots_of_id(self.allocator(), id)?;
+        add(resolve, None, roots, self)
     }
 
     /// Adds a defined type as `add_type_id` does; a primitive type adds nothing. The id must be in range (`has_type`).
@@ -126,8 +196,8 @@ impl LiveTypes {
         ensures begun { OnErr result (AddsPartly resolve.now self.old self.new (type_roots ty)) }
         ensures kept { Keeps self.old self.new }
     {
-        let roots = roots_of_type(*self.types.allocator(), ty)?;
-        add(resolve, roots, &mut self.types)
+        let roots = roots_of_type(self.allocator(), ty)?;
+        add(resolve, None, roots, self)
     }
 
     /// Adds the types of a function: the resource of a static function, then the parameters, then the result. The ids
@@ -144,8 +214,8 @@ impl LiveTypes {
             (function_roots (function_view function.now))) }
         ensures kept { Keeps self.old self.new }
     {
-        let roots = roots_of_function(*self.types.allocator(), function)?;
-        add(resolve, roots, &mut self.types)
+        let roots = roots_of_function(self.allocator(), function)?;
+        add(resolve, None, roots, self)
     }
 
     /// Adds the types of an item of a world: of an interface its types and then those of its functions, of a function
@@ -164,7 +234,32 @@ impl LiveTypes {
         ensures kept { Keeps self.old self.new }
     {
         resolve.well_formedness();
-        let roots = roots_of_item(*self.types.allocator(), resolve, item)?;
-        add(resolve, roots, &mut self.types)
+        let roots = roots_of_item(self.allocator(), resolve, item)?;
+        add(resolve, None, roots, self)
+    }
+
+    /// Adds the types of an item of a world as `add_world_item` does, but for those that are known: the types of the item
+    /// are appended without repeats to what is known and to this list after it. All types to which known ones refer have
+    /// to be known too, as in each list that was made from this `Resolve`; so the types below known ones are not visited.
+    ///
+    /// # Errors
+    ///
+    /// `AllocError`: an allocation failed. The types that were added until then stay.
+    pub fn add_world_item_beside(
+        &mut self,
+        known: &LiveTypes,
+        resolve: &Resolve,
+        item: &WorldItem,
+    ) -> Result<(), AllocError>
+        requires { IsItemIn resolve.now (item_view item.now) }
+        ensures added { OnOk result (AddsListings resolve.now (known.now ++ self.old)
+            (known.now ++ self.new) (item_roots resolve.now (item_view item.now))) }
+        ensures begun { OnErr result (AddsPartly resolve.now (known.now ++ self.old)
+            (known.now ++ self.new) (item_roots resolve.now (item_view item.now))) }
+        ensures kept { Keeps self.old self.new }
+    {
+        resolve.well_formedness();
+        let roots = roots_of_item(self.allocator(), resolve, item)?;
+        add(resolve, Some(known), roots, self)
     }
 }

@@ -1,6 +1,6 @@
 //! Worlds, interfaces, types and packages that are well-formed, and the calls on them.
 
-ghost use Rattle.std.specs.Prelude.{◌≡◌, ◌≢◌, ◌↔◌, ◌<◌, [], false, IfErr, IfNone, IfOk, IfSome, IsTrue, OnOk, Some, length, map, slice_get, string_bytes};
+ghost use Rattle.std.specs.Prelude.{◌≡◌, ◌↔◌, ◌<◌, false, IfErr, IfNone, IfOk, IfSome, IsTrue, OnOk, Some, length, slice_get, string_bytes};
 ghost use Rattle.std.specs.Option.{IsSome, option_map};
 ghost use Rattle.semver.specs.Identifiers.{parts_text};
 ghost use Rattle.wc_resolve.specs.Contents.{holds_string, holds_string_or_list};
@@ -15,12 +15,14 @@ ghost use Rattle.wc_resolve.specs.Live.{listing_of, listing_rule};
 ghost use Rattle.wc_resolve.specs.ResolveParts.{parts_view};
 ghost use Rattle.wc_resolve.specs.Queries.{HasNoPackage, IsPackageAt, canonical_id, external_id, full_id, if_named, implemented, key_text, qualified_name};
 ghost use Rattle.wc_resolve.specs.Ranges.{AreNamesIn, IsItemIn, IsKeyIn};
+ghost use Rattle.wc_resolve.specs.Refusals.{IsRefusal};
 ghost use Rattle.wc_resolve.specs.Roots.{id_index};
 ghost use Rattle.wc_resolve.specs.Signatures.{flatten_functype, signature_view};
 ghost use Rattle.wc_resolve.specs.WellFormed.{IsUsable, IsWellFormed};
 
 use crate::canonical_ids::is_canonical_member_id;
 use crate::contents::type_has_text;
+use crate::explain::Refusal;
 use crate::futures::FuturesEntry;
 use crate::interface_ids::{canonical_member_id, member_id};
 use crate::packages::name_index;
@@ -35,6 +37,13 @@ use crate::{
 use std::alloc::{AllocError, Global};
 use std::marker::Model;
 
+/// Parts that are not well-formed, and why.
+#[derive(Drop)]
+pub struct RefusedParts {
+    pub parts: Parts,
+    pub refusal: Refusal,
+}
+
 /// Worlds, interfaces, types and packages that are well-formed, as `Resolve::build` checks. They can't be changed. The
 /// id of each is its index in its list of `Parts`.
 #[derive(Drop)]
@@ -43,7 +52,7 @@ pub struct Resolve {
     kept: Tables,
 }
 
-/// What a `Resolve` is made of: worlds, interfaces, types and packages. The id of each is its index in its list.
+/// The parts of a `Resolve`: worlds, interfaces, types and packages. The id of each is its index in its list.
 #[derive(Drop)]
 pub struct Parts {
     pub worlds: Vec<World>,
@@ -88,11 +97,30 @@ impl Resolve {
         ensures formed { IfOk result IsWellFormed }
         ensures fault { IfErr result (IsResolveCause (parts_view parts)) }
     {
-        let kept = check(alloc, &parts)?;
-        Ok(Resolve { parts, kept })
+        match check(alloc, &parts) {
+            Ok(kept) => Ok(Resolve { parts, kept }),
+            Err(refusal) => Err(refusal.fault),
+        }
     }
 
-    /// That the parts are well-formed, for proofs of callers. It does nothing when it runs.
+    /// As [`Resolve::build`]; but a call that fails says what its fault is about, and gives the parts back.
+    ///
+    /// # Errors
+    ///
+    /// As those of `build`.
+    pub fn build_explained(alloc: Global, parts: Parts) -> Result<Resolve, RefusedParts>
+        ensures ok { IfOk result (λ r. r ≡ parts_view parts) }
+        ensures formed { IfOk result IsWellFormed }
+        ensures given_back { IfErr result (λ e. e.parts ≡ parts) }
+        ensures refusal { IfErr result (λ e. IsRefusal (parts_view parts) e.refusal) }
+    {
+        match check(alloc, &parts) {
+            Ok(kept) => Ok(Resolve { parts, kept }),
+            Err(refusal) => Err(RefusedParts { parts, refusal }),
+        }
+    }
+
+    /// States that the parts are well-formed, for proofs of callers. It does nothing when it runs.
     pub fn well_formedness(&self)
         ensures { IsWellFormed self.now }
     {
@@ -136,8 +164,8 @@ impl Resolve {
         is_usable(&self.parts.types, &self.kept.resources, function)
     }
 
-    /// That the listing of each type (see `LiveTypes`) is the listings of the types that it refers to, in order, and
-    /// after them the type itself; and that no other lists follow this rule. For proofs of callers; it does nothing
+    /// States that the listing of each type (see `LiveTypes`) is the listings of the types that it refers to, in order,
+    /// and after them the type itself; and that no other lists follow this rule. For proofs of callers; it does nothing
     /// when it runs.
     pub fn listings_unique(&self)
         ensures made { Follows listing_rule self.now.types (listing_of self.now.types) }
@@ -146,9 +174,9 @@ impl Resolve {
         let _ = &self.kept;
     }
 
-    /// That the futures and streams of each type are those of the types that it contains by value, in order, or of its
-    /// target where it is an alias, and after them the type itself where it is one; and that no other lists follow this
-    /// rule. For proofs of callers; it does nothing when it runs.
+    /// States that the futures and streams of each type are those of the types that it contains by value, in order, or
+    /// of its target where it is an alias, and after them the type itself where it is one; and that no other lists
+    /// follow this rule. For proofs of callers; it does nothing when it runs.
     pub fn futures_unique(&self)
         ensures made { Follows futures_rule self.now.types (futures_of self.now.types) }
         ensures alone { FuturesUnique self.now.types }
@@ -156,7 +184,7 @@ impl Resolve {
         let _ = &self.kept;
     }
 
-    /// What is kept of the futures and streams of the type at this index.
+    /// The entry of the type at this index: its futures and streams, as they are kept.
     pub(crate) fn futures_entry(&self, id: TypeId) -> &FuturesEntry
         requires { id.0 < length self.now.types }
         ensures { IsFuturesEntry self.now.types id.0 (entry_view result.now) }
@@ -164,9 +192,9 @@ impl Resolve {
         &self.kept.futures[id.0 as usize]
     }
 
-    /// That the flat types of each type are those of the Canonical ABI ("Flattening"), by the flat types of the types
-    /// that it refers to; and that no other lists follow this rule. For proofs of callers; it does nothing when it
-    /// runs.
+    /// States that the flat types of each type are those of the Canonical ABI ("Flattening"), by the flat types of the
+    /// types that it refers to; and that no other lists follow this rule. For proofs of callers; it does nothing when
+    /// it runs.
     pub fn flat_types_unique(&self)
         ensures made { Follows flat_rule self.now.types (flat_of self.now.types) }
         ensures alone { FlatTypesUnique self.now.types }
@@ -174,9 +202,9 @@ impl Resolve {
         let _ = &self.kept;
     }
 
-    /// That a type holds strings where it is one, or one of the types that it contains by value, or its target where it
-    /// is an alias, holds some, and so of strings or lists, but that a list holds these too; and that no other answers
-    /// follow this rule. For proofs of callers; it does nothing when it runs.
+    /// States that a type holds strings where it is one, or one of the types that it contains by value, or its target
+    /// where it is an alias, holds some, and so of strings or lists, but that a list holds these too; and that no other
+    /// answers follow this rule. For proofs of callers; it does nothing when it runs.
     pub fn texts_unique(&self)
         ensures made { TextsFollow self.now.types }
         ensures alone { TextsUnique self.now.types }

@@ -1,9 +1,8 @@
 //! Core signatures: the core function type of a function (component model, Canonical ABI, "Flattening",
 //! `flatten_functype`).
 
-ghost use Rattle.std.specs.Prelude.{◌≡◌, ◌≤◌, ◌<◌, IfOk, OnOk, is_some, length};
+ghost use Rattle.std.specs.Prelude.{◌≡◌, ◌<◌, IfOk, is_some};
 ghost use Rattle.wc_resolve.specs.Flat.{flats_in};
-ghost use Rattle.wc_resolve.specs.Ranges.{IsFunctionIn};
 ghost use Rattle.wc_resolve.specs.Signatures.{flatten_functype, core_of, first_as_pointer, has_indirect_result, is_export, max_flat_params_of, passed_types, returned_types, result_pointer, signature_view, is_exported_method};
 ghost use Rattle.wc_resolve.specs.Views.{function_view};
 

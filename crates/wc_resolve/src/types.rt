@@ -31,7 +31,7 @@ pub enum Handle {
     Borrow(TypeId),
 }
 
-/// What a defined type is. `Resolve::build` refuses flags without labels, and variants and enums without cases.
+/// The definition of a type. `Resolve::build` refuses flags without labels, and variants and enums without cases.
 #[derive(Debug, Drop)]
 pub enum TypeDefKind {
     /// Fields in order, each a name and a type.

@@ -1,41 +1,53 @@
 //! Whether parts are well-formed: one file for each rule, in the order of the faults.
 
-ghost use Rattle.std.specs.Prelude.{IfErr, IfOk, false, map, true};
+ghost use Rattle.std.specs.Prelude.{IfErr, IfOk, MatchOption, false, map, true};
 ghost use Rattle.wc_resolve.specs.ResolveParts.{parts_view};
 ghost use Rattle.wc_resolve.specs.Contents.{AreTextFlags};
-ghost use Rattle.wc_resolve.specs.Faults.{IsResolveCause, IsOrderCause};
+ghost use Rattle.wc_resolve.specs.Faults.{IsOrderCause};
 ghost use Rattle.wc_resolve.specs.Flat.{AreFlattened, lists};
 ghost use Rattle.wc_resolve.specs.Futures.{AreFuturesEntries, entry_view};
+ghost use Rattle.wc_resolve.specs.Places.{AreFlagsFor, DoAllFollow, IsBreach};
+ghost use Rattle.wc_resolve.specs.Refusals.{AreChecked, IsRefusal, IsRuleBroken};
 ghost use Rattle.wc_resolve.specs.Tables.{AreTables, IsOrder};
 ghost use Rattle.wc_resolve.specs.Ranges.{AreIdsInRange};
 ghost use Rattle.wc_resolve.specs.Resources.{AreResourceFlags};
 
 pub(crate) mod cases;
+mod first;
 pub(crate) mod keys;
 pub(crate) mod naming;
 pub(crate) mod order;
 pub(crate) mod package_names;
 pub(crate) mod ranges;
 pub(crate) mod resources;
+mod rules;
 pub(crate) mod spelling;
 mod type_test;
 
 use crate::contents::find_texts;
+use crate::explain::{Part, Refusal};
 use crate::flattening::flatten_all;
 use crate::futures::{FuturesEntry, futures_entries};
 use crate::{PackageName, Parts, ResolveFault, WasmType};
-use cases::has_no_empty_type;
-use keys::keys_match;
-use naming::are_named;
+use first::{first_interface, first_package, first_type, first_world};
 use order::{OrderFault, children_first};
 use package_names::distinct_package_names;
-use ranges::are_ids_in_range;
-use resources::{find_resources, has_no_resource_by_value};
-use spelling::are_names_spelled;
+use resources::find_resources;
 use std::alloc::{AllocError, Global};
 use wc_maps::Set;
 
-/// What a `Resolve` keeps beside its parts.
+/// The tables that the check of parts makes on its way.
+#[derive(Drop)]
+pub(crate) struct Checked {
+    /// The indices of all types, each after those that it refers to.
+    order: Vec<usize>,
+    /// For each type whether it is a resource, or an alias of one.
+    resources: Vec<bool>,
+    /// The names of the packages, in order.
+    package_names: Set<PackageName>,
+}
+
+/// The tables that a `Resolve` keeps beside its parts.
 #[derive(Drop)]
 pub(crate) struct Tables {
     /// The indices of all types, each after those that it refers to.
@@ -52,6 +64,52 @@ pub(crate) struct Tables {
     pub(crate) texts: Vec<bool>,
     /// The names of the packages, in order.
     pub(crate) package_names: Set<PackageName>,
+}
+
+/// The first part that breaks the rule of a fault.
+fn first_breach(
+    alloc: Global,
+    parts: &Parts,
+    fault: ResolveFault,
+    resource_flags: &[bool],
+) -> Result<Option<Part>, AllocError>
+    requires { AreFlagsFor (parts_view parts.now) fault resource_flags.now }
+    ensures { let r = parts_view parts.now in
+        IfOk result (λ o. MatchOption o (DoAllFollow r fault) (IsBreach r fault)) }
+{
+    if let Some(index) = first_world(parts, fault, resource_flags, &parts.worlds) {
+        return Ok(Some(Part::World(index)));
+    }
+    if let Some(index) = first_interface(parts, fault, resource_flags, &parts.interfaces) {
+        return Ok(Some(Part::Interface(index)));
+    }
+    if let Some(index) = first_type(alloc, parts, fault, resource_flags, &parts.types)? {
+        return Ok(Some(Part::TypeDef(index)));
+    }
+    match first_package(parts, fault, &parts.packages) {
+        Some(index) => Ok(Some(Part::Package(index))),
+        None => Ok(None),
+    }
+}
+
+/// Checks the rule of a fault, of all parts. Only that of `ByValueResource` reads the flags of the types that are resources.
+fn check_rule(
+    alloc: Global,
+    parts: &Parts,
+    fault: ResolveFault,
+    resource_flags: &[bool],
+) -> Result<(), Refusal>
+    requires { AreFlagsFor (parts_view parts.now) fault resource_flags.now }
+    ensures kept { IfOk result (λ _. DoAllFollow (parts_view parts.now) fault) }
+    ensures refusal { IfErr result (IsRuleBroken (parts_view parts.now) fault) }
+{
+    match first_breach(alloc, parts, fault, resource_flags)? {
+        Some(part) => Err(Refusal {
+            fault,
+            place: Some(part),
+        }),
+        None => Ok(()),
+    }
 }
 
 /// The indices of all types, each after those that it refers to.
@@ -120,49 +178,52 @@ fn texts_of_parts(alloc: Global, parts: &Parts, order: &[usize]) -> Result<Vec<b
     find_texts(alloc, &parts.types, order, true)
 }
 
+/// Checks that the parts are well-formed.
+///
+/// # Errors
+///
+/// The first fault of `Resolve::build`, and what it is about.
+pub(crate) fn well_formed(alloc: Global, parts: &Parts) -> Result<Checked, Refusal>
+    ensures checked { IfOk result (AreChecked (parts_view parts.now)) }
+    ensures refusal { IfErr result (IsRefusal (parts_view parts.now)) }
+{
+    check_rule(alloc, parts, ResolveFault::IdRange, &[])?;
+    let order = order_of(alloc, parts)?;
+    check_rule(alloc, parts, ResolveFault::Unnamed, &[])?;
+    check_rule(alloc, parts, ResolveFault::KeyMismatch, &[])?;
+    let package_names = distinct_package_names(alloc, parts)?;
+    check_rule(alloc, parts, ResolveFault::BadCharacter, &[])?;
+    let resources = resource_flags_of(alloc, parts, &order)?;
+    check_rule(alloc, parts, ResolveFault::ByValueResource, &resources)?;
+    check_rule(alloc, parts, ResolveFault::Empty, &[])?;
+    Ok(Checked {
+        order,
+        resources,
+        package_names,
+    })
+}
+
 /// Checks that the parts are well-formed, and makes what is kept beside them.
 ///
 /// # Errors
 ///
-/// The faults of `Resolve::build`.
-pub(crate) fn check(alloc: Global, parts: &Parts) -> Result<Tables, ResolveFault>
+/// The first fault of `Resolve::build`, and what it is about.
+pub(crate) fn check(alloc: Global, parts: &Parts) -> Result<Tables, Refusal>
     ensures kept { IfOk result (AreTables (parts_view parts.now)) }
-    ensures fault { IfErr result (IsResolveCause (parts_view parts.now)) }
+    ensures refusal { IfErr result (IsRefusal (parts_view parts.now)) }
 {
-    if !are_ids_in_range(alloc, parts)? {
-        return Err(ResolveFault::IdRange);
-    }
-    let order = order_of(alloc, parts)?;
-    if !are_named(parts) {
-        return Err(ResolveFault::Unnamed);
-    }
-    if !keys_match(parts) {
-        return Err(ResolveFault::KeyMismatch);
-    }
-    let Some(package_names) = distinct_package_names(alloc, parts)? else {
-        return Err(ResolveFault::NameClash);
-    };
-    if !are_names_spelled(parts) {
-        return Err(ResolveFault::BadCharacter);
-    }
-    let resources = resource_flags_of(alloc, parts, &order)?;
-    if !has_no_resource_by_value(alloc, parts, &resources)? {
-        return Err(ResolveFault::ByValueResource);
-    }
-    if !has_no_empty_type(parts) {
-        return Err(ResolveFault::Empty);
-    }
-    let flats = flatten_parts(alloc, parts, &order)?;
-    let futures = futures_of_parts(alloc, parts, &order)?;
-    let strings = strings_of_parts(alloc, parts, &order)?;
-    let texts = texts_of_parts(alloc, parts, &order)?;
+    let checked = well_formed(alloc, parts)?;
+    let flats = flatten_parts(alloc, parts, &checked.order)?;
+    let futures = futures_of_parts(alloc, parts, &checked.order)?;
+    let strings = strings_of_parts(alloc, parts, &checked.order)?;
+    let texts = texts_of_parts(alloc, parts, &checked.order)?;
     Ok(Tables {
-        order,
-        resources,
+        order: checked.order,
+        resources: checked.resources,
         flats,
         futures,
         strings,
         texts,
-        package_names,
+        package_names: checked.package_names,
     })
 }

@@ -58,7 +58,7 @@ fn put_borrowed(alloc: Global, bytes: &[u8], out: &mut Lines) {
     put_deduped(ModuleImportMap::new(alloc, CowSlice::Borrowed(bytes)), out);
 }
 
-/// What deduping answers: a module, and the map of its imports.
+/// The answer of deduping: a module, and the map of its imports.
 type Deduped<'a> = Result<(CowSlice<'a, u8>, Option<ModuleImportMap>), DedupeFault>;
 
 fn put_deduped(answer: Deduped<'_>, out: &mut Lines) {
@@ -151,7 +151,7 @@ fn put_import_section(
     }
 }
 
-/// What `dedupe` answers with the imports of the module that it wrote.
+/// Puts the answer of `dedupe` with the imports of the module that it wrote.
 fn put_deduped_imports(alloc: Global, bytes: &[u8], out: &mut Lines) {
     match ModuleImportMap::new(alloc, CowSlice::Borrowed(bytes)) {
         Ok((deduped, map)) => put_sections(alloc, deduped.as_slice(), &map, out),

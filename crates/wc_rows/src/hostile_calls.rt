@@ -161,7 +161,7 @@ fn types_of(alloc: Global, count: u32) -> Result<Vec<u8>, AllocError> {
     Ok(out)
 }
 
-/// A count of functions, and their bodies.
+/// The content of a code section: each function but the last calls the next one.
 fn bodies_of(alloc: Global, count: u32) -> Result<Vec<u8>, AllocError> {
     let mut out = Vec::new(alloc);
     put_number(&mut out, count as u64)?;
@@ -244,7 +244,7 @@ fn put_insert<L: LiveSet>(set: &mut L, had: &mut BitVec, number: u32, out: &mut 
     }
 }
 
-/// That memory ran out, or the first number that is in one of two sets alone.
+/// Puts that memory ran out, or the first number that is in one of two sets alone.
 fn put_kept<L: LiveSet>(set: &L, had: &BitVec, out: &mut Lines) {
     for number in 0..NUMBERS {
         if set.contains(number) != had.contains(number) {

@@ -4,7 +4,7 @@
 use std::alloc::Global;
 use wc_read::{BlockType, Immediates, Index, IndexKind, Instr, Opcode, Space};
 
-/// What all code shares, and the calls that wait.
+/// The state that all code shares, and the calls that wait.
 #[derive(Drop)]
 pub struct Machine {
     alloc: Global,
@@ -44,7 +44,7 @@ pub enum Outcome {
     NoMemory,
 }
 
-/// What an operator does.
+/// The effect of an operator.
 #[derive(Clone, Copy)]
 enum Step {
     GoesOn,
@@ -58,6 +58,7 @@ enum Step {
 const NO_MEANING: Step = Step::Ends(Outcome::NoMeaning);
 
 impl Machine {
+    /// A machine without globals, whose memory has no pages of 2 to `page_size_log2` bytes yet.
     pub fn new(alloc: Global, page_size_log2: u32) -> Machine {
         Machine {
             alloc,
@@ -118,7 +119,7 @@ impl Machine {
         }
     }
 
-    /// Runs code from where a call is.
+    /// Goes on in a frame, up to a call, a stop or the end of the code.
     fn run(&mut self, code: &[Instr<'_>], mut frame: Frame) -> Outcome {
         match self.walk(code, &mut frame) {
             Step::Calls(func, args) => self.wait(frame, func, args),

@@ -22,7 +22,7 @@ pub enum Call {
     Machine,
 }
 
-/// Appends the answer of a call.
+/// Answers with code that trimming adds, or with what the small machine does by a row's steps.
 pub fn answer(alloc: Global, call: Call, row: &Row<'_>, out: &mut Lines) {
     match call {
         Call::Growing => put_code(growing_body(alloc, &row.arguments, out), out),
@@ -151,7 +151,8 @@ fn put_steps_of(alloc: Global, row: &Row<'_>, bytes: &[u8], steps: &[&str], out:
     }
 }
 
-/// Runs code by steps.
+/// Runs a body on a new machine, step by step. The row's first argument is the exponent of its page
+/// size.
 fn put_run(alloc: Global, row: &Row<'_>, body: &Body<'_>, steps: &[&str], out: &mut Lines) {
     let word = row.arguments.first().copied().unwrap_or("");
     let mut machine = Machine::new(alloc, number(word, out));
@@ -160,7 +161,7 @@ fn put_run(alloc: Global, row: &Row<'_>, body: &Body<'_>, steps: &[&str], out: &
     }
 }
 
-/// What a line does.
+/// The step that a line is.
 #[derive(Clone, Copy)]
 enum Step {
     Globals,

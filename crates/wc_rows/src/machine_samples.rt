@@ -18,13 +18,13 @@ struct Numbers {
 }
 
 impl Numbers {
-    /// The next number, of 24 bits.
+    /// The next number of a linear congruential generator, below 2^24.
     fn next(&mut self) -> u32 {
         self.seed = self.seed.wrapping_mul(1664525).wrapping_add(1013904223);
         self.seed >> 8
     }
 
-    /// A number, mostly this one.
+    /// This number in seven of eight cases, and another one else.
     fn mostly(&mut self, number: u32) -> u32 {
         let other = self.next();
         if other % 8 == 0 { other } else { number }
@@ -38,7 +38,7 @@ pub enum Call {
     Lazy,
 }
 
-/// Appends the answer of a call.
+/// Answers a row that has a seed and a count of runs.
 pub fn answer(alloc: Global, call: Call, row: &Row<'_>, out: &mut Lines) {
     match (number(row, 0), number(row, 1)) {
         (Some(seed), Some(count)) => put_samples(alloc, call, seed, count, out),
@@ -111,7 +111,7 @@ fn is_grown(outcome: Outcome, pages: u64, old: u64, page_size_log2: u32) -> bool
     }
 }
 
-/// What the growing realloc answers, and the size of the memory then.
+/// The answer of the growing realloc, and the size of the memory then.
 fn grown(
     alloc: Global,
     page_size_log2: u32,
@@ -258,8 +258,8 @@ fn calls_of_event(
     }
 }
 
-/// What an event makes of a run: three of eight are calls of the code, two are answers, one is a trap, and in two other
-/// code writes the state.
+/// The outcome of an event in a run: three of eight are calls of the code, two are answers, one is a trap, and in two
+/// other code writes the state.
 fn event_outcome(
     machine: &mut Machine,
     numbers: &mut Numbers,

@@ -8,6 +8,7 @@ use wc_lines::values::{
 use wc_maps::OrderedMap;
 use wc_read::{Frames, Func, FuncType, Global, Memory, Module, Table};
 
+/// A line for each section: its id, and its content in hex.
 pub fn put_frames(out: &mut Lines, frames: &Frames<'_>) {
     for section in &frames.sections {
         out.number("section ", section.id as u64);

@@ -6,6 +6,7 @@ use wc_read::{
     BlockType, Body, Form, Immediates, Index, IndexKind, Init, Instr, MemArg, Opcode, Refs, Space,
 };
 
+/// The word of an index space in rows, as `func`.
 pub fn space_word(space: Space) -> &'static str {
     match space {
         Space::Types => "type",
@@ -36,6 +37,7 @@ pub fn put_opcode(out: &mut Lines, opcode: Opcode) {
     }
 }
 
+/// Appends ` block` and `empty`, a value's type or the index of a type.
 pub fn put_block_type(out: &mut Lines, ty: &BlockType) {
     match ty {
         BlockType::Empty => out.push_str(" block empty"),
@@ -47,6 +49,7 @@ pub fn put_block_type(out: &mut Lines, ty: &BlockType) {
     }
 }
 
+/// Appends the kind and the number of an index.
 pub fn put_index(out: &mut Lines, index: &Index) {
     out.push_str(" ");
     out.push_str(kind_name(index.kind));
@@ -67,11 +70,12 @@ fn put_address(out: &mut Lines, address: &MemArg) {
     out.number(" offset ", address.offset);
 }
 
+/// Appends ` lane N`.
 pub fn put_lane(out: &mut Lines, lane: u8) {
     out.number(" lane ", lane as u64);
 }
 
-/// What comes after an operator's code, with a space at the front.
+/// Puts the immediates after an operator's code, with a space at the front.
 pub fn put_immediates(out: &mut Lines, immediates: &Immediates<'_>) {
     match immediates {
         Immediates::None => {}
@@ -105,7 +109,7 @@ pub fn put_immediates(out: &mut Lines, immediates: &Immediates<'_>) {
     }
 }
 
-/// A line for each operator.
+/// A line for each operator: its code and its immediates.
 fn put_operators(out: &mut Lines, operators: &[Instr<'_>]) {
     for operator in operators {
         out.push_str("operator ");
@@ -115,10 +119,12 @@ fn put_operators(out: &mut Lines, operators: &[Instr<'_>]) {
     }
 }
 
+/// A line for each operator of a constant expression.
 pub fn put_init(out: &mut Lines, init: &Init<'_>) {
     put_operators(out, &init.operators);
 }
 
+/// A line for each run of locals, then one for each operator.
 pub fn put_body(out: &mut Lines, body: &Body<'_>) {
     for run in &body.locals {
         out.number("locals ", run.count as u64);
@@ -141,6 +147,7 @@ fn put_reference(out: &mut Lines, word: &str, reference: Option<(Space, u32)>) {
     out.end();
 }
 
+/// Appends the items that an operator names, two at most.
 pub fn put_refs(out: &mut Lines, refs: &Refs) {
     put_reference(out, "first ", refs.first);
     put_reference(out, "second ", refs.second);

@@ -96,7 +96,7 @@ fn answer_init(alloc: Global, bytes: &[u8], out: &mut Lines) {
     }
 }
 
-/// The calls on a body.
+/// Reads a body, and answers a call on it; or answers the fault.
 fn answer_body(alloc: Global, call: Call, bytes: &[u8], out: &mut Lines) {
     match read_body(alloc, bytes) {
         Ok(body) => put_of_body(call, &body, out),
@@ -112,7 +112,7 @@ fn put_of_body(call: Call, body: &Body<'_>, out: &mut Lines) {
     }
 }
 
-/// What a body's first operator refers to.
+/// Puts the items that a body's first operator refers to.
 fn put_first_refs(body: &Body<'_>, out: &mut Lines) {
     match body.operators.first() {
         Some(operator) => put_refs(out, &refs(operator)),

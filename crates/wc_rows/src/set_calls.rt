@@ -14,7 +14,7 @@ pub enum Call {
     Rank,
 }
 
-/// Appends the answer of a call on a set.
+/// Answers a row on a `BitVec` or a `RangeSet`, or on a rank in one.
 pub fn answer(alloc: Global, call: Call, row: &Row<'_>, out: &mut Lines) {
     match call {
         Call::BitVec => answer_bit_vec(alloc, row, out),
@@ -23,17 +23,41 @@ pub fn answer(alloc: Global, call: Call, row: &Row<'_>, out: &mut Lines) {
     }
 }
 
-/// `bit_vec`, with lines `insert NUMBER` and `contains NUMBER`: a line for what each answers.
+/// `bit_vec`, with lines `insert NUMBER`, `contains NUMBER` and `below NUMBER`: a line for what each answers.
 fn answer_bit_vec(alloc: Global, row: &Row<'_>, out: &mut Lines) {
     let mut set = BitVec::new(alloc);
-    put_steps(&mut set, &row.input, out);
+    put_steps(alloc, &mut set, &row.input, out);
 }
 
-/// `range_set`, with the same lines: what each answers, and then the ranges.
+/// `range_set`, with the same lines and `extend NUMBER..`: what each answers, and then the ranges.
 fn answer_range_set(alloc: Global, row: &Row<'_>, out: &mut Lines) {
     let mut set = RangeSet::new(alloc);
-    put_steps(&mut set, &row.input, out);
+    for line in &row.input {
+        match line.strip_prefix("extend ") {
+            Some(numbers) => end_answer(put_extended(alloc, &mut set, numbers, out), out),
+            None => put_line(alloc, &mut set, line, out),
+        }
+    }
     put_ranges(set.ranges(), out);
+}
+
+/// Puts numbers into a set at once, and answers `ok`.
+fn put_extended(
+    alloc: Global,
+    set: &mut RangeSet,
+    numbers: &str,
+    out: &mut Lines,
+) -> Result<(), Stop> {
+    let mut listed = Vec::new(alloc);
+    for word in numbers.split_whitespace() {
+        match word.parse::<u32>() {
+            Ok(number) => listed.push(number)?,
+            Err(_) => return Err(bad_row(out, "no number", word)),
+        }
+    }
+    set.extend(&listed)?;
+    out.push_str("ok\n");
+    Ok(())
 }
 
 fn put_ranges(ranges: &[(u32, u32)], out: &mut Lines) {
@@ -46,24 +70,31 @@ fn put_ranges(ranges: &[(u32, u32)], out: &mut Lines) {
     out.end();
 }
 
-fn put_steps<L: LiveSet>(set: &mut L, lines: &[&str], out: &mut Lines) {
+fn put_steps<L: LiveSet>(alloc: Global, set: &mut L, lines: &[&str], out: &mut Lines) {
     for line in lines {
-        let (word, number) = line.split_once(' ').unwrap_or((*line, ""));
-        match number.parse::<u32>() {
-            Ok(number) => put_step(set, word, number, out),
-            Err(_) => {
-                let _ = bad_row(out, "no step of a set", line);
-            }
+        put_line(alloc, set, line, out);
+    }
+}
+
+/// Answers the step of a line.
+fn put_line<L: LiveSet>(alloc: Global, set: &mut L, line: &str, out: &mut Lines) {
+    let (word, number) = line.split_once(' ').unwrap_or((line, ""));
+    match number.parse::<u32>() {
+        Ok(number) => put_step(alloc, set, word, number, out),
+        Err(_) => {
+            let _ = bad_row(out, "no step of a set", line);
         }
     }
 }
 
-/// What a step answers.
-fn put_step<L: LiveSet>(set: &mut L, word: &str, number: u32, out: &mut Lines) {
+/// Answers `insert N`, `contains N` or `below N`.
+fn put_step<L: LiveSet>(alloc: Global, set: &mut L, word: &str, number: u32, out: &mut Lines) {
     if word == "insert" {
         put_insert(set, number, out);
     } else if word == "contains" {
         put_flag(set.contains(number), out);
+    } else if word == "below" {
+        put_below(alloc, set, number, out);
     } else {
         let _ = bad_row(out, "no step of a set", word);
     }
@@ -74,6 +105,22 @@ fn put_insert<L: LiveSet>(set: &mut L, number: u32, out: &mut Lines) {
         Ok(is_new) => put_flag(is_new, out),
         Err(_) => out.lack_memory(),
     }
+}
+
+/// Answers the numbers of a set below a bound, in ascending order.
+fn put_below<L: LiveSet>(alloc: Global, set: &L, bound: u32, out: &mut Lines) {
+    match set.numbers_below(alloc, bound) {
+        Ok(numbers) => put_numbers(&numbers, out),
+        Err(_) => out.lack_memory(),
+    }
+}
+
+fn put_numbers(numbers: &[u32], out: &mut Lines) {
+    out.push_str("numbers");
+    for number in numbers {
+        out.number(" ", *number as u64);
+    }
+    out.end();
 }
 
 /// `true` or `false`, on a line.
@@ -112,7 +159,7 @@ fn put_each_rank(ranks: &Ranks, numbers: &[&str], out: &mut Lines) {
     }
 }
 
-/// The ranks in the set of the numbers in lines.
+/// Inserts the numbers of these lines into a new set, and ranks them.
 fn ranks_of<L: LiveSet>(alloc: Global, lines: &[&str], out: &mut Lines) -> Result<Ranks, Stop> {
     let mut set = L::new(alloc);
     for line in lines {

@@ -23,7 +23,7 @@ pub enum Call {
     EachFailing,
 }
 
-/// Appends the answer of a call of a sink.
+/// Answers a row on a sink over bytes, or over a writer that fails.
 pub fn answer(alloc: Global, call: Call, row: &Row<'_>, out: &mut Lines) {
     match call {
         Call::Writer => answer_writer(alloc, row, out),

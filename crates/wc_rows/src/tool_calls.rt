@@ -183,7 +183,7 @@ fn put_trim_to(alloc: Global, exports: &[String], input: &[u8], out: &mut Lines)
     put_executed(alloc, &command, input, out);
 }
 
-/// What a command prints, and its answer.
+/// Puts the text that a command prints, and its answer.
 fn put_executed(alloc: Global, command: &Command<'_>, input: &[u8], out: &mut Lines)
     requires { IsExecutable (command_value command.now) }
 {
@@ -217,6 +217,7 @@ fn put_quoted_lines(out: &mut Lines, text: &str) {
     }
 }
 
+/// Appends the file that a tool wrote, `no bytes`, or the tool's fault.
 pub fn put_answer(out: &mut Lines, answer: &Result<Option<Vec<u8>>, ToolFault>) {
     match answer {
         Ok(Some(bytes)) => put_bytes_lines(out, "bytes", bytes),
@@ -258,7 +259,7 @@ impl FileStore for RowFiles<'_> {
     }
 }
 
-/// What a program that a row runs prints to.
+/// The output of a program that a row runs.
 #[derive(Drop)]
 struct Printed {
     bytes: Vec<u8>,

@@ -34,7 +34,7 @@ pub enum Call {
     Edited,
 }
 
-/// Appends the answer of a call.
+/// Reads a row's bytes, and answers a call on the module that they are.
 pub fn answer(alloc: Global, call: Call, row: &Row<'_>, out: &mut Lines) {
     if let Ok(bytes) = bytes_of(alloc, &row.input, out) {
         answer_on_bytes(alloc, call, row, &bytes, out);
@@ -152,7 +152,7 @@ struct Waiting {
     level: u32,
 }
 
-/// The lines of an item's unfolding.
+/// A line for each item that an item names, directly or not, down to a depth, and `..` below it.
 fn put_unfolding(source: &Source<'_, '_>, item: (Space, u32), depth: u32, out: &mut Lines) {
     let mut left = Vec::new(source.alloc);
     push_waiting(&mut left, item, 0, out);
@@ -195,7 +195,7 @@ fn push_named(left: &mut Vec<Waiting>, named: &[(Space, u32)], level: u32, out: 
     }
 }
 
-/// Lines at a level.
+/// Appends the lines of a text, each two blanks further in for each level.
 fn put_lines(out: &mut Lines, level: u32, text: &str) {
     for line in text.lines() {
         put_spaces(out, level);
@@ -381,7 +381,7 @@ fn name_some(item: Option<(Space, u32)>, entry: &mut Entry) {
     }
 }
 
-/// What comes after an operator's code, without indices of items, and the types that a `select` names.
+/// Puts the immediates after an operator's code, without indices of items, and the types that a `select` names.
 fn put_blank(immediates: &Immediates<'_>, entry: &mut Entry) {
     match immediates {
         Immediates::ValTypes(types) => {

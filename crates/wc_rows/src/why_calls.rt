@@ -28,7 +28,7 @@ const SPACES: [(&str, Space); 5] = [
     ("global", Space::Globals),
 ];
 
-/// Appends the answer of a call.
+/// Answers with the chain to an item, or with those to all imports.
 pub fn answer(alloc: Global, call: Call, row: &Row<'_>, out: &mut Lines) {
     let answered = match call {
         Call::Item => answer_item(alloc, row, out),

@@ -60,7 +60,7 @@ pub fn put_written(out: &mut Lines, written: &Result<Vec<u8>, WriteFault>) {
     }
 }
 
-/// What an appending call answered.
+/// Appends nothing where a call that appends bytes did, and else its fault.
 fn put_outcome(out: &mut Lines, answer: Result<(), WriteFault>) {
     match answer {
         Ok(()) => {}
@@ -151,7 +151,7 @@ fn put_appended_section(
     }
 }
 
-/// The text of the body that the bytes are.
+/// Reads a body, and answers with what is written of it.
 fn put_body_text(alloc: Global, bytes: &[u8], out: &mut Lines) {
     match read_body(alloc, bytes) {
         Ok(body) => put_written_body(alloc, &body, out),
@@ -179,7 +179,7 @@ fn answer_bodies(alloc: Global, bytes: &[u8], out: &mut Lines) {
     }
 }
 
-/// The text of the module that the bytes are.
+/// Reads a module, and answers with what is written of it.
 fn answer_module(alloc: Global, bytes: &[u8], out: &mut Lines) {
     match built_of(alloc, bytes) {
         Ok(built) => put_module_text(alloc, &built, out),

@@ -1,6 +1,7 @@
 pub mod TestLemmas
 pub mod ListLemmas
 pub mod WorldLemmas
+pub mod WorldPartLemmas
 pub mod KeyListLemmas
 pub mod KeyNameLemmas
 pub mod FirstLemmas

@@ -1,6 +1,7 @@
 pub mod Texts
 pub mod Faults
 pub mod Worlds
+pub mod WorldParts
 pub mod Keys
 pub mod Requests
 pub mod KeyNames

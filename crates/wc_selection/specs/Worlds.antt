@@ -25,6 +25,16 @@ package_name_of d index =
     option_and_then (λ (p : Option ℕ). option_and_then (λ (id : ℕ). option_map (λ (q : PackageView). q.name) (slice_get d.parts.packages id)) p)
     (slice_get d.world_packages index)
 
+-- the full name of a world of this package: `namespace:package/world`, with the version of the package if it has one; of no
+-- package its own
+abbrev pub name_in : Option PackageNameView → List ℕ → List ℕ
+name_in None world = world
+name_in (Some p) world = member_text parts_text p world
+
+-- that of the world at an index
+abbrev pub world_name : DocumentView → ℕ → List ℕ
+world_name d index = option_map_or (λ (w : WorldView). name_in (package_name_of d index) w.name) (slice_get d.parts.worlds index) []
+
 -- `namespace:package/world`, with the version of the package if it has one
 abbrev pub is_full_name : PackageNameView → List ℕ → List ℕ → Bool
 is_full_name p world text = bytes_eq (member_text parts_text p world) text

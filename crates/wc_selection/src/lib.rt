@@ -1,4 +1,5 @@
-//! What a request names of a document: the world that is encoded, by its name (`select_world`); the keys of its exports
+//! What a request names of a document: the world that is encoded, by its name (`select_world`), or the one that has all
+//! others for parts (`whole_world`); the keys of its exports
 //! (`export_keys`), by their texts (`request_keys`, `check_keys`) or by the indices of their interfaces (`indexed_keys`);
 //! and the keys that the main module and each adapter have to export (`required_keys`). And the main module with its
 //! repeated imports renamed (`MainModule`), and the name that stands for no task hook (`no_task_hook`).
@@ -16,6 +17,7 @@ mod module_keys;
 mod requests;
 mod task_hook;
 mod texts;
+mod world_parts;
 mod worlds;
 
 pub use fault::RequestFault;
@@ -27,4 +29,5 @@ pub use module_keys::{check_keys, required_keys};
 pub use requests::{Exporter, KeyRequest};
 pub use task_hook::{no_export_is_hook, no_task_hook};
 pub use texts::{first_missing, first_repeated, has_text};
-pub use worlds::select_world;
+pub use world_parts::whole_world;
+pub use worlds::{select_world, world_name};

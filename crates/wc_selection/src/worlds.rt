@@ -6,7 +6,7 @@ ghost use Rattle.semver.specs.Identifiers.{parts_text};
 ghost use Rattle.wc_json.specs.Document.{document_view};
 ghost use Rattle.wc_resolve.specs.Queries.{joined_id, member_text};
 ghost use Rattle.wc_resolve.specs.Views.{package_name_view};
-ghost use Rattle.wc_selection.specs.Worlds.{ArePackagesIn, IsOnly, IsOnlyCause, IsPackageIn, IsSelected, IsWorldCause, is_full_name, is_named, is_short_name, package_name_of, worlds_named};
+ghost use Rattle.wc_selection.specs.Worlds.{ArePackagesIn, IsOnly, IsOnlyCause, IsPackageIn, IsSelected, IsWorldCause, is_full_name, is_named, is_short_name, package_name_of, world_name, worlds_named};
 
 use crate::fault::RequestFault;
 use std::alloc::{AllocError, Global};
@@ -49,6 +49,24 @@ pub fn select_world<'a>(
     }
     let short = worlds_named(alloc, document, NameForm::Short, name)?;
     only_world(&short, name)
+}
+
+/// The full name of the world at an index: `namespace:package/world`, with `@version` where the package has one. It is the
+/// world's own name where it says to be of no package, or of one that isn't there.
+///
+/// # Errors
+///
+/// `AllocError`: an allocation failed.
+pub fn world_name(alloc: Global, document: &Document, index: usize) -> Result<String, AllocError>
+    requires { index < length (document_view document.now).parts.worlds }
+    ensures { IfOk result (λ text. string_bytes text
+        ≡ world_name (document_view document.now) index) }
+{
+    let world = document.parts.worlds[index].name.as_str();
+    match package_name_of(document, index) {
+        Some(package) => full_name(alloc, package, world),
+        None => String::from_str(alloc, world),
+    }
 }
 
 /// Whether the packages that worlds say to be of are there.

@@ -149,7 +149,7 @@ struct Asked<'a> {
     names: &'a [Vec<u8>],
 }
 
-/// What a call answers to a message.
+/// Calls `plan`, `world` or `validate` on a message.
 fn answer_to(alloc: Global, call: Call, asked: &Asked<'_>, buffer: &mut [u8]) -> Answer {
     let (seed, message, modules) = (row_seed(), asked.message, asked.modules);
     match call {
@@ -228,7 +228,7 @@ fn slices_of(alloc: Global, names: &[Vec<u8>]) -> Result<Vec<&[u8]>, AllocError>
     Ok(slices)
 }
 
-/// The numbers of an answer, and all of the buffer.
+/// Lines for the fields of an answer, and for the whole buffer.
 fn put_answer(answer: &Answer, buffer: &[u8], out: &mut Lines) {
     let Answer {
         status,

@@ -49,8 +49,10 @@ fn answer_parse(alloc: Global, row: &Row<'_>, out: &mut Lines) -> Result<(), Sto
 }
 
 fn put_command(out: &mut Lines, command: &Command<'_>) {
-    let (worlds, world, main) = (command.worlds, command.world, command.main);
-    writeln!(out, "worlds {worlds:?}\nworld {world:?}\nmain {main:?}");
+    let (worlds, main) = (command.worlds, command.main);
+    writeln!(out, "worlds {worlds:?}");
+    put_value(out, "world", command.world);
+    writeln!(out, "main {main:?}");
     put_pairs(out, "adapter", &command.adapters);
     for key in &command.exports {
         writeln!(out, "export {key:?}");
@@ -75,14 +77,14 @@ fn put_pairs(out: &mut Lines, word: &str, pairs: &[(&str, &str)]) {
     }
 }
 
-/// The word of a flag that is set.
+/// A line with the word, if the flag is set.
 fn put_flag(out: &mut Lines, word: &str, is_set: bool) {
     if is_set {
         writeln!(out, "{word}");
     }
 }
 
-/// The word of an option that is given, and its value.
+/// A line with the word and the value in quotes, if there is one.
 fn put_value(out: &mut Lines, word: &str, value: Option<&str>) {
     if let Some(value) = value {
         writeln!(out, "{word} {value:?}");

@@ -61,7 +61,7 @@ fn run_named<R: Files + Print + Input + AllocGlobal>(
     compare(rt, name, text.as_str(), may_fail)
 }
 
-/// Prints each row with its answer.
+/// Reads a file of rows, and prints the name and the answer of each.
 fn print_answers<R: Print + AllocGlobal>(rt: &R, text: &str) -> io::Result<()> {
     let rows = Rows::read(rt.alloc(), text)?;
     for paragraph in &rows.rows {

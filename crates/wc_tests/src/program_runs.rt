@@ -1,4 +1,4 @@
-//! What a program that a row runs is run on: its files, and what it prints to.
+//! The files and outputs of a program that a row runs.
 
 use std::alloc::{AllocError, Global};
 use std::io::ErrorKind;
@@ -105,7 +105,7 @@ fn is_in(paths: &[&str], path: &str) -> bool {
 }
 
 impl<'a> RowFiles<'a> {
-    /// No files.
+    /// A store without files.
     fn new(alloc: Global) -> RowFiles<'a> {
         RowFiles {
             alloc,
@@ -165,7 +165,7 @@ fn add_line(
     Ok(())
 }
 
-/// What a program that a row runs prints to. It takes some puts and flushes, and fails at the next.
+/// The output of a program that a row runs. It takes some puts and flushes, and fails at the next.
 #[derive(Drop)]
 pub(crate) struct Printed {
     bytes: Vec<u8>,
@@ -209,7 +209,7 @@ impl Output for Printed {
     }
 }
 
-/// What a program that a row runs is run in.
+/// The shell of a program that a row runs.
 pub(crate) type RowShell<'a> = Shell<RowFiles<'a>, Printed, Printed>;
 
 /// The files of a row, and outputs that take so many puts and flushes: the first of what is printed, the second of
@@ -244,7 +244,7 @@ fn screen(alloc: Global, calls: u32) -> Result<Printed, AllocError> {
     })
 }
 
-/// These lines as texts.
+/// Copies lines, as the arguments of a program.
 pub(crate) fn texts_of(alloc: Global, lines: &[&str]) -> Result<Vec<String>, AllocError> {
     let mut texts = Vec::new(alloc);
     for line in lines {
@@ -253,7 +253,7 @@ pub(crate) fn texts_of(alloc: Global, lines: &[&str]) -> Result<Vec<String>, All
     Ok(texts)
 }
 
-/// What a program printed, its status, and the directory and each file that it made.
+/// Puts what a program printed, its status, and the directory and each file that it made.
 pub(crate) fn put_ended(status: u8, shell: &RowShell<'_>, out: &mut Lines) -> Result<(), Stop> {
     put_printed(out, "printed", &shell.out.bytes);
     put_faults(out, &shell.err.bytes, &shell.files)?;
@@ -262,7 +262,7 @@ pub(crate) fn put_ended(status: u8, shell: &RowShell<'_>, out: &mut Lines) -> Re
     Ok(())
 }
 
-/// What was printed, in lines after a word.
+/// Puts what was printed, in lines after a word.
 fn put_printed(out: &mut Lines, word: &str, printed: &[u8]) {
     let Ok(text) = str::from_utf8(printed) else {
         put_bytes_lines(out, word, printed);

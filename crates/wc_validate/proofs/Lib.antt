@@ -45,3 +45,4 @@ pub mod FirstFunctionLemmas
 pub mod PlaceLemmas
 pub mod MissingLemmas
 pub mod PlaceLawLemmas
+pub mod WorldInterfaceLemmas

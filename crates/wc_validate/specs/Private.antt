@@ -6,3 +6,4 @@ pub mod Externs
 pub mod Imports
 pub mod Requirements
 pub mod ValidationInputs
+pub mod WorldInterfaces

@@ -1,4 +1,4 @@
-//! What faults of core modules are about: the first import or export at which a fault's cause stands.
+//! The places of faults of core modules: the first import or export at which a fault's cause stands.
 
 ghost use Rattle.std.specs.Prelude.{◌≡◌, ◌↔◌, IfOk, IsTrue, option_copied};
 ghost use Rattle.wc_read.specs.Modules.{IsModule, module_value};
@@ -7,6 +7,7 @@ ghost use Rattle.wc_validate.specs.Places.{IsExplained};
 ghost use Rattle.wc_validate.specs.Private.Explained.{HasRecordedImports, IsMissingFrom, IsModuleExplained};
 ghost use Rattle.wc_validate.specs.Private.Imports.Contexts.{HasTypedImports};
 ghost use Rattle.wc_validate.specs.Private.ValidationInputs.{validation_input_of};
+ghost use Rattle.wc_validate.specs.Private.WorldInterfaces.{AreInterfacesFor};
 ghost use Rattle.wc_validate.specs.Validated.{adapter_input_of, main_input};
 
 mod exports;
@@ -22,9 +23,12 @@ use crate::explain::imports::{first_refused, import_place};
 use crate::explain::missing::{RecordedModule, missing_place};
 use crate::exports::classify::ExportContext;
 use crate::exports::record::record_exports;
+use crate::name_scope::Interfaces;
 use crate::place::Place;
 use crate::requirements::RequiredExports;
-use crate::validate::{ValidationInput, export_context, import_context, main_validation_input};
+use crate::validate::{
+    ValidationInput, export_context, import_context, interfaces_for, main_validation_input,
+};
 use std::alloc::{AllocError, Global};
 use wc_dedupe::ModuleImportMap;
 use wc_encoder::{ComponentEncoder, LibraryInfo};
@@ -39,7 +43,7 @@ pub(crate) fn is_memory(fault: &ValidateFault) -> bool
     matches!(fault, ValidateFault::Memory)
 }
 
-/// What is missing among the exports of a module, none of which is refused.
+/// The place of what is missing among the exports of a module, none of which is refused.
 fn explain_missing(
     alloc: Global,
     context: &ExportContext<'_>,
@@ -65,7 +69,7 @@ fn explain_missing(
     }
 }
 
-/// What a fault of the exports of a module is about, whose imports are recorded.
+/// The place of a fault of the exports of a module whose imports are recorded.
 fn explain_exports(
     alloc: Global,
     validation_input: ValidationInput<'_>,
@@ -89,7 +93,28 @@ fn explain_exports(
     }
 }
 
-/// What a fault of a module that is read is about.
+/// The place of a fault of a module that is read, among these interfaces of the encoder's world.
+fn explain_among(
+    alloc: Global,
+    validation_input: ValidationInput<'_>,
+    interfaces: &Interfaces<'_>,
+    module: &Module<'_>,
+    fault: &ValidateFault,
+) -> Result<Option<Place>, AllocError>
+    requires typed { HasTypedImports «module».now }
+    requires valid { IsModule (module_value «module».now) }
+    requires interfaces { AreInterfacesFor validation_input.encoder.now interfaces.now }
+    ensures { IfOk result (IsModuleExplained (validation_input_of validation_input.entry)
+        (module_value «module».now) fault.now) }
+{
+    let context = import_context(alloc, validation_input, interfaces, module)?;
+    match first_refused(alloc, &context, &module.imports) {
+        Err(refused) => import_place(alloc, &context, &module.imports, refused, fault),
+        Ok(_) => explain_exports(alloc, validation_input, module, fault),
+    }
+}
+
+/// The place of a fault of a module that is read.
 fn explain_read(
     alloc: Global,
     validation_input: ValidationInput<'_>,
@@ -101,14 +126,11 @@ fn explain_read(
     ensures { IfOk result (IsModuleExplained (validation_input_of validation_input.entry)
         (module_value «module».now) fault.now) }
 {
-    let context = import_context(alloc, validation_input, module)?;
-    match first_refused(alloc, &context, &module.imports) {
-        Err(refused) => import_place(alloc, &context, &module.imports, refused, fault),
-        Ok(_) => explain_exports(alloc, validation_input, module, fault),
-    }
+    let interfaces = interfaces_for(alloc, validation_input.encoder, module.imports.len())?;
+    explain_among(alloc, validation_input, &interfaces, module, fault)
 }
 
-/// What a fault of the module that bytes spell is about.
+/// The place of a fault of the module that bytes spell.
 fn explain_bytes(
     alloc: Global,
     validation_input: ValidationInput<'_>,
@@ -127,7 +149,7 @@ fn explain_bytes(
     }
 }
 
-/// What a fault is about that [`validate_module`](crate::validate_module) answered for the same encoder, bytes and
+/// The place of a fault that [`validate_module`](crate::validate_module) answered for the same encoder, bytes and
 /// original names. Validation is repeated up to the import or the export at which it stops:
 ///
 /// - a fault of an import is about the first that is refused;
@@ -161,7 +183,7 @@ pub fn explain_module(
     explain_bytes(alloc, validation_input, bytes, fault)
 }
 
-/// What a fault is about that [`validate_adapter_module`](crate::validate_adapter_module) answered for the same
+/// The place of a fault that [`validate_adapter_module`](crate::validate_adapter_module) answered for the same
 /// encoder, bytes, required functions, export set and library, as [`explain_module`] has it. Besides, of the functions
 /// that other modules import from this one, `TypedReference`, `AdapterModuleDidNotExport` and `AdapterExportType` are
 /// about the first that is not exported as it is required: the export of its name, with the required type and the one
@@ -188,6 +210,7 @@ pub fn explain_adapter_module<'a>(
     };
     let validation_input = ValidationInput {
         encoder,
+        interfaces: None,
         library: library_info,
         renames: None,
         required,

@@ -39,6 +39,7 @@ mod prefixes;
 mod requirements;
 mod signatures;
 mod validate;
+mod world_interfaces;
 
 pub use explain::{explain_adapter_module, explain_module};
 pub use exports::iter::{Exports, Reallocs};
@@ -49,3 +50,4 @@ pub use imports::iter::Imports;
 pub use imports::map::ImportMap;
 pub use place::{Place, Subject, TypeDifference};
 pub use validate::{ValidatedModule, validate_adapter_module, validate_module};
+pub use world_interfaces::WorldInterfaces;

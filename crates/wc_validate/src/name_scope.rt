@@ -1,4 +1,4 @@
-//! What names are looked up in.
+//! The scope in which names are looked up.
 
 ghost use Rattle.std.specs.Prelude.{IfOk};
 ghost use Rattle.wc_names.specs.Imports.{NameScope};
@@ -12,9 +12,9 @@ use wc_names::{InterfaceNames, Legacy, NameIndexes, Standard};
 use wc_resolve::{Resolve, World};
 
 /// How many look-ups by walks over a world's keys take about as long as it takes to index them.
-const FEW_LOOKUPS: usize = 64;
+pub(crate) const FEW_LOOKUPS: usize = 64;
 
-/// What the names of a core module's imports are looked up in: a world of a `Resolve`, and adapters by their names.
+/// The scope of the names of a core module's imports: a world of a `Resolve`, and adapters by their names.
 #[derive(Drop)]
 pub(crate) struct Names<'a> {
     pub(crate) resolve: &'a Resolve,
@@ -38,7 +38,7 @@ pub(crate) struct Interfaces<'a> {
     pub(crate) legacy: SchemeInterfaces<'a>,
 }
 
-/// What names are looked up in by one scheme, with the interfaces by its texts.
+/// The scope of names by one scheme, with the interfaces by its texts.
 #[derive(Clone, Copy)]
 pub(crate) struct Lookup<'a> {
     pub(crate) names: &'a Names<'a>,

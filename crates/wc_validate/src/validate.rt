@@ -1,11 +1,12 @@
 //! Core modules, validated for an encoder.
 
-ghost use Rattle.std.specs.Prelude.{◌≡◌, [], IfErr, IfOk, OnOk, map, option_copied};
+ghost use Rattle.std.specs.Prelude.{◌≡◌, [], IfErr, IfOk, None, OnOk, map, option_copied};
 ghost use Rattle.wc_read.specs.Modules.{IsModule, module_value};
 ghost use Rattle.wc_resolve.specs.Views.{key_view};
 ghost use Rattle.wc_validate.specs.Private.Imports.Contexts.{HasLibrary, HasTypedImports};
 ghost use Rattle.wc_validate.specs.Exports.Contexts.{IsExportContext};
 ghost use Rattle.wc_validate.specs.NameScopes.{AreInterfacesOf, name_scope_of};
+ghost use Rattle.wc_validate.specs.Private.WorldInterfaces.{AreInterfacesFor, AreInterfacesThere};
 ghost use Rattle.wc_validate.specs.Validated.{HasNoCause, IsValidateCause, IsCauseOfExports, IsCauseOfImports, IsModuleCause, IsNameScopeOf, IsRecordOf, IsRecordOfExports, IsRecordOfImports, adapter_input_of, library_of, main_input, module_record};
 ghost use Rattle.wc_validate.specs.Private.ValidationInputs.{main_input_requiring, validation_input_of, AreExportsRecorded, AreExportsRefused};
 
@@ -30,9 +31,9 @@ use wc_resolve::WorldKey;
 /// A core module that is validated for an encoder: what it imports, and what it exports.
 #[derive(Drop)]
 pub struct ValidatedModule {
-    /// What the module imports.
+    /// The module's imports.
     pub imports: ImportMap,
-    /// What the module exports.
+    /// The module's exports.
     pub exports: ExportMap,
 }
 
@@ -49,7 +50,7 @@ impl ValidatedModule {
     }
 }
 
-/// What names are looked up in, for an encoder.
+/// The scope of names of an encoder.
 fn names_of(encoder: &ComponentEncoder) -> Names<'_>
     ensures { IsNameScopeOf encoder.now (name_scope_of result) }
 {
@@ -64,25 +65,43 @@ fn names_of(encoder: &ComponentEncoder) -> Names<'_>
     }
 }
 
-/// What a module is validated for: an encoder; what it is passed, if it is a library; what its imports were called, if
-/// some were renamed; and what it has to export.
+/// The input of a validation: an encoder, with the interfaces of its world, where they were made for several modules;
+/// what the module is passed, if it is a library; the original names of its imports, if some were renamed; and what it
+/// has to export.
 #[derive(Clone, Copy)]
 pub(crate) struct ValidationInput<'a> {
     pub(crate) encoder: &'a ComponentEncoder,
+    pub(crate) interfaces: Option<&'a Interfaces<'a>>,
     pub(crate) library: Option<&'a LibraryInfo>,
     pub(crate) renames: Option<&'a ModuleImportMap>,
     pub(crate) required: RequiredExports<'a>,
 }
 
-/// What the imports of a module are recorded by.
+/// The interfaces of an encoder's world, indexed if more than a few are looked up.
+pub(crate) fn interfaces_for(
+    alloc: Global,
+    encoder: &ComponentEncoder,
+    lookups: usize,
+) -> Result<Interfaces<'_>, AllocError>
+    ensures { IfOk result (AreInterfacesFor encoder.now) }
+{
+    let names = names_of(encoder);
+    let interfaces = Interfaces::new(alloc, &names, lookups)?;
+    Ok(interfaces)
+}
+
+/// The context in which the imports of a module are recorded, among these interfaces of the encoder's world.
 pub(crate) fn import_context<'a>(
     alloc: Global,
     validation_input: ValidationInput<'a>,
+    interfaces: &'a Interfaces<'a>,
     module: &'a Module<'_>,
 ) -> Result<ImportContext<'a>, AllocError>
+    requires { AreInterfacesFor validation_input.encoder.now interfaces.now }
     ensures name_scope { IfOk result
         (λ c. IsNameScopeOf validation_input.entry.encoder.now (name_scope_of c.names)) }
-    ensures interfaces { IfOk result (λ c. AreInterfacesOf (name_scope_of c.names) c.interfaces) }
+    ensures interfaces { IfOk result
+        (λ c. AreInterfacesOf (name_scope_of c.names) c.interfaces.now) }
     ensures arguments { IfOk result
         (λ c. HasLibrary c (library_of validation_input.entry.library)) }
     ensures renames { IfOk result
@@ -90,7 +109,6 @@ pub(crate) fn import_context<'a>(
     ensures types { IfOk result (λ c. c.types.now ≡ «module».now.types.items) }
 {
     let names = names_of(validation_input.encoder);
-    let interfaces = Interfaces::new(alloc, &names, module.imports.len())?;
     let seed = *names.adapters.hasher();
     let arguments = Arguments::new(alloc, seed, validation_input.library)?;
     Ok(ImportContext {
@@ -102,25 +120,49 @@ pub(crate) fn import_context<'a>(
     })
 }
 
-/// The imports of a module, recorded.
-fn module_imports(
+/// The imports of a module, recorded, among these interfaces of the encoder's world.
+fn imports_among(
     alloc: Global,
     validation_input: ValidationInput<'_>,
+    interfaces: &Interfaces<'_>,
     module: &Module<'_>,
 ) -> Result<ImportMap, ValidateFault>
-    requires { HasTypedImports «module».now }
+    requires typed { HasTypedImports «module».now }
+    requires interfaces { AreInterfacesFor validation_input.encoder.now interfaces.now }
     ensures recorded { IfOk result (IsRecordOfImports (validation_input_of validation_input.entry)
         (module_value «module».now)) }
     ensures fault { IfErr result
         (IsCauseOfImports (validation_input_of validation_input.entry) (module_value
         «module».now)) }
 {
-    let context = import_context(alloc, validation_input, module)?;
+    let context = import_context(alloc, validation_input, interfaces, module)?;
     let recorder = record_imports(alloc, &context, &module.imports)?;
     Ok(ImportMap::from_recorder(alloc, recorder)?)
 }
 
-/// What the names of exports are looked up in, for an encoder and an export set.
+/// The imports of a module, recorded.
+fn module_imports(
+    alloc: Global,
+    validation_input: ValidationInput<'_>,
+    module: &Module<'_>,
+) -> Result<ImportMap, ValidateFault>
+    requires typed { HasTypedImports «module».now }
+    requires interfaces { AreInterfacesThere validation_input.encoder.now
+        validation_input.interfaces }
+    ensures recorded { IfOk result (IsRecordOfImports (validation_input_of validation_input.entry)
+        (module_value «module».now)) }
+    ensures fault { IfErr result
+        (IsCauseOfImports (validation_input_of validation_input.entry) (module_value
+        «module».now)) }
+{
+    if let Some(interfaces) = validation_input.interfaces {
+        return imports_among(alloc, validation_input, interfaces, module);
+    }
+    let interfaces = interfaces_for(alloc, validation_input.encoder, module.imports.len())?;
+    imports_among(alloc, validation_input, &interfaces, module)
+}
+
+/// The context in which the names of exports are looked up, for an encoder and an export set.
 pub(crate) fn export_context<'a>(
     alloc: Global,
     encoder: &'a ComponentEncoder,
@@ -188,7 +230,7 @@ fn module_exports(
     exports_by(alloc, &context, module, validation_input.required)
 }
 
-/// What is recorded of a module that is read.
+/// The record of a module that is read.
 fn validate_read(
     alloc: Global,
     validation_input: ValidationInput<'_>,
@@ -196,6 +238,8 @@ fn validate_read(
 ) -> Result<ValidatedModule, ValidateFault>
     requires typed { HasTypedImports «module».now }
     requires valid { IsModule (module_value «module».now) }
+    requires interfaces { AreInterfacesThere validation_input.encoder.now
+        validation_input.interfaces }
     ensures imports { IfOk result
         (λ v. IsRecordOfImports (validation_input_of validation_input.entry)
         (module_value «module».now) v.imports) }
@@ -210,12 +254,13 @@ fn validate_read(
     Ok(ValidatedModule { imports, exports })
 }
 
-/// What is recorded of the module that bytes spell.
-fn validate_bytes(
+/// The record of the module that bytes spell.
+pub(crate) fn validate_bytes(
     alloc: Global,
     validation_input: ValidationInput<'_>,
     bytes: &[u8],
 ) -> Result<ValidatedModule, ValidateFault>
+    requires { AreInterfacesThere validation_input.encoder.now validation_input.interfaces }
     ensures recorded { IfOk result
         (λ v. IsRecordOf (validation_input_of validation_input.entry) bytes.now
         (module_record v)) }
@@ -229,26 +274,28 @@ fn validate_bytes(
     validate_read(alloc, validation_input, &module)
 }
 
-/// What the main module of an encoder is validated for, where other modules import these functions from it.
+/// The input for the main module of an encoder, where other modules import these functions from it.
 pub(crate) fn main_validation_input<'a>(
     encoder: &'a ComponentEncoder,
     import_map: Option<&'a ModuleImportMap>,
     functions: &'a Map<String, FuncType>,
 ) -> ValidationInput<'a>
-    ensures { validation_input_of result ≡ main_input_requiring encoder.now
+    ensures input { validation_input_of result ≡ main_input_requiring encoder.now
         (option_copied import_map.entry) functions.now.entries }
+    ensures interfaces { option_copied result.interfaces ≡ None }
 {
     let keys = encoder.main_module_exports();
     let required = RequiredExports { keys, functions };
     ValidationInput {
         encoder,
+        interfaces: None,
         library: None,
         renames: import_map,
         required,
     }
 }
 
-/// What is recorded of the main module of an encoder, where other modules import these functions from it.
+/// The record of the main module of an encoder, where other modules import these functions from it.
 fn validate_main<'a>(
     alloc: Global,
     encoder: &'a ComponentEncoder,
@@ -360,6 +407,7 @@ pub fn validate_adapter_module<'a>(
     };
     let validation_input = ValidationInput {
         encoder,
+        interfaces: None,
         library: library_info,
         renames: None,
         required,

@@ -12,9 +12,8 @@ use Rattle.wc_names.specs.Views.{ImportView, import_view}
 use Rattle.wc_names.specs.declared.imports.Import.{Import}
 use Rattle.wc_resolve.proofs.LookupLemmas.{copied_viewed, name_viewed}
 use Rattle.wc_validate.specs.Imports.Entries.{InstanceRecord, Records, all_of, names_of}
-use Rattle.wc_validate.specs.Imports.Instances.{import_entry, instance_entry, instance_view}
+use Rattle.wc_validate.specs.Imports.Instances.{import_entry}
 use Rattle.wc_validate.specs.Imports.Map.{imports_in, singles_of}
-use Rattle.wc_validate.specs.declared.imports.instances.ImportInstance.{ImportInstance}
 use Rattle.wc_world.proofs.PairListLemmas.{all_back, all_front}
 use Rattle.wc_world.specs.Slots.{imports_of}
 use Rattle.wc_ways.specs.Originals.{recorded_at, recorded_in}

@@ -4,5 +4,6 @@ pub mod Originals
 pub mod Said
 pub mod Ways
 pub mod WaysGraph
+pub mod WaysJson
 pub mod WaysFaults
 pub mod Private

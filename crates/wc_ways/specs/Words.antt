@@ -44,11 +44,20 @@ is_wanted wanted export = is_some (lookup (bytes_eq export) wanted)
 abbrev pub export_lines : WantedFunctions → List ℕ → List ℕ → List ℕ
 export_lines wanted adapter export = cond (is_wanted wanted export) (import_line main_text adapter export) [] ++ export_line adapter export
 
+-- how a function is said with a way that is an import alone: by the function, and the module and the name of the import
+abbrev pub ImportWords : Type 0
+ImportWords = FunctionName → List ℕ → List ℕ → List ℕ
+
+-- how it is said with a way through an adapter: by what the main module imports from it, its name and those of its functions, the
+-- function, the export where the way begins, the items that lead from it, and the module and the name of the import
+abbrev pub AdapterWords : Type 0
+AdapterWords = WantedFunctions → List ℕ → List GlobalNameValue → FunctionName → List ℕ → List ItemIndex → List ℕ → List ℕ → List ℕ
+
 -- a function, and a way to it that is an import alone
-abbrev pub import_way : List ℕ → FunctionName → List ℕ → List ℕ → List ℕ
+abbrev pub import_way : List ℕ → ImportWords
 import_way importer f from name = function_line f ++ import_line importer from name
 
 -- a function, and the way to it through an adapter: the export where it begins, the items that lead from it, and the import
-abbrev pub adapter_way : WantedFunctions → List ℕ → List GlobalNameValue → FunctionName → List ℕ → List ItemIndex → List ℕ → List ℕ → List ℕ
+abbrev pub adapter_way : AdapterWords
 adapter_way wanted adapter names f export items from name =
     function_line f ++ (export_lines wanted adapter export ++ (flat_map (item_line names) items ++ import_line (adapter_text adapter) from name))

@@ -1,4 +1,4 @@
-//! What is said of the adapters of a component's world.
+//! The ways through the adapters of a component's world.
 
 ghost use Rattle.std.specs.Prelude.{◌≡◌, ◌⊎◌, All, IfErr, IfOk, string_bytes};
 ghost use Rattle.wc_plan.specs.Calls.{IsNameable};
@@ -14,7 +14,7 @@ ghost use Rattle.wc_ways.specs.WaysGraph.{module_graph};
 
 use crate::nodes::{cluster_text, module_node, recorded_arrows};
 use crate::originals::{Adapter, Form, said_in};
-use crate::recorded::recorded_ways;
+use crate::recorded::{Importer, recorded_ways};
 use crate::words::adapter_text;
 use std::alloc::{AllocError, Global};
 use wc_gc::GcFault;
@@ -22,15 +22,17 @@ use wc_resolve::Resolve;
 use wc_validate::ImportMap;
 use wc_world::{ComponentWorld, WorldAdapter};
 
-/// A module of which only its imports are known: what it is called, in lines and as a node, and its imports.
+/// A module of which only its imports are known: what it is called, in lines, as a node and in JSON, and its imports.
 #[derive(Clone, Copy)]
 pub(crate) struct Module<'a> {
     pub(crate) name: &'a str,
     pub(crate) id: &'a str,
+    /// The name of the adapter; `None` for the main module.
+    pub(crate) adapter: Option<&'a str>,
     pub(crate) imports: &'a ImportMap,
 }
 
-/// What is said of each adapter, in order.
+/// The ways through each adapter, in order, in this form.
 pub(crate) fn all_said(
     alloc: Global,
     form: Form,
@@ -60,7 +62,7 @@ pub(crate) fn all_said(
     Ok(text)
 }
 
-/// What is said of an adapter.
+/// The ways through an adapter.
 fn adapter_said(
     alloc: Global,
     form: Form,
@@ -80,7 +82,7 @@ fn adapter_said(
     }
 }
 
-/// What is said of a library.
+/// The ways of a library, which are its imports alone.
 fn library_said(alloc: Global, form: Form, asked: &Adapter<'_, '_>) -> Result<String, AllocError>
     requires { IsNameableIn asked.now }
     ensures { IfOk result (λ s. string_bytes s ≡ library_said form asked.now) }
@@ -91,12 +93,13 @@ fn library_said(alloc: Global, form: Form, asked: &Adapter<'_, '_>) -> Result<St
     let module = Module {
         name: &name,
         id: &id,
+        adapter: Some(asked.name),
         imports: &asked.info.imports,
     };
     module_said(alloc, form, asked.world, asked.key, module)
 }
 
-/// What is said of a module that has only imports.
+/// The ways of a module of which only its imports are known.
 pub(crate) fn module_said(
     alloc: Global,
     form: Form,
@@ -112,8 +115,15 @@ pub(crate) fn module_said(
     let metadata = world.encoder.metadata();
     let resolve = &metadata.resolve;
     match form {
-        Form::Lines => recorded_ways(alloc, resolve, key, module.name, module.imports),
+        Form::Lines => {
+            let importer = Importer::Lines(module.name);
+            recorded_ways(alloc, resolve, key, importer, module.imports)
+        }
         Form::Graph => module_graph(alloc, resolve, key, module),
+        Form::Json => {
+            let importer = Importer::Json(module.adapter);
+            recorded_ways(alloc, resolve, key, importer, module.imports)
+        }
     }
 }
 
@@ -134,7 +144,7 @@ fn module_graph(
     format!(in alloc; "{cluster}{arrows}")
 }
 
-/// What is said of an adapter that was trimmed.
+/// The ways through an adapter that was trimmed.
 fn trimmed_said(alloc: Global, form: Form, asked: &Adapter<'_, '_>) -> Result<String, GcFault>
     requires { IsNameableIn asked.now }
     ensures said { IfOk result (λ s. IsSaidOfThis form asked.now (string_bytes s)) }

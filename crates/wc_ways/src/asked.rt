@@ -15,7 +15,7 @@ use wc_resolve::Resolve;
 /// The key that asks about all interfaces.
 const ALL: &str = "all";
 
-/// What stands for the interface of a function of the world itself, as in the lines of a plan.
+/// The name that stands for the interface of a function of the world itself, as in the lines of a plan.
 const ROOT: &str = "$root";
 
 /// A function that is asked about: the name of its interface, and its own.

@@ -1,4 +1,4 @@
-//! The ways through an adapter, as lines.
+//! The ways through an adapter, as lines and as JSON.
 
 ghost use Rattle.std.specs.Prelude.{◌≡◌, ◌<◌, IfOk, Some, length, string_bytes};
 ghost use Rattle.std.specs.List.{slice_get};
@@ -6,12 +6,13 @@ ghost use Rattle.wc_gc.specs.Decoded.{ItemIndex};
 ghost use Rattle.wc_gc.specs.Restriction.{IsImportItem};
 ghost use Rattle.wc_read.specs.Imports.{import_value};
 ghost use Rattle.wc_ways.specs.Originals.{wanted_of};
-ghost use Rattle.wc_ways.specs.Private.Walks.{IsWalk, function_value, original_in};
+ghost use Rattle.wc_ways.specs.Private.Walks.{IsWalk, function_value, original_in, way_in, words_of};
 ghost use Rattle.wc_ways.specs.Ways.{AreOriginalWays, IsItemWay, IsWayAt};
 ghost use Rattle.wc_ways.specs.Words.{adapter_way, export_lines};
 
 use crate::asked::Function;
-use crate::originals::{Walk, asked_import, is_wanted};
+use crate::originals::{Form, Walk, asked_import, is_wanted};
+use crate::steps::object_way;
 use crate::words::{adapter_text, export_line, function_line, import_line};
 use std::alloc::{AllocError, Global};
 use wc_gc::Chain;
@@ -21,7 +22,8 @@ use wcwhy_command::push_items;
 /// The ways to all imports of an adapter, in the order of the file.
 pub(crate) fn original_ways(alloc: Global, walk: &Walk<'_, '_, '_>) -> Result<String, AllocError>
     requires { IsWalk walk.now }
-    ensures { IfOk result (λ s. AreOriginalWays walk.now.adapter.now.key.now (original_in walk.now)
+    ensures { IfOk result (λ s. AreOriginalWays (words_of walk.now.form)
+        walk.now.adapter.now.key.now (original_in walk.now)
         (string_bytes s)) }
 {
     let mut ways = String::new(alloc);
@@ -36,8 +38,8 @@ pub(crate) fn original_ways(alloc: Global, walk: &Walk<'_, '_, '_>) -> Result<St
 fn way_at(alloc: Global, walk: &Walk<'_, '_, '_>, position: usize) -> Result<String, AllocError>
     requires walk { IsWalk walk.now }
     requires there { position < length walk.now.original.now.imports.items }
-    ensures { IfOk result (λ s. IsWayAt (original_in walk.now) walk.now.adapter.now.key.now position
-        (string_bytes s)) }
+    ensures { IfOk result (λ s. IsWayAt (words_of walk.now.form) (original_in walk.now)
+        walk.now.adapter.now.key.now position (string_bytes s)) }
 {
     let import = &walk.original.imports[position];
     match asked_import(alloc, walk.adapter, import)? {
@@ -58,8 +60,8 @@ fn item_way(
     requires there { slice_get (original_in walk.now).value.imports position
         ≡ Some (import_value import.now) }
     ensures { IfOk result (λ s. (x : ItemIndex) → IsImportItem (original_in walk.now).value.imports
-        position x → IsItemWay (original_in walk.now) (function_value function.now)
-        (import_value import.now) x (string_bytes s)) }
+        position x → IsItemWay (words_of walk.now.form) (original_in walk.now)
+        (function_value function.now) (import_value import.now) x (string_bytes s)) }
 {
     match walk.chains.imports[position] {
         Some(place) => reached_way(alloc, walk, place, import, function),
@@ -78,8 +80,8 @@ fn reached_way(
     requires walk { IsWalk walk.now }
     requires there { place < length walk.now.chains.now.order.items }
     ensures { IfOk result (λ s. (x : ItemIndex) → slice_get walk.now.chains.now.order.items place
-        ≡ Some x → IsItemWay (original_in walk.now) (function_value function.now)
-        (import_value import.now) x (string_bytes s)) }
+        ≡ Some x → IsItemWay (words_of walk.now.form) (original_in walk.now)
+        (function_value function.now) (import_value import.now) x (string_bytes s)) }
 {
     let chain = walk.chains.chain(alloc, place)?;
     chain_way(alloc, walk, import, function, &chain)
@@ -94,10 +96,27 @@ fn chain_way(
     chain: &Chain<'_>,
 ) -> Result<String, AllocError>
     requires { IsWalk walk.now }
-    ensures { IfOk result (λ s. string_bytes s ≡ adapter_way (wanted_of (original_in walk.now))
-        (original_in walk.now).name (original_in walk.now).names (function_value function.now)
-        chain.now.export.now chain.now.items.items
-        (import_value import.now).module_name (import_value import.now).name) }
+    ensures { IfOk result (λ s. string_bytes s ≡ way_in (words_of walk.now.form) walk.now
+        (function_value function.now) chain.now (import_value import.now)) }
+{
+    match walk.form {
+        Form::Lines => line_way(alloc, walk, import, function, chain),
+        Form::Graph => line_way(alloc, walk, import, function, chain),
+        Form::Json => object_way(alloc, walk, import, function, chain),
+    }
+}
+
+/// The lines of the way to an import, which is this function, by a chain.
+fn line_way(
+    alloc: Global,
+    walk: &Walk<'_, '_, '_>,
+    import: &Import<'_>,
+    function: &Function<'_>,
+    chain: &Chain<'_>,
+) -> Result<String, AllocError>
+    requires { IsWalk walk.now }
+    ensures { IfOk result (λ s. string_bytes s ≡ way_in adapter_way walk.now
+        (function_value function.now) chain.now (import_value import.now)) }
 {
     let mut way = function_line(alloc, function)?;
     let export = export_lines(alloc, walk, chain.export)?;

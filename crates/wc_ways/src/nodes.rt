@@ -83,7 +83,7 @@ pub(crate) fn export_arrow(alloc: Global, index: usize, place: usize) -> Result<
     inner_arrow(alloc, &from, &to)
 }
 
-/// What is shown of a function, as it stands between quotes.
+/// The label of a function, as it stands between quotes.
 fn function_label(alloc: Global, function: &Function<'_>) -> Result<String, AllocError>
     ensures { IfOk result (λ s. string_bytes s ≡ function_label (function_value function.now)) }
 {

@@ -30,6 +30,7 @@ use wc_world::{ComponentWorld, required_exports};
 pub(crate) enum Form {
     Lines,
     Graph,
+    Json,
 }
 
 /// An adapter of a component's world that was trimmed, and what is asked about.
@@ -41,13 +42,14 @@ pub(crate) struct Adapter<'a, 'w> {
     /// Its position among the adapters.
     pub(crate) index: usize,
     pub(crate) name: &'a str,
-    /// What the component's world records of it.
+    /// Its record in the component's world.
     pub(crate) info: &'a ValidatedModule,
 }
 
-/// The same as the encoder has it, with the chains to what it imports.
+/// An adapter as the encoder has it, with the chains to what it imports.
 #[derive(Clone, Copy)]
 pub(crate) struct Walk<'a, 'w, 'r> {
+    pub(crate) form: Form,
     pub(crate) adapter: &'a Adapter<'a, 'w>,
     pub(crate) original: &'a Module<'r>,
     /// The names of its functions.
@@ -57,7 +59,7 @@ pub(crate) struct Walk<'a, 'w, 'r> {
     pub(crate) wanted: &'a Map<String, FuncType>,
 }
 
-/// What is said of an adapter that has these bytes before it is trimmed.
+/// The ways through an adapter that has these bytes before it is trimmed.
 pub(crate) fn said_in(
     alloc: Global,
     form: Form,
@@ -76,7 +78,7 @@ pub(crate) fn said_in(
     }
 }
 
-/// The same, where these exports are required of the adapter.
+/// The ways through an adapter that has these bytes, and of which these exports are required.
 fn said_for(
     alloc: Global,
     form: Form,
@@ -99,7 +101,7 @@ fn said_for(
     }
 }
 
-/// The same, where these are the chains in the adapter.
+/// The ways through an adapter that has these bytes, and in which these are the chains.
 fn said_with(
     alloc: Global,
     form: Form,
@@ -122,23 +124,25 @@ fn said_with(
     let imports = &adapter.world.info.imports;
     let wanted = imports.required_from_adapter(alloc, adapter.name)?;
     let walk = Walk {
+        form,
         adapter,
         original: &original,
         names: &names,
         chains,
         wanted: &wanted,
     };
-    said_of(alloc, form, &walk)
+    said_of(alloc, &walk)
 }
 
-/// What is said of an adapter whose module was read.
-fn said_of(alloc: Global, form: Form, walk: &Walk<'_, '_, '_>) -> Result<String, AllocError>
+/// The ways through an adapter whose module was read.
+fn said_of(alloc: Global, walk: &Walk<'_, '_, '_>) -> Result<String, AllocError>
     requires { IsWalk walk.now }
-    ensures { IfOk result (λ s. IsSaidOfWalk form walk.now (string_bytes s)) }
+    ensures { IfOk result (λ s. IsSaidOfWalk walk.now (string_bytes s)) }
 {
-    match form {
+    match walk.form {
         Form::Lines => original_ways(alloc, walk),
         Form::Graph => original_graph(alloc, walk),
+        Form::Json => original_ways(alloc, walk),
     }
 }
 
@@ -161,7 +165,7 @@ pub(crate) fn asked_import<'a>(
     asked_function(alloc, &metadata.resolve, adapter.key, recorded)
 }
 
-/// What is recorded of an import, by its module and its name.
+/// The record of an import, by its module and its name.
 fn recorded_at<'a>(imports: &'a ImportMap, from: &str, name: &str) -> Option<&'a Recorded>
     ensures { option_map (λ i. import_view i.now) result
         ≡ recorded_at imports.now from.now name.now }
@@ -172,7 +176,7 @@ fn recorded_at<'a>(imports: &'a ImportMap, from: &str, name: &str) -> Option<&'a
     }
 }
 
-/// What is recorded of an import of a module, by its name.
+/// The record of an import of a module, by its name.
 fn recorded_in<'a>(instance: &'a ImportInstance, name: &str) -> Option<&'a Recorded>
     ensures { option_map (λ i. import_view i.now) result
         ≡ recorded_in name.now (instance_view instance.now) }

@@ -7,9 +7,11 @@ ghost use Rattle.wc_ways.specs.Private.Walks.{main_said};
 ghost use Rattle.wc_ways.specs.Ways.{IsWaysText, or_none};
 ghost use Rattle.wc_ways.specs.WaysFaults.{IsWaysFault};
 ghost use Rattle.wc_ways.specs.WaysGraph.{IsWaysGraph};
+ghost use Rattle.wc_ways.specs.WaysJson.{IsWaysJson};
 
 use crate::adapters::{Module, all_said, module_said};
 use crate::originals::Form;
+use crate::steps::list_line;
 use std::alloc::{AllocError, Global};
 use wc_gc::GcFault;
 use wc_json::escaped;
@@ -51,7 +53,34 @@ pub fn ways_text(alloc: Global, world: &ComponentWorld<'_>, key: &str) -> Result
     Ok(text_or_none(alloc, key, text)?)
 }
 
-/// The same ways as a graph, in the language of Graphviz: the main module, each adapter and each library as a cluster, with
+/// The ways of `ways_text` as JSON, in one line: an object whose member `ways` is the list of them, in its order. Each is an
+/// object with `interface` and `name`, the interface of the function and its name, and `steps`, the list of the steps of the
+/// way to it. A step is an object whose first member is `kind`:
+///
+/// - `import`, with `adapter`, `module` and `name`: that adapter, or library, imports it; null stands for the main module;
+/// - `export`, with `adapter` and `name`: that adapter exports it;
+/// - `item`, with `space` (`type`, `func`, `table`, `memory` or `global`), `index` and `name`: the item of the adapter, as the
+///   encoder has it; the name is that of a function in the name section, or null.
+///
+/// Where nothing is imported that is asked about, the list is empty. Texts are escaped by the rules of JSON alone.
+///
+/// It takes time and memory linear in the modules and in the text.
+///
+/// # Errors
+///
+/// Those of `ways_text`.
+pub fn ways_json(alloc: Global, world: &ComponentWorld<'_>, key: &str) -> Result<Vec<u8>, GcFault>
+    requires { AreNameable (world_view world.now) }
+    ensures json { IfOk result (λ v. IsWaysJson (world_view world.now) key.now v.items) }
+    ensures fault { IfErr result (IsWaysFault (world_view world.now)) }
+{
+    let mut ways = main_said(alloc, Form::Json, world, key)?;
+    let more = all_said(alloc, Form::Json, world, key)?;
+    ways.push_str(&more)?;
+    Ok(list_line(alloc, ways.as_bytes())?)
+}
+
+/// The ways of `ways_text` as a graph, in the language of Graphviz: the main module, each adapter and each library as a cluster, with
 /// an arrow from the main module to each export where a way begins, if it imports it; in an adapter the items of all ways
 /// together, which are a tree, with an arrow to each from the item that first names it, or from the export that does; and
 /// a node for each function that is asked about, with arrows from the items, or modules, that import it. Texts are escaped
@@ -93,7 +122,7 @@ fn none_text(alloc: Global, key: &str) -> Result<String, AllocError>
     format!(in alloc; "{key}: not imported\n")
 }
 
-/// What is said of the main module.
+/// The ways of the main module, which are its imports alone.
 fn main_said(
     alloc: Global,
     form: Form,
@@ -106,6 +135,7 @@ fn main_said(
     let module = Module {
         name: "main",
         id: "main",
+        adapter: None,
         imports: &world.info.imports,
     };
     module_said(alloc, form, world, key, module)

@@ -1,11 +1,15 @@
 -- Sets of functions and drops that are imported.
-use Rattle.std.proofs.Common.{◌≡◌, ℕ, List, [], ◌∷◌, ◌++◌, Bool, true, false, cond, ◌&&◌, ◌||◌, Option, Some, None, string_bytes, nat_eq, refl, sym, ap, ◌∙◌}
-use Rattle.std.proofs.Common.{subst, append-nil, append_assoc}
-use Rattle.std.specs.Prelude.{◌==◌}
+use Rattle.std.proofs.Common.{◌≡◌, ℕ, List, [], ◌∷◌, ◌++◌, Bool, true, false, cond, ◌&&◌, ◌||◌, Option, Some, None, String, string_bytes, nat_eq, refl, sym, ap, ◌∙◌, inl, inr}
+use Rattle.std.proofs.Common.{subst, append-nil, append_assoc, is_some}
+use Rattle.std.specs.Prelude.{◌==◌, if◌then◌else◌}
+use Rattle.std.specs.declared.alloc.Global.{Global}
+use Rattle.std.specs.Map.{lookup}
+use Rattle.std.proofs.lemmas.Bool.{cases_Bool}
+use Rattle.indexmap.specs.IndexSet.{IndexSet, contains_text, insert_key}
 use Rattle.std.specs.List.{flat_map, list_any}
 use Rattle.std.proofs.lemmas.Grind.{flat_map-append}
 use Rattle.std.proofs.lemmas.List.{map-append}
-use Rattle.std.specs.Option.{option_eq, option_map}
+use Rattle.std.specs.Option.{option_eq, option_map, option_map_or}
 use Rattle.std.specs.Str.{bytes_eq}
 use Rattle.std.specs.String.{string_eq}
 use Rattle.std.proofs.lemmas.List.Folds.{list_any-append}
@@ -19,15 +23,15 @@ use Rattle.wc_resolve.specs.declared.ids.TypeId.{TypeId}
 use Rattle.wc_resolve.specs.Live.{with_live}
 use Rattle.wc_resolve.specs.Roots.{indices}
 use Rattle.wc_resolve.proofs.KeyLemmas.{nat_from}
+use Rattle.wc_names.specs.Imports.{import_abi}
 use Rattle.wc_names.specs.Views.{FunctionImportView, ImportView, function_import, imported_resource_drop, interface_func, world_func}
-use Rattle.wc_validate.specs.Private.ExportedFunctions.{function_key}
 use Rattle.wc_validate.specs.Imports.Map.{imports_in}
 use Rattle.wc_validate.specs.Validated.{ModuleRecord}
 use Rattle.wc_world.specs.Slots.{all_imports, imports_of}
 use Rattle.wc_world.specs.Views.{NamedWorldAdapter}
 use Rattle.wc_world.specs.declared.imported_items.ImportedItems.{ImportedItems}
 use Rattle.wc_world.specs.Lowered.{is_drop_of, is_import_of, same_call}
-use Rattle.wc_world.specs.Private.ImportedItems.{AreCalled, AreImported, FunctionKey, IsCall, dropped_resource, interface_of, is_in, same_function}
+use Rattle.wc_world.specs.Private.ImportedItems.{AreCalled, AreImported, IsCall, NamesByInterface, dropped_resource, has_called, interface_index, interface_of, is_in, same_of}
 use Rattle.wc_world.proofs.UsedLemmas.{turned}
 
 -- the set of ids, by their indices
@@ -49,12 +53,6 @@ interfaces_turned None (Some b) = refl
 interfaces_turned (Some a) None = refl
 interfaces_turned (Some a) (Some b) = turned a.0 b.0
 
--- a key is compared with another one as that with it
-pub keys_turned : (k f : FunctionKey) → same_function k f ≡ (option_eq nat_eq (function_key f).0 (function_key k).0 && bytes_eq (function_key f).1
-    (function_key k).1)
-keys_turned k f = ap (λ b. b && string_eq k.1 f.1) (interfaces_turned k.0 f.0) ∙ ap (λ b. option_eq nat_eq (function_key f).0 (function_key k).0 && b)
-    (bytes_turned (string_bytes k.1) (string_bytes f.1))
-
 or_last : (e a p : Bool) → e ≡ p → cond e true a ≡ (a || (p || false))
 or_last true true true h = refl
 or_last true false true h = refl
@@ -73,6 +71,74 @@ added_last test xs x new old e put same is =
 pub passed_last : {X : Type 0} (test : X → Bool) (xs : List X) (x : X) (b : Bool) → b ≡ list_any test xs → test x ≡ false → b ≡ list_any test (xs ++ x ∷ [])
 passed_last test xs x b same none =
     same ∙ (sym (or-false (list_any test xs)) ∙ (ap (λ c. list_any test xs || (c || false)) (sym none) ∙ sym (list_any-append test xs (x ∷ []))))
+
+-- a name more among others
+abbrev pub among : List (String Global) → List ℕ → Bool
+among keys name = list_any (λ (k : String Global). bytes_eq name (string_bytes k)) keys
+
+there_already : (keys : List (String Global)) (k : String Global) (name : List ℕ) → list_any (string_eq k) keys ≡ true → (b : Bool) → bytes_eq name (string_bytes k) ≡ b
+    → among keys name ≡ cond b true (among keys name)
+there_already keys k name there true is = ap (among keys) ((bytes_eq-Decides name (string_bytes k)).0 is) ∙ there
+there_already keys k name there false is = refl
+
+name_inserted : (keys : List (String Global)) (k : String Global) (name : List ℕ) → among (insert_key string_eq keys k) name ≡ cond (bytes_eq name (string_bytes k)) true (among keys name)
+name_inserted keys k name = elim (cases_Bool (list_any (string_eq k) keys)) [
+  | inl there ↦ ap (λ b. among (if b then keys else keys ++ k ∷ []) name) there ∙ there_already keys k name there (bytes_eq name (string_bytes k)) refl
+  | inr new ↦
+      ap (λ b. among (if b then keys else keys ++ k ∷ []) name) new
+      ∙ (list_any-append (λ (x : String Global). bytes_eq name (string_bytes x)) keys (k ∷ [])
+      ∙ sym (or_last (bytes_eq name (string_bytes k)) (among keys name) (bytes_eq name (string_bytes k)) refl))
+]
+
+one_interface : (a b : Option InterfaceId) → same_of a b ≡ true → a ≡ b
+one_interface None None h = refl
+one_interface None (Some b) h = absurd (let bad : ⊥ = cc h in bad)
+one_interface (Some a) None h = absurd (let bad : ⊥ = cc h in bad)
+one_interface (Some a) (Some b) h = ap at (nat_from a.0 b.0 h) where
+  at : ℕ → Option InterfaceId
+  at n = Some (record { 0 = n })
+
+abbrev pub has : {S : Type 0} → Option (IndexSet (String Global) S) → List ℕ → Bool
+has names name = option_map_or (λ others. contains_text others name) names false
+
+-- a name is put among those of its interface
+module _ {S : Type 0} (old new : NamesByInterface S) (interface : Option InterfaceId) (name : String Global) (group : IndexSet (String Global) S) (keys : List (String Global))
+    (put : (q : Option InterfaceId) → lookup (same_of q) new ≡ cond (same_of interface q) (Some group) (lookup (same_of q) old))
+    (inserted : group.keys ≡ insert_key string_eq keys name) (before : (n : List ℕ) → has_called old interface n ≡ among keys n) where
+  name_put : (q : Option InterfaceId) (n : List ℕ) → has_called new q n ≡ cond (same_of interface q && bytes_eq n (string_bytes name)) true (has_called old q n)
+  name_put q n = elim (cases_Bool (same_of interface q)) [
+    | inl same ↦
+        let own : interface ≡ q = one_interface interface q same in
+        ap (λ o. has o n) (put q ∙ ap (λ b. cond b (Some group) (lookup (same_of q) old)) same)
+        ∙ (ap (λ z. among z n) inserted
+        ∙ (name_inserted keys name n
+        ∙ (ap (λ z. cond (bytes_eq n (string_bytes name)) true z) (sym (before n) ∙ ap (λ z. has_called old z n) own)
+        ∙ ap (λ b. cond (b && bytes_eq n (string_bytes name)) true (has_called old q n)) (sym same))))
+    | inr other ↦
+        ap (λ o. has o n) (put q ∙ ap (λ b. cond b (Some group) (lookup (same_of q) old)) other)
+        ∙ ap (λ b. cond (b && bytes_eq n (string_bytes name)) true (has_called old q n)) (sym other)
+  ]
+
+  pub call_put : (abi : AbiVariant) (imports : List ImportView) (i : ImportView) (text : List ℕ) → string_bytes name ≡ text → IsCall abi (interface_index interface, text) i
+      → AreCalled abi imports old → AreCalled abi (imports ++ i ∷ []) new
+  call_put abi imports i text is call same q n =
+      added_last (is_import_of (interface_index q) n abi) imports i (has_called new q n) (has_called old q n) (same_of interface q && bytes_eq n (string_bytes name)) (name_put q n) (same q n)
+      (ap (λ b. b && bytes_eq n (string_bytes name)) (interfaces_turned interface q)
+      ∙ (ap (λ z. option_eq nat_eq (interface_index q) (interface_index interface) && bytes_eq n z) is ∙ sym (call (interface_index q) n)))
+
+-- no name is found where an interface has none
+missing : {S : Type 0} (names : Option (IndexSet (String Global) S)) (name : List ℕ) → is_some names ≡ false → has names name ≡ false
+missing None name h = refl
+missing (Some others) name h = absurd (let bad : ⊥ = cc h in bad)
+
+pub none_called : {S : Type 0} (names : NamesByInterface S) (interface : Option InterfaceId) (abi : AbiVariant) (imports : List ImportView) → is_some (lookup (same_of interface) names) ≡ false
+    → AreCalled abi imports names → (name : List ℕ) → list_any (is_import_of (interface_index interface) name abi) imports ≡ false
+none_called names interface abi imports none same name = sym (same interface name) ∙ missing (lookup (same_of interface) names) name none
+
+-- what holds of both ways to call
+pub both_ways : (P : AbiVariant → Type 0) → P GuestImport → P GuestImportAsync → (is_async : Bool) → P (import_abi is_async)
+both_ways P synchronous asynchronous true = asynchronous
+both_ways P synchronous asynchronous false = synchronous
 
 -- a test of functions by what an import is
 abbrev pub is_called : Option ℕ → List ℕ → AbiVariant → Option FunctionImportView → Bool
@@ -118,13 +184,13 @@ both_kept false b = refl
 
 module _ (imports : List ImportView) (i : ImportView) (f : FunctionImportView) (is : function_import i ≡ Some f) where
   -- a function called in another way is none of these
-  pub call_other : (other : AbiVariant) (keys : List FunctionKey) → same_call other f.abi ≡ false → AreCalled other imports keys
-      → AreCalled other (imports ++ i ∷ []) keys
-  call_other other keys differ same k =
-      passed_last (is_import_of (function_key k).0 (function_key k).1 other) imports i (list_any (same_function k) keys) (same k)
-      (import_called (function_key k).0 (function_key k).1 other i ∙ (ap (is_called (function_key k).0 (function_key k).1 other) is
-      ∙ (ap (λ b. option_eq nat_eq (function_key k).0 (interface_of f) && (bytes_eq (function_key k).1 f.name && b)) differ
-      ∙ both_false (option_eq nat_eq (function_key k).0 (interface_of f)) (bytes_eq (function_key k).1 f.name))))
+  pub call_other : {S : Type 0} (other : AbiVariant) (names : NamesByInterface S) → same_call other f.abi ≡ false → AreCalled other imports names
+      → AreCalled other (imports ++ i ∷ []) names
+  call_other other names differ same interface name =
+      let k : Option ℕ = interface_index interface in
+      passed_last (is_import_of k name other) imports i (has_called names interface name) (same interface name)
+      (import_called k name other i ∙ (ap (is_called k name other) is
+      ∙ (ap (λ b. option_eq nat_eq k (interface_of f) && (bytes_eq name f.name && b)) differ ∙ both_false (option_eq nat_eq k (interface_of f)) (bytes_eq name f.name))))
 
   pub call_own : (abi : AbiVariant) → same_call abi f.abi ≡ true → IsCall abi (interface_of f, f.name) i
   call_own abi own interface name =
@@ -138,18 +204,19 @@ module _ (imports : List ImportView) (i : ImportView) (f : FunctionImportView) (
       (import_dropped t i ∙ ap (is_dropped t) (call_no_drop i f is))
 
 -- an import that is no function is none of these
-pub no_call : (imports : List ImportView) (i : ImportView) (abi : AbiVariant) (keys : List FunctionKey) → function_import i ≡ None
-    → AreCalled abi imports keys → AreCalled abi (imports ++ i ∷ []) keys
-no_call imports i abi keys none same k =
-    passed_last (is_import_of (function_key k).0 (function_key k).1 abi) imports i (list_any (same_function k) keys) (same k)
-    (import_called (function_key k).0 (function_key k).1 abi i ∙ ap (is_called (function_key k).0 (function_key k).1 abi) none)
+pub no_call : {S : Type 0} (imports : List ImportView) (i : ImportView) (abi : AbiVariant) (names : NamesByInterface S) → function_import i ≡ None
+    → AreCalled abi imports names → AreCalled abi (imports ++ i ∷ []) names
+no_call imports i abi names none same interface name =
+    let k : Option ℕ = interface_index interface in
+    passed_last (is_import_of k name abi) imports i (has_called names interface name) (same interface name)
+    (import_called k name abi i ∙ ap (is_called k name abi) none)
 
 -- an import that is neither a function nor a drop
 pub nothing_imported : (imports : List ImportView) (i : ImportView) (s : ImportedItems) → function_import i ≡ None → dropped_resource i ≡ None
     → AreImported imports s → AreImported (imports ++ i ∷ []) s
 nothing_imported imports i s none other a = record {
-  functions = no_call imports i GuestImport s.functions.keys none a.functions;
-  async_functions = no_call imports i GuestImportAsync s.async_functions.keys none a.async_functions;
+  functions = no_call imports i GuestImport s.functions.entries none a.functions;
+  async_functions = no_call imports i GuestImportAsync s.async_functions.entries none a.async_functions;
   drops = λ t. passed_last (is_drop_of t) imports i (is_in (indices s.drops.keys) t) (a.drops t) (import_dropped t i ∙ ap (is_dropped t) other);
 }
 

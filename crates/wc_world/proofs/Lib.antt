@@ -6,8 +6,11 @@ pub mod ImportedItemLemmas
 pub mod LoweringLemmas
 pub mod NameLemmas
 pub mod KeyedLemmas
+pub mod KeptLoweringLemmas
 pub mod LiveLemmas
 pub mod LiveWalkLemmas
+pub mod KnownTypeLemmas
+pub mod AddedFunctionLemmas
 pub mod OwnerLemmas
 pub mod PairListLemmas
 pub mod LoweringKeyLemmas

@@ -3,3 +3,4 @@ pub mod AdapterInput
 pub mod Explained
 pub mod LoweringContext
 pub mod ImportedItems
+pub mod LiveAdditions

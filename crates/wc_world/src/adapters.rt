@@ -4,10 +4,10 @@ ghost use Rattle.std.specs.Prelude.{◌≡◌, ◌⊎◌, IfErr, IfOk, None, OnO
 ghost use Rattle.wc_adapters.specs.Adapters.{adapter_view as input_view};
 ghost use Rattle.wc_gc.specs.Liveness.{names_of};
 ghost use Rattle.wc_validate.specs.Imports.Map.{required_in};
-ghost use Rattle.wc_validate.specs.Validated.{ModuleRecord, module_record};
+ghost use Rattle.wc_validate.specs.Validated.{IsRecordOf, IsValidateCause, ModuleRecord, module_record};
 ghost use Rattle.wc_world.specs.Adapters.{is_adapter_needed, required_names};
 ghost use Rattle.wc_world.specs.Causes.{IsFirstStop, IsNamed, IsNeededStop};
-ghost use Rattle.wc_world.specs.Private.AdapterInput.{IsAdapterOfInput, IsInputFault, IsInputRecord, IsInputTrimmedOrLibrary, IsInputTrimmedText, IsNeeded, IsTrimmedInput, main_of, named_adapter, required_of};
+ghost use Rattle.wc_world.specs.Private.AdapterInput.{IsAdapterOfInput, IsInputFault, IsInputRecord, IsInputTrimmedOrLibrary, IsInputTrimmedText, IsNeeded, IsTrimmedInput, main_of, named_adapter, required_of, validated_as};
 ghost use Rattle.wc_world.specs.declared.fault.WorldFault.TheVariants.{Memory};
 ghost use Rattle.wc_world.specs.Views.{WorldAdapterView};
 ghost use Rattle.wc_world.specs.World.{AddsAdapterOnOk, AreAdapters, HasMainPages};
@@ -21,17 +21,18 @@ use crate::trimming::{
 };
 use std::alloc::Global;
 use std::borrow::CowSlice;
-use wc_encoder::{Adapter, ComponentEncoder};
+use wc_encoder::{Adapter, ComponentEncoder, LibraryInfo};
 use wc_gc::{GcFault, run};
 use wc_maps::{Map, Set};
 use wc_read::FuncType;
-use wc_validate::{ValidateFault, ValidatedModule, validate_adapter_module};
+use wc_validate::{ValidateFault, ValidatedModule, WorldInterfaces};
 use wc_write::laws::slices_are_bytes;
 
-/// An encoder, and what its main module imports and exports.
+/// An encoder, the interfaces of its world, and the imports and exports of its main module.
 #[derive(Clone, Copy)]
 pub(crate) struct MainContext<'a, 'b> {
     pub(crate) encoder: &'a ComponentEncoder,
+    pub(crate) interfaces: &'b WorldInterfaces<'a>,
     pub(crate) main: &'b ValidatedModule,
 }
 
@@ -39,14 +40,15 @@ pub(crate) struct MainContext<'a, 'b> {
 #[derive(Clone, Copy)]
 pub(crate) struct AdapterInput<'a, 'b> {
     pub(crate) encoder: &'a ComponentEncoder,
+    pub(crate) interfaces: &'b WorldInterfaces<'a>,
     pub(crate) main: &'b ValidatedModule,
-    /// What the main module imports from it.
+    /// The functions that the main module imports from it.
     pub(crate) required: &'b Map<String, FuncType>,
     pub(crate) name: &'a str,
     pub(crate) adapter: &'a Adapter,
 }
 
-/// That the adapter of a name, or the library, is not valid.
+/// The fault for the adapter or the library of a name that is not valid.
 fn adapter_fault(alloc: Global, name: &str, fault: ValidateFault) -> WorldFault
     ensures { IsNamed (λ s. WorldFault.Adapter s fault) name.now result }
 {
@@ -56,7 +58,7 @@ fn adapter_fault(alloc: Global, name: &str, fault: ValidateFault) -> WorldFault
     }
 }
 
-/// That the adapter of a name can't be trimmed.
+/// The fault for the adapter of a name that can't be trimmed.
 fn trim_fault(alloc: Global, name: &str, fault: GcFault) -> WorldFault
     ensures { IsNamed (λ s. WorldFault.Trim s fault) name.now result }
 {
@@ -66,7 +68,7 @@ fn trim_fault(alloc: Global, name: &str, fault: GcFault) -> WorldFault
     }
 }
 
-/// That the adapter of a name is not valid once it is trimmed.
+/// The fault for the adapter of a name that is not valid once it is trimmed.
 fn minimized_fault(alloc: Global, name: &str, fault: ValidateFault) -> WorldFault
     ensures { IsNamed (λ s. WorldFault.Minimized s fault) name.now result }
 {
@@ -76,7 +78,26 @@ fn minimized_fault(alloc: Global, name: &str, fault: ValidateFault) -> WorldFaul
     }
 }
 
-/// What the bytes of the adapter import and export.
+/// The imports and exports of bytes, validated as an adapter, or as a library that is instantiated so.
+fn validated(
+    alloc: Global,
+    input: &AdapterInput<'_, '_>,
+    bytes: &[u8],
+    library: Option<&LibraryInfo>,
+) -> Result<ValidatedModule, ValidateFault>
+    requires { input.now.interfaces.now ≡ input.now.encoder.now }
+    ensures recorded { IfOk result (λ v. IsRecordOf (validated_as input.now library.entry)
+        bytes.now (module_record v)) }
+    ensures fault { IfErr result (IsValidateCause (validated_as input.now library.entry)
+        bytes.now) }
+{
+    let exports = &input.adapter.required_exports;
+    input
+        .interfaces
+        .validate_adapter_module(alloc, bytes, input.required, exports, library)
+}
+
+/// The imports and exports of an adapter or a library, as the encoder has it.
 pub(crate) fn input_record(
     alloc: Global,
     input: &AdapterInput<'_, '_>,
@@ -87,14 +108,7 @@ pub(crate) fn input_record(
     ensures fault { IfErr result (IsInputFault input.now) }
 {
     let adapter = input.adapter;
-    match validate_adapter_module(
-        alloc,
-        input.encoder,
-        &adapter.wasm,
-        input.required,
-        &adapter.required_exports,
-        adapter.library_info.as_ref(),
-    ) {
+    match validated(alloc, input, &adapter.wasm, adapter.library_info.as_ref()) {
         Ok(record) => Ok(record),
         Err(fault) => Err(adapter_fault(alloc, input.name, fault)),
     }
@@ -145,7 +159,7 @@ pub(crate) fn trimmed_bytes(
     trim_to(alloc, input, first, &names)
 }
 
-/// What the bytes import and export that an adapter is trimmed to.
+/// The imports and exports of the bytes that an adapter is trimmed to.
 fn trimmed_record(
     alloc: Global,
     input: &AdapterInput<'_, '_>,
@@ -158,14 +172,7 @@ fn trimmed_record(
         → IfErr result (IsInputFault input.now) }
 {
     trimmed_is_restricted(input.encoder);
-    match validate_adapter_module(
-        alloc,
-        input.encoder,
-        bytes,
-        input.required,
-        &input.adapter.required_exports,
-        None,
-    ) {
+    match validated(alloc, input, bytes, None) {
         Ok(record) => Ok(record),
         Err(fault) => Err(minimized_fault(alloc, input.name, fault)),
     }
@@ -217,7 +224,7 @@ fn trimmed_or_library<'a>(
     }
 }
 
-/// That the memory that a module imports has pages of as many bytes as the main module's memory.
+/// Checks that the memory that a module imports has pages of as many bytes as the main module's memory.
 fn check_pages(
     alloc: Global,
     input: &AdapterInput<'_, '_>,
@@ -273,7 +280,9 @@ fn add_input<'a>(
     input: &AdapterInput<'a, '_>,
     found: &mut Map<&'a str, WorldAdapter<'a>>,
 ) -> Result<(), WorldFault>
-    requires { required_of input.now ≡ required_in input.now.main.now.imports input.now.name.now }
+    requires required { required_of input.now
+        ≡ required_in input.now.main.now.imports input.now.name.now }
+    requires same { input.now.interfaces.now ≡ input.now.encoder.now }
     ensures is_adapter { AddsAdapterOnOk result input.now.encoder.now (main_of input.now)
         (named_adapter input.now) (adapters_view found.old) (adapters_view found.new) }
     ensures fault { IfErr result (λ f. (f ≡ Memory) ⊎ IsNeededStop input.now.encoder.now
@@ -295,6 +304,7 @@ fn add_adapter<'a>(
     adapter: &'a Adapter,
     found: &mut Map<&'a str, WorldAdapter<'a>>,
 ) -> Result<(), WorldFault>
+    requires { context.interfaces.now ≡ context.encoder.now }
     ensures is_adapter { let c = context.entry in AddsAdapterOnOk result c.encoder.now
         (module_record c.main.now) (name.now, input_view adapter.now)
         (adapters_view found.old) (adapters_view found.new) }
@@ -305,12 +315,32 @@ fn add_adapter<'a>(
     let required = main.imports.required_from_adapter(alloc, name)?;
     let input = AdapterInput {
         encoder: context.encoder,
+        interfaces: context.interfaces,
         main,
         required: &required,
         name,
         adapter,
     };
     add_input(alloc, &input, found)
+}
+
+/// The adapters and libraries that a component has, in order, by what its main module imports.
+fn adapters_by<'a>(
+    alloc: Global,
+    context: MainContext<'a, '_>,
+) -> Result<Map<&'a str, WorldAdapter<'a>>, WorldFault>
+    requires { context.interfaces.now ≡ context.encoder.now }
+    ensures is_adapter { let c = context.entry in IfOk result
+        (λ found. AreAdapters c.encoder.now (module_record c.main.now) (adapters_view found)) }
+    ensures fault { let c = context.entry in IfErr result
+        (λ f. (f ≡ Memory) ⊎ IsFirstStop c.encoder.now (module_record c.main.now) f) }
+{
+    let adapters = context.encoder.adapters();
+    let mut found = Map::with_hasher(alloc, *adapters.hasher());
+    for (name, adapter) in adapters.iter() {
+        add_adapter(alloc, context, name, adapter, &mut found)?;
+    }
+    Ok(found)
 }
 
 /// The adapters and libraries that a component has, in order, by what its main module imports.
@@ -324,11 +354,11 @@ pub(crate) fn adapters_of<'a>(
     ensures fault { IfErr result (λ f. (f ≡ Memory)
         ⊎ IsFirstStop encoder.now (module_record main.now) f) }
 {
-    let adapters = encoder.adapters();
-    let mut found = Map::with_hasher(alloc, *adapters.hasher());
-    for (name, adapter) in adapters.iter() {
-        let context = MainContext { encoder, main };
-        add_adapter(alloc, context, name, adapter, &mut found)?;
-    }
-    Ok(found)
+    let interfaces = WorldInterfaces::new(alloc, encoder, encoder.adapters().len())?;
+    let context = MainContext {
+        encoder,
+        interfaces: &interfaces,
+        main,
+    };
+    adapters_by(alloc, context)
 }

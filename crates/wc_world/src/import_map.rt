@@ -1,6 +1,6 @@
 //! How the imports of a world are met.
 
-ghost use Rattle.std.specs.Prelude.{◌≡◌, ◌<◌, All, IfOk, None, Some, length, map};
+ghost use Rattle.std.specs.Prelude.{◌≡◌, ◌<◌, All, IfOk, None, OnOk, Some, length, map};
 ghost use Rattle.std.specs.Option.{option_map};
 ghost use Rattle.wc_resolve.specs.Dependencies.{id_of_interface};
 ghost use Rattle.wc_resolve.specs.Queries.{external_id, implemented};
@@ -9,14 +9,15 @@ ghost use Rattle.wc_resolve.specs.Views.{item_view, key_view, world_entry};
 ghost use Rattle.wc_encoder.specs.Distinct.{item_interface};
 ghost use Rattle.wc_adapters.specs.Entries.{entries_of};
 ghost use Rattle.wc_validate.specs.Validated.{module_record};
-ghost use Rattle.wc_world.specs.Lowered.{AreKeysDistinct, IfDistinct, ImportEntry, IsImportable, IsLowerable, all_entries, interface_entry, lowered, lowerings_of_interface, own_entry, own_lowerings};
+ghost use Rattle.wc_world.specs.Lowered.{AreKeysDistinct, IfDistinct, IsImportable, IsLowerable, all_entries, lowered, lowerings_of_interface, own_entry, own_lowerings};
 ghost use Rattle.wc_world.specs.WorldViews.{adapters_view, import_map_view, imported_entry, imported_view, lowering_entry};
-ghost use Rattle.wc_world.specs.Private.LoweringContext.{AddsEntryOnOk, ForLowerer};
+ghost use Rattle.wc_world.specs.Private.LoweringContext.{AddsEntryOnOk, AddsInterfaceOnOk, AreKept, ForLowerer};
 
 use crate::adapter::WorldAdapter;
 use crate::imported::{ImportedInterface, Lowering};
 use crate::imported_items::imported_by;
-use crate::lowering::{KeyedLowering, Lowerings, distinct_keys, push_interface, world_lowerings};
+use crate::kept_lowerings::{KeptLowerings, lowerings_under};
+use crate::lowering::{KeyedLowering, Lowerings, distinct_keys, world_lowerings};
 use crate::options::ImportOptions;
 use std::alloc::{AllocError, Global};
 use wc_encoder::ComponentEncoder;
@@ -24,7 +25,7 @@ use wc_maps::{Map, Seed};
 use wc_resolve::{AbiVariant, InterfaceId, WorldItem, WorldKey};
 use wc_validate::ValidatedModule;
 
-/// What is imported, by its name; `None` for the world itself.
+/// The entries of imports by their names; under `None` that of the world itself.
 type ImportEntries = Map<Option<String>, ImportedInterface>;
 
 /// An interface that a world imports.
@@ -51,16 +52,20 @@ pub(crate) fn by_keys(
     Ok(found)
 }
 
-/// What is imported of an interface that the world imports under a key.
+/// The entry of an interface that the world imports under a key.
 pub(crate) fn imported_interface<O: ImportOptions>(
     alloc: Global,
     context: &Lowerings<'_, O>,
+    kept: &mut KeptLowerings,
     import: InterfaceImport<'_>,
 ) -> Result<ImportedInterface, AllocError>
     requires there { import.id.0 < length context.now.resolve.now.interfaces }
     requires item { IsItemIn context.now.resolve.now (item_view import.item.now) }
-    ensures lowerings { ForLowerer O.options_of context.now (λ l. IfOk result (λ i.
+    ensures lowerings { ForLowerer O.options_of context.now (λ l. AreKept l kept.old.entries
+        → IfOk result (λ i.
         (imported_view i).lowerings ≡ lowerings_of_interface l import.entry.id.0)) }
+    ensures kept { ForLowerer O.options_of context.now (λ l. AreKept l kept.old.entries
+        → OnOk result (AreKept l kept.new.entries)) }
     ensures interface { IfOk result (λ i.
         (imported_view i).interface ≡ Some import.entry.id.0) }
     ensures implements { IfOk result (λ i. (imported_view i).implements
@@ -71,8 +76,7 @@ pub(crate) fn imported_interface<O: ImportOptions>(
 {
     let resolve = context.resolve;
     distinct_keys(resolve, import.id);
-    let mut found = Vec::new(alloc);
-    push_interface(alloc, context, &mut found, import.id)?;
+    let found = lowerings_under(alloc, context, kept, import.key, import.id)?;
     let external_id = resolve.external_id_value(alloc, import.key, import.item)?;
     let lowerings = by_keys(alloc, context.seed, found)?;
     Ok(ImportedInterface {
@@ -83,7 +87,7 @@ pub(crate) fn imported_interface<O: ImportOptions>(
     })
 }
 
-/// What is imported of the functions and types that the world itself imports.
+/// The entry of the functions and types that the world itself imports.
 pub(crate) fn imported_world<O: ImportOptions>(
     alloc: Global,
     context: &Lowerings<'_, O>,
@@ -129,26 +133,29 @@ fn interface_of(item: &WorldItem) -> Option<InterfaceId>
     }
 }
 
-/// Adds what is imported of an interface, under its name.
+/// Adds the entry of an interface, under its name.
 fn add_interface<O: ImportOptions>(
     alloc: Global,
     context: &Lowerings<'_, O>,
+    kept: &mut KeptLowerings,
     entries: &mut ImportEntries,
     import: InterfaceImport<'_>,
 ) -> Result<(), AllocError>
     requires item { IsImportable context.now.resolve.now
         (world_entry (import.key.now, import.item.now)) }
     requires interface { item_interface (item_view import.item.now) ≡ Some import.id.0 }
-    ensures { ForLowerer O.options_of context.now (λ l. (e : ImportEntry)
-        → interface_entry l (world_entry (import.entry.key.now, import.entry.item.now)) ≡ Some e
-        → AddsEntryOnOk result entries.old entries.new e) }
+    ensures added { ForLowerer O.options_of context.now (λ l. AreKept l kept.old.entries
+        → AddsInterfaceOnOk result entries.old entries.new l
+        (world_entry (import.entry.key.now, import.entry.item.now))) }
+    ensures kept { ForLowerer O.options_of context.now (λ l. AreKept l kept.old.entries
+        → OnOk result (AreKept l kept.new.entries)) }
 {
     let name = context.resolve.name_world_key(alloc, import.key)?;
-    let imported = imported_interface(alloc, context, import)?;
+    let imported = imported_interface(alloc, context, kept, import)?;
     put_entry(entries, Some(name), imported)
 }
 
-/// Adds what is imported of the world itself.
+/// Adds the entry of the world itself, under no name.
 fn add_own<O: ImportOptions>(
     alloc: Global,
     context: &Lowerings<'_, O>,
@@ -177,11 +184,12 @@ fn import_entries<O: ImportOptions>(
         (IfOk result (λ m. import_map_view m ≡ all_entries l (entries_of items.now)))) }
 {
     let mut entries = Map::with_hasher(alloc, context.seed);
+    let mut kept = Map::with_hasher(alloc, context.seed);
     let mut has_own = false;
     for (key, item) in items.iter() {
         if let Some(id) = interface_of(item) {
             let import = InterfaceImport { key, item, id };
-            add_interface(alloc, context, &mut entries, import)?;
+            add_interface(alloc, context, &mut kept, &mut entries, import)?;
         } else if !has_own {
             add_own(alloc, context, &mut entries, items)?;
             has_own = true;

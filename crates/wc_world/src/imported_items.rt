@@ -1,6 +1,6 @@
-//! Which functions and drops of resources core modules import.
+//! The functions, and the drops of resources, that core modules import.
 
-ghost use Rattle.std.specs.Prelude.{◌≡◌, ◌++◌, ◌∷◌, [], IfOk, OnOk, Some};
+ghost use Rattle.std.specs.Prelude.{◌≡◌, ◌++◌, ◌∷◌, [], ℕ, Bool, List, IfOk, OnOk, Some, false};
 ghost use Rattle.std.specs.List.{list_any};
 ghost use Rattle.std.specs.Option.{option_map};
 ghost use Rattle.wc_resolve.specs.Roots.{id_index};
@@ -20,44 +20,56 @@ use wc_names::{FunctionImport, Import};
 use wc_resolve::{AbiVariant, InterfaceId, TypeId};
 use wc_validate::{ImportMap, ValidatedModule};
 
-/// Names of functions, each with the interface that it is of; without one it is of the world.
-type FunctionNames = Set<(Option<InterfaceId>, String)>;
+/// Names of functions, by the interface that they are of; without one they are of the world.
+type NamesOfInterfaces = Map<Option<InterfaceId>, Set<String>>;
 
 /// The functions that are called synchronously and asynchronously, and the resources that are dropped.
 #[derive(Drop)]
 pub(crate) struct ImportedItems {
-    functions: FunctionNames,
-    async_functions: FunctionNames,
+    functions: NamesOfInterfaces,
+    async_functions: NamesOfInterfaces,
     drops: Set<TypeId>,
 }
 
 /// Adds a function.
 fn add_name(
     alloc: Global,
-    names: &mut FunctionNames,
+    names: &mut NamesOfInterfaces,
     interface: Option<InterfaceId>,
     name: &str,
 ) -> Result<(), AllocError>
-    ensures { ForCalled names.old.keys (λ abi imports. (i : ImportView)
+    ensures { ForCalled names.old.entries (λ abi imports. (i : ImportView)
         → IsCall abi (interface_index interface, name.now) i
-        → OnOk result (AreCalled abi (imports ++ i ∷ []) names.new.keys)) }
+        → OnOk result (AreCalled abi (imports ++ i ∷ []) names.new.entries)) }
 {
-    names.insert_full((interface, String::from_str(alloc, name)?))?;
+    let owned = String::from_str(alloc, name)?;
+    if let Some(others) = names.get_mut(&interface) {
+        others.insert(owned)?;
+        return Ok(());
+    }
+    let mut first = Set::with_hasher(alloc, *names.hasher());
+    first.insert(owned)?;
+    names.insert(interface, first)?;
     Ok(())
 }
 
 /// Whether a function is among others.
-fn has_name(
-    alloc: Global,
-    names: &FunctionNames,
-    interface: Option<InterfaceId>,
-    name: &str,
-) -> Result<bool, AllocError>
-    ensures { ForCalled names.now.keys (λ abi imports. IfOk result (λ b.
-        b ≡ is_imported (interface_index interface) name.now abi imports)) }
+fn has_name(names: &NamesOfInterfaces, interface: Option<InterfaceId>, name: &str) -> bool
+    ensures { ForCalled names.now.entries (λ abi imports.
+        result ≡ is_imported (interface_index interface) name.now abi imports) }
 {
-    let sought = (interface, String::from_str(alloc, name)?);
-    Ok(names.contains(&sought))
+    match names.get(&interface) {
+        Some(others) => others.contains(name),
+        None => false,
+    }
+}
+
+/// Whether there may be functions of an interface among others.
+fn has_names(names: &NamesOfInterfaces, interface: Option<InterfaceId>) -> bool
+    ensures { ForCalled names.now.entries (λ abi imports. result ≡ false → (name : List ℕ)
+        → is_imported (interface_index interface) name abi imports ≡ false) }
+{
+    names.contains_key(&interface)
 }
 
 /// The interface of a function that is imported, if it is of one.
@@ -86,8 +98,8 @@ impl ImportedItems {
         ensures { AreImported [] result }
     {
         ImportedItems {
-            functions: Set::with_hasher(alloc, seed),
-            async_functions: Set::with_hasher(alloc, seed),
+            functions: Map::with_hasher(alloc, seed),
+            async_functions: Map::with_hasher(alloc, seed),
             drops: Set::with_hasher(alloc, seed),
         }
     }
@@ -123,7 +135,7 @@ impl ImportedItems {
         Ok(())
     }
 
-    /// Adds what an import is.
+    /// Adds an import, if it is a function or a drop.
     fn add_import(&mut self, alloc: Global, import: &Import) -> Result<(), AllocError>
         ensures { AddsImportsOnOk result self.old self.new (import_view import.now ∷ []) }
     {
@@ -139,19 +151,27 @@ impl ImportedItems {
     /// Whether a function is imported, to be called synchronously or asynchronously.
     pub(crate) fn has_function(
         &self,
-        alloc: Global,
         interface: Option<InterfaceId>,
         name: &str,
         is_async: bool,
-    ) -> Result<bool, AllocError>
-        ensures { ForImported self.now (λ imports. IfOk result (λ b. b ≡ is_imported
-            (interface_index interface) name.now (import_abi is_async) imports)) }
+    ) -> bool
+        ensures { ForImported self.now (λ imports. result ≡ is_imported
+            (interface_index interface) name.now (import_abi is_async) imports) }
     {
         if is_async {
-            has_name(alloc, &self.async_functions, interface, name)
+            has_name(&self.async_functions, interface, name)
         } else {
-            has_name(alloc, &self.functions, interface, name)
+            has_name(&self.functions, interface, name)
         }
+    }
+
+    /// Whether functions of an interface may be imported. Where not, no name has to be looked up.
+    pub(crate) fn has_functions_of(&self, interface: Option<InterfaceId>) -> bool
+        ensures { ForImported self.now (λ imports. result ≡ false → (is_async : Bool)
+            (name : List ℕ) → is_imported (interface_index interface) name
+            (import_abi is_async) imports ≡ false) }
+    {
+        has_names(&self.functions, interface) || has_names(&self.async_functions, interface)
     }
 
     /// Whether the drop of a resource is imported.
@@ -162,7 +182,7 @@ impl ImportedItems {
     }
 }
 
-/// Adds what the imports of a module are.
+/// Adds the functions and drops that a module imports.
 fn add_module(
     alloc: Global,
     imported: &mut ImportedItems,

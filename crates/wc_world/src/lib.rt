@@ -14,6 +14,7 @@ mod fault;
 mod import_map;
 mod imported;
 mod imported_items;
+mod kept_lowerings;
 pub mod laws;
 mod live;
 mod lowering;

@@ -3,7 +3,7 @@
 ghost use Rattle.std.specs.Prelude.{◌≡◌, ◌<◌, ◌∷◌, [], ℕ, All, Contains, IfOk, IfSome, OnOk, Some, filter, length};
 ghost use Rattle.std.specs.Option.{option_map, option_to_list};
 ghost use Rattle.wc_resolve.specs.Dependencies.{id_of_interface, interface_owning};
-ghost use Rattle.wc_resolve.specs.Live.{AddsListings};
+ghost use Rattle.wc_resolve.specs.Live.{AddsListings, IsComplete};
 ghost use Rattle.wc_resolve.specs.Ranges.{IsFunctionIn, IsItemIn, IsTypeIn};
 ghost use Rattle.wc_resolve.specs.Roots.{id_index, item_roots};
 ghost use Rattle.wc_resolve.specs.Views.{function_view, item_view, key_view, world_view};
@@ -18,26 +18,32 @@ ghost use Rattle.wc_names.specs.Views.{import_view, payload_type_view, payload_v
 ghost use Rattle.wc_validate.specs.Requirements.{functions_of};
 ghost use Rattle.wc_validate.specs.Validated.{module_record};
 ghost use Rattle.wc_world.specs.Live.{AddsTypeOnOk, AreImportsIn, AreImportsOf, AreListed, AreLive, AreRootsIn, adapter_roots, builtin_roots, by_owner, elsewhere_from, export_roots, exports_roots, import_payload, import_resource, import_roots, imported_types, is_from_elsewhere, is_used, live_types_of, module_roots, named_function_roots, payload_roots, result_roots, roots_under};
+ghost use Rattle.wc_world.specs.Private.LiveAdditions.{AddsAfterOnOk, HaveListings, imports_roots};
 ghost use Rattle.wc_world.specs.Used.{used_view};
 ghost use Rattle.wc_world.specs.WorldViews.{adapters_view, live_view};
 
 use crate::adapter::WorldAdapter;
-use indexmap::{IndexMap, IndexSet};
+use crate::used::UsedInterfaces;
 use std::alloc::{AllocError, Global};
-use std::collections::{HashMap, HashSet};
 use wc_encoder::ComponentEncoder;
-use wc_maps::Map;
+use wc_maps::{Map, Seed, Set};
 use wc_names::{Import, PayloadInfo, PayloadType};
 use wc_resolve::{
     Function, InterfaceId, LiveTypes, Resolve, TypeId, TypeOwner, World, WorldItem, WorldKey,
 };
 use wc_validate::{ImportMap, ValidatedModule};
 
+/// Types by the interfaces that own them.
+type LiveGroups = Map<InterfaceId, Set<TypeId>>;
+
+/// Names of functions, each with the interface that it is of.
+type FunctionNames = Set<(Option<InterfaceId>, String)>;
+
 /// A `Resolve`, and the exported interfaces that exported interfaces of its world use.
 #[derive(Clone, Copy)]
 pub(crate) struct LiveContext<'a> {
     resolve: &'a Resolve,
-    used: &'a HashMap<InterfaceId, HashSet<InterfaceId>>,
+    used: &'a UsedInterfaces,
 }
 
 /// The interface that owns a type.
@@ -53,11 +59,7 @@ fn interface_owning(resolve: &Resolve, ty: TypeId) -> Option<InterfaceId>
 }
 
 /// Whether an exported interface uses another one.
-fn is_used(
-    used: &HashMap<InterfaceId, HashSet<InterfaceId>>,
-    id: InterfaceId,
-    other: InterfaceId,
-) -> bool
+fn is_used(used: &UsedInterfaces, id: InterfaceId, other: InterfaceId) -> bool
     ensures { result ≡ is_used (used_view used.now) id.0 other.0 }
 {
     match used.get(&id) {
@@ -69,7 +71,7 @@ fn is_used(
 /// Whether a type is owned by an interface that is neither an exported one nor one that it uses.
 pub(crate) fn is_from_elsewhere(
     resolve: &Resolve,
-    used: &HashMap<InterfaceId, HashSet<InterfaceId>>,
+    used: &UsedInterfaces,
     id: InterfaceId,
     ty: TypeId,
 ) -> bool
@@ -203,26 +205,57 @@ pub(crate) fn add_function(
     }
 }
 
+/// Adds the types of a function of an interface, unless they were added before.
+fn add_function_once(
+    resolve: &Resolve,
+    id: InterfaceId,
+    name: &str,
+    added: &mut FunctionNames,
+    live: &mut LiveTypes,
+) -> Result<(), AllocError>
+    requires there { id.0 < length resolve.now.interfaces }
+    requires function { IfSome (under_name (functions_of resolve.now id.0) name.now)
+        (IsFunctionIn (length resolve.now.types)) }
+    requires complete { IsComplete resolve.now.types live.old }
+    requires have { HaveListings resolve.now added.old.keys live.old }
+    ensures adds { OnOk result (AddsListings resolve.now live.old live.new
+        (named_function_roots resolve.now id.0 name.now)) }
+    ensures have { OnOk result (HaveListings resolve.now added.new.keys live.new) }
+{
+    let key = (Some(id), String::from_str(*added.allocator(), name)?);
+    let (_place, is_new) = added.insert_full(key)?;
+    if is_new {
+        return add_function(resolve, id, name, live);
+    }
+    Ok(())
+}
+
 /// Adds the types of what an import is.
 fn add_import(
     resolve: &Resolve,
     world: &World,
     import: &Import,
+    added: &mut FunctionNames,
     live: &mut LiveTypes,
 ) -> Result<(), AllocError>
-    requires { IsImportIn resolve.now (world_view world.now) (import_view import.now) }
-    ensures { OnOk result (AddsListings resolve.now live.old live.new
+    requires there { IsImportIn resolve.now (world_view world.now) (import_view import.now) }
+    requires complete { IsComplete resolve.now.types live.old }
+    requires have { HaveListings resolve.now added.old.keys live.old }
+    ensures adds { OnOk result (AddsListings resolve.now live.old live.new
         (import_roots resolve.now (world_view world.now).imports (import_view import.now))) }
+    ensures have { OnOk result (HaveListings resolve.now added.new.keys live.new) }
 {
     match import {
         Import::WorldFunc(key, _, _) => add_item(resolve, &world.imports, key, live),
-        Import::InterfaceFunc(_, id, name, _) => add_function(resolve, *id, name, live),
+        Import::InterfaceFunc(_, id, name, _) => {
+            add_function_once(resolve, *id, name, added, live)
+        }
         Import::ExportedTaskReturn(_, _, function) => add_result(resolve, function, live),
         _ => add_builtin(resolve, import, live),
     }
 }
 
-/// Adds what a world imports, if it is a type.
+/// Adds an item that a world imports, if it is a type.
 fn add_type_item(
     resolve: &Resolve,
     item: &WorldItem,
@@ -255,40 +288,65 @@ fn add_world_types(
     Ok(())
 }
 
+/// Adds the types of the imports of a module.
+fn add_imports(
+    resolve: &Resolve,
+    world: &World,
+    imports: &ImportMap,
+    added: &mut FunctionNames,
+    live: &mut LiveTypes,
+) -> Result<(), AllocError>
+    requires imports { AreImportsIn resolve.now (world_view world.now) imports.now }
+    requires complete { IsComplete resolve.now.types live.old }
+    requires have { HaveListings resolve.now added.old.keys live.old }
+    ensures adds { OnOk result (AddsListings resolve.now live.old live.new
+        (imports_roots resolve.now (world_view world.now).imports imports.now)) }
+    ensures have { OnOk result (HaveListings resolve.now added.new.keys live.new) }
+{
+    for (_module, _name, import) in imports.imports() {
+        add_import(resolve, world, import, added, live)?;
+    }
+    Ok(())
+}
+
 /// Adds the types of a module: those that the world imports, and then those of its imports.
 fn add_module(
     resolve: &Resolve,
     world: &World,
     imports: &ImportMap,
+    added: &mut FunctionNames,
     live: &mut LiveTypes,
 ) -> Result<(), AllocError>
     requires items { AreItemsIn resolve.now (world_view world.now).imports }
     requires imports { AreImportsIn resolve.now (world_view world.now) imports.now }
-    ensures { OnOk result (AddsListings resolve.now live.old live.new
+    requires complete { IsComplete resolve.now.types live.old }
+    requires have { HaveListings resolve.now added.old.keys live.old }
+    ensures adds { OnOk result (AddsListings resolve.now live.old live.new
         (module_roots resolve.now (world_view world.now).imports imports.now)) }
+    ensures have { OnOk result (HaveListings resolve.now added.new.keys live.new) }
 {
     add_world_types(resolve, &world.imports, live)?;
-    for (_module, _name, import) in imports.imports() {
-        add_import(resolve, world, import, live)?;
-    }
-    Ok(())
+    add_imports(resolve, world, imports, added, live)
 }
 
-/// Adds the types of adapters.
+/// Adds the types of adapters, after those that the world imports: each adapter needs these too, so they are there.
 fn add_adapters<'a>(
     resolve: &Resolve,
     world: &World,
     adapters: &Map<&'a str, WorldAdapter<'a>>,
+    added: &mut FunctionNames,
     live: &mut LiveTypes,
 ) -> Result<(), AllocError>
-    requires items { AreItemsIn resolve.now (world_view world.now).imports }
     requires imports { All (λ a. AreImportsIn resolve.now (world_view world.now) a.1.info.imports)
         (adapters_view adapters.now) }
-    ensures { OnOk result (AddsListings resolve.now live.old live.new
-        (adapter_roots resolve.now (world_view world.now).imports (adapters_view adapters.now))) }
+    requires complete { IsComplete resolve.now.types live.old }
+    requires have { HaveListings resolve.now added.old.keys live.old }
+    ensures { AddsAfterOnOk result resolve.now (imported_types (world_view world.now).imports)
+        live.old live.new
+        (adapter_roots resolve.now (world_view world.now).imports (adapters_view adapters.now)) }
 {
     for (_name, adapter) in adapters.iter() {
-        add_module(resolve, world, &adapter.info.imports, live)?;
+        add_imports(resolve, world, &adapter.info.imports, added, live)?;
     }
     Ok(())
 }
@@ -296,7 +354,7 @@ fn add_adapters<'a>(
 /// Adds a type, if it is from elsewhere.
 fn add_if_elsewhere(
     resolve: &Resolve,
-    used: &HashMap<InterfaceId, HashSet<InterfaceId>>,
+    used: &UsedInterfaces,
     id: InterfaceId,
     ty: TypeId,
     live: &mut LiveTypes,
@@ -314,7 +372,7 @@ fn add_if_elsewhere(
 /// Adds those of some types that are from elsewhere.
 fn add_from_elsewhere(
     resolve: &Resolve,
-    used: &HashMap<InterfaceId, HashSet<InterfaceId>>,
+    used: &UsedInterfaces,
     id: InterfaceId,
     types: &LiveTypes,
     live: &mut LiveTypes,
@@ -329,39 +387,42 @@ fn add_from_elsewhere(
     Ok(())
 }
 
-/// Adds the live types of an exported interface that are from elsewhere.
+/// Adds the live types of an exported interface that are from elsewhere. Types that are live already are not visited.
+/// `types` is a list that is used again for each interface: for its memory alone.
 fn add_interface(
-    alloc: Global,
     context: &LiveContext<'_>,
     id: InterfaceId,
     item: &WorldItem,
+    types: &mut LiveTypes,
     live: &mut LiveTypes,
 ) -> Result<(), AllocError>
-    requires { IsItemIn context.now.resolve.now (item_view item.now) }
+    requires there { IsItemIn context.now.resolve.now (item_view item.now) }
+    requires complete { IsComplete context.now.resolve.now.types live.old }
     ensures { let r = context.now.resolve.now in OnOk result (AddsListings r live.old live.new
         (elsewhere_from r (used_view context.now.used.now) id.0
         (item_roots r (item_view item.now)))) }
 {
     let resolve = context.resolve;
     resolve.well_formedness();
-    let mut types = LiveTypes::new(alloc);
-    types.add_world_item(resolve, item)?;
-    add_from_elsewhere(resolve, context.used, id, &types, live)
+    types.clear();
+    types.add_world_item_beside(live, resolve, item)?;
+    add_from_elsewhere(resolve, context.used, id, types, live)
 }
 
-/// Adds the types of an export.
+/// Adds the types of an export. `types` is a list that is used again.
 fn add_export(
-    alloc: Global,
     context: &LiveContext<'_>,
     item: &WorldItem,
+    types: &mut LiveTypes,
     live: &mut LiveTypes,
 ) -> Result<(), AllocError>
-    requires { IsItemIn context.now.resolve.now (item_view item.now) }
+    requires there { IsItemIn context.now.resolve.now (item_view item.now) }
+    requires complete { IsComplete context.now.resolve.now.types live.old }
     ensures { let r = context.now.resolve.now in OnOk result (AddsListings r live.old live.new
         (export_roots r (used_view context.now.used.now) (item_view item.now))) }
 {
     match item {
-        WorldItem::Interface { id, .. } => add_interface(alloc, context, *id, item, live),
+        WorldItem::Interface { id, .. } => add_interface(context, *id, item, types, live),
         WorldItem::Function(_) => live.add_world_item(context.resolve, item),
         WorldItem::TypeItem { .. } => live.add_world_item(context.resolve, item),
     }
@@ -374,12 +435,14 @@ fn add_exports(
     exports: &Map<WorldKey, WorldItem>,
     live: &mut LiveTypes,
 ) -> Result<(), AllocError>
-    requires { AreItemsIn context.now.resolve.now (entries_of exports.now) }
+    requires there { AreItemsIn context.now.resolve.now (entries_of exports.now) }
+    requires complete { IsComplete context.now.resolve.now.types live.old }
     ensures { let r = context.now.resolve.now in OnOk result (AddsListings r live.old live.new
         (exports_roots r (used_view context.now.used.now) (entries_of exports.now))) }
 {
+    let mut types = LiveTypes::new(alloc);
     for (_key, item) in exports.iter() {
-        add_export(alloc, context, item, live)?;
+        add_export(context, item, &mut types, live)?;
     }
     Ok(())
 }
@@ -402,8 +465,9 @@ fn live_types<'a>(
     let resolve = context.resolve;
     resolve.well_formedness();
     let mut live = LiveTypes::new(alloc);
-    add_module(resolve, world, &main.imports, &mut live)?;
-    add_adapters(resolve, world, adapters, &mut live)?;
+    let mut added = Set::with_hasher(alloc, *adapters.hasher());
+    add_module(resolve, world, &main.imports, &mut added, &mut live)?;
+    add_adapters(resolve, world, adapters, &mut added, &mut live)?;
     add_exports(alloc, context, &world.exports, &mut live)?;
     Ok(live)
 }
@@ -411,7 +475,7 @@ fn live_types<'a>(
 /// Adds a type to the group of its owner, which is new if it is not there.
 fn add_to_owner(
     alloc: Global,
-    groups: &mut IndexMap<InterfaceId, IndexSet<TypeId>>,
+    groups: &mut LiveGroups,
     owner: InterfaceId,
     ty: TypeId,
 ) -> Result<(), AllocError>
@@ -422,7 +486,7 @@ fn add_to_owner(
         group.insert(ty)?;
         return Ok(());
     }
-    let mut group = IndexSet::new(alloc);
+    let mut group = Set::with_hasher(alloc, *groups.hasher());
     group.insert(ty)?;
     groups.insert(owner, group)?;
     Ok(())
@@ -432,7 +496,7 @@ fn add_to_owner(
 fn add_owned(
     alloc: Global,
     resolve: &Resolve,
-    groups: &mut IndexMap<InterfaceId, IndexSet<TypeId>>,
+    groups: &mut LiveGroups,
     ty: TypeId,
 ) -> Result<(), AllocError>
     requires { ty.0 < length resolve.now.types }
@@ -444,16 +508,17 @@ fn add_owned(
     }
 }
 
-/// Types by the interfaces that own them, each in the order of its first type.
+/// Types by the interfaces that own them, each in the order of its first type. `seed` is that of the map and its sets.
 fn by_owner(
     alloc: Global,
+    seed: Seed,
     resolve: &Resolve,
     live: &LiveTypes,
-) -> Result<IndexMap<InterfaceId, IndexSet<TypeId>>, AllocError>
+) -> Result<LiveGroups, AllocError>
     requires { AreListed resolve.now live.now }
     ensures { IfOk result (λ groups. live_view groups ≡ by_owner resolve.now live.now) }
 {
-    let mut groups = IndexMap::new(alloc);
+    let mut groups = Map::with_hasher(alloc, seed);
     for ty in live.iter() {
         add_owned(alloc, resolve, &mut groups, ty)?;
     }
@@ -465,10 +530,10 @@ fn by_owner(
 pub(crate) fn live_type_imports<'a>(
     alloc: Global,
     encoder: &ComponentEncoder,
-    used: &HashMap<InterfaceId, HashSet<InterfaceId>>,
+    used: &UsedInterfaces,
     main: &ValidatedModule,
     adapters: &Map<&'a str, WorldAdapter<'a>>,
-) -> Result<IndexMap<InterfaceId, IndexSet<TypeId>>, AllocError>
+) -> Result<LiveGroups, AllocError>
     requires main { AreImportsOf encoder.now (module_record main.now) }
     requires adapters { All (λ a. AreImportsOf encoder.now a.1.info) (adapters_view adapters.now) }
     ensures { IfOk result (λ groups. AreLive encoder.now (used_view used.now)
@@ -481,5 +546,5 @@ pub(crate) fn live_type_imports<'a>(
     let world = resolve.world(metadata.world);
     let context = LiveContext { resolve, used };
     let live = live_types(alloc, &context, world, main, adapters)?;
-    by_owner(alloc, resolve, &live)
+    by_owner(alloc, *adapters.hasher(), resolve, &live)
 }

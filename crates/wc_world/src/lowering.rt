@@ -20,7 +20,7 @@ use wc_resolve::{
     AbiVariant, Function, InterfaceId, Resolve, TypeDefKind, TypeId, WorldItem, WorldKey,
 };
 
-/// By what functions are lowered.
+/// The context in which functions are lowered.
 #[derive(Drop)]
 pub(crate) struct Lowerings<'a, O: ImportOptions> {
     pub(crate) resolve: &'a Resolve,
@@ -109,10 +109,8 @@ fn push_call<O: ImportOptions>(
         (function_view callee.entry.function.now) (import_abi is_async)))) }
 {
     let function = callee.function;
-    if !context
-        .imported
-        .has_function(alloc, callee.interface, &function.name, is_async)?
-    {
+    let imported = context.imported;
+    if !imported.has_function(callee.interface, &function.name, is_async) {
         return Ok(());
     }
     let abi = import_abi(is_async);
@@ -198,13 +196,16 @@ fn push_functions<O: ImportOptions>(
         OnOk result (AddsLowerings lowerings.old lowerings.new
         (lowerings_of_functions l (Some interface.0) (map function_entry functions.now.entries)))) }
 {
+    if !context.imported.has_functions_of(Some(interface)) {
+        return Ok(());
+    }
     for (_name, function) in functions.iter() {
         push_function(alloc, context, lowerings, Some(interface), function)?;
     }
     Ok(())
 }
 
-/// That what is imported of an interface has distinct keys, for proofs. It does nothing when it runs.
+/// A law, which does nothing when it runs: the lowerings of an interface have distinct keys.
 pub(crate) fn distinct_keys(resolve: &Resolve, id: InterfaceId)
     requires { id.0 < length resolve.now.interfaces }
     ensures { (l : Lowerer) → l.resolve ≡ resolve.now
@@ -216,7 +217,7 @@ pub(crate) fn distinct_keys(resolve: &Resolve, id: InterfaceId)
     let _ = interface.functions.len();
 }
 
-/// Adds what is imported of an interface: drops in the order of its types, and then its functions.
+/// Adds the lowerings of an interface: drops in the order of its types, and then its functions.
 pub(crate) fn push_interface<O: ImportOptions>(
     alloc: Global,
     context: &Lowerings<'_, O>,
@@ -234,7 +235,7 @@ pub(crate) fn push_interface<O: ImportOptions>(
     push_functions(alloc, context, lowerings, id, &interface.functions)
 }
 
-/// Adds what is imported of an item of the world itself: a function, or the drop of a resource. An interface has
+/// Adds the lowerings of an item of the world itself: a function, or the drop of a resource. An interface has
 /// lowerings of its own.
 fn push_item<O: ImportOptions>(
     alloc: Global,
@@ -254,7 +255,7 @@ fn push_item<O: ImportOptions>(
     }
 }
 
-/// What is imported of the functions and types that the world itself imports, in its order.
+/// The lowerings of the functions and types that the world itself imports, in its order.
 pub(crate) fn world_lowerings<O: ImportOptions>(
     alloc: Global,
     context: &Lowerings<'_, O>,

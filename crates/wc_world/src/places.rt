@@ -1,4 +1,4 @@
-//! What faults of a component's world are about: places in the main module, and in adapters.
+//! Places of faults of a component's world: in the main module, and in adapters.
 
 ghost use Rattle.std.specs.Prelude.{◌≡◌, ◌↔◌, IfOk, IsTrue, None, Some, option_map};
 ghost use Rattle.std.specs.Map.{lookup};
@@ -18,10 +18,11 @@ use std::alloc::{AllocError, Global};
 use wc_encoder::{Adapter, ComponentEncoder, LibraryInfo};
 use wc_gc::{GcFault, TrimPlace};
 use wc_validate::{
-    Place, ValidateFault, ValidatedModule, explain_adapter_module, explain_module, validate_module,
+    Place, ValidateFault, ValidatedModule, WorldInterfaces, explain_adapter_module, explain_module,
+    validate_module,
 };
 
-/// What a fault of a module is about.
+/// The place of a fault in a module.
 #[derive(Debug, PartialEq, Eq, Drop)]
 pub enum ModulePlace {
     /// An import or an export, by its names.
@@ -30,12 +31,12 @@ pub enum ModulePlace {
     Trim(TrimPlace),
 }
 
-/// What a fault of a component's world is about: a place in its main module, or in one of its adapters or libraries.
+/// The place of a fault of a component's world: in its main module, or in one of its adapters or libraries.
 #[derive(Debug, PartialEq, Eq, Drop)]
 pub struct WorldPlace {
     /// The name of the adapter, or of the library; `None` for the main module.
     pub adapter: Option<String>,
-    /// What the fault is about in it.
+    /// The place in it.
     pub place: ModulePlace,
 }
 
@@ -84,7 +85,7 @@ fn is_trim_refusal(fault: &WorldFault) -> bool
     }
 }
 
-/// What the main module of an encoder imports and exports, if it is valid.
+/// The imports and exports of an encoder's main module, if it is valid.
 fn main_found(
     alloc: Global,
     encoder: &ComponentEncoder,
@@ -108,7 +109,7 @@ fn main_found(
     }
 }
 
-/// What an adapter that is to be trimmed imports and exports, if it is valid.
+/// The imports and exports of an adapter that is to be trimmed, if it is valid.
 fn first_found(
     alloc: Global,
     input: &AdapterInput<'_, '_>,
@@ -176,7 +177,7 @@ fn in_module(place: Option<Place>) -> Option<ModulePlace>
     }
 }
 
-/// What a fault of these bytes is about, by what an adapter or a library is validated for.
+/// The place of a fault in these bytes, which are validated for what an adapter or a library has to do.
 fn place_in(
     alloc: Global,
     input: &AdapterInput<'_, '_>,
@@ -200,7 +201,7 @@ fn place_in(
     Ok(in_module(place))
 }
 
-/// What a fault of an adapter or a library is about, as the encoder has it.
+/// The place of a fault in an adapter or a library, as the encoder has it.
 fn original_place(
     alloc: Global,
     input: &AdapterInput<'_, '_>,
@@ -220,7 +221,7 @@ fn original_place(
     )
 }
 
-/// What a fault of an adapter is about, as it is trimmed.
+/// The place of a fault in an adapter, as it is trimmed.
 fn minimized_place(
     alloc: Global,
     input: &AdapterInput<'_, '_>,
@@ -235,7 +236,7 @@ fn minimized_place(
     }
 }
 
-/// What a fault of trimming is about, by what is recorded of an adapter.
+/// The place of a fault of trimming, by what is recorded of an adapter.
 fn trim_place_by(
     alloc: Global,
     input: &AdapterInput<'_, '_>,
@@ -255,7 +256,7 @@ fn trim_place_by(
     }
 }
 
-/// What a fault of trimming is about.
+/// The place of a fault of trimming.
 fn trim_place(
     alloc: Global,
     input: &AdapterInput<'_, '_>,
@@ -270,7 +271,7 @@ fn trim_place(
     }
 }
 
-/// What a fault of an adapter or a library is about.
+/// The place of a fault in an adapter or a library.
 fn input_place(
     alloc: Global,
     input: &AdapterInput<'_, '_>,
@@ -287,13 +288,15 @@ fn input_place(
     }
 }
 
-/// The same, if a component needs it.
+/// The place of a fault in an adapter or a library, if a component needs it.
 fn place_if_needed(
     alloc: Global,
     input: &AdapterInput<'_, '_>,
     fault: AdapterFault<'_>,
 ) -> Result<Option<ModulePlace>, AllocError>
-    requires { required_of input.now ≡ required_in input.now.main.now.imports input.now.name.now }
+    requires required { required_of input.now
+        ≡ required_in input.now.main.now.imports input.now.name.now }
+    requires same { input.now.interfaces.now ≡ input.now.encoder.now }
     ensures { IfOk result (IsUnderAnswer fault.entry input.now.encoder.now (main_of input.now)
         (named_adapter input.now)) }
 {
@@ -304,7 +307,7 @@ fn place_if_needed(
     }
 }
 
-/// What a fault of this adapter or library is about, by what its main module imports.
+/// The place of a fault in this adapter or library, by what the main module imports of it.
 fn place_by_main(
     alloc: Global,
     context: MainContext<'_, '_>,
@@ -315,12 +318,14 @@ fn place_by_main(
     requires main { IsMainRecord context.encoder.now (module_record context.main.now) }
     requires there { lookup (bytes_eq name.now) context.encoder.now.adapters
         ≡ Some (adapter_view adapter.now) }
+    requires same { context.interfaces.now ≡ context.encoder.now }
     ensures { IfOk result (IsAdapterAnswer fault.entry context.entry.encoder.now name.now) }
 {
     let main = context.main;
     let required = main.imports.required_from_adapter(alloc, name)?;
     let input = AdapterInput {
         encoder: context.encoder,
+        interfaces: context.interfaces,
         main,
         required: &required,
         name,
@@ -329,7 +334,44 @@ fn place_by_main(
     place_if_needed(alloc, &input, fault)
 }
 
-/// What a fault of the adapter or the library of a name is about.
+/// The place of a fault in the adapter or the library of a name, by what the main module imports of it.
+fn named_place(
+    alloc: Global,
+    context: MainContext<'_, '_>,
+    name: &str,
+    fault: AdapterFault<'_>,
+) -> Result<Option<ModulePlace>, AllocError>
+    requires main { IsMainRecord context.encoder.now (module_record context.main.now) }
+    requires same { context.interfaces.now ≡ context.encoder.now }
+    ensures { IfOk result (IsAdapterAnswer fault.entry context.entry.encoder.now name.now) }
+{
+    match context.encoder.adapters().get(name) {
+        Some(adapter) => place_by_main(alloc, context, name, adapter, fault),
+        None => Ok(None),
+    }
+}
+
+/// The place of a fault in the adapter or the library of a name, where the main module is valid.
+fn place_beside(
+    alloc: Global,
+    encoder: &ComponentEncoder,
+    main: &ValidatedModule,
+    name: &str,
+    fault: AdapterFault<'_>,
+) -> Result<Option<ModulePlace>, AllocError>
+    requires { IsMainRecord encoder.now (module_record main.now) }
+    ensures { IfOk result (IsAdapterAnswer fault.entry encoder.now name.now) }
+{
+    let interfaces = WorldInterfaces::new(alloc, encoder, 1)?;
+    let context = MainContext {
+        encoder,
+        interfaces: &interfaces,
+        main,
+    };
+    named_place(alloc, context, name, fault)
+}
+
+/// The place of a fault in the adapter or the library of a name.
 fn adapter_place(
     alloc: Global,
     encoder: &ComponentEncoder,
@@ -338,15 +380,8 @@ fn adapter_place(
 ) -> Result<Option<ModulePlace>, AllocError>
     ensures { IfOk result (IsAdapterAnswer fault.entry encoder.now name.now) }
 {
-    let Some(main) = main_found(alloc, encoder)? else {
-        return Ok(None);
-    };
-    let context = MainContext {
-        encoder,
-        main: &main,
-    };
-    match encoder.adapters().get(name) {
-        Some(adapter) => place_by_main(alloc, context, name, adapter, fault),
+    match main_found(alloc, encoder)? {
+        Some(main) => place_beside(alloc, encoder, &main, name, fault),
         None => Ok(None),
     }
 }
@@ -366,7 +401,7 @@ fn in_adapter(
     Ok(Some(WorldPlace { adapter, place }))
 }
 
-/// What a fault of the adapter or the library of a name is about, with its name.
+/// The place of a fault in the adapter or the library of a name, with its name.
 fn explain_adapter(
     alloc: Global,
     encoder: &ComponentEncoder,
@@ -379,7 +414,7 @@ fn explain_adapter(
     in_adapter(alloc, name, place)
 }
 
-/// What a fault of the main module is about.
+/// The place of a fault in the main module.
 fn explain_main(
     alloc: Global,
     encoder: &ComponentEncoder,
@@ -398,8 +433,8 @@ fn explain_main(
     }
 }
 
-/// What a fault is about that [`ComponentWorld::new`](crate::ComponentWorld::new) answered for the same encoder; its
-/// options decide no fault. What is done with the module that the fault names is repeated, for the same as before:
+/// The place of a fault that [`ComponentWorld::new`](crate::ComponentWorld::new) answered for the same encoder; its
+/// options decide no fault. The steps for the module that the fault names are repeated:
 ///
 /// - `Main`: the main module is validated (`wc_validate::explain_module`).
 /// - `Adapter`: the adapter, or the library, of the name is validated, as the encoder has it

@@ -10,13 +10,15 @@ ghost use Rattle.wc_resolve.specs.Views.{item_view};
 ghost use Rattle.wc_world.specs.Used.{AddsUsedSetOnOk, AreUsed, ForDependent, HasDependencySets, HasUsedPart, IsReady, IsUsedSet, has_interface, is_exported_itself, used_view};
 
 use std::alloc::{AllocError, Global};
-use std::collections::{HashMap, HashSet};
 use wc_encoder::ComponentEncoder;
-use wc_maps::Map;
+use wc_maps::{Map, Set};
 use wc_resolve::{InterfaceId, Resolve, WorldItem, WorldKey};
 
+/// For interfaces the interfaces that they use.
+pub(crate) type UsedInterfaces = Map<InterfaceId, Set<InterfaceId>>;
+
 /// Adds all interfaces of a set to another one.
-fn add_all(set: &mut HashSet<InterfaceId>, more: &HashSet<InterfaceId>) -> Result<(), AllocError>
+fn add_all(set: &mut Set<InterfaceId>, more: &Set<InterfaceId>) -> Result<(), AllocError>
     ensures { OnOk result ((j : ℕ) → has_interface set.new j
         ≡ (has_interface set.old j || has_interface more.now j)) }
 {
@@ -35,8 +37,8 @@ fn is_exported_itself(exports: &Map<WorldKey, WorldItem>, id: InterfaceId) -> bo
 
 /// Adds an interface and those that it uses, unless it is there.
 fn add_with_used(
-    set: &mut HashSet<InterfaceId>,
-    used: &HashMap<InterfaceId, HashSet<InterfaceId>>,
+    set: &mut Set<InterfaceId>,
+    used: &UsedInterfaces,
     id: InterfaceId,
 ) -> Result<(), AllocError>
     ensures { ForDependent (used_view used.now) id.0 (λ d. (passed : List ℕ)
@@ -58,9 +60,9 @@ fn used_by(
     alloc: Global,
     resolve: &Resolve,
     exports: &Map<WorldKey, WorldItem>,
-    used: &HashMap<InterfaceId, HashSet<InterfaceId>>,
+    used: &UsedInterfaces,
     id: InterfaceId,
-) -> Result<HashSet<InterfaceId>, AllocError>
+) -> Result<Set<InterfaceId>, AllocError>
     requires there { id.0 < length resolve.now.interfaces }
     requires known { HasDependencySets resolve.now (entries_of exports.now)
         (used_view used.now) id.0 }
@@ -68,7 +70,7 @@ fn used_by(
         IsUsedSet resolve.now (entries_of exports.now) id.0 (has_interface set)) }
 {
     let dependencies = resolve.interface_direct_deps(alloc, id)?;
-    let mut set = HashSet::new(alloc);
+    let mut set = Set::with_hasher(alloc, *exports.hasher());
     for dependency in &dependencies {
         if is_exported_itself(exports, *dependency) {
             add_with_used(&mut set, used, *dependency)?;
@@ -82,7 +84,7 @@ fn add_export(
     alloc: Global,
     resolve: &Resolve,
     exports: &Map<WorldKey, WorldItem>,
-    used: &mut HashMap<InterfaceId, HashSet<InterfaceId>>,
+    used: &mut UsedInterfaces,
     item: &WorldItem,
 ) -> Result<(), AllocError>
     requires there { IsItemIn resolve.now (item_view item.now) }
@@ -107,14 +109,14 @@ fn sets_of_exports(
     alloc: Global,
     resolve: &Resolve,
     exports: &Map<WorldKey, WorldItem>,
-) -> Result<HashMap<InterfaceId, HashSet<InterfaceId>>, AllocError>
+) -> Result<UsedInterfaces, AllocError>
     requires there { AreItemsIn resolve.now (entries_of exports.now) }
     requires before { AreDependenciesBefore resolve.now (entries_of exports.now) }
     requires keyed { All (λ e. IsMatchingKey resolve.now e.0 e.1) (entries_of exports.now) }
     ensures { IfOk result (λ used.
         AreUsed resolve.now (entries_of exports.now) (used_view used)) }
 {
-    let mut used = HashMap::new(alloc);
+    let mut used = Map::with_hasher(alloc, *exports.hasher());
     for (_key, item) in exports.iter() {
         add_export(alloc, resolve, exports, &mut used, item)?;
     }
@@ -130,7 +132,7 @@ fn sets_of_exports(
 pub(crate) fn exports_used(
     alloc: Global,
     encoder: &ComponentEncoder,
-) -> Result<HashMap<InterfaceId, HashSet<InterfaceId>>, AllocError>
+) -> Result<UsedInterfaces, AllocError>
     ensures { IfOk result (λ used.
         AreUsed encoder.now.resolve (world_exports encoder.now) (used_view used)) }
 {

@@ -22,11 +22,9 @@ use crate::laws::worlds_exclude_faults;
 use crate::live::live_type_imports;
 use crate::options::ImportOptions;
 use crate::used::exports_used;
-use indexmap::{IndexMap, IndexSet};
 use std::alloc::{AllocError, Global};
-use std::collections::{HashMap, HashSet};
 use wc_encoder::ComponentEncoder;
-use wc_maps::Map;
+use wc_maps::{Map, Set};
 use wc_names::Import;
 use wc_resolve::{InterfaceId, TypeId};
 use wc_validate::laws::records_in_range;
@@ -46,9 +44,9 @@ pub struct ComponentWorld<'a> {
     /// the functions and types that the world itself imports.
     pub import_map: Map<Option<String>, ImportedInterface>,
     /// The live types of imports, by the interfaces that own them.
-    pub live_type_imports: IndexMap<InterfaceId, IndexSet<TypeId>>,
+    pub live_type_imports: Map<InterfaceId, Set<TypeId>>,
     /// For each interface that the world exports, the exported interfaces that it uses.
-    pub exports_used: HashMap<InterfaceId, HashSet<InterfaceId>>,
+    pub exports_used: Map<InterfaceId, Set<InterfaceId>>,
 }
 
 /// Whether an import starts a thread, or reads or writes slot 1 of a task's context.
@@ -110,8 +108,8 @@ fn main_record(alloc: Global, encoder: &ComponentEncoder) -> Result<ValidatedMod
 #[derive(Drop)]
 struct WorldMaps {
     import_map: Map<Option<String>, ImportedInterface>,
-    live_type_imports: IndexMap<InterfaceId, IndexSet<TypeId>>,
-    exports_used: HashMap<InterfaceId, HashSet<InterfaceId>>,
+    live_type_imports: Map<InterfaceId, Set<TypeId>>,
+    exports_used: Map<InterfaceId, Set<InterfaceId>>,
 }
 
 /// What is made of this main module and these adapters.

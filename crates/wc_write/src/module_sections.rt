@@ -9,7 +9,7 @@ ghost use Rattle.wc_read.specs.Imports.{import_values};
 ghost use Rattle.wc_read.specs.Exports.{export_value};
 ghost use Rattle.wc_read.specs.Inits.{init_value};
 ghost use Rattle.wc_read.specs.Items.{item_value, table_value, memory_value};
-ghost use Rattle.wc_write.specs.ModuleText.{built_value_by, built_imports, code_text_of, items_content, type_section, import_section, func_section, table_section, memory_section, global_section, export_section, start_section, code_section, producers_section, AppendsSection, AppendsContent};
+ghost use Rattle.wc_write.specs.ModuleText.{built_value_by, built_imports, code_text, code_text_of, items_content, type_section, import_section, func_section, table_section, memory_section, global_section, export_section, start_section, code_section, producers_section, AppendsSection, AppendsContent};
 
 use crate::bodies::BodyText;
 use crate::fault::WriteFault;
@@ -24,6 +24,9 @@ use wc_read::codes::{
     START_ID, TABLE_ID, TYPE_ID,
 };
 use wc_read::{Export, FuncType, GlobalType, Import, Init, Item, Memory, Table};
+
+/// A size below it has one byte.
+const ONE_BYTE: usize = 128;
 
 /// Appends a section of this content.
 fn append_content(out: &mut Vec<u8>, id: u8, content: &[u8]) -> Result<(), WriteFault>
@@ -214,19 +217,61 @@ fn append_bodies<C: BodyText>(
     append_content(out, CODE_ID, content)
 }
 
-/// Appends bodies after their sizes. One buffer serves them all.
+/// Appends bodies after their sizes. Where the body before had a size of one byte, the next one is put in its place at
+/// once; else it goes through a buffer, which serves them all.
 fn put_code<C: BodyText>(out: &mut Vec<u8>, funcs: &[Defined<'_, u32, C>]) -> Result<(), AllocError>
     ensures { OnOk result (out.new.items ≡
         out.old.items ++ flat_map (code_text_of C.body) funcs.now) }
 {
     let mut text = Vec::new(*out.allocator());
+    let mut is_short = false;
     for func in funcs {
-        text.clear();
-        func.content.put(&mut text)?;
-        put_number(out, text.len() as u64)?;
-        out.extend_from_slice(&text)?;
+        is_short = put_body_after_size(out, &mut text, func.content, is_short)?;
     }
     Ok(())
+}
+
+/// Appends a body after its size, and answers whether the size has one byte. It is expected to where `is_short` is true.
+fn put_body_after_size<C: BodyText>(
+    out: &mut Vec<u8>,
+    text: &mut Vec<u8>,
+    body: &C,
+    is_short: bool,
+) -> Result<bool, AllocError>
+    ensures { OnOk result (out.new.items ≡ out.old.items ++ code_text (C.body body.now)) }
+{
+    if is_short {
+        return put_in_place(out, text, body);
+    }
+    text.clear();
+    body.put(text)?;
+    put_number(out, text.len() as u64)?;
+    out.extend_from_slice(text)?;
+    Ok(text.len() < ONE_BYTE)
+}
+
+/// Appends a body after a byte, which becomes its size; a longer size takes a copy of the body.
+fn put_in_place<C: BodyText>(
+    out: &mut Vec<u8>,
+    text: &mut Vec<u8>,
+    body: &C,
+) -> Result<bool, AllocError>
+    ensures { OnOk result (out.new.items ≡ out.old.items ++ code_text (C.body body.now)) }
+{
+    let before = out.len();
+    out.push(0)?;
+    body.put(out)?;
+    let size = out.len() - before - 1;
+    if size < ONE_BYTE {
+        out[before] = size as u8;
+        return Ok(true);
+    }
+    text.clear();
+    text.extend_from_slice(&out[before + 1..])?;
+    out.truncate(before);
+    put_number(out, size as u64)?;
+    out.extend_from_slice(text)?;
+    Ok(false)
 }
 
 /// Appends the custom section of producers, where there are producers.

@@ -13,8 +13,22 @@ const SEVEN_BITS: u64 = 128;
 const SIX_BITS: u64 = 64;
 
 /// Appends an unsigned number as minimal LEB128, the low seven bits first. After an error `out` still begins with the
-/// bytes that it had before.
+/// bytes that it had before. Most numbers are of one byte.
+#[inline(always)]
 pub(crate) fn put_number(out: &mut Vec<u8>, number: u64) -> Result<(), AllocError>
+    ensures written { OnOk result (out.new.items ≡ out.old.items ++ number_text number) }
+    ensures kept { OnErr result (take (length out.old.items) out.new.items ≡ out.old.items) }
+{
+    if number < SEVEN_BITS {
+        out.push(number as u8)?;
+        return Ok(());
+    }
+    put_digits(out, number)
+}
+
+/// Appends an unsigned number of any length, as `put_number` does.
+#[inline(never)]
+fn put_digits(out: &mut Vec<u8>, number: u64) -> Result<(), AllocError>
     ensures written { OnOk result (out.new.items ≡ out.old.items ++ number_text number) }
     ensures kept { OnErr result (take (length out.old.items) out.new.items ≡ out.old.items) }
 {

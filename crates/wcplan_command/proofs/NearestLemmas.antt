@@ -2,7 +2,6 @@
 use Rattle.std.proofs.Common.{◌≡◌, ◌<◌, ℕ, Bool, true, false, cond, List, [], ◌∷◌, map, length, find, Option, Some, None, String, Global, sym, ◌∙◌, ap, subst, string_bytes, slice_get}
 use Rattle.std.specs.List.{cons_option}
 use Rattle.std.specs.Option.{IfSome, option_and_then, option_map, option_map_or}
-use Rattle.std.specs.Str.{bytes_eq}
 use Rattle.semver.specs.Identifiers.{parts_text}
 use Rattle.wc_encoder.specs.EncoderParts.{EncoderView, HasWorld, world_exports, world_imports}
 use Rattle.wc_encoder.proofs.WorldLemmas.{exports_are, imports_are}

@@ -15,7 +15,6 @@ use Rattle.wc_selection.specs.KeyNames.{count_unversioned, request_keys}
 use Rattle.wc_selection.specs.Keys.{NamedKey}
 use Rattle.wc_selection.specs.ModuleKeys.{required_keys}
 use Rattle.wc_selection.specs.Texts.{first_parts, second_parts, text_pair}
-use Rattle.wc_selection.specs.Worlds.{IsSelected}
 use Rattle.wcplan_command.specs.declared.faults.SelectionFault.{SelectionFault}
 use Rattle.wcplan_command.specs.declared.faults.SelectionFault.TheVariants.{Request}
 use Rattle.wc_selection.specs.declared.fault.RequestFault.TheVariants.{UnknownKey, SeveralKeys, RepeatedKey}
@@ -33,7 +32,7 @@ use Rattle.wc_adapters.proofs.PairLemmas.{pairs_head, pairs_tail}
 use Rattle.wc_resolve.proofs.KeyLemmas.{texts_law}
 use Rattle.wc_resolve.proofs.SearchLemmas.{contains_cons, contains_head, contains_none, contains_tail}
 use Rattle.wcplan_command.specs.Faults.{of_dedupe, of_encoder}
-use Rattle.wcplan_command.specs.ModuleKeys.{AreNamesThere, IsNamesCause, request_of}
+use Rattle.wcplan_command.specs.ModuleKeys.{AreNamesThere, IsMeant, IsNamesCause, request_of}
 use Rattle.wc_program.specs.Files.{Held}
 use Rattle.wcplan_command.specs.Arguments.{CommandValue}
 use Rattle.wcplan_command.specs.Program.{AreWorldsIn, HoldsInput, IsAdapterIn, IsAdaptersCause, IsChosen, IsDocumentIn, IsListed, IsListedCause, IsListedSelection, IsMainCause, IsModulesCause, IsPartsOf, IsPartsWith, IsPlanCause, IsReadFault, IsUnknownKey, Reads}
@@ -152,7 +151,7 @@ adapters_more before c keys pairs k d entries after name adapter lt distinct nam
 -- causes of faults that come before there is an encoder
 
 pub names_cause : (c : CommandValue) (before : Option Held) (fails : Reads) (d : DocumentView) (world : ℕ) (f : ProgramFault)
-    → IsDocumentIn before c.worlds d → IsSelected d c.world world → IsResolve d.parts
+    → IsDocumentIn before c.worlds d → IsMeant d c.world world → IsResolve d.parts
     → IsListedCause c (request_keys (request_of c) d.parts world) f → IsPlanCause c before fails f
 names_cause c before fails d world Memory document selected formed cause = tt
 names_cause c before fails d world (Selection f) document selected formed cause = inr (d, world, document, selected, formed, cause)

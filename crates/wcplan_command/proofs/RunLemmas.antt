@@ -18,7 +18,6 @@ use Rattle.wcplan_command.specs.Reading.{AsksMemory, read_arguments}
 use Rattle.wc_program.specs.Screen.{Printing, nothing, printed}
 use Rattle.wcplan_command.specs.declared.arguments.NoCommand.{NoCommand}
 use Rattle.wcplan_command.specs.declared.arguments.NoCommand.TheVariants.{Memory, Help, Version, Wrong}
-use Rattle.wcplan_command.specs.Details.{fault_lines}
 use Rattle.wc_gc.specs.declared.fault.GcFault.{GcFault}
 use Rattle.wc_gc.specs.declared.fault.GcFault.TheVariants.{Memory as gc_memory}
 use Rattle.wc_ways.specs.WaysFaults.{IsWaysFault}

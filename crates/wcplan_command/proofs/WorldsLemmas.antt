@@ -1,31 +1,29 @@
 -- Why there are no worlds, or none of the name, in the file of a command.
-use Rattle.std.proofs.Common.{◌≡◌, ℕ, List, Option, Some, None, Result, Ok, Err, IfOk, IfErr, sym, ◌∙◌, subst, inl}
-use Rattle.json.specs.Json.{Json, document}
-use Rattle.wc_json.specs.Document.{DocumentView, document_of}
+use Rattle.std.proofs.Common.{◌≡◌, ◌<◌, ℕ, List, length, Option, Some, None, Result, Ok, Err, IfOk, IfErr, sym, ◌∙◌, ap, subst, inl, inr}
+use Rattle.std.proofs.lemmas.Option.{same_Some}
+use Rattle.json.specs.Json.{document}
+use Rattle.wc_json.specs.Document.{DocumentView}
 use Rattle.wc_resolve.specs.Faults.{IsResolveCause}
+use Rattle.wc_resolve.specs.Places.{IsPlace}
+use Rattle.wc_resolve.specs.Refusals.{IsRefusal}
 use Rattle.wc_resolve.specs.World.{ResolveView}
+use Rattle.wc_resolve.specs.declared.explain.Part.{Part}
+use Rattle.wc_resolve.specs.declared.explain.Refusal.{Refusal}
 use Rattle.wc_resolve.specs.declared.fault.ResolveFault.{ResolveFault}
 use Rattle.wc_resolve.specs.declared.fault.ResolveFault.TheVariants.{Memory as resolve_memory}
-use Rattle.wc_selection.specs.Worlds.{IsSelected, IsWorldCause}
+use Rattle.wc_selection.proofs.WorldLemmas.{selected_there}
+use Rattle.wc_selection.specs.Worlds.{IsWorldCause}
 use Rattle.wc_selection.specs.declared.fault.RequestFault.{RequestFault}
-use Rattle.wc_selection.specs.declared.fault.RequestFault.TheVariants.{Memory as request_memory}
+use Rattle.wc_selection.specs.declared.fault.RequestFault.TheVariants.{Memory as request_memory, UnknownWorld}
 use Rattle.wc_program.specs.Files.{Held}
 use Rattle.wcplan_command.specs.Arguments.{CommandValue}
-use Rattle.wcplan_command.specs.Faults.{of_request, of_selection}
-use Rattle.wcplan_command.specs.Parts.{IsPartExplanation}
-use Rattle.wcplan_command.specs.Private.Runs.{AreWorldsOf, IsOfResolve, IsPartIn, IsWorldsCause}
+use Rattle.wcplan_command.specs.ModuleKeys.{IsMeant, IsNoneMeant}
+use Rattle.wcplan_command.specs.Parts.{IsPartExplanation, part_name}
+use Rattle.wcplan_command.specs.Private.Runs.{AreWorldsOf, IsExplainedPlace, IsMeaningCause, IsOfFault, IsOfRefused, IsUnknownWorld, IsUnselected, IsWorldsCause}
 use Rattle.wcplan_command.specs.Program.{AreWorldsIn, HoldsInput, IsDocumentIn, IsDocumentOf, IsPlanCause, IsReadFault, IsTextCause, Reads}
 use Rattle.wcplan_command.specs.declared.explained_part.ExplainedPart.{ExplainedPart}
 use Rattle.wcplan_command.specs.declared.faults.ProgramFault.{ProgramFault}
-use Rattle.wcplan_command.specs.declared.faults.ProgramFault.TheVariants.{Memory, CannotRead, NotText, NotJson, RepeatedMember, Json as json_fault, Selection, NoExport, Resolve, Dedupe, Encoder, World, Plan, Ways, CannotMake, CannotWrite, Output}
-
-one_value : {A E : Type 0} (r : Result A E) (x y : A) → r ≡ Ok x → r ≡ Ok y → x ≡ y
-one_value r x y h k = let both : Ok x ≡ Ok y = sym h ∙ k in cc
-
--- a text is read as one document
-one_document : (read : Option Json) (d e : DocumentView) → IsDocumentOf read d → IsDocumentOf read e → d ≡ e
-one_document None d e h k = absurd h
-one_document (Some j) d e h k = one_value (document_of j) d e h.1 k.1
+use Rattle.wcplan_command.specs.declared.faults.ProgramFault.TheVariants.{Memory, CannotRead, NotText, NotJson, RepeatedMember, Json as json_fault, Selection, NoWorld, NoExport, Resolve, Dedupe, Encoder, World, Plan, Ways, CannotMake, CannotWrite, Output}
 
 -- a file that could not be read, or is no text
 pub unread : (c : CommandValue) (before : Option Held) (fails : Reads) (f : ProgramFault) → IsReadFault c.worlds fails f → IsPlanCause c before fails f
@@ -37,33 +35,65 @@ unread c before fails f h = absurd h
 pub text_cause : (c : CommandValue) (text : List ℕ) (f : ProgramFault) → IsTextCause text f → IsWorldsCause c text f
 text_cause c text Memory h = tt
 text_cause c text (Selection f) h = absurd h
+text_cause c text (NoWorld name listing) h = absurd h
 text_cause c text (Resolve f x) h = absurd h
 text_cause c text f h = h
 
--- no world has the name
-pub unselected : (c : CommandValue) (text : List ℕ) (d : DocumentView) (f : RequestFault) → IsDocumentOf (document text) d
-    → IsWorldCause d c.world f → IsWorldsCause c text (of_selection (of_request f))
-unselected c text d request_memory read cause = tt
-unselected c text d f read cause = (d, read, cause)
+-- no world is meant, or it can't be told which one has the name
+
+pub unknown_world : (d : DocumentView) (text : Option (List ℕ)) (f : ProgramFault) → IsNoneMeant d text → IsUnknownWorld d text f → IsMeaningCause d text f
+unknown_world d text Memory none h = tt
+unknown_world d text (NoWorld name listing) none h = (h.0, none, h.1)
+unknown_world d text f none h = absurd h
+
+pub unselected_cause : (d : DocumentView) (name : List ℕ) (f : RequestFault) (g : ProgramFault) → IsWorldCause d name f → IsUnselected d name f g
+    → IsMeaningCause d (Some name) g
+unselected_cause d name request_memory g cause h = subst (IsMeaningCause d (Some name)) (sym h) tt
+unselected_cause d name (UnknownWorld n) g cause h = unknown_world d (Some name) g (cause.0, cause.1.1, cause.1.2) h
+unselected_cause d name f g cause h = subst (IsMeaningCause d (Some name)) (sym h) cause
+
+pub unselected : (c : CommandValue) (text : List ℕ) (d : DocumentView) (f : ProgramFault) → IsDocumentOf (document text) d
+    → IsMeaningCause d c.world f → IsWorldsCause c text f
+unselected c text d Memory read cause = tt
+unselected c text d (Selection f) read cause = (d, read, cause)
+unselected c text d (NoWorld name listing) read cause = (d, read, cause)
+unselected c text d f read cause = absurd cause
+
+-- a world that is meant is there
+pub meant_there : (d : DocumentView) (name : Option (List ℕ)) (world : ℕ) → IsMeant d name world → world < length d.parts.worlds
+meant_there d None world is = is.0.0
+meant_there d (Some name) world is = selected_there d name world is
 
 -- they are not well-formed: what the fault is about
-about_parts : {E : Type 0} (read : Option Json) (d : DocumentView) (f : ResolveFault) (r : Result (Option ExplainedPart) E) → IsDocumentOf read d
-    → IfOk r (IsPartIn read f) → IfOk r (IsPartExplanation d.parts f)
-about_parts read d f (Ok x) is h = subst (λ (e : DocumentView). IsPartExplanation e.parts f x) (one_document read h.0 d h.1 is) h.2
-about_parts read d f (Err e) is h = tt
+about_place : (r : ResolveView) (f : ResolveFault) (place : Option Part) (x : Option ExplainedPart) (p : Part) → place ≡ Some p → IsResolveCause r f → IsPlace r f p
+    → IsExplainedPlace r place x → IsPartExplanation r f x
+about_place r f None x p is cause at h = absurd (let bad : ⊥ = cc is in bad)
+about_place r f (Some part) None p is cause at h = absurd h
+about_place r f (Some part) (Some x) p is cause at h = record {
+  place = let same : part ≡ p = same_Some part p is in (cause, subst (IsPlace r f) (sym (h.0 ∙ same)) at);
+  named = h.1 ∙ ap (part_name r) (sym h.0);
+}
 
-pub part_in : {E : Type 0} (read : Option Json) (d : DocumentView) (f : ResolveFault) (r : Result (Option ExplainedPart) E) → IsDocumentOf read d
-    → IfOk r (IsPartExplanation d.parts f) → IfOk r (IsPartIn read f)
-part_in read d f (Ok x) is h = (d, is, h)
-part_in read d f (Err e) is h = tt
+about_parts : {E : Type 0} (r : ResolveView) (f : ResolveFault) (place : Option Part) (x : Result (Option ExplainedPart) E) (p : Part) → place ≡ Some p
+    → IsResolveCause r f → IsPlace r f p → IfOk x (IsExplainedPlace r place) → IfOk x (IsPartExplanation r f)
+about_parts r f place (Ok x) p is cause at h = about_place r f place x p is cause at h
+about_parts r f place (Err e) p is cause at h = tt
 
-pub resolve_cause : (c : CommandValue) (text : List ℕ) (d : DocumentView) (world : ℕ) (f : ResolveFault) (g : ProgramFault) → IsDocumentOf (document text) d
-    → IsSelected d c.world world → IsResolveCause d.parts f → IsOfResolve (document text) f g → IsWorldsCause c text g
-resolve_cause c text d world resolve_memory g read selected cause is = subst (IsWorldsCause c text) (sym is) tt
-resolve_cause c text d world f (Resolve g x) read selected cause is =
-    subst (λ k. IsWorldsCause c text (Resolve k x)) (sym is.0)
-    (d, world, read, selected, (λ same. cc), cause, about_parts (document text) d f x read is.1)
-resolve_cause c text d world f g read selected cause is = absurd is
+of_fault : (c : CommandValue) (text : List ℕ) (d : DocumentView) (world : ℕ) (f : ResolveFault) (place : Option Part) (p : Part) (g : ProgramFault)
+    → IsDocumentOf (document text) d → IsMeant d c.world world → place ≡ Some p → IsResolveCause d.parts f → IsPlace d.parts f p → IsOfFault d.parts f place g
+    → IsWorldsCause c text g
+of_fault c text d world resolve_memory place p g read meant is cause at h = subst (IsWorldsCause c text) (sym h) tt
+of_fault c text d world f place p (Resolve g x) read meant is cause at h =
+    subst (λ k. IsWorldsCause c text (Resolve k x)) (sym h.0)
+    (d, world, read, meant, (λ same. cc), cause, about_parts d.parts f place x p is cause at h.1)
+of_fault c text d world f place p g read meant is cause at h = absurd h
+
+pub resolve_cause : (c : CommandValue) (text : List ℕ) (d : DocumentView) (world : ℕ) (x : Refusal) (g : ProgramFault) → IsDocumentOf (document text) d
+    → IsMeant d c.world world → IsRefusal d.parts x → IsOfRefused d.parts x g → IsWorldsCause c text g
+resolve_cause c text d world x g read meant (inl memory) is =
+    let none : g ≡ Memory = subst (λ k. IsOfFault d.parts k x.place g) memory.0 is in
+    subst (IsWorldsCause c text) (sym none) tt
+resolve_cause c text d world x g read meant (inr (p, at, cause, place)) is = of_fault c text d world x.fault x.place p g read meant at cause place is
 
 -- the worlds of a text, where this is that of the command's file
 
@@ -83,6 +113,7 @@ file_cause c before fails text (NotJson at) held h = (text, held, h)
 file_cause c before fails text (RepeatedMember path) held h = (text, held, h)
 file_cause c before fails text (json_fault f) held h = (text, held, h)
 file_cause c before fails text (Selection f) held h = inl (h.0, in_file before c.worlds text h.0 held h.1, h.2)
+file_cause c before fails text (NoWorld name listing) held h = (h.0, in_file before c.worlds text h.0 held h.1, h.2)
 file_cause c before fails text (NoExport key listing) held h = absurd h
 file_cause c before fails text (Resolve f x) held (d, world, read, selected, real, cause, about) =
     (d, world, in_file before c.worlds text d held read, selected, real, cause, about)

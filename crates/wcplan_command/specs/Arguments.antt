@@ -13,7 +13,7 @@ use Rattle.wcplan_command.specs.declared.arguments.WrongArgument.TheVariants.{Un
 -- a command, with its texts as bytes
 pub record CommandValue : Type 0 where
   pub worlds : List ℕ
-  pub world : List ℕ
+  pub world : Option (List ℕ)
   pub main : List ℕ
   pub adapters : List (List ℕ × List ℕ)
   pub exports : List (List ℕ)
@@ -29,7 +29,7 @@ pub record CommandValue : Type 0 where
 abbrev pub command_value : Command → CommandValue
 command_value c = record {
   worlds = c.worlds.now;
-  world = c.world.now;
+  world = option_map text_of c.world;
   main = c.main.now;
   adapters = map text_pair c.adapters.items;
   exports = map text_of c.exports.items;

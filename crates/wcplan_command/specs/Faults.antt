@@ -1,5 +1,6 @@
 -- The fault for the fault of a call inside; and the texts of faults.
-use Rattle.std.specs.Prelude.{ℕ, List, ◌++◌, codes, decimal, string_bytes}
+use Rattle.std.specs.Prelude.{ℕ, List, ◌++◌, codes, decimal, string_bytes, Option, Some, None, ⊤}
+use Rattle.std.specs.Option.{option_map}
 use Rattle.wc_program.specs.FaultTexts.{carried_text, dedupe_fault_text, gc_fault_text, memory_text}
 use Rattle.wc_program.specs.Files.{problem_text}
 use Rattle.wc_json.specs.Escape.{escaped}
@@ -15,15 +16,16 @@ use Rattle.wc_json.specs.declared.fault.JsonFault.TheVariants.{Memory as json_me
 use Rattle.wc_plan.specs.declared.fault.PlanFault.{PlanFault}
 use Rattle.wc_plan.specs.declared.fault.PlanFault.TheVariants.{Memory as plan_memory, Output as plan_output}
 use Rattle.wc_selection.specs.Faults.{quoted, request_fault_text}
+use Rattle.wc_selection.specs.Texts.{text_of}
 use Rattle.wc_selection.specs.declared.fault.RequestFault.{RequestFault}
 use Rattle.wc_selection.specs.declared.fault.RequestFault.TheVariants.{Memory as request_memory}
 use Rattle.wc_world.specs.declared.fault.WorldFault.{WorldFault}
 use Rattle.wc_world.specs.declared.fault.WorldFault.TheVariants.{PageSize}
-use Rattle.wcplan_command.specs.FaultTexts.{encoder_fault_text, plan_fault_text, resolve_fault_text, world_fault_text}
+use Rattle.wc_record.specs.FaultTexts.{encoder_fault_text, plan_fault_text, resolve_fault_text, world_fault_text}
 use Rattle.wcplan_command.specs.declared.faults.SelectionFault.{SelectionFault}
 use Rattle.wcplan_command.specs.declared.faults.SelectionFault.TheVariants.{Memory as selection_memory, Request, RepeatedAdapter, UnknownAdapter, EmptyDirectory, FileName, MainFile}
 use Rattle.wcplan_command.specs.declared.faults.ProgramFault.{ProgramFault}
-use Rattle.wcplan_command.specs.declared.faults.ProgramFault.TheVariants.{Memory, CannotRead, NotText, NotJson, RepeatedMember, Json, Selection, NoExport, Resolve, Dedupe, Encoder, World, Plan, Ways, CannotMake, CannotWrite, Output}
+use Rattle.wcplan_command.specs.declared.faults.ProgramFault.TheVariants.{Memory, CannotRead, NotText, NotJson, RepeatedMember, Json, Selection, NoWorld, NoExport, Resolve, Dedupe, Encoder, World, Plan, Ways, CannotMake, CannotWrite, Output}
 
 abbrev pub of_json : JsonFault → ProgramFault
 of_json json_memory = Memory
@@ -63,6 +65,11 @@ selection_fault_text EmptyDirectory = codes "empty path of --out"
 selection_fault_text (FileName name) = quoted (codes "adapter `") name.now (codes "` is no file's name")
 selection_fault_text (MainFile name) = quoted (codes "adapter `") name.now (codes "` in the main module's file")
 
+-- there is no world of a name, or none is named and none has all others for parts; and what worlds there are
+abbrev pub no_world_text : Option (List ℕ) → List ℕ → List ℕ
+no_world_text None listing = codes "missing WORLD; worlds:" ++ listing
+no_world_text (Some name) listing = codes "no world `" ++ (name ++ (codes "`; worlds:" ++ listing))
+
 -- there is no export with a key, and what exports there are
 abbrev pub no_export_text : List ℕ → List ℕ → List ℕ
 no_export_text key listing = codes "no export `" ++ (key ++ (codes "`; exports:" ++ listing))
@@ -93,6 +100,7 @@ program_fault_text (NotJson at) = codes "Json: not JSON at byte " ++ decimal at
 program_fault_text (RepeatedMember path) = repeated_text (string_bytes path)
 program_fault_text (Json f) = codes "Json: " ++ json_fault_text f
 program_fault_text (Selection f) = escaped (selection_fault_text f)
+program_fault_text (NoWorld name listing) = escaped (no_world_text (option_map text_of name) (string_bytes listing))
 program_fault_text (NoExport key listing) = escaped (no_export_text key.now (string_bytes listing))
 program_fault_text (Resolve f x) = carried_text (codes "Resolve") (escaped (resolve_fault_text f))
 program_fault_text (Dedupe f) = carried_text (codes "Dedupe") (escaped (dedupe_fault_text f))
@@ -103,3 +111,10 @@ program_fault_text (Ways f) = carried_text (codes "Ways") (escaped (gc_fault_tex
 program_fault_text (CannotMake path) = codes "cannot make directory " ++ escaped path.now
 program_fault_text (CannotWrite path) = codes "cannot write " ++ escaped (string_bytes path)
 program_fault_text Output = unprinted_text
+
+-- memory is needed for the text of a fault, unless it is always the same
+abbrev pub NeedsText : ProgramFault → Type 0
+NeedsText Memory = ⊥
+NeedsText NotText = ⊥
+NeedsText Output = ⊥
+NeedsText f = ⊤

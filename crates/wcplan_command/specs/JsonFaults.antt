@@ -7,7 +7,7 @@ use Rattle.wc_program.specs.Screen.{Printing}
 use Rattle.wc_record.specs.Places.{part_json, world_place_json}
 use Rattle.wc_record.specs.Texts.{text_of}
 use Rattle.wcplan_command.specs.Details.{fault_lines}
-use Rattle.wcplan_command.specs.Faults.{program_fault_text}
+use Rattle.wcplan_command.specs.Faults.{NeedsText, program_fault_text}
 use Rattle.wcplan_command.specs.declared.explained.Explained.{Explained}
 use Rattle.wcplan_command.specs.declared.explained_part.ExplainedPart.{ExplainedPart}
 use Rattle.wcplan_command.specs.declared.faults.ProgramFault.{ProgramFault}
@@ -41,7 +41,7 @@ fault_json f = members_text (text_of (string (program_fault_text f ++ fault_line
 abbrev pub memory_json : List ℕ
 memory_json = codes "{\"text\":\"out of memory\",\"place\":null}"
 
--- a fault is printed as JSON in a line, or that there was no memory for it
+-- a fault is printed as JSON in a line; or that there was no memory for it, where it needs some
 abbrev pub IsReportedJson : ProgramFault → (Printing → Type 0) → ℕ → Type 0
 IsReportedJson fault err status =
-    (text : List ℕ) × ((text ≡ fault_json fault) ⊎ (text ≡ memory_json)) × Prints (text ++ codes "\n") failure err status
+    (text : List ℕ) × ((text ≡ fault_json fault) ⊎ (NeedsText fault × (text ≡ memory_json))) × Prints (text ++ codes "\n") failure err status

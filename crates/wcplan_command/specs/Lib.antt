@@ -1,7 +1,6 @@
 pub mod Arguments
 pub mod Reading
 pub mod Usage
-pub mod FaultTexts
 pub mod Faults
 pub mod Nearest
 pub mod Parts

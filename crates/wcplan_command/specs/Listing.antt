@@ -1,6 +1,8 @@
--- The keys of a world's exports as a text.
+-- The keys of a world's exports, and the worlds of a document, as a text.
 use Rattle.std.specs.Prelude.{ℕ, ◌-◌, ◌==◌, nat_le, List, ◌++◌, length, take, codes, decimal, if◌then◌else◌}
-use Rattle.std.specs.List.{flat_map}
+use Rattle.std.specs.List.{flat_map, range_with_len}
+use Rattle.wc_json.specs.Document.{DocumentView}
+use Rattle.wc_selection.specs.Worlds.{world_name}
 
 -- a key in quotes, after a blank
 abbrev pub listed_key : List ℕ → List ℕ
@@ -22,3 +24,14 @@ listing_text keys =
     if length keys == 0 then codes " none"
     else if nat_le (length keys) most_listed then listed_keys keys
     else (listed_keys (take most_listed keys) ++ more_text (length keys - most_listed))
+
+-- so many of the first worlds, by their full names
+abbrev pub listed_worlds : DocumentView → ℕ → List ℕ
+listed_worlds d count = flat_map (λ index. listed_key (world_name d index)) (range_with_len 0 count)
+
+-- the first worlds, and how many there are more
+abbrev pub world_listing : DocumentView → List ℕ
+world_listing d =
+    if length d.parts.worlds == 0 then codes " none"
+    else if nat_le (length d.parts.worlds) most_listed then listed_worlds d (length d.parts.worlds)
+    else (listed_worlds d most_listed ++ more_text (length d.parts.worlds - most_listed))

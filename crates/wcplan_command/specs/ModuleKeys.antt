@@ -1,14 +1,20 @@
 -- What a command asks of adapters and of exports.
-use Rattle.std.specs.Prelude.{ℕ, List, All, Contains, unwrap_or}
+use Rattle.std.specs.Prelude.{◌≡◌, ℕ, List, All, Contains, unwrap_or, Option, Some, None, String, string_bytes}
+use Rattle.std.specs.Borrow.{Bor}
+use Rattle.std.specs.Option.{option_map}
+use Rattle.std.specs.declared.alloc.Global.{Global}
 use Rattle.wc_json.specs.Document.{DocumentView}
 use Rattle.wc_selection.specs.Keys.{NamedKey, texts_of}
 use Rattle.wc_selection.specs.Requests.{RequestValue, given_keys}
 use Rattle.wc_selection.specs.ModuleKeys.{AreKeysThere, IsKeysCause}
 use Rattle.wc_selection.specs.TaskHook.{no_task_hook}
-use Rattle.wc_selection.specs.Texts.{AreDistinct, IsFirstMissing, IsFirstRepeated, first_parts}
-use Rattle.wc_selection.specs.Worlds.{IsWorldCause}
+use Rattle.wc_selection.specs.Texts.{AreDistinct, IsFirstMissing, IsFirstRepeated, first_parts, text_of}
+use Rattle.wc_selection.specs.WorldParts.{IsWholeWorld}
+use Rattle.wc_selection.specs.Worlds.{IsNoWorld, IsSelected, IsWorldCause}
+use Rattle.wc_selection.specs.declared.fault.RequestFault.TheVariants.{UnknownWorld}
 use Rattle.wcplan_command.specs.Arguments.{CommandValue}
 use Rattle.wcplan_command.specs.FileNames.{AreFilesNamed, IsFilesCause}
+use Rattle.wcplan_command.specs.Listing.{world_listing}
 use Rattle.wcplan_command.specs.declared.faults.SelectionFault.{SelectionFault}
 use Rattle.wcplan_command.specs.declared.faults.SelectionFault.TheVariants.{Memory, Request, RepeatedAdapter, UnknownAdapter, EmptyDirectory, FileName, MainFile}
 
@@ -20,11 +26,30 @@ request_of c = record { exports = c.exports; adapter_exports = c.adapter_exports
 abbrev pub hook_of : CommandValue → List ℕ
 hook_of c = unwrap_or c.task_hook no_task_hook
 
--- why no world is selected
-abbrev pub IsSelectionCause : DocumentView → List ℕ → SelectionFault → Type 0
-IsSelectionCause d text Memory = Unit {0}
-IsSelectionCause d text (Request f) = IsWorldCause d text f
-IsSelectionCause d text f = ⊥
+-- the world that a command means: the one that it names; without a name the one of which all others are parts
+abbrev pub IsMeant : DocumentView → Option (List ℕ) → ℕ → Type 0
+IsMeant d None world = IsWholeWorld d world
+IsMeant d (Some name) world = IsSelected d name world
+
+-- there is none
+abbrev pub IsNoneMeant : DocumentView → Option (List ℕ) → Type 0
+IsNoneMeant d None = (world : ℕ) → ¬ IsWholeWorld d world
+IsNoneMeant d (Some name) = IsNoWorld d name
+
+-- there is none, and what worlds there are is said
+abbrev pub IsNotMeant : DocumentView → Option (List ℕ) → Option (Bor (List ℕ)) → String Global → Type 0
+IsNotMeant d text name listing = (option_map text_of name ≡ text) × IsNoneMeant d text × (string_bytes listing ≡ world_listing d)
+
+-- why none is selected though it is named: it can't be told which one that is
+abbrev pub IsNameCause : DocumentView → List ℕ → SelectionFault → Type 0
+IsNameCause d text Memory = Unit {0}
+IsNameCause d text (Request (UnknownWorld name)) = ⊥
+IsNameCause d text (Request f) = IsWorldCause d text f
+IsNameCause d text f = ⊥
+
+abbrev pub IsSelectionCause : DocumentView → Option (List ℕ) → SelectionFault → Type 0
+IsSelectionCause d None f = ⊥
+IsSelectionCause d (Some name) f = IsNameCause d name f
 
 -- adapters have names of their own, and those that have to export something are there
 abbrev pub adapter_names : CommandValue → List (List ℕ)

@@ -1,5 +1,5 @@
 -- The program: what it prints, what becomes of files, and its exit status.
-use Rattle.std.specs.Prelude.{◌≡◌, ◌≢◌, ◌⊎◌, ◌<◌, ◌≤◌, length, ℕ, Bool, List, [], ◌∷◌, ◌++◌, map, codes, true, false, MatchOption, Option, Some, None, IfOk, IfSome, IsSomeAnd, cond, if◌then◌else◌, Ok, Err, Contains, ⊤, String, string_bytes}
+use Rattle.std.specs.Prelude.{◌≡◌, ◌≢◌, ◌⊎◌, ◌<◌, ◌≤◌, length, ℕ, Bool, List, [], ◌∷◌, ◌++◌, map, codes, true, false, MatchOption, Option, Some, None, IfOk, IfSome, IsSomeAnd, cond, if◌then◌else◌, Ok, Err, Contains, String, string_bytes}
 use Rattle.std.specs.declared.alloc.Global.{Global}
 use Rattle.std.specs.Borrow.{Bor}
 use Rattle.std.specs.List.{AllZip}
@@ -40,27 +40,27 @@ use Rattle.wc_gc.specs.declared.fault.GcFault.TheVariants.{Memory as gc_memory}
 use Rattle.wc_ways.specs.Ways.{IsWaysText}
 use Rattle.wc_ways.specs.WaysFaults.{IsWaysFault}
 use Rattle.wc_ways.specs.WaysGraph.{IsWaysGraph}
+use Rattle.wc_ways.specs.WaysJson.{IsWaysJson}
 use Rattle.wc_selection.specs.KeyNames.{count_unversioned, request_keys}
 use Rattle.wc_selection.specs.Keys.{NamedKey, texts_of}
 use Rattle.wc_selection.specs.ModuleKeys.{required_keys}
 use Rattle.wc_selection.specs.Texts.{second_parts}
-use Rattle.wc_selection.specs.Worlds.{IsSelected}
 use Rattle.wcplan_command.specs.Arguments.{CommandValue, Reading, Stop, WrongValue, help, version, wrong}
 use Rattle.wcplan_command.specs.Details.{IsExplanation, fault_lines, unplaced_line}
-use Rattle.wcplan_command.specs.Faults.{program_fault_text, unprinted_text}
+use Rattle.wcplan_command.specs.Faults.{NeedsText, program_fault_text, unprinted_text}
 use Rattle.wcplan_command.specs.JsonFaults.{IsReportedJson}
 use Rattle.wcplan_command.specs.Lines.{lines_text}
 use Rattle.wcplan_command.specs.Listing.{listing_text}
 use Rattle.wcplan_command.specs.Parts.{IsPartExplanation}
 use Rattle.wcplan_command.specs.Reading.{AsksMemory, is_standard, read_arguments}
-use Rattle.wcplan_command.specs.ModuleKeys.{AreNamesThere, IsNamesCause, IsSelectionCause, hook_of, request_of}
+use Rattle.wcplan_command.specs.ModuleKeys.{AreNamesThere, IsMeant, IsNamesCause, IsNotMeant, IsSelectionCause, hook_of, request_of}
 use Rattle.wc_program.specs.Screen.{Printing, nothing, printed, failed}
 use Rattle.wcplan_command.specs.Usage.{fault_and_usage, fault_line, help_text, no_text, usage_text, version_text, wrong_text}
 use Rattle.wcplan_command.specs.declared.faults.SelectionFault.{SelectionFault}
 use Rattle.wcplan_command.specs.declared.faults.SelectionFault.TheVariants.{Request}
 use Rattle.wc_selection.specs.declared.fault.RequestFault.TheVariants.{UnknownKey, SeveralKeys, RepeatedKey}
 use Rattle.wcplan_command.specs.declared.faults.ProgramFault.{ProgramFault}
-use Rattle.wcplan_command.specs.declared.faults.ProgramFault.TheVariants.{Memory, CannotRead, NotText, NotJson, RepeatedMember, Json, Selection, NoExport, Resolve, Dedupe, Encoder, World, Plan, Ways, CannotMake, CannotWrite, Output}
+use Rattle.wcplan_command.specs.declared.faults.ProgramFault.TheVariants.{Memory, CannotRead, NotText, NotJson, RepeatedMember, Json, Selection, NoWorld, NoExport, Resolve, Dedupe, Encoder, World, Plan, Ways, CannotMake, CannotWrite, Output}
 
 -- the path of a file that is read: `-` stands for standard input
 abbrev pub input_path : List ℕ → List ℕ
@@ -86,15 +86,15 @@ pub record IsAdapterIn (before : Option Held) (c : CommandValue) (keys : List Na
   pub required : y.1.required_exports ≡ required_keys (request_of c) (Some x.0) keys
   pub library : y.1.library_info ≡ None
 
--- the worlds in the file of a command, which are well-formed, and the one that it names
+-- the worlds in the file of a command, which are well-formed, and the one that it means
 abbrev pub AreWorldsIn : CommandValue → Option Held → ResolveView → ℕ → Type 0
 AreWorldsIn c before r world =
-    (d : DocumentView) × IsDocumentIn before c.worlds d × IsSelected d c.world world × IsResolve d.parts × (r ≡ d.parts)
+    (d : DocumentView) × IsDocumentIn before c.worlds d × IsMeant d c.world world × IsResolve d.parts × (r ≡ d.parts)
 
--- the world that a command names, of the worlds in its file, which are well-formed; and its names and keys are there
+-- the world that a command means, of the worlds in its file, which are well-formed; and its names and keys are there
 pub record IsChosen (c : CommandValue) (before : Option Held) (d : DocumentView) (world : ℕ) : Type 0 where
   pub worlds : IsDocumentIn before c.worlds d
-  pub selected : IsSelected d c.world world
+  pub selected : IsMeant d c.world world
   pub resolve : IsResolve d.parts
   pub named : AreNamesThere c (request_keys (request_of c) d.parts world)
 
@@ -147,14 +147,15 @@ record_line w = planned_world_text w (plan_of w) ++ codes "\n"
 abbrev pub printed_text : Bool → ComponentWorldView → List ℕ
 printed_text asks_json w = if asks_json then record_line w else plan_lines w
 
--- why a key is imported, as it is printed: as a graph, if that is asked for, or in lines
-abbrev pub IsPrintedWays : Bool → ComponentWorldView → List ℕ → List ℕ → Type 0
-IsPrintedWays true w key text = IsWaysGraph w key text
-IsPrintedWays false w key text = IsWaysText w key text
+-- why a key is imported, as it is printed: as a graph, if that is asked for; as JSON, if that is; or in lines
+abbrev pub IsPrintedWays : Bool → Bool → ComponentWorldView → List ℕ → List ℕ → Type 0
+IsPrintedWays true asks_json w key text = IsWaysGraph w key text
+IsPrintedWays false true w key text = IsWaysJson w key text
+IsPrintedWays false false w key text = IsWaysText w key text
 
 -- what a command prints of its component's world: why the key is imported that it asks about; without one the text above
 abbrev pub IsPrintedText : CommandValue → ComponentWorldView → List ℕ → Type 0
-IsPrintedText c w text = MatchOption c.why (text ≡ printed_text c.json w) (λ key. IsPrintedWays c.dot w key text)
+IsPrintedText c w text = MatchOption c.why (text ≡ printed_text c.json w) (λ key. IsPrintedWays c.dot c.json w key text)
 
 -- `DIRECTORY/NAME.wasm`
 abbrev pub path_in : List ℕ → List ℕ → List ℕ
@@ -309,7 +310,7 @@ IsListedCause c keys f = ⊥
 -- names are not there, of a world that is selected of worlds that are well-formed
 abbrev pub IsUnnamed : CommandValue → Option Held → ProgramFault → Type 0
 IsUnnamed c before f =
-    (d : DocumentView) × (world : ℕ) × IsDocumentIn before c.worlds d × IsSelected d c.world world × IsResolve d.parts
+    (d : DocumentView) × (world : ℕ) × IsDocumentIn before c.worlds d × IsMeant d c.world world × IsResolve d.parts
     × IsListedCause c (request_keys (request_of c) d.parts world) f
 
 -- why there is no plan
@@ -323,9 +324,10 @@ IsPlanCause c before fails (RepeatedMember path) = IsDocumentCause before c.worl
 IsPlanCause c before fails (Json f) = IsDocumentCause before c.worlds (Json f)
 IsPlanCause c before fails (Selection f) =
     ((d : DocumentView) × IsDocumentIn before c.worlds d × IsSelectionCause d c.world f) ⊎ IsUnnamed c before (Selection f)
+IsPlanCause c before fails (NoWorld name listing) = (d : DocumentView) × IsDocumentIn before c.worlds d × IsNotMeant d c.world name listing
 IsPlanCause c before fails (NoExport key listing) = IsUnnamed c before (NoExport key listing)
 IsPlanCause c before fails (Resolve f x) =
-    (d : DocumentView) × (world : ℕ) × IsDocumentIn before c.worlds d × IsSelected d c.world world
+    (d : DocumentView) × (world : ℕ) × IsDocumentIn before c.worlds d × IsMeant d c.world world
     × (f ≢ resolve_memory) × IsResolveCause d.parts f × IfOk x (IsPartExplanation d.parts f)
 IsPlanCause c before fails (Dedupe f) = IsAnyChosen c before × IsMainCause before fails c.main (Dedupe f)
 IsPlanCause c before fails (Encoder f) = (e : EncoderView) × IsPartsOf c before e × (f ≢ encoder_memory) × IsEncoderCause e f
@@ -350,13 +352,6 @@ IsRunCause c files out f = IsPlanCause c files.before files.IsFailedRead f × (f
 abbrev pub EndsWell : CommandValue → StoreChange → (Printing → Type 0) → Type 0
 EndsWell c files out =
     (world : ComponentWorldView) × (text : List ℕ) × IsWritten c files world × IsPrintedText c world text × out (printed text)
-
--- memory is needed for the text of a fault, unless it is always the same
-abbrev pub NeedsText : ProgramFault → Type 0
-NeedsText Memory = ⊥
-NeedsText NotText = ⊥
-NeedsText Output = ⊥
-NeedsText f = ⊤
 
 -- what is printed of a fault: its text, and under it its lines, or that there was no memory for them; or that there was none
 -- for the text

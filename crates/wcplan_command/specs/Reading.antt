@@ -63,11 +63,11 @@ valued_of option value =
     (cond (bytes_eq option (codes "--why")) (Some (why value))
     (cond (bytes_eq option (codes "--out")) (Some (out value)) (module_valued_of option value)))
 
--- a command without options, whose paths and world are empty
+-- a command without options and a world, whose paths are empty
 abbrev pub plain_command : CommandValue
 plain_command = record {
   worlds = [];
-  world = [];
+  world = None;
   main = [];
   adapters = [];
   exports = [];
@@ -91,8 +91,8 @@ with_export c x = record c { exports = c.exports ++ x ∷ [] }
 abbrev pub with_adapter_export : CommandValue → List ℕ × List ℕ → CommandValue
 with_adapter_export c x = record c { adapter_exports = c.adapter_exports ++ x ∷ [] }
 
--- a command with these paths and this world
-abbrev pub with_paths : CommandValue → List ℕ → List ℕ → List ℕ → CommandValue
+-- a command with these paths, and this world, if one is named
+abbrev pub with_paths : CommandValue → List ℕ → Option (List ℕ) → List ℕ → CommandValue
 with_paths c worlds world main = record c { worlds = worlds; world = world; main = main }
 
 -- an option that is given once, if it was not given before
@@ -204,19 +204,19 @@ standard_inputs c = filter is_standard (c.worlds ∷ c.main ∷ second_parts c.a
 abbrev pub are_inputs_apart : CommandValue → Bool
 are_inputs_apart c = nat_lt (length (standard_inputs c)) 2
 
--- a command whose options and files fit together: a graph is one of ways, and ways are no JSON
+-- a command whose options and files fit together: a graph is one of ways, and no JSON
 abbrev pub fitting : CommandValue → Reading CommandValue
 fitting c =
     cond (c.dot && not (is_some c.why)) (Err (wrong (missing (codes "--why"))))
-    (cond (is_some c.why && c.json) (Err (wrong (together (codes "--why") (codes "--json"))))
+    (cond (c.dot && c.json) (Err (wrong (together (codes "--dot") (codes "--json"))))
     (cond (not (are_inputs_apart c)) (Err (wrong (repeated_option (codes "-")))) (Ok c)))
 
--- the command, if no option lacks its value, all paths are there, and they and the options fit together
+-- the command, if no option lacks its value, both paths are there, and they and the options fit together
 abbrev pub finish_with : CommandValue → List (List ℕ) → Reading CommandValue
 finish_with c [] = Err (wrong (missing (codes "WORLDS.json")))
-finish_with c (worlds ∷ []) = Err (wrong (missing (codes "WORLD")))
-finish_with c (worlds ∷ world ∷ []) = Err (wrong (missing (codes "MAIN.wasm")))
-finish_with c (worlds ∷ world ∷ main ∷ rest) = fitting (with_paths c worlds world main)
+finish_with c (worlds ∷ []) = Err (wrong (missing (codes "MAIN.wasm")))
+finish_with c (worlds ∷ main ∷ []) = fitting (with_paths c worlds None main)
+finish_with c (worlds ∷ world ∷ main ∷ rest) = fitting (with_paths c worlds (Some world) main)
 
 abbrev pub finish_by : CommandValue → DraftValue → Option (List ℕ) → Reading CommandValue
 finish_by c d (Some option) = Err (wrong (missing_value option))

@@ -5,15 +5,15 @@ use Rattle.wcplan_command.specs.Arguments.{WrongValue, unknown_option, missing_v
 -- the usage text
 abbrev pub usage_text : List ℕ
 usage_text =
-    codes "usage: wcplan WORLDS.json WORLD MAIN.wasm [--adapt [NAME=]FILE]... [--export KEY]... [--adapter-export NAME=KEY]...\n"
-    ++ (codes "              [--reject-legacy-names] [--realloc-via-memory-grow] [--task-hook NAME] [--json | --why KEY [--dot]] [--out DIR]\n"
+    codes "usage: wcplan WORLDS.json [WORLD] MAIN.wasm [--adapt [NAME=]FILE]... [--export KEY]... [--adapter-export NAME=KEY]...\n"
+    ++ (codes "              [--reject-legacy-names] [--realloc-via-memory-grow] [--task-hook NAME] [--json] [--why KEY [--dot]] [--out DIR]\n"
     ++ codes "       wcplan --help | --version\n")
 
 -- what each argument is
 abbrev pub options_text : List ℕ
 options_text =
     codes "  WORLDS.json                the worlds, as `wasm-tools component wit --json` prints them\n"
-    ++ (codes "  WORLD                      the name of the world that is encoded for\n"
+    ++ (codes "  WORLD                      the world that is encoded for; it may be left out if all others are parts of it\n"
     ++ (codes "  MAIN.wasm                  the main module\n"
     ++ (codes "  --adapt [NAME=]FILE        an adapter, and its module; NAME is else FILE's name up to its first `.`\n"
     ++ (codes "  --export KEY               a key of the world's exports that the main module exports\n"
@@ -21,7 +21,7 @@ options_text =
     ++ (codes "  --reject-legacy-names      refuse names of the older scheme\n"
     ++ (codes "  --realloc-via-memory-grow  let adapters grow memory for themselves\n"
     ++ (codes "  --task-hook NAME           the export of MAIN.wasm that is the hook of tasks\n"
-    ++ (codes "  --json                     print the component's world and its plan as JSON\n"
+    ++ (codes "  --json                     print the component's world and its plan as JSON; with --why the ways\n"
     ++ (codes "  --why KEY                  print why the interface KEY is imported; why each is, if KEY is `all`\n"
     ++ (codes "  --dot                      print that as a graph, in the language of Graphviz\n"
     ++ (codes "  --out DIR                  write the modules to DIR, which is made if need be\n"

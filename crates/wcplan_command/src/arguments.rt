@@ -1,9 +1,9 @@
 //! The arguments of the program.
 
-ghost use Rattle.std.specs.Prelude.{◌≡◌, IfErr, IfOk, OnOk, None, Some, false, filter, is_some, length, map, string_bytes, true};
+ghost use Rattle.std.specs.Prelude.{◌≡◌, IfErr, OnOk, None, Some, false, filter, is_some, length, map, string_bytes, true};
 ghost use Rattle.std.specs.Option.{option_map};
 ghost use Rattle.wcplan_command.specs.Arguments.{IsRead, IsReadWithoutMemory, IsStopOf, command_value, option_value};
-ghost use Rattle.wcplan_command.specs.Reading.{AsksMemory, HasMoreOptions, HasMorePaths, KeepsMore, adapter_file_of, add_option, add_path, add_value, are_inputs_apart, draft_value, file_name, finish, fitting, flag_of, is_standard, module_valued_of, none_read, pair_of, plain_command, read_arguments, stem, take_option, take_up, takes_module_value, takes_value, valued_of};
+ghost use Rattle.wcplan_command.specs.Reading.{AsksMemory, HasMoreOptions, HasMorePaths, KeepsMore, adapter_file_of, add_option, add_path, add_value, are_inputs_apart, draft_value, file_name, finish, fitting, flag_of, is_standard, module_valued_of, pair_of, plain_command, read_arguments, stem, take_option, take_up, takes_module_value, takes_value, valued_of};
 ghost use Rattle.wcplan_command.specs.declared.arguments.NoCommand.TheVariants.{Memory};
 
 use std::alloc::{AllocFailed, Global};
@@ -14,8 +14,8 @@ use std::path::Path;
 pub struct Command<'a> {
     /// The path of the file that has the worlds as JSON.
     pub worlds: &'a str,
-    /// The name of the world that modules are encoded for.
-    pub world: &'a str,
+    /// The name of the world that modules are encoded for; `None` for the one that has all others for parts.
+    pub world: Option<&'a str>,
     /// The path of the main module.
     pub main: &'a str,
     /// The names of the adapters and the paths of their modules, in order.
@@ -30,7 +30,8 @@ pub struct Command<'a> {
     pub realloc_via_memory_grow: bool,
     /// The name of the export that is the hook of tasks; `None`, where no export is.
     pub task_hook: Option<&'a str>,
-    /// Whether the record of the component's world and its plan are printed as JSON, in place of the lines of the plan.
+    /// Whether JSON is printed: the record of the component's world and its plan, in place of the lines of the plan; or with
+    /// `why` the ways.
     pub json: bool,
     /// The key of an interface, or `all`: why it is imported is printed, in place of the lines of the plan.
     pub why: Option<&'a str>,
@@ -53,7 +54,7 @@ pub enum NoCommand<'a> {
     Wrong(WrongArgument<'a>),
 }
 
-/// What is wrong with arguments. An option is here by its name, as it was given.
+/// A wrong argument. An option is here by its name, as it was given.
 #[derive(Clone, Copy, Debug, PartialEq, Eq)]
 pub enum WrongArgument<'a> {
     /// There is no such option.
@@ -95,7 +96,7 @@ enum CommandOption<'a> {
     Out { directory: &'a str },
 }
 
-/// What was read of arguments besides options and their values.
+/// The arguments that were read besides options and their values.
 #[derive(Drop)]
 struct Draft<'a> {
     /// The arguments that are no options, in order.
@@ -107,21 +108,21 @@ struct Draft<'a> {
 }
 
 /// The command of these arguments, the first of them the one after the program's name: `WORLDS.json`, `WORLD` and
-/// `MAIN.wasm` in this order, and options before, between and after them. `--adapt NAME=FILE`, `--export KEY` and
-/// `--adapter-export NAME=KEY` may come several times, `--reject-legacy-names`, `--realloc-via-memory-grow`,
-/// `--task-hook NAME`, `--json`, `--why KEY`, `--dot` and `--out DIR` once. What comes after the name of an option that has
-/// a value is its value, whatever it is; in one argument there is a `=` between them, as in `--out=DIR`. NAME of an adapter
-/// ends at the first `=`. Without a `=` the value of `--adapt` is FILE, and NAME is the name of this file up to its first
-/// `.`. `--` is not an argument, and says that those after it are no options. No option is `-` alone, nor what begins with
-/// another character. `--dot` comes with `--why`, and `--why` without `--json`. Of `WORLDS.json`, `MAIN.wasm` and the FILEs
-/// one is `-` at most, which is standard input.
+/// `MAIN.wasm` in this order, of which `WORLD` may be left out, and options before, between and after them. `--adapt
+/// NAME=FILE`, `--export KEY` and `--adapter-export NAME=KEY` may come several times, `--reject-legacy-names`,
+/// `--realloc-via-memory-grow`, `--task-hook NAME`, `--json`, `--why KEY`, `--dot` and `--out DIR` once. What comes
+/// after the name of an option that has a value is its value, whatever it is; in one argument there is a `=` between
+/// them, as in `--out=DIR`. NAME of an adapter ends at the first `=`. Without a `=` the value of `--adapt` is FILE, and
+/// NAME is the name of this file up to its first `.`. `--` is not an argument, and says that those after it are no
+/// options. No option is `-` alone, nor what begins with another character. `--dot` comes with `--why`, and without
+/// `--json`. Of `WORLDS.json`, `MAIN.wasm` and the FILEs one is `-` at most, which is standard input.
 ///
 /// # Errors
 ///
 /// They are read in order, and the first of these is named:
 ///
 /// - `Help`, `Version`: an option is `--help` or `-h`, or `--version`.
-/// - `Wrong`: an argument is wrong; or, after the last, the value of an option or one of the three arguments is missing, or
+/// - `Wrong`: an argument is wrong; or, after the last, the value of an option or one of the two paths is missing, or
 ///   options or files don't fit together.
 /// - `Memory`: an allocation failed. It may come in place of any other after an argument that is kept: one of the three,
 ///   or the value of `--adapt`, `--export` or `--adapter-export`. Without such an argument nothing is allocated.
@@ -141,13 +142,13 @@ pub fn parse(alloc: Global, arguments: &[String]) -> Result<Command<'_>, NoComma
     finish(command, &draft)
 }
 
-/// The command without options, whose paths and world are empty.
+/// The command without options and a world, whose paths are empty.
 fn no_options<'a>(alloc: Global) -> Command<'a>
     ensures { command_value result ≡ plain_command }
 {
     Command {
         worlds: "",
-        world: "",
+        world: None,
         main: "",
         adapters: Vec::new(alloc),
         exports: Vec::new(alloc),
@@ -252,7 +253,7 @@ fn add_value<'a>(
     }
 }
 
-/// The command with the paths and the world that were read, if all three were.
+/// The command with the paths and the world that were read, if both paths were.
 fn finish<'a>(command: Command<'a>, draft: &Draft<'a>) -> Result<Command<'a>, NoCommand<'a>>
     ensures { IsReadWithoutMemory result
         (finish (command_value command.entry) (draft_value draft.now)) }
@@ -264,12 +265,17 @@ fn finish<'a>(command: Command<'a>, draft: &Draft<'a>) -> Result<Command<'a>, No
     match draft.paths.as_slice() {
         [worlds, world, main, ..] => {
             command.worlds = worlds;
-            command.world = world;
+            command.world = Some(world);
             command.main = main;
             fitting(command)
         }
-        [_, _] => Err(NoCommand::Wrong(WrongArgument::Missing("MAIN.wasm"))),
-        [_] => Err(NoCommand::Wrong(WrongArgument::Missing("WORLD"))),
+        [worlds, main] => {
+            command.worlds = worlds;
+            command.world = None;
+            command.main = main;
+            fitting(command)
+        }
+        [_] => Err(NoCommand::Wrong(WrongArgument::Missing("MAIN.wasm"))),
         [] => Err(NoCommand::Wrong(WrongArgument::Missing("WORLDS.json"))),
     }
 }
@@ -281,9 +287,9 @@ fn fitting<'a>(command: Command<'a>) -> Result<Command<'a>, NoCommand<'a>>
     if command.dot && command.why.is_none() {
         return Err(NoCommand::Wrong(WrongArgument::Missing("--why")));
     }
-    if command.why.is_some() && command.json {
+    if command.dot && command.json {
         return Err(NoCommand::Wrong(WrongArgument::Together {
-            option: "--why",
+            option: "--dot",
             other: "--json",
         }));
     }
@@ -407,7 +413,7 @@ fn file_name(path: &str) -> &str
     }
 }
 
-/// What comes before the first `.`; without one all.
+/// The text before the first `.`; without one all.
 fn stem(name: &str) -> &str
     ensures { result.now ≡ stem name.now }
 {

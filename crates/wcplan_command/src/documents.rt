@@ -1,26 +1,30 @@
 //! Files that are read: their bytes, and the worlds in one.
 
-ghost use Rattle.std.specs.Prelude.{◌≡◌, IfErr, IfOk};
+ghost use Rattle.std.specs.Prelude.{◌≡◌, IfErr, IfOk, None, Some};
+ghost use Rattle.std.specs.Option.{option_map};
 ghost use Rattle.json.specs.Json.{document};
-ghost use Rattle.wc_json.specs.Document.{IsDocument};
+ghost use Rattle.wc_json.specs.Document.{IsDocument, document_view};
+ghost use Rattle.wc_selection.specs.Texts.{text_of};
 ghost use Rattle.wc_program.specs.Files.{FailsToRead};
 ghost use Rattle.wcplan_command.specs.Arguments.{command_value};
 ghost use Rattle.wcplan_command.specs.Program.{AreWorldsIn, HoldsInput, IsNotJson, IsPlanCause, IsReadFault, IsRepeatedMember, IsTextCause, input_path};
-ghost use Rattle.wcplan_command.specs.Private.Runs.{AreWorldsOf, IsWorldsCause};
+ghost use Rattle.wcplan_command.specs.ModuleKeys.{IsMeant};
+ghost use Rattle.wcplan_command.specs.Private.Runs.{AreWorldsOf, IsMeaningCause, IsUnknownWorld, IsUnselected, IsWorldsCause};
 
 use crate::arguments::{Command, is_standard};
 use crate::explained_part::resolve_fault;
 use crate::faults::ProgramFault;
 use crate::json_place::{json_end, repeated_member};
+use crate::listing::world_listing;
 use std::alloc::{AllocError, Global};
 use wc_encoder::Metadata;
 use wc_json::{Document, JsonFault, document_from_json};
 use wc_maps::Seed;
 use wc_program::{FileStore, ReadProblem};
-use wc_resolve::Resolve;
-use wc_selection::select_world;
+use wc_resolve::{Resolve, WorldId};
+use wc_selection::{RequestFault, select_world, whole_world};
 
-/// The worlds of a command, from their file, and the one that it names. `seed`: the seed of their maps.
+/// The worlds of a command, from their file, and the one that it means. `seed`: the seed of their maps.
 pub(crate) fn read_worlds<'a, F: FileStore>(
     alloc: Global,
     seed: Seed,
@@ -39,7 +43,7 @@ pub(crate) fn read_worlds<'a, F: FileStore>(
     }
 }
 
-/// The worlds in a text, and the one that a command names. `seed`: the seed of their maps.
+/// The worlds in a text, and the one that a command means. `seed`: the seed of their maps.
 fn worlds_in<'a>(
     alloc: Global,
     seed: Seed,
@@ -51,10 +55,85 @@ fn worlds_in<'a>(
     ensures fault { IfErr result (IsWorldsCause (command_value command.now) text.now) }
 {
     let document = document_in(alloc, seed, text)?;
-    let world = select_world(alloc, &document, command.world)?;
-    match Resolve::build(alloc, document.parts) {
+    let world = meant_world(alloc, &document, command.world)?;
+    match Resolve::build_explained(alloc, document.parts) {
         Ok(resolve) => Ok(Metadata { resolve, world }),
-        Err(fault) => Err(resolve_fault(alloc, seed, text, fault)),
+        Err(refused) => Err(resolve_fault(alloc, &refused)),
+    }
+}
+
+/// The world of this name; without one the one of which all others are parts.
+fn meant_world<'a>(
+    alloc: Global,
+    document: &Document,
+    name: Option<&'a str>,
+) -> Result<WorldId, ProgramFault<'a>>
+    ensures meant { IfOk result (λ id. IsMeant (document_view document.now)
+        (option_map text_of name.entry) id.0) }
+    ensures fault { IfErr result (IsMeaningCause (document_view document.now)
+        (option_map text_of name.entry)) }
+{
+    match name {
+        Some(name) => named_world(alloc, document, name),
+        None => unnamed_world(alloc, document),
+    }
+}
+
+/// The world of which all others are parts.
+fn unnamed_world<'a>(alloc: Global, document: &Document) -> Result<WorldId, ProgramFault<'a>>
+    ensures meant { IfOk result (λ id. IsMeant (document_view document.now) None id.0) }
+    ensures fault { IfErr result (IsMeaningCause (document_view document.now) None) }
+{
+    match whole_world(document) {
+        Some(world) => Ok(world),
+        None => Err(no_world(alloc, document, None)),
+    }
+}
+
+/// The world of this name.
+fn named_world<'a>(
+    alloc: Global,
+    document: &Document,
+    name: &'a str,
+) -> Result<WorldId, ProgramFault<'a>>
+    ensures meant { IfOk result (λ id. IsMeant (document_view document.now)
+        (Some name.entry.now) id.0) }
+    ensures fault { IfErr result (IsMeaningCause (document_view document.now)
+        (Some name.entry.now)) }
+{
+    match select_world(alloc, document, name) {
+        Ok(world) => Ok(world),
+        Err(fault) => Err(unselected(alloc, document, name, fault)),
+    }
+}
+
+/// The fault of the program where no world is selected; where none has the name, that of `no_world`.
+fn unselected<'a>(
+    alloc: Global,
+    document: &Document,
+    name: &'a str,
+    fault: RequestFault<'a>,
+) -> ProgramFault<'a>
+    ensures { IsUnselected (document_view document.now) name.entry.now fault.entry result }
+{
+    match fault {
+        RequestFault::UnknownWorld(_) => no_world(alloc, document, Some(name)),
+        RequestFault::Memory
+        | RequestFault::PackageRange
+        | RequestFault::SeveralWorlds(_)
+        | RequestFault::UnknownKey(_)
+        | RequestFault::SeveralKeys(_)
+        | RequestFault::RepeatedKey(_) => ProgramFault::from(fault),
+    }
+}
+
+/// The fault where no world is meant, with what worlds there are.
+fn no_world<'a>(alloc: Global, document: &Document, name: Option<&'a str>) -> ProgramFault<'a>
+    ensures { IsUnknownWorld (document_view document.now) (option_map text_of name.entry) result }
+{
+    match world_listing(alloc, document) {
+        Ok(listing) => ProgramFault::NoWorld(name, listing),
+        Err(AllocError) => ProgramFault::Memory,
     }
 }
 

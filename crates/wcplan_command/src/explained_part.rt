@@ -1,21 +1,18 @@
-//! What a fault of worlds that are not well-formed is about.
+//! The part of worlds that are not well-formed which a fault is about.
 
 ghost use Rattle.std.specs.Prelude.{◌≡◌, IfOk, Some, string_bytes};
 ghost use Rattle.std.specs.Option.{option_map};
-ghost use Rattle.json.specs.Json.{document};
 ghost use Rattle.wc_resolve.specs.ResolveParts.{parts_view};
 ghost use Rattle.wc_resolve.specs.Views.{package_name_view};
-ghost use Rattle.wcplan_command.specs.Parts.{IsPartExplanation, declared_name, package_text, part_name};
-ghost use Rattle.wcplan_command.specs.Private.Runs.{IsOfResolve, IsPartIn};
+ghost use Rattle.wcplan_command.specs.Parts.{declared_name, package_text, part_name};
+ghost use Rattle.wcplan_command.specs.Private.Runs.{IsExplainedPlace, IsOfFault, IsOfRefused};
 
 use crate::faults::ProgramFault;
 use std::alloc::{AllocError, Global};
 use std::fmt;
-use wc_json::document_from_json;
-use wc_maps::Seed;
-use wc_resolve::{PackageName, Part, Parts, ResolveFault, explain_parts};
+use wc_resolve::{PackageName, Part, Parts, RefusedParts, ResolveFault};
 
-/// What a fault of worlds that are not well-formed is about: a world, an interface, a type or a package.
+/// The part that a fault of worlds is about: a world, an interface, a type or a package.
 #[derive(Debug, Drop)]
 pub struct ExplainedPart {
     /// The part, by its index in its list.
@@ -60,55 +57,42 @@ impl fmt::Display for PartPath {
     }
 }
 
-/// The fault of a command whose worlds are in this text, for the one that `Resolve::build` answered for them: with what it
-/// is about, or that there was no memory for this. `seed`: the seed of the maps that are made.
-pub(crate) fn resolve_fault<'a>(
+/// The fault of the program for parts that `Resolve::build_explained` refused: with what it is about, or that there was no
+/// memory for this.
+pub(crate) fn resolve_fault<'a>(alloc: Global, refused: &RefusedParts) -> ProgramFault<'a>
+    ensures { IsOfRefused (parts_view refused.now.parts) refused.now.refusal result }
+{
+    let refusal = refused.refusal;
+    fault_about(alloc, &refused.parts, refusal.fault, refusal.place)
+}
+
+/// The fault of the program for this one of parts, with what it is about, or that there was no memory for this.
+fn fault_about<'a>(
     alloc: Global,
-    seed: Seed,
-    text: &str,
+    parts: &Parts,
     fault: ResolveFault,
+    place: Option<Part>,
 ) -> ProgramFault<'a>
-    ensures { IsOfResolve (document text.now) fault result }
+    ensures { IsOfFault (parts_view parts.now) fault place result }
 {
     if let ResolveFault::Memory = fault {
         return ProgramFault::Memory;
     }
-    match explain_worlds(alloc, seed, text, fault) {
+    match explained(alloc, parts, place) {
         Ok(explained) => ProgramFault::Resolve(fault, Ok(explained)),
         Err(AllocError) => ProgramFault::Resolve(fault, Err(AllocError)),
     }
 }
 
-/// What a fault is about that `Resolve::build` answered for the worlds in a text. The text is read again, since the parts
-/// that were read of it are no more. `None` where it is about no part.
-///
-/// # Errors
-///
-/// `AllocError`: an allocation failed.
-fn explain_worlds(
-    alloc: Global,
-    seed: Seed,
-    text: &str,
-    fault: ResolveFault,
-) -> Result<Option<ExplainedPart>, AllocError>
-    ensures { IfOk result (IsPartIn (document text.now) fault) }
-{
-    match document_from_json(alloc, seed, text) {
-        Ok(document) => explain_document(alloc, &document.parts, fault),
-        // It was read before, so memory ran out.
-        Err(_) => Err(AllocError),
-    }
-}
-
-/// What of these parts a fault is about, with its name.
-fn explain_document(
+/// The part that a fault is about, with its name; `None` where it is about none.
+fn explained(
     alloc: Global,
     parts: &Parts,
-    fault: ResolveFault,
+    place: Option<Part>,
 ) -> Result<Option<ExplainedPart>, AllocError>
-    ensures { IfOk result (IsPartExplanation (parts_view parts.now) fault) }
+    ensures { IfOk result (IsExplainedPlace (parts_view parts.now) place) }
 {
-    match explain_parts(alloc, parts, fault)? {
+    match place {
         Some(part) => {
             let name = part_name(alloc, parts, part)?;
             Ok(Some(ExplainedPart { part, name }))

@@ -1,16 +1,16 @@
 //! Why the program could not do what its arguments say.
 
 ghost use Rattle.std.specs.Prelude.{◌≡◌, ◌++◌, IfNone, IfOk, IfSome, Some, codes, string_bytes};
+ghost use Rattle.std.specs.Option.{option_map};
 ghost use Rattle.wc_json.specs.Escape.{escaped};
 ghost use Rattle.wc_program.specs.FaultTexts.{carried_text};
 ghost use Rattle.wc_program.specs.Files.{problem_text};
+ghost use Rattle.wc_selection.specs.Texts.{text_of};
 ghost use Rattle.wcplan_command.specs.Details.{fault_lines};
-ghost use Rattle.wcplan_command.specs.Program.{NeedsText};
-ghost use Rattle.wcplan_command.specs.Faults.{no_export_text, page_size_text, program_fault_text, repeated_text, selection_fault_text, world_text};
+ghost use Rattle.wcplan_command.specs.Faults.{NeedsText, no_export_text, no_world_text, page_size_text, program_fault_text, repeated_text, selection_fault_text, world_text};
 
 use crate::explained::Explained;
 use crate::explained_part::ExplainedPart;
-use crate::fault_texts::CarriedFault;
 use std::alloc::{AllocError, AllocFailed, Global};
 use std::error::Error as StdError;
 use std::fmt;
@@ -20,6 +20,7 @@ use wc_gc::GcFault;
 use wc_json::{JsonFault, escaped};
 use wc_plan::PlanFault;
 use wc_program::{OUT_OF_MEMORY, ReadProblem, problem_text};
+use wc_record::FaultText;
 use wc_resolve::ResolveFault;
 use wc_selection::RequestFault;
 use wc_world::WorldFault;
@@ -117,8 +118,10 @@ pub enum ProgramFault<'a> {
     /// The worlds could not be read. It carries why, a value that is wrong.
     Json(JsonFault),
     /// The arguments name a world or an adapter that isn't there, or a key or an adapter twice, or files can't be named.
-    /// It carries why, never `Memory`, nor that a key is unknown.
+    /// It carries why, never `Memory`, nor that a world or a key is unknown.
     Selection(SelectionFault<'a>),
+    /// No world has this name; without a name none has all others for parts. It carries what worlds there are, as a text.
+    NoWorld(Option<&'a str>, String),
     /// The world has no export with this key. It carries what exports it has, as a text.
     NoExport(&'a str, String),
     /// The worlds are not well-formed. It carries why, never `Memory`, and what that is about, if it is about a part, or that
@@ -162,6 +165,7 @@ impl ProgramFault<'_> {
             ProgramFault::RepeatedMember(path) => repeated_text(alloc, path),
             ProgramFault::Json(fault) => format!(in alloc; "Json: {fault}"),
             ProgramFault::Selection(fault) => selection_text(alloc, fault),
+            ProgramFault::NoWorld(name, listing) => no_world_text(alloc, *name, listing),
             ProgramFault::NoExport(key, listing) => no_export_text(alloc, key, listing),
             ProgramFault::Resolve(fault, _) => carried_text(alloc, "Resolve", fault),
             ProgramFault::Dedupe(fault) => carried_text(alloc, "Dedupe", fault),
@@ -190,6 +194,7 @@ impl ProgramFault<'_> {
             | ProgramFault::RepeatedMember(_)
             | ProgramFault::Json(_)
             | ProgramFault::Selection(_)
+            | ProgramFault::NoWorld(_, _)
             | ProgramFault::NoExport(_, _)
             | ProgramFault::Resolve(_, _)
             | ProgramFault::Dedupe(_)
@@ -209,7 +214,7 @@ const NOT_TEXT: &[u8] = b"Json: not UTF-8";
 /// The text where what was to be printed could not be.
 pub(crate) const UNPRINTED: &[u8] = b"cannot print";
 
-/// What could not be done, and the path with which it could not be, escaped.
+/// The text of a path that could not be used: what could not be done, and the path, escaped.
 fn path_text(alloc: Global, problem: &str, path: &str) -> Result<String, AllocError>
     ensures { IfOk result (λ text. string_bytes text ≡ problem.now ++ escaped path.now) }
 {
@@ -217,7 +222,7 @@ fn path_text(alloc: Global, problem: &str, path: &str) -> Result<String, AllocEr
     format!(in alloc; "{problem}{path}")
 }
 
-/// That the file of a path could not be read, and why.
+/// The text of a file that could not be read: its path, and why.
 fn unread_text(alloc: Global, path: &str, problem: ReadProblem) -> Result<String, AllocError>
     ensures { IfOk result (λ text. string_bytes text
         ≡ codes "cannot read " ++ (escaped path.now ++ problem_text problem)) }
@@ -227,7 +232,7 @@ fn unread_text(alloc: Global, path: &str, problem: ReadProblem) -> Result<String
     format!(in alloc; "cannot read {path}{problem}")
 }
 
-/// That a member is there twice, with its path, escaped.
+/// The text of a member that is there twice: its path, escaped.
 fn repeated_text(alloc: Global, place: &str) -> Result<String, AllocError>
     ensures { IfOk result (λ text. string_bytes text ≡ repeated_text place.now) }
 {
@@ -245,7 +250,7 @@ fn world_text(alloc: Global, fault: &WorldFault) -> Result<String, AllocError>
     }
 }
 
-/// That the memory of an adapter has pages of another size than the main module's, both in bytes; escaped.
+/// The text of an adapter whose memory has pages of another size than the main module's: both in bytes; escaped.
 fn page_size_text(alloc: Global, name: &str, own: u64, main: u64) -> Result<String, AllocError>
     ensures { IfOk result (λ text. string_bytes text
         ≡ escaped (page_size_text name.now own main)) }
@@ -254,7 +259,7 @@ fn page_size_text(alloc: Global, name: &str, own: u64, main: u64) -> Result<Stri
     escaped(alloc, &text)
 }
 
-/// The same as it is.
+/// The text of such an adapter, as it is.
 fn sizes_text(alloc: Global, name: &str, own: u64, main: u64) -> Result<String, AllocError>
     ensures { IfOk result (λ text. string_bytes text ≡ page_size_text name.now own main) }
 {
@@ -269,7 +274,27 @@ fn selection_text(alloc: Global, fault: &SelectionFault<'_>) -> Result<String, A
     escaped(alloc, &text)
 }
 
-/// That there is no export with a key, and what exports there are, escaped.
+/// The text where no world is meant, by its name or without one, and what worlds there are; escaped.
+fn no_world_text(alloc: Global, name: Option<&str>, listing: &str) -> Result<String, AllocError>
+    ensures { IfOk result (λ text. string_bytes text
+        ≡ escaped (no_world_text (option_map text_of name.entry) listing.now)) }
+{
+    let text = unmeant_text(alloc, name, listing)?;
+    escaped(alloc, &text)
+}
+
+/// The text where no world is meant, as it is.
+fn unmeant_text(alloc: Global, name: Option<&str>, listing: &str) -> Result<String, AllocError>
+    ensures { IfOk result (λ text. string_bytes text
+        ≡ no_world_text (option_map text_of name.entry) listing.now) }
+{
+    match name {
+        Some(name) => format!(in alloc; "no world `{name}`; worlds:{listing}"),
+        None => format!(in alloc; "missing WORLD; worlds:{listing}"),
+    }
+}
+
+/// The text of a key that no export has, and of what exports there are; escaped.
 fn no_export_text(alloc: Global, key: &str, listing: &str) -> Result<String, AllocError>
     ensures { IfOk result (λ text. string_bytes text
         ≡ escaped (no_export_text key.now listing.now)) }
@@ -279,7 +304,7 @@ fn no_export_text(alloc: Global, key: &str, listing: &str) -> Result<String, All
 }
 
 /// The name of a fault, `: `, and the text of the fault that it carries, escaped.
-fn carried_text<F: CarriedFault>(alloc: Global, name: &str, fault: &F) -> Result<String, AllocError>
+fn carried_text<F: FaultText>(alloc: Global, name: &str, fault: &F) -> Result<String, AllocError>
     ensures { IfOk result (λ text. string_bytes text
         ≡ carried_text name.now (escaped (F.text fault.now))) }
 {

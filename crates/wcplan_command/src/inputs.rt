@@ -1,4 +1,4 @@
-//! What a command is encoded from: the worlds, the main module and the adapters, from its files.
+//! The inputs of a command: the worlds, the main module and the adapters, from its files.
 
 ghost use Rattle.std.specs.Prelude.{◌≡◌, IfErr, IfOk, OnOk, map};
 ghost use Rattle.wc_dedupe.specs.Dedupe.{renames_in};
@@ -16,7 +16,7 @@ use crate::arguments::Command;
 use crate::documents::{read_file, read_worlds};
 use crate::faults::{ProgramFault, SelectionFault};
 use crate::listing::listing;
-use crate::module_keys::{check_names, command_keys, required_keys, task_hook};
+use crate::module_keys::{adapter_keys, check_names, command_keys, required_keys, task_hook};
 use std::alloc::{AllocError, Global};
 use std::borrow::CowSlice;
 use wc_encoder::{Adapter, ComponentEncoder, EncoderParts, Metadata};
@@ -193,11 +193,12 @@ fn read_adapters<'a, F: FileStore>(
     ensures fault { IfErr result (IsAdaptersCause (command_value command.now)
         (FailsToRead F.read_fails files.now)) }
 {
+    let given = adapter_keys(alloc, seed, command, keys)?;
     let mut adapters = Map::with_hasher(alloc, seed);
     for (name, path) in &command.adapters {
         let adapter = Adapter {
             wasm: read_file(path, files)?,
-            required_exports: required_keys(alloc, seed, command, Exporter::Adapter(name), keys)?,
+            required_exports: given.required(alloc, name)?,
             library_info: None,
         };
         adapters.insert(String::from_str(alloc, name)?, adapter)?;

@@ -1,14 +1,14 @@
 //! Faults as JSON, for programs that call this one.
 
-ghost use Rattle.std.specs.Prelude.{◌≡◌, ◌++◌, IfOk, OnOk, codes, string_bytes};
+ghost use Rattle.std.specs.Prelude.{◌≡◌, ◌++◌, IfNone, IfOk, IfSome, OnOk, codes, string_bytes};
 ghost use Rattle.json.specs.Json.{string};
 ghost use Rattle.wc_program.specs.Program.{Prints, failure};
 ghost use Rattle.wc_program.specs.Screen.{Becomes};
 ghost use Rattle.wc_record.specs.Shapes.{PutsJson};
 ghost use Rattle.wc_record.specs.Texts.{text_of};
 ghost use Rattle.wcplan_command.specs.Details.{fault_lines};
-ghost use Rattle.wcplan_command.specs.Faults.{program_fault_text};
-ghost use Rattle.wcplan_command.specs.JsonFaults.{IsReportedJson, fault_place, members_text, part_place, world_place};
+ghost use Rattle.wcplan_command.specs.Faults.{NeedsText, program_fault_text};
+ghost use Rattle.wcplan_command.specs.JsonFaults.{IsReportedJson, fault_json, fault_place, members_text, part_place, world_place};
 
 use crate::explained::Explained;
 use crate::explained_part::ExplainedPart;
@@ -19,17 +19,62 @@ use wc_program::{FAILURE, Message, Printable, Screen, print};
 use wc_record::{part_to_json, world_place_to_json};
 use wc_write::{PutFailed, Sink};
 
-/// What is printed where there is no memory for a fault as JSON.
+/// The object where there is no memory for a fault as JSON, and of the fault that an allocation failed.
 const MEMORY: &[u8] = b"{\"text\":\"out of memory\",\"place\":null}";
+
+/// The object of worlds that are not text.
+const NOT_TEXT: &[u8] = b"{\"text\":\"Json: not UTF-8\",\"place\":null}";
+
+/// The object of an output that failed.
+const UNPRINTED: &[u8] = b"{\"text\":\"cannot print\",\"place\":null}";
 
 /// A place that there is not.
 const NULL: &[u8] = b"null";
 
 /// Prints why the program failed as JSON in a line: an object with `text`, the text of the fault with its lines, and
 /// `place`, what it is about. That is as of `wc_record::part_to_json` for worlds that are not well-formed, and as of
-/// `wc_record::world_place_to_json` for a component without a world; else null. Where there is no memory for this, it is
-/// the object of want of memory. The answer is the status of a failure.
+/// `wc_record::world_place_to_json` for a component without a world; else null. Where memory is needed for this, and there
+/// is none, it is the object of want of memory. The answer is the status of a failure.
 pub(crate) fn report_json<E: Screen>(alloc: Global, err: &mut E, fault: &ProgramFault<'_>) -> u8
+    ensures { IsReportedJson fault.now (Becomes E.ends err.old err.new) result }
+{
+    match fixed_json(fault) {
+        Some(text) => print_json(err, &text),
+        None => report_made(alloc, err, fault),
+    }
+}
+
+/// The object of a fault whose text is always the same.
+#[tactic(auto, unfolding(json::specs::Print::print_from, json::specs::Print::escape_byte))]
+fn fixed_json(fault: &ProgramFault<'_>) -> Option<&'static [u8]>
+    ensures whole { IfSome result (λ text. text.now ≡ fault_json fault.now) }
+    ensures none { IfNone result (NeedsText fault.now) }
+{
+    match fault {
+        ProgramFault::Memory => Some(MEMORY),
+        ProgramFault::NotText => Some(NOT_TEXT),
+        ProgramFault::Output => Some(UNPRINTED),
+        ProgramFault::CannotRead(_, _)
+        | ProgramFault::NotJson(_)
+        | ProgramFault::RepeatedMember(_)
+        | ProgramFault::Json(_)
+        | ProgramFault::Selection(_)
+        | ProgramFault::NoWorld(_, _)
+        | ProgramFault::NoExport(_, _)
+        | ProgramFault::Resolve(_, _)
+        | ProgramFault::Dedupe(_)
+        | ProgramFault::Encoder(_)
+        | ProgramFault::World(_, _)
+        | ProgramFault::Plan(_)
+        | ProgramFault::Ways(_)
+        | ProgramFault::CannotMake(_)
+        | ProgramFault::CannotWrite(_) => None,
+    }
+}
+
+/// Prints a fault as JSON, where memory is needed for it. The answer is the status of a failure.
+fn report_made<E: Screen>(alloc: Global, err: &mut E, fault: &ProgramFault<'_>) -> u8
+    requires { NeedsText fault.now }
     ensures { IsReportedJson fault.now (Becomes E.ends err.old err.new) result }
 {
     match members_of(alloc, fault) {
@@ -60,7 +105,7 @@ fn whole_text(alloc: Global, fault: &ProgramFault<'_>) -> Result<String, AllocEr
     format!(in alloc; "{text}{lines}")
 }
 
-/// What a fault is about, as JSON.
+/// The place that a fault is about, as JSON.
 fn place_of(alloc: Global, fault: &ProgramFault<'_>) -> Result<Vec<u8>, AllocError>
     ensures { IfOk result (λ v. v.items ≡ fault_place fault.now) }
 {
@@ -71,7 +116,7 @@ fn place_of(alloc: Global, fault: &ProgramFault<'_>) -> Result<Vec<u8>, AllocErr
     }
 }
 
-/// What a fault of worlds that are not well-formed is about, as JSON.
+/// The part that a fault of worlds is about, as JSON.
 fn part_place(
     alloc: Global,
     explained: &Result<Option<ExplainedPart>, AllocError>,
@@ -85,7 +130,7 @@ fn part_place(
     }
 }
 
-/// What a fault of a component's world is about, as JSON.
+/// The place that a fault of a component's world is about, as JSON.
 fn world_place(
     alloc: Global,
     explained: &Result<Option<Explained>, AllocError>,

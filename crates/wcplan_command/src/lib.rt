@@ -9,7 +9,6 @@ mod details;
 mod documents;
 mod explained;
 mod explained_part;
-mod fault_texts;
 mod faults;
 mod file_names;
 mod inputs;

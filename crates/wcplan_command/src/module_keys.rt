@@ -2,6 +2,7 @@
 
 ghost use Rattle.std.specs.Prelude.{◌≡◌, ◌<◌, IfErr, IfOk, OnOk, length, map, string_bytes};
 ghost use Rattle.wc_resolve.specs.Views.{key_view};
+ghost use Rattle.wc_selection.specs.AdapterKeys.{AreAdapterKeys};
 ghost use Rattle.wc_selection.specs.KeyNames.{request_keys};
 ghost use Rattle.wc_selection.specs.Keys.{AreKeysApart, named_key, texts_of};
 ghost use Rattle.wc_selection.specs.Requests.{exporter_name, given_keys, request_value};
@@ -17,7 +18,7 @@ use std::alloc::{AllocError, Global};
 use wc_maps::{Seed, Set};
 use wc_resolve::{Resolve, WorldId, WorldKey};
 use wc_selection::{
-    Exporter, KeyRequest, first_missing, first_repeated, no_task_hook, request_keys,
+    AdapterKeys, Exporter, KeyRequest, first_missing, first_repeated, no_task_hook, request_keys,
 };
 
 /// The keys that a command gives.
@@ -143,6 +144,25 @@ pub(crate) fn required_keys(
 {
     let request = key_request(command);
     wc_selection::required_keys(alloc, seed, &request, exporter, keys)
+}
+
+/// The keys that the adapters of a command have to export: of each those of `required_keys`. `seed`: the seed of the maps.
+///
+/// # Errors
+///
+/// `AllocError`: an allocation failed.
+pub(crate) fn adapter_keys<'k, 'a>(
+    alloc: Global,
+    seed: Seed,
+    command: &Command<'a>,
+    keys: &'k [(WorldKey, String)],
+) -> Result<AdapterKeys<'k, 'a>, AllocError>
+    requires { AreKeysApart (map named_key keys.now) }
+    ensures { IfOk result (AreAdapterKeys (request_of (command_value command.now))
+        (map named_key keys.now)) }
+{
+    let request = key_request(command);
+    AdapterKeys::new(alloc, seed, &request, keys)
 }
 
 /// The name of the task hook that is handed to the encoder: the one that a command gives, or else one that no export of

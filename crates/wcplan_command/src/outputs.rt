@@ -1,4 +1,4 @@
-//! What a command makes: its files, and what it prints of its component's world.
+//! The outputs of a command: its files, and the text that it prints of its component's world.
 
 ghost use Rattle.std.specs.Prelude.{◌≡◌, IfErr, IfOk, IfSome, OnOk, Some, map, string_bytes};
 ghost use Rattle.std.specs.Option.{option_map};
@@ -22,11 +22,11 @@ use wc_gc::GcFault;
 use wc_plan::Plan;
 use wc_program::{DirectoryStore, Screen};
 use wc_record::planned_world_to_json;
-use wc_ways::{ways_graph, ways_text};
+use wc_ways::{ways_graph, ways_json, ways_text};
 use wc_world::ComponentWorld;
 use wc_write::PutFailed;
 
-/// What a command prints of its component's world, which has this plan.
+/// The text that a command prints of its component's world, which has this plan.
 pub(crate) fn description_of<'a>(
     alloc: Global,
     command: &Command<'a>,
@@ -40,7 +40,7 @@ pub(crate) fn description_of<'a>(
     ensures fault { IfErr result (IsDescriptionFault (world_view world.now)) }
 {
     match command.why {
-        Some(key) => Ok(ways_of(alloc, command.dot, world, key)?),
+        Some(key) => Ok(ways_of(alloc, command.dot, command.json, world, key)?),
         None => Ok(plan_text(alloc, command.json, world, plan)?),
     }
 }
@@ -62,20 +62,23 @@ fn plan_text(
     }
 }
 
-/// Why a key is imported: as a graph, if that is asked for, or in lines.
+/// Why a key is imported: as a graph or as JSON, if that is asked for, or in lines.
 fn ways_of(
     alloc: Global,
     asks_graph: bool,
+    asks_json: bool,
     world: &ComponentWorld<'_>,
     key: &str,
 ) -> Result<Vec<u8>, GcFault>
     requires { AreNameable (world_view world.now) }
-    ensures text { IfOk result (λ text. IsPrintedWays asks_graph
+    ensures text { IfOk result (λ text. IsPrintedWays asks_graph asks_json
         (world_view world.now) key.now text.items) }
     ensures fault { IfErr result (IsWaysFault (world_view world.now)) }
 {
     if asks_graph {
         Ok(ways_graph(alloc, world, key)?.into_bytes())
+    } else if asks_json {
+        ways_json(alloc, world, key)
     } else {
         Ok(ways_text(alloc, world, key)?.into_bytes())
     }

@@ -10,7 +10,8 @@ ghost use Rattle.wcplan_command.specs.Arguments.{command_value};
 ghost use Rattle.wc_program.specs.Files.{store_change};
 ghost use Rattle.wc_program.specs.Screen.{Becomes};
 ghost use Rattle.wc_program.specs.Program.{Prints, failure, wrong_arguments};
-ghost use Rattle.wcplan_command.specs.Program.{CommandEnds, EndsWell, EndsWith, EndsWithout, EndsWithoutArguments, IsEncoderOf, IsPlanned, IsReported, IsReportedAs, IsRunCause, NeedsText, PrintsAsked, ProgramEnds};
+ghost use Rattle.wcplan_command.specs.Faults.{NeedsText};
+ghost use Rattle.wcplan_command.specs.Program.{CommandEnds, EndsWell, EndsWith, EndsWithout, EndsWithoutArguments, IsEncoderOf, IsPlanned, IsReported, IsReportedAs, IsRunCause, PrintsAsked, ProgramEnds};
 ghost use Rattle.wcplan_command.specs.Private.Runs.{AnswersStop, IsMadeFor, IsReportedWith};
 ghost use Rattle.wcplan_command.specs.Usage.{fault_and_usage, fault_line, help_text};
 
@@ -151,7 +152,7 @@ fn run_and_report<F: DirectoryStore, O: Screen, E: Screen>(
 /// (`DirectoryStore::replace`). Every other file stays the same. Then it prints the lines of the plan, as
 /// `wc_plan::write_plan` writes them, but each escaped (`wc_json::escaped`); or with `--json` the record in a line
 /// (`wc_record::planned_world_to_json`); or with `--why` why the key is imported, by `wc_ways`: in lines (`ways_text`), with
-/// `--dot` as a graph (`ways_graph`). A path `-` of a file that is read is
+/// `--json` as JSON (`ways_json`), with `--dot` as a graph (`ways_graph`). A path `-` of a file that is read is
 /// that of `/dev/stdin`. `seed`: the seed of the maps that are made.
 ///
 /// # Errors
@@ -159,7 +160,8 @@ fn run_and_report<F: DirectoryStore, O: Screen, E: Screen>(
 /// Of several causes the first in this order is named; `Memory` may come in place of any before `CannotMake`.
 ///
 /// - `CannotRead`, `NotText`, `NotJson`, `RepeatedMember`, `Json`: the worlds could not be read.
-/// - `Selection`: no world is selected.
+/// - `NoWorld`, `Selection`: no world has the name, or without a name none has all others for parts; or it can't be told which
+///   one has the name.
 /// - `Resolve`: the worlds are not well-formed.
 /// - `Selection`, `NoExport`: names of adapters, or keys, are not there, or are given twice; or files can't be named.
 /// - `CannotRead`, `Dedupe`: the main module could not be read, or not renamed.
@@ -374,7 +376,7 @@ fn print_fault<E: Screen>(err: &mut E, text: &[u8]) -> u8
     print_line(err, &text)
 }
 
-/// The same of a text of any kind.
+/// Prints the line of a fault, whose text is of any kind. The answer is the status of a failure.
 fn print_line<E: Screen, T: Printable>(err: &mut E, text: &T) -> u8
     ensures { Prints (fault_line (T.text text.now)) failure
         (Becomes E.ends err.old err.new) result }

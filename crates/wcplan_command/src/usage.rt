@@ -11,17 +11,17 @@ use wc_json::escaped;
 
 /// The usage text.
 pub(crate) const USAGE: &[u8] =
-    b"usage: wcplan WORLDS.json WORLD MAIN.wasm [--adapt [NAME=]FILE]... [--export KEY]... \
+    b"usage: wcplan WORLDS.json [WORLD] MAIN.wasm [--adapt [NAME=]FILE]... [--export KEY]... \
       [--adapter-export NAME=KEY]...
-              [--reject-legacy-names] [--realloc-via-memory-grow] [--task-hook NAME] [--json \
-      | --why KEY [--dot]] [--out DIR]
+              [--reject-legacy-names] [--realloc-via-memory-grow] [--task-hook NAME] [--json] \
+      [--why KEY [--dot]] [--out DIR]
        wcplan --help | --version
 ";
 
-/// What the help text has after the usage text: what each argument is.
+/// The part of the help text after the usage text: what each argument is.
 pub(crate) const OPTIONS: &[u8] =
     b"  WORLDS.json                the worlds, as `wasm-tools component wit --json` prints them
-  WORLD                      the name of the world that is encoded for
+  WORLD                      the world that is encoded for; it may be left out if all others are parts of it
   MAIN.wasm                  the main module
   --adapt [NAME=]FILE        an adapter, and its module; NAME is else FILE's name up to its first `.`
   --export KEY               a key of the world's exports that the main module exports
@@ -29,7 +29,7 @@ pub(crate) const OPTIONS: &[u8] =
   --reject-legacy-names      refuse names of the older scheme
   --realloc-via-memory-grow  let adapters grow memory for themselves
   --task-hook NAME           the export of MAIN.wasm that is the hook of tasks
-  --json                     print the component's world and its plan as JSON
+  --json                     print the component's world and its plan as JSON; with --why the ways
   --why KEY                  print why the interface KEY is imported; why each is, if KEY is `all`
   --dot                      print that as a graph, in the language of Graphviz
   --out DIR                  write the modules to DIR, which is made if need be
@@ -43,18 +43,18 @@ pub(crate) const VERSION: &[u8] = b"wcplan 0.262.0\n";
 
 /// The end of the line of a wrong argument, and the usage text.
 pub(crate) const AND_USAGE: &[u8] = b"
-usage: wcplan WORLDS.json WORLD MAIN.wasm [--adapt [NAME=]FILE]... [--export KEY]... \
+usage: wcplan WORLDS.json [WORLD] MAIN.wasm [--adapt [NAME=]FILE]... [--export KEY]... \
       [--adapter-export NAME=KEY]...
-              [--reject-legacy-names] [--realloc-via-memory-grow] [--task-hook NAME] [--json \
-      | --why KEY [--dot]] [--out DIR]
+              [--reject-legacy-names] [--realloc-via-memory-grow] [--task-hook NAME] [--json] \
+      [--why KEY [--dot]] [--out DIR]
        wcplan --help | --version
 ";
 
-/// What is wrong where an argument is no text.
+/// The text of an argument that is no text.
 pub(crate) const NO_TEXT: &[u8] = b"argument that is not UTF-8";
 
 impl WrongArgument<'_> {
-    /// What is wrong, in a line without its end. Arguments in it are escaped (`wc_json::escaped`).
+    /// The text that says what is wrong, in a line without its end. Arguments in it are escaped (`wc_json::escaped`).
     ///
     /// # Errors
     ///
@@ -68,7 +68,7 @@ impl WrongArgument<'_> {
     }
 }
 
-/// What is wrong.
+/// The text that says what is wrong.
 fn wrong_text(alloc: Global, wrong: &WrongArgument<'_>) -> Result<String, AllocError>
     ensures { IfOk result (λ text. string_bytes text ≡ wrong_text (wrong_value wrong.now)) }
 {

@@ -6,7 +6,7 @@ ghost use Rattle.wctrim_command.specs.Private.TrimArguments.{trim_parts, IsTrimO
 
 use crate::trim_arguments::trim_arguments;
 
-/// What the program is asked to do.
+/// A request to the program.
 #[derive(Clone, Copy, Debug, PartialEq, Eq)]
 pub enum Command<'a> {
     /// Renames the repeated imports of the module in the file `source`, prints each rename, and writes the renamed

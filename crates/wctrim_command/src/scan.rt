@@ -72,7 +72,7 @@ fn put_export<S: Sink>(out: &mut S, export: &Export<'_>) -> Result<(), PutFailed
     out.put(LINE_FEED)
 }
 
-/// The kind of an import.
+/// The index space that an import adds to, as the kind of its exports.
 fn kind_of(ty: &ImportType) -> ExportKind
     ensures { result ≡ kind_of ty.now }
 {

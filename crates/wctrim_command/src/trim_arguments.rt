@@ -15,7 +15,7 @@ const PAGE: &str = "--page";
 /// The exponent of the page size where none is given.
 const DEFAULT_PAGE: u32 = 16;
 
-/// What the arguments of a trim after its paths say.
+/// The arguments of a trim after its paths.
 #[derive(Clone, Copy)]
 pub(crate) struct TrimArguments<'a> {
     /// The name of the main module's realloc.

@@ -8,7 +8,7 @@ ghost use Rattle.wcwhy_command.specs.declared.arguments.NoCommand.TheVariants.{M
 
 use std::alloc::{AllocFailed, Global};
 
-/// What the program is asked to do. Paths and names are any texts.
+/// A request to the program. Paths and names are any texts.
 #[derive(Debug, Drop)]
 pub struct Command<'a> {
     /// The path of the adapter.
@@ -43,7 +43,7 @@ pub enum NoCommand<'a> {
     Wrong(WrongArgument<'a>),
 }
 
-/// What is wrong with arguments.
+/// The first mistake in the arguments.
 #[derive(Clone, Copy, Debug, PartialEq, Eq)]
 pub enum WrongArgument<'a> {
     /// There is no such option.
@@ -64,7 +64,7 @@ impl<T: Drop> From<AllocFailed<T>> for NoCommand<'_> {
     }
 }
 
-/// What was read of arguments besides what the command has.
+/// The state of reading arguments, besides the command.
 #[derive(Clone, Copy)]
 struct Draft {
     /// Whether the path of the adapter was read.
@@ -207,7 +207,7 @@ fn take_pair<'a>(command: &mut Command<'a>, argument: &'a str) -> Result<(), NoC
     }
 }
 
-/// Adds an import that is asked for.
+/// Adds the pattern of an option `--import`.
 fn add_import<'a>(command: &mut Command<'a>, value: &'a str) -> Result<(), NoCommand<'a>>
     ensures added { OnOk result (with_import (command_value command.old) value.now
         ≡ command_value command.new) }
@@ -253,7 +253,7 @@ fn set_dot<'a>(dot: &mut bool, name: &'a str) -> Result<(), NoCommand<'a>>
     Ok(())
 }
 
-/// The command, if it has all that it needs.
+/// Refuses arguments that end in `--import`, or lack IN or EXPORT, in this order.
 fn finish<'a>(command: Command<'a>, draft: &Draft) -> Result<Command<'a>, NoCommand<'a>>
     ensures { IsReadWithoutMemory result
         (finish (command_value command.entry) (draft_value draft.now)) }

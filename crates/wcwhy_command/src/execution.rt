@@ -1,4 +1,4 @@
-//! What is printed of the bytes of an adapter.
+//! The text that is printed for the bytes of an adapter.
 
 ghost use Rattle.std.specs.Prelude.{◌≡◌, IfErr, IfOk, IsErrOf, OnOk, map, true};
 ghost use Rattle.wc_gc.specs.Liveness.{names_of};

@@ -50,7 +50,7 @@ impl WhyFault<'_> {
     }
 }
 
-/// That the file of a path could not be read.
+/// The fault for a file that could not be read, as its path says it.
 fn path_text(alloc: Global, path: &str) -> Result<String, AllocError>
     ensures { IfOk result (λ text. string_bytes text ≡ codes "cannot read " ++ escaped path.now) }
 {
@@ -58,7 +58,7 @@ fn path_text(alloc: Global, path: &str) -> Result<String, AllocError>
     format!(in alloc; "cannot read {path}")
 }
 
-/// The text of a fault of an adapter, escaped.
+/// The text of a fault of trimming, with what a terminal would act on escaped.
 fn adapter_text(alloc: Global, fault: &GcFault) -> Result<String, AllocError>
     ensures { IfOk result (λ text. string_bytes text ≡ escaped (gc_fault_text fault.now)) }
 {
@@ -66,7 +66,7 @@ fn adapter_text(alloc: Global, fault: &GcFault) -> Result<String, AllocError>
     escaped(alloc, &text)
 }
 
-/// The text of a fault of an adapter.
+/// The text of a fault of trimming, as all programs print it.
 fn gc_text(alloc: Global, fault: &GcFault) -> Result<String, AllocError>
     ensures { IfOk result (λ text. string_bytes text ≡ gc_fault_text fault.now) }
 {
@@ -86,21 +86,21 @@ fn gc_text(alloc: Global, fault: &GcFault) -> Result<String, AllocError>
     }
 }
 
-/// The text of a fault that carries one of reading.
+/// `Read: ` and the text of a fault of reading.
 fn read_text(alloc: Global, text: &str) -> Result<String, AllocError>
     ensures { IfOk result (λ t. string_bytes t ≡ carried_text (codes "Read") text.now) }
 {
     format!(in alloc; "Read: {text}")
 }
 
-/// That an export is missing.
+/// The text of MissingExport, which names the export.
 fn missing_text(alloc: Global, name: &str) -> Result<String, AllocError>
     ensures { IfOk result (λ text. string_bytes text ≡ missing_text name.now) }
 {
     format!(in alloc; "adapter module does not have export `{name}`")
 }
 
-/// That an adapter has none of the imports that an option asks for.
+/// The fault for an adapter that has none of the imports that an option asks for.
 fn unknown_text(alloc: Global, pattern: &ImportPattern<'_>) -> Result<String, AllocError>
     ensures { IfOk result (λ text. string_bytes text ≡ unknown_text (pattern_value pattern.now)) }
 {

@@ -36,7 +36,7 @@ pub(crate) fn put_graph<S: Sink>(
     put_marked(alloc, patterns, reasons, &marks, out)
 }
 
-/// Puts the graph with the items that are marked.
+/// Puts a graph in the language of Graphviz: the marked items, then the imports.
 fn put_marked<S: Sink>(
     alloc: Global,
     patterns: &[ImportPattern<'_>],
@@ -59,7 +59,7 @@ fn put_marked<S: Sink>(
     Ok(())
 }
 
-/// Puts the nodes of the items that are marked.
+/// Puts the nodes of the marked items, in the order of `chains.order`.
 fn put_items<S: Sink>(
     alloc: Global,
     reasons: &Reasons<'_, '_>,
@@ -78,7 +78,7 @@ fn put_items<S: Sink>(
     Ok(())
 }
 
-/// Puts the node of the item at a place, if it is marked.
+/// Puts the node at a place of `chains.order`; nothing where it isn't marked.
 fn put_item<S: Sink>(
     alloc: Global,
     reasons: &Reasons<'_, '_>,
@@ -98,7 +98,7 @@ fn put_item<S: Sink>(
     Ok(())
 }
 
-/// The node of the item at a place, if it is marked.
+/// The text that `put_item` puts.
 fn marked_text(
     alloc: Global,
     reasons: &Reasons<'_, '_>,
@@ -152,7 +152,7 @@ fn export_text(alloc: Global, name: &str, place: usize) -> Result<String, AllocE
     )
 }
 
-/// Puts the nodes of imports.
+/// Puts the nodes of the imports that are asked for, in the order of the module.
 fn put_imports<S: Sink>(
     alloc: Global,
     patterns: &[ImportPattern<'_>],

@@ -41,7 +41,7 @@ pub(crate) fn put_lines<S: Sink>(
     Ok(())
 }
 
-/// Puts the lines of the import at a position, if it is asked for.
+/// Puts an import with its chain; nothing where no pattern asks for it.
 fn put_import<S: Sink>(
     alloc: Global,
     patterns: &[ImportPattern<'_>],
@@ -62,7 +62,8 @@ fn put_import<S: Sink>(
     Ok(())
 }
 
-/// The lines of the import at a position, if it is asked for.
+/// The text that `put_import` puts. An import without a chain is `not reached`, if patterns are
+/// given.
 fn import_text(
     alloc: Global,
     patterns: &[ImportPattern<'_>],
@@ -102,7 +103,7 @@ fn reached_text(
     chain_text(alloc, reasons.names, import, &chain)
 }
 
-/// The lines of an import with its chain.
+/// The title of an import, `export NAME`, and a line for each item of the chain.
 fn chain_text(
     alloc: Global,
     names: &OrderedMap<u32, &str>,
@@ -198,7 +199,7 @@ pub fn item_text(
     }
 }
 
-/// The name of a function, if it has one.
+/// The name of a function that has one. Items of other spaces have none.
 fn name_in<'r>(names: &OrderedMap<u32, &'r str>, item: (Space, u32)) -> Option<&'r str>
     ensures { option_map text_of result ≡ name_in (name_entries names.now) item }
 {
@@ -208,7 +209,7 @@ fn name_in<'r>(names: &OrderedMap<u32, &'r str>, item: (Space, u32)) -> Option<&
     }
 }
 
-/// What an item of a space is called.
+/// The word for an item of a space.
 fn space_name(space: Space) -> &'static str
     ensures { result.now ≡ space_name space }
 {

@@ -1,4 +1,4 @@
-//! What the lines and the graph of an adapter are made of.
+//! The reasons that the lines and the graph of an adapter are made of.
 
 use std::alloc::Global;
 use wc_gc::ImportChains;

@@ -14,7 +14,7 @@ pub(crate) const USAGE: &[u8] = b"usage: wcwhy IN [--import MODULE[=NAME]]... [-
        wcwhy --help | --version
 ";
 
-/// What the help text has after the usage text: what each argument is.
+/// The help text after the usage text: what each argument is.
 pub(crate) const OPTIONS: &[u8] = b"  IN                      an adapter, as a core module
   EXPORT                  an export that is required of it
   --import MODULE[=NAME]  an import that is asked for; else all that stay
@@ -32,11 +32,11 @@ usage: wcwhy IN [--import MODULE[=NAME]]... [--dot] EXPORT...
        wcwhy --help | --version
 ";
 
-/// What is wrong where an argument is no text.
+/// The mistake in an argument that is no text.
 pub(crate) const NO_TEXT: &[u8] = b"argument that is not UTF-8";
 
 impl WrongArgument<'_> {
-    /// What is wrong, in a line without its end. Arguments in it are escaped (`wc_json::escaped`).
+    /// The mistake, as a line without its end. Arguments in it are escaped (`wc_json::escaped`).
     ///
     /// # Errors
     ///
@@ -50,7 +50,7 @@ impl WrongArgument<'_> {
     }
 }
 
-/// What is wrong.
+/// What is wrong with the arguments, as `missing IN`.
 fn wrong_text(alloc: Global, wrong: &WrongArgument<'_>) -> Result<String, AllocError>
     ensures { IfOk result (λ text. string_bytes text ≡ wrong_text (wrong_value wrong.now)) }
 {

@@ -61,6 +61,7 @@ mod read;
 mod renames;
 mod required_options;
 mod resolved;
+mod syntax;
 mod table;
 mod validation;
 mod wit_types;

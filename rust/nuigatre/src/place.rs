@@ -72,6 +72,20 @@ pub enum Subject {
         /// code, or where the types of its locals are at fault.
         operator: Option<usize>,
     },
+    /// The page size of the memory that the adapter imports, which is not that of the main module's memory.
+    #[non_exhaustive]
+    PageSizes {
+        /// How many bytes a page of the adapter's has.
+        own: u64,
+        /// How many bytes one of the main module's has.
+        main: u64,
+    },
+    /// A function that core modules import, which needs what is not there.
+    #[non_exhaustive]
+    Function {
+        /// Its name in its interface or in the world.
+        name: String,
+    },
     /// The world at an index among those of the JSON.
     World(u32),
     /// An interface.
@@ -145,6 +159,13 @@ impl Read for Subject {
                 function: member(value, "function")?,
                 operator: optional_member(value, "operator")?,
             },
+            "page-sizes" => Subject::PageSizes {
+                own: member(value, "own")?,
+                main: member(value, "main")?,
+            },
+            "function" => Subject::Function {
+                name: member(value, "name")?,
+            },
             "world" => Subject::World(member(value, "index")?),
             "interface" => Subject::Interface(member(value, "index")?),
             "type" => Subject::Type(member(value, "index")?),
@@ -208,6 +229,10 @@ impl Display for Subject {
                 operator: Some(operator),
             } => write!(f, "operator {operator} of the body of function {function}"),
             Subject::Body { function, .. } => write!(f, "body of function {function}"),
+            Subject::PageSizes { own, main } => {
+                write!(f, "page size {own}, main module's {main}")
+            }
+            Subject::Function { name } => write!(f, "function {name:?}"),
             Subject::World(index) => write!(f, "world {index}"),
             Subject::Interface(id) => write!(f, "{id}"),
             Subject::Type(id) => write!(f, "{id}"),
@@ -279,6 +304,11 @@ mod tests {
                 r#"{"kind":"body","adapter":"old","function":7,"operator":null}"#,
                 r#"body of function 7, in adapter "old""#,
             ),
+            (
+                r#"{"kind":"page-sizes","adapter":"old","own":1,"main":65536}"#,
+                r#"page size 1, main module's 65536, in adapter "old""#,
+            ),
+            (r#"{"kind":"function","name":"log"}"#, r#"function "log""#),
             (r#"{"kind":"world","index":0}"#, "world 0"),
             (r#"{"kind":"interface","index":1}"#, "interface 1"),
             (r#"{"kind":"type","index":2}"#, "type 2"),

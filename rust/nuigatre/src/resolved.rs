@@ -99,8 +99,16 @@ impl<'a> Worlds<'a> {
     pub(crate) fn json(self) -> Result<&'a str, Error> {
         match self {
             Worlds::Json(json) if is_one_value(json) => Ok(json),
-            Worlds::Json(_) => Err(Error::World(WorldError::not_json()?)),
+            Worlds::Json(json) => Err(Error::World(WorldError::not_json(json)?)),
             Worlds::Resolved(resolved) => Ok(&resolved.json),
+        }
+    }
+
+    /// The worlds as they were passed.
+    pub(crate) fn text(self) -> &'a str {
+        match self {
+            Worlds::Json(json) => json,
+            Worlds::Resolved(resolved) => &resolved.json,
         }
     }
 }

@@ -6,6 +6,7 @@ use crate::ffi::Fault;
 use crate::memory::{Held, string};
 use crate::place::{Place, Shown};
 use crate::read::Unread;
+use crate::syntax::json_end;
 use std::error;
 use std::fmt::{self, Debug, Display, Formatter};
 
@@ -68,7 +69,12 @@ pub enum WorldFault {
 #[non_exhaustive]
 pub enum JsonFault {
     /// The text is not JSON, or not one value of it.
-    NotJson,
+    #[non_exhaustive]
+    NotJson {
+        /// The byte of the JSON of the worlds at which the first piece begins that JSON can't have there; its length, where
+        /// it ends too early.
+        position: usize,
+    },
     /// An object has two members of one name.
     RepeatedMember,
     /// A value is not what it has to be.
@@ -221,16 +227,23 @@ pub enum ValidateFault {
 }
 
 impl JsonFault {
-    /// The fault of this number, whose text is this one.
-    fn from_number(number: u32, text: &str) -> Result<JsonFault, Unread> {
+    /// The fault of this number, whose text is this one, of these worlds.
+    fn from_number(number: u32, text: &str, worlds: &str) -> Result<JsonFault, Unread> {
         match parts_of(number) {
-            (1, 0) => Ok(JsonFault::NotJson),
+            (1, 0) => Ok(JsonFault::not_json(worlds)),
             (2, 0) => Ok(JsonFault::RepeatedMember),
             (3, carried) => Ok(JsonFault::Wrong {
                 path: string(path_of(text).ok_or(Unread::Unknown)?)?,
                 problem: Problem::from_number(carried)?,
             }),
             _ => Err(Unread::Unknown),
+        }
+    }
+
+    /// The fault of worlds that are not JSON.
+    fn not_json(worlds: &str) -> JsonFault {
+        JsonFault::NotJson {
+            position: json_end(worlds),
         }
     }
 }
@@ -286,6 +299,8 @@ impl WorldError {
     /// - of [`Main`](WorldFault::Main), [`Adapter`](WorldFault::Adapter) and [`Minimized`](WorldFault::Minimized) an import
     ///   or an export of the module, or what it lacks; nothing where its bytes are no module;
     /// - of [`Trim`](WorldFault::Trim) a section, or the body of a function, where that is unsupported or no code;
+    /// - of [`PageSize`](WorldFault::PageSize) the adapter, and both sizes;
+    /// - of [`Plan`](WorldFault::Plan) the function;
     /// - of [`Resolve`](WorldFault::Resolve) a world, an interface, a type or a package.
     #[must_use]
     pub fn place(&self) -> Option<&Place> {
@@ -293,9 +308,9 @@ impl WorldError {
     }
 
     /// The worlds are not JSON, or more than one value of it.
-    pub(crate) fn not_json() -> Result<WorldError, Unread> {
+    pub(crate) fn not_json(worlds: &str) -> Result<WorldError, Unread> {
         Ok(WorldError {
-            fault: WorldFault::Json(JsonFault::NotJson),
+            fault: WorldFault::Json(JsonFault::not_json(worlds)),
             text: string("Json: not JSON")?,
             place: Held::NOTHING,
         })
@@ -318,7 +333,10 @@ impl WorldError {
         let number = answered.number;
         let (text, place) = answered.into_parts()?;
         let fault = match parts_of(number) {
-            (2, carried) => WorldFault::Json(JsonFault::from_number(carried, &text)?),
+            (2, carried) => {
+                let worlds = encoder.resolve.text();
+                WorldFault::Json(JsonFault::from_number(carried, &text, worlds)?)
+            }
             (3, 0) => WorldFault::UnknownWorld,
             (5, carried) => WorldFault::Resolve(ResolveFault::from_number(carried)?),
             (6, 0) => WorldFault::AdapterTwice(named(&text, "AdapterTwice ", encoder)?),
@@ -458,7 +476,7 @@ impl Display for WorldFault {
 impl Display for JsonFault {
     fn fmt(&self, f: &mut Formatter<'_>) -> fmt::Result {
         match self {
-            JsonFault::NotJson => f.write_str("not JSON"),
+            JsonFault::NotJson { .. } => f.write_str("not JSON"),
             JsonFault::RepeatedMember => f.write_str("repeated member"),
             JsonFault::Wrong { path, problem } if path.is_empty() => write!(f, "{problem}"),
             JsonFault::Wrong { path, problem } => write!(f, "{path}: {problem}"),

@@ -207,7 +207,7 @@ fn a_memory_missing() {
     let main = main_module(&[(HOST, "log", ("ii", ""))]);
     let (error, place) = mistake(&main, &[]);
     assert_eq!(*world_fault(&error), WorldFault::Plan(PlanFault::NoMemory));
-    assert_eq!(place, "");
+    assert_eq!(place, r#"function "log""#);
 }
 
 #[test]
@@ -215,7 +215,37 @@ fn a_realloc_missing() {
     let main = module(&[("$root", "ask", ("i", ""))], &[RUN], true);
     let (error, place) = mistake(&main, &[]);
     assert_eq!(*world_fault(&error), WorldFault::Plan(PlanFault::NoRealloc));
-    assert_eq!(place, "");
+    assert_eq!(place, r#"function "ask""#);
+}
+
+/// An adapter whose memory has pages of one byte, beside one that is refused for nothing.
+#[test]
+fn pages_of_another_size() {
+    let main = module(
+        &[("old", "f", ("", "")), ("good", "g", ("", ""))],
+        &[RUN],
+        true,
+    );
+    let good = module(&[], &[("g", ("", ""))], false);
+    let old = b"\0asm\x01\0\0\0\x01\x04\x01\x60\0\0\x02\x10\x01\x03env\x06memory\x02\x08\x01\0\
+        \x03\x02\x01\0\x07\x05\x01\x01f\0\0\x0a\x07\x01\x05\0\x3f\0\x1a\x0b";
+    let adapters = [Adapter::new("good", &good), Adapter::new("old", old)];
+    let (error, place) = mistake(&main, &adapters);
+    assert_eq!(*world_fault(&error), WorldFault::PageSize);
+    assert_eq!(error.to_string(), "World: PageSize");
+    assert_eq!(
+        place,
+        r#"page size 1, main module's 65536, in adapter "old""#
+    );
+    let place = error.place().expect("both sizes");
+    assert!(matches!(
+        place.subject,
+        Subject::PageSizes {
+            own: 1,
+            main: 65536,
+            ..
+        }
+    ));
 }
 
 #[test]

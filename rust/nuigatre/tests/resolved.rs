@@ -118,9 +118,19 @@ fn worlds_that_are_refused() {
         Err(Error::World(error)) => (error.fault().clone(), error.to_string()),
         answer => panic!("no fault: {answer:?}"),
     };
-    let not_json = WorldFault::Json(JsonFault::NotJson);
-    for json in ["", "{", "1,2", "{},\"world\":1", "{\"worlds\":}"] {
-        assert_eq!(refused(json).0, not_json, "{json}");
+    for (json, at) in [
+        ("", 0),
+        ("{", 1),
+        ("1,2", 1),
+        ("{},\"world\":1", 2),
+        ("{\"worlds\":}", 10),
+    ] {
+        match refused(json).0 {
+            WorldFault::Json(JsonFault::NotJson { position, .. }) => {
+                assert_eq!(position, at, "{json}");
+            }
+            fault => panic!("another fault: {fault:?}"),
+        }
     }
     let (fault, text) = refused("{}");
     assert_eq!(text, "Json: resolve.worlds: missing");

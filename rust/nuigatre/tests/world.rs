@@ -146,6 +146,14 @@ fn a_world_by_its_index() {
     assert_eq!(fault_of(&encoder), unknown);
 }
 
+/// Where worlds are not JSON.
+fn position_of(fault: &WorldFault) -> Option<usize> {
+    match fault {
+        WorldFault::Json(JsonFault::NotJson { position, .. }) => Some(*position),
+        _ => None,
+    }
+}
+
 #[test]
 fn faults_have_their_paths() {
     let refused = |worlds: &str| {
@@ -180,12 +188,17 @@ fn faults_have_their_paths() {
         wrong("[]"),
         (String::new(), Problem::NotAnObject, "not an object".into())
     );
-    let not_json = (
-        WorldFault::Json(JsonFault::NotJson),
-        "Json: not JSON".into(),
-    );
-    assert_eq!(refused("]"), not_json);
-    assert_eq!(refused("{]"), not_json);
+    let cut = &WORLDS[..WORLDS.len() - 1];
+    for (worlds, at) in [
+        ("]", 0),
+        ("{]", 1),
+        ("{\"worlds\":01}", 10),
+        (cut, cut.len()),
+    ] {
+        let (fault, text) = refused(worlds);
+        assert_eq!(position_of(&fault), Some(at), "{worlds}");
+        assert_eq!(text, "Json: not JSON");
+    }
     assert_eq!(
         refused(&WORLDS.replace("{\"id\": 0}", "{\"id\": 1}")),
         (
@@ -200,10 +213,14 @@ fn faults_have_their_paths() {
 fn worlds_are_one_value() {
     let spliced = format!("{WORLDS},\"other\":1");
     let mut encoder = encoder();
-    for worlds in [&spliced, "", "{},\"world\":\"demo\",\"length\":0", "1,2"] {
+    for (worlds, at) in [
+        (&*spliced, WORLDS.len()),
+        ("", 0),
+        ("{},\"world\":\"demo\",\"length\":0", 2),
+        ("1,2", 1),
+    ] {
         encoder.resolve = worlds.into();
-        let fault = WorldFault::Json(JsonFault::NotJson);
-        assert_eq!(fault_of(&encoder).0, fault, "{worlds}");
+        assert_eq!(position_of(&fault_of(&encoder).0), Some(at), "{worlds}");
     }
     let spaced = format!(" \n{WORLDS}\t ");
     encoder.resolve = (&spaced).into();

@@ -10,9 +10,9 @@ use Rattle.wc_world.specs.Options.{OptionsOf}
 use Rattle.wc_world.specs.Views.{ComponentWorldView}
 use Rattle.wc_world.specs.World.{IsWorldOf}
 use Rattle.wc_calls.specs.ComponentWorlds.{modules_text}
-use Rattle.wc_calls.specs.Places.{IsPartPlaceText, IsWorldPlaceText}
+use Rattle.wc_calls.specs.Places.{IsWorldPlaceText, plan_place_text}
 use Rattle.wc_calls.specs.declared.message_fault.MessageFault.{MessageFault}
-use Rattle.wc_calls.specs.declared.message_fault.MessageFault.TheVariants.{Memory, Resolve, World, Plan}
+use Rattle.wc_calls.specs.declared.message_fault.MessageFault.TheVariants.{Memory, World, Plan}
 
 -- the modules of the world that options make of an encoder, of this length, and then the world as JSON
 pub record IsAnswerFor (options : OptionsOf) (e : EncoderView) (module_length : ℕ) (text : List ℕ) : Type 0 where
@@ -30,12 +30,8 @@ IsFaultFor e f = ⊥
 -- what a fault of an encoder's component is about, as a text
 abbrev pub IsPlaceFor : EncoderView → MessageFault → List ℕ → Type 0
 IsPlaceFor e (World f) text = IsWorldPlaceText e f text
+IsPlaceFor e (Plan f) text = text ≡ plan_place_text f
 IsPlaceFor e f text = text ≡ []
-
--- what a fault of a message that is no encoder is about
-abbrev pub IsPartPlaceFor : List ℕ → MessageFault → List ℕ → Type 0
-IsPartPlaceFor message (Resolve f) text = IsPartPlaceText message f text
-IsPartPlaceFor message f text = text ≡ []
 
 -- the plan as JSON of the world that options make of an encoder
 pub record IsPlanFor (options : OptionsOf) (e : EncoderView) (text : List ℕ) : Type 0 where

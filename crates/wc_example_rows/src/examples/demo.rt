@@ -194,7 +194,7 @@ fn encoder_of(
     ComponentEncoder::build(alloc, parts)
 }
 
-/// What the main module has to export: the interface `names`.
+/// The keys that the main module has to export: the interface `names`.
 fn exported_keys(alloc: Global, seed: Seed) -> Result<Set<WorldKey>, AllocError> {
     let mut keys = Set::with_hasher(alloc, seed);
     keys.insert(WorldKey::Interface(NAMES))?;

@@ -13,7 +13,7 @@ use wc_plan::{PlanFault, plan_encoder, write_plan};
 use wc_world::PlainOptions;
 use wc_write::WriterSink;
 
-/// The lines of the plan of an encoder.
+/// Plans an encoder with the options of [`PlainOptions`], and prints the plan into memory.
 pub(crate) fn printed_plan(alloc: Global, encoder: &ComponentEncoder) -> Result<Vec<u8>, PlanFault>
     ensures { IfOk result (λ lines. (w : ComponentWorldView)
         × IsWorldOf plain_options encoder.now w × (lines.items ≡ plan_text (plan_of w))) }

@@ -18,7 +18,7 @@ fn has_memory(parsed: &Module<'_>) -> bool
         .any(|export| export.kind == ExportKind::Memory)
 }
 
-/// Whether the module that the bytes spell exports a memory.
+/// Reads a module, and says whether one of its exports is a memory.
 pub(crate) fn exports_memory(alloc: Global, bytes: &[u8]) -> Result<bool, ReadFault>
     ensures found { IfOk result (λ answer. (m : ModuleValue) × SpellsModule bytes.now m
         × (IsTrue answer ↔ Any (λ e. e.kind ≡ ExportKind.Memory) m.exports)) }

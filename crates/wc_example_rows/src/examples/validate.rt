@@ -9,7 +9,7 @@ use wc_encoder::ComponentEncoder;
 use wc_read::MemoryType;
 use wc_validate::{ValidateFault, validate_module};
 
-/// The type of the memory that a module imports of the main module, if it imports it.
+/// Validates a module as the main one, and answers the memory that it imports, if any.
 pub(crate) fn imported_memory(
     alloc: Global,
     encoder: &ComponentEncoder,

@@ -15,12 +15,12 @@ use wc_maps::Map;
 use wc_resolve::{AbiVariant, TypeId};
 use wc_world::{ComponentWorld, Lowering, PlainOptions, WorldFault};
 
-/// What is read of the world of a component.
+/// A few facts of the world of a component.
 #[derive(Drop)]
 pub(crate) struct Summary {
     /// The bytes of its first adapter, trimmed; none, where it has no adapter.
     pub(crate) trimmed: Vec<u8>,
-    /// What core modules import of the first interface that the world imports.
+    /// The functions that core modules import of the first interface that the world imports.
     pub(crate) lowered: Vec<Lowered>,
     /// The types that core modules need of the first interface that they need types of.
     pub(crate) live: Vec<TypeId>,

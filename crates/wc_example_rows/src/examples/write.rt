@@ -20,7 +20,7 @@ pub(crate) enum RewriteFault {
     Write(#[from] WriteFault),
 }
 
-/// One import section with all imports of the module that the bytes spell.
+/// Reads a module, and writes its imports as one section.
 pub(crate) fn import_section(alloc: Global, bytes: &[u8]) -> Result<Vec<u8>, RewriteFault>
     ensures written { IfOk result (λ section. (m : ModuleValue) × SpellsModule bytes.now m
         × (section.items ≡ section_text 2 (imports_text m.imports))) }

@@ -1,6 +1,6 @@
 -- The edit of an adapter, by its old indices, and the new ones.
-use Rattle.std.specs.Prelude.{◌≡◌, ℕ, List, ◌++◌, map, length, Bool, true, Some}
-use Rattle.std.specs.List.{enumerate_from, slice_get}
+use Rattle.std.specs.Prelude.{◌≡◌, ℕ, List, ◌++◌, map, length, All, Bool, true, Some}
+use Rattle.std.specs.List.{enumerate_from, filter_map, slice_get}
 use Rattle.std.specs.Borrow.{Bor}
 use Rattle.wc_read.specs.Exports.{ExportValue}
 use Rattle.wc_read.specs.Bodies.{BodyValue}
@@ -78,6 +78,10 @@ edited_at e exported x = new_edited e (exported x.0) (func_code x.1)
 abbrev pub live_funcs : Edit → (ℕ → Bool) → (ℕ → Bool) → List (Item ℕ (Bor (List ℕ))) → List (ItemValue ℕ BodyValue)
 live_funcs e kept exported funcs = kept_items kept (length funcs) (map (edited_at e exported) (enumerate_from 0 funcs))
 
+-- of functions that were read those of these indices, in their order
+abbrev pub funcs_at : Edit → (ℕ → Bool) → List (Item ℕ (Bor (List ℕ))) → List ℕ → List (ItemValue ℕ BodyValue)
+funcs_at e exported funcs indices = filter_map (slice_get (map (edited_at e exported) (enumerate_from 0 funcs))) indices
+
 -- the functions of the image: imported ones, the import that is added, defined ones, and those that are added
 abbrev pub image_funcs : Edit → (ℕ → Bool) → (ℕ → Bool) → (ℕ → Bool) → List (Item ℕ (Bor (List ℕ))) → List (ItemValue ℕ BodyValue)
 image_funcs e imports defined exported funcs =
@@ -94,3 +98,10 @@ image_types e live types =
 abbrev pub AreCoded : (ℕ → Bool) → List (Item ℕ (Bor (List ℕ))) → Type 0
 AreCoded kept funcs =
     (n : ℕ) (f : Item ℕ (Bor (List ℕ))) → kept n ≡ true → slice_get funcs n ≡ Some f → is_code (func_code f).def ≡ true
+
+-- those of these indices are
+abbrev pub IsCodedAt : List (Item ℕ (Bor (List ℕ))) → ℕ → Type 0
+IsCodedAt funcs n = (f : Item ℕ (Bor (List ℕ))) → slice_get funcs n ≡ Some f → is_code (func_code f).def ≡ true
+
+abbrev pub AreCodedAt : List ℕ → List (Item ℕ (Bor (List ℕ))) → Type 0
+AreCodedAt indices funcs = All (IsCodedAt funcs) indices

@@ -6,6 +6,7 @@ use Rattle.std.specs.Borrow.{Bor}
 use Rattle.wc_read.specs.Exports.{ExportValue}
 use Rattle.wc_read.specs.Items.{DefValue, imported, local}
 use Rattle.wc_read.specs.declared.items.Item.{Item}
+use Rattle.wc_gc.specs.Bits.{bit_of}
 use Rattle.wc_gc.specs.Decoded.{FuncCode, func_code}
 use Rattle.wc_gc.specs.Edited.{is_exported_func}
 use Rattle.wc_gc.specs.Found.{is_realloc}
@@ -32,4 +33,4 @@ has_func test funcs n = option_map_or (λ f. test (func_code f)) (slice_get func
 pub record AreGroups {L : Type 0} (has : L → ℕ → Bool) (s : SettingsValue) (funcs : List (Item ℕ (Bor (List ℕ)))) (live : ℕ → Bool) (exports : List ExportValue) (g : FuncGroups L) : Type 0 where
   pub imports : (n : ℕ) → has g.imports n ≡ (live n && has_func (is_in_group s true) funcs n)
   pub defined : (n : ℕ) → has g.defined n ≡ (live n && has_func (is_in_group s false) funcs n)
-  pub exported : (n : ℕ) → has g.exported n ≡ is_exported_func exports n
+  pub exported : (n : ℕ) → bit_of g.exported.words.items n ≡ is_exported_func exports n

@@ -30,8 +30,8 @@ pub enum Call {
     Faults,
 }
 
-/// What the words after a call ask: of the exports `reallocs`; of the imports `imports`, `memory`, `required ADAPTER`,
-/// or all that is recorded.
+/// Puts the answer to the words after a call: of the exports `reallocs`; of the imports `imports`, `memory`,
+/// `required ADAPTER`, or all that is recorded.
 fn put_asked(validated: &ValidatedModule, words: &mut Words, out: &mut Lines) -> Result<(), Bad> {
     let imports = &validated.imports;
     if words.take("reallocs") {
@@ -49,7 +49,7 @@ fn put_asked(validated: &ValidatedModule, words: &mut Words, out: &mut Lines) ->
     words.end()
 }
 
-/// What is asked of a validated module, or why it was refused.
+/// Puts the answers of a validated module, or why it was refused.
 fn put_validated(
     validated: &Result<ValidatedModule, ValidateFault>,
     words: &mut Words,
@@ -91,7 +91,7 @@ fn put_as_main(
     put_validated(&checked.validated(words.alloc), words, out)
 }
 
-/// What single imports are, without their names.
+/// Puts single imports, without their names.
 fn put_own(alloc: Global, instance: &ImportInstance, out: &mut Lines) {
     if let ImportInstance::Names(names) = instance {
         for (_, import) in names.iter() {
@@ -100,7 +100,7 @@ fn put_own(alloc: Global, instance: &ImportInstance, out: &mut Lines) {
     }
 }
 
-/// What is recorded of the one import of a module, or why the module was refused.
+/// Puts the record of the one import of a module, or why the module was refused.
 fn put_alone(alloc: Global, validated: &Result<ValidatedModule, ValidateFault>, out: &mut Lines) {
     match validated {
         Ok(validated) => {
@@ -181,7 +181,7 @@ fn put_main(encoder: &ComponentEncoder, words: &mut Words, out: &mut Lines) -> R
     put_as_main(encoder, encoder.module(), renames, words, out)
 }
 
-/// The module that is described, as one of the encoder's adapters.
+/// Validates the described module as this adapter of the encoder.
 fn put_as_adapter(
     encoder: &ComponentEncoder,
     adapter: &Adapter,
@@ -200,7 +200,8 @@ fn put_as_adapter(
     put_adapter_module(&checked, words, out)
 }
 
-/// What is asked of a module as an adapter, or why it is refused; after the word `explain` as for a main one.
+/// Puts the answers of a module as an adapter, or why it is refused; after the word `explain` as for a main one. After
+/// `among N` it is validated by interfaces that are made for N modules.
 fn put_adapter_module(
     checked: &AdapterModule<'_>,
     words: &mut Words,
@@ -209,6 +210,10 @@ fn put_adapter_module(
     if words.take("explain") {
         explain_adapter(words.alloc, checked, out);
         return words.end();
+    }
+    if words.take("among") {
+        let modules = words.number()? as usize;
+        return put_validated(&checked.validated_among(words.alloc, modules), words, out);
     }
     put_validated(&checked.validated(words.alloc), words, out)
 }
@@ -275,7 +280,7 @@ fn put_module<'a>(
     put_described(encoder, row, words, out)
 }
 
-/// The calls on an encoder.
+/// Answers a call on the modules that a row describes for an encoder.
 fn on_encoder<'a>(
     alloc: Global,
     call: Call,

@@ -138,7 +138,7 @@ impl DescribedModule {
         }
     }
 
-    /// `NAME: `, for each export.
+    /// Appends `NAME: ` of each export.
     pub(crate) fn put_export_names(&self, out: &mut Lines) {
         for export in &self.exports {
             put_name(out, &export.name);
@@ -146,12 +146,12 @@ impl DescribedModule {
         }
     }
 
-    /// Takes out what is required of the module.
+    /// Moves the required exports out, and leaves none.
     pub(crate) fn take_required(&mut self, alloc: Global) -> Map<String, FuncType> {
         mem::replace(&mut self.required, Map::with_hasher(alloc, row_seed()))
     }
 
-    /// The bytes of the module.
+    /// Writes the module. Its bytes don't have what is required of it.
     pub fn into_bytes(self, alloc: Global) -> Result<Vec<u8>, Bad> {
         let DescribedModule {
             types,

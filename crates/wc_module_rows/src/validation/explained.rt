@@ -1,4 +1,4 @@
-//! What faults of modules are about.
+//! Places of faults of modules.
 
 use std::alloc::Global;
 use wc_dedupe::ModuleImportMap;
@@ -8,7 +8,7 @@ use wc_lines::values::put_place;
 use wc_maps::Map;
 use wc_read::FuncType;
 use wc_validate::{
-    ValidateFault, ValidatedModule, explain_adapter_module, explain_module,
+    ValidateFault, ValidatedModule, WorldInterfaces, explain_adapter_module, explain_module,
     validate_adapter_module, validate_module,
 };
 
@@ -21,13 +21,13 @@ pub(crate) struct MainModule<'a> {
 }
 
 impl MainModule<'_> {
-    /// What is recorded of the module, or why it is refused.
+    /// The record of the module, or why it is refused.
     pub(crate) fn validated(&self, alloc: Global) -> Result<ValidatedModule, ValidateFault> {
         self.encoder.well_formedness();
         validate_module(alloc, self.encoder, self.bytes, self.renames)
     }
 
-    /// A fault of the module, and what it is about.
+    /// Puts a fault, and the place that `explain_module` answers of it.
     fn put_explained(&self, alloc: Global, fault: &ValidateFault, out: &mut Lines) {
         writeln!(out, "fault {fault}");
         let place = explain_module(alloc, self.encoder, self.bytes, self.renames, fault);
@@ -53,7 +53,7 @@ pub(crate) struct AdapterModule<'a> {
 }
 
 impl AdapterModule<'_> {
-    /// What is recorded of the module, or why it is refused.
+    /// The record of the module, or why it is refused.
     pub(crate) fn validated(&self, alloc: Global) -> Result<ValidatedModule, ValidateFault> {
         self.encoder.well_formedness();
         validate_adapter_module(
@@ -66,7 +66,24 @@ impl AdapterModule<'_> {
         )
     }
 
-    /// A fault of the module, and what it is about.
+    /// The record of the module, or why it is refused, by interfaces that are made for so many modules.
+    pub(crate) fn validated_among(
+        &self,
+        alloc: Global,
+        modules: usize,
+    ) -> Result<ValidatedModule, ValidateFault> {
+        self.encoder.well_formedness();
+        let interfaces = WorldInterfaces::new(alloc, self.encoder, modules)?;
+        interfaces.validate_adapter_module(
+            alloc,
+            self.bytes,
+            self.required,
+            &self.adapter.required_exports,
+            self.adapter.library_info.as_ref(),
+        )
+    }
+
+    /// Puts a fault, and the place that `explain_adapter_module` answers of it.
     fn put_explained(&self, alloc: Global, fault: &ValidateFault, out: &mut Lines) {
         writeln!(out, "fault {fault}");
         let place = explain_adapter_module(

@@ -1,4 +1,4 @@
-//! What is recorded of a module's exports, and what is looked up in the record.
+//! Records of a module's exports, and look-ups in them.
 
 use crate::validation::described_modules::{DescribedModule, described_of};
 use std::alloc::Global;
@@ -61,7 +61,7 @@ pub fn put_found_reallocs(exports: &ExportMap, out: &mut Lines) {
     out.push('\n');
 }
 
-/// What the exports of one kind are asked.
+/// A question to the exports of one kind.
 #[derive(Clone, Copy)]
 enum OfKind {
     Reallocs,
@@ -103,7 +103,7 @@ fn put_of_kind(exports: &ExportMap, question: OfKind, out: &mut Lines) {
     }
 }
 
-/// What is asked of a function, `KEY func NAME: FUNCTION`.
+/// Puts the answer for a function, `KEY func NAME: FUNCTION`.
 fn put_of_function(
     exports: &ExportMap,
     question: &str,
@@ -120,7 +120,7 @@ fn put_of_function(
     Ok(())
 }
 
-/// What is asked of the functions of a key, or of an interface, that have a name.
+/// Puts the answer for the functions of a key, or of an interface, that have a name.
 fn put_of_name(
     exports: &ExportMap,
     question: &str,
@@ -148,7 +148,7 @@ fn put_answer(exports: &ExportMap, words: &mut Words, out: &mut Lines) -> Result
     words.end()
 }
 
-/// The answer to a question on one item.
+/// Answers a question on a type, a function or a name, as `post_return`.
 fn put_of_item(
     exports: &ExportMap,
     question: &str,
@@ -188,7 +188,7 @@ fn put_answers<'a>(
     Ok(())
 }
 
-/// What is recorded of the exports of the module that is described, and the answers to the questions.
+/// Puts the record of the exports of the module that is described, and the answers to the questions.
 pub(crate) fn put_recorded<'a>(
     alloc: Global,
     encoder: &ComponentEncoder,

@@ -1,4 +1,4 @@
-//! What is recorded of a module's imports, as lines.
+//! Records of a module's imports, as lines.
 
 use std::alloc::{AllocError, Global};
 use wc_fixtures::encoder_fields::put_which;
@@ -10,7 +10,7 @@ use wc_name_rows::shown_imports::put_copy;
 use wc_names::Import;
 use wc_validate::{ImportInstance, ImportMap};
 
-/// `MODULE NAME: IMPORT`.
+/// A line `MODULE NAME: IMPORT`.
 pub(crate) fn put_record(
     alloc: Global,
     module_name: &str,
@@ -52,7 +52,7 @@ pub fn put_modules(alloc: Global, imports: &ImportMap, out: &mut Lines) {
     }
 }
 
-/// All single imports.
+/// A line for each import that the map has.
 pub(crate) fn put_imports(alloc: Global, imports: &ImportMap, out: &mut Lines) {
     for (module_name, name, import) in imports.imports() {
         put_record(alloc, module_name, name, import, out);
@@ -76,7 +76,7 @@ pub(crate) fn put_required(
     Ok(())
 }
 
-/// The memory that is imported, or `none`.
+/// A line: the type of the imported memory, or `none`.
 pub(crate) fn put_memory(imports: &ImportMap, out: &mut Lines) {
     match imports.imported_memory() {
         Some(ty) => writeln!(out, "{ty:?}"),

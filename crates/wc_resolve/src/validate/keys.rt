@@ -4,7 +4,7 @@ ghost use Rattle.std.specs.Prelude.{◌≡◌, ◌↔◌, All, IsTrue, Option, S
 ghost use Rattle.std.specs.Option.{option_map};
 ghost use Rattle.wc_resolve.specs.Views.{function_entry, interface_entry, interface_view, item_view, key_view, package_view, type_entry, world_entry, world_view};
 ghost use Rattle.wc_resolve.specs.ResolveParts.{parts_view};
-ghost use Rattle.wc_resolve.specs.WellFormed.{KeysMatch, HasMatchingKeys, HasMatchingMembers, HasMatchingNames, IsMatchingKey, interface_name, type_name};
+ghost use Rattle.wc_resolve.specs.WellFormed.{HasMatchingKeys, HasMatchingMembers, HasMatchingNames, IsMatchingKey, interface_name, type_name};
 
 use crate::{Function, Interface, InterfaceId, Package, Parts, TypeId, World, WorldItem, WorldKey};
 use wc_maps::Map;
@@ -74,16 +74,6 @@ pub(crate) fn has_matching_keys(parts: &Parts, world: &World) -> bool
     are_matching_keys(parts, &world.imports) && are_matching_keys(parts, &world.exports)
 }
 
-fn have_worlds_matching_keys(parts: &Parts) -> bool
-    ensures { IsTrue result ↔
-        All (HasMatchingKeys (parts_view parts.now)) (parts_view parts.now).worlds }
-{
-    parts
-        .worlds
-        .iter()
-        .all(|world| has_matching_keys(parts, world))
-}
-
 fn are_types_called(parts: &Parts, types: &Map<String, TypeId>) -> bool
     ensures { IsTrue result ↔
         All (λ e. type_name (parts_view parts.now) e.1 ≡ Some e.0)
@@ -111,16 +101,6 @@ pub(crate) fn has_matching_names(parts: &Parts, interface: &Interface) -> bool
     are_types_called(parts, &interface.types) && are_functions_called(&interface.functions)
 }
 
-fn have_interfaces_matching_names(parts: &Parts) -> bool
-    ensures { IsTrue result ↔
-        All (HasMatchingNames (parts_view parts.now)) (parts_view parts.now).interfaces }
-{
-    parts
-        .interfaces
-        .iter()
-        .all(|interface| has_matching_names(parts, interface))
-}
-
 fn are_interfaces_called(parts: &Parts, interfaces: &Map<String, InterfaceId>) -> bool
     ensures { IsTrue result ↔
         All (λ e. interface_name (parts_view parts.now) e.1 ≡ Some e.0)
@@ -135,24 +115,4 @@ pub(crate) fn has_matching_members(parts: &Parts, package: &Package) -> bool
         (package_view «package».now) }
 {
     are_interfaces_called(parts, &package.interfaces)
-}
-
-fn have_packages_matching_members(parts: &Parts) -> bool
-    ensures { IsTrue result ↔
-        All (HasMatchingMembers (parts_view parts.now)) (parts_view parts.now).packages }
-{
-    parts
-        .packages
-        .iter()
-        .all(|package| has_matching_members(parts, package))
-}
-
-/// Whether each item, function, type and interface of a package is listed under its own name or key.
-#[tactic(auto, unfolding(crate::specs::WellFormed::KeysMatch))]
-pub(crate) fn keys_match(parts: &Parts) -> bool
-    ensures { IsTrue result ↔ KeysMatch (parts_view parts.now) }
-{
-    have_worlds_matching_keys(parts)
-        && have_interfaces_matching_names(parts)
-        && have_packages_matching_members(parts)
 }

@@ -4,7 +4,7 @@ ghost use Rattle.std.specs.Prelude.{◌↔◌, All, IsTrue, map, string_bytes};
 ghost use Rattle.std.specs.Option.{IsSome, option_map};
 ghost use Rattle.wc_resolve.specs.Views.{interface_entry, key_view, kind_view, package_view, world_entry, world_view};
 ghost use Rattle.wc_resolve.specs.ResolveParts.{parts_view};
-ghost use Rattle.wc_resolve.specs.WellFormed.{AreKeysIdentified, AreMembersIdentified, AreNamed, HasNeededName, IsIdentified, IsKeyIdentified, interface_name, interface_package};
+ghost use Rattle.wc_resolve.specs.WellFormed.{AreKeysIdentified, AreMembersIdentified, HasNeededName, IsIdentified, IsKeyIdentified, interface_name, interface_package};
 
 use crate::{InterfaceId, Package, Parts, TypeDef, TypeDefKind, World, WorldItem, WorldKey};
 use wc_maps::Map;
@@ -62,16 +62,6 @@ pub(crate) fn are_keys_identified(parts: &Parts, world: &World) -> bool
     are_entries_identified(parts, &world.imports) && are_entries_identified(parts, &world.exports)
 }
 
-fn are_worlds_identified(parts: &Parts) -> bool
-    ensures { IsTrue result ↔
-        All (AreKeysIdentified (parts_view parts.now)) (parts_view parts.now).worlds }
-{
-    parts
-        .worlds
-        .iter()
-        .all(|world| are_keys_identified(parts, world))
-}
-
 fn are_listed_identified(parts: &Parts, interfaces: &Map<String, InterfaceId>) -> bool
     ensures { IsTrue result ↔
         All (λ e. IsIdentified (parts_view parts.now) e.1)
@@ -90,16 +80,6 @@ pub(crate) fn are_members_identified(parts: &Parts, package: &Package) -> bool
     are_listed_identified(parts, &package.interfaces)
 }
 
-fn are_packages_identified(parts: &Parts) -> bool
-    ensures { IsTrue result ↔
-        All (AreMembersIdentified (parts_view parts.now)) (parts_view parts.now).packages }
-{
-    parts
-        .packages
-        .iter()
-        .all(|package| are_members_identified(parts, package))
-}
-
 pub(crate) fn has_needed_name(def: &TypeDef) -> bool
     ensures { IsTrue result ↔
         HasNeededName (kind_view def.now.kind) (option_map string_bytes def.now.name) }
@@ -108,19 +88,4 @@ pub(crate) fn has_needed_name(def: &TypeDef) -> bool
         TypeDefKind::Resource => def.name.is_some(),
         _ => true,
     }
-}
-
-fn are_resources_named(parts: &Parts) -> bool
-    ensures { IsTrue result
-        ↔ All (λ t. HasNeededName t.kind t.name) (parts_view parts.now).types }
-{
-    parts.types.iter().all(|def| has_needed_name(def))
-}
-
-/// Whether all resources have names, and all interfaces in keys and in packages have a name and a package.
-#[tactic(auto, unfolding(crate::specs::WellFormed::AreNamed))]
-pub(crate) fn are_named(parts: &Parts) -> bool
-    ensures { IsTrue result ↔ AreNamed (parts_view parts.now) }
-{
-    are_resources_named(parts) && are_worlds_identified(parts) && are_packages_identified(parts)
 }

@@ -6,6 +6,7 @@ ghost use Rattle.wc_resolve.specs.Faults.{IsOrderCause};
 ghost use Rattle.wc_resolve.specs.Views.{type_view};
 ghost use Rattle.wc_resolve.specs.World.{IsChildrenFirst, LeadWithin, children};
 
+use crate::explain::{Part, Refusal};
 use crate::kinds::referenced_indices;
 use crate::{ResolveFault, TypeDef};
 use std::alloc::{AllocError, AllocFailed, Global};
@@ -41,15 +42,21 @@ impl<T: Drop> From<AllocFailed<T>> for OrderFault {
     }
 }
 
-impl From<OrderFault> for ResolveFault {
-    ghost use Rattle.wc_resolve.specs.Faults.{IsFaultOf};
+impl From<OrderFault> for Refusal {
+    ghost use Rattle.wc_resolve.specs.Refusals.{IsOrderRefusal};
 
-    ghost from_gives = { IsFaultOf };
+    ghost from_gives = { IsOrderRefusal };
 
-    fn from(fault: OrderFault) -> ResolveFault {
+    fn from(fault: OrderFault) -> Refusal {
         match fault {
-            OrderFault::Memory => ResolveFault::Memory,
-            OrderFault::Cycle(_) => ResolveFault::Cycle,
+            OrderFault::Memory => Refusal {
+                fault: ResolveFault::Memory,
+                place: None,
+            },
+            OrderFault::Cycle(index) => Refusal {
+                fault: ResolveFault::Cycle,
+                place: Some(Part::TypeDef(index)),
+            },
         }
     }
 }

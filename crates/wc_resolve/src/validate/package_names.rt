@@ -1,14 +1,15 @@
 //! The names of packages, where no two packages have the same name and version.
 
-ghost use Rattle.std.specs.Prelude.{IfOk, MatchOption, map};
+ghost use Rattle.std.specs.Prelude.{IfErr, IfOk, map};
 ghost use Rattle.wc_resolve.specs.Views.{package_view};
-ghost use Rattle.wc_resolve.specs.WellFormed.{ArePackagesDistinct, HaveDistinctNames};
+ghost use Rattle.wc_resolve.specs.WellFormed.{HaveDistinctNames};
+ghost use Rattle.wc_resolve.specs.Refusals.{IsRepeatRefused};
 ghost use Rattle.wc_resolve.specs.ResolveParts.{parts_view};
-ghost use Rattle.wc_resolve.specs.Places.{IsRepeatAt};
 ghost use Rattle.wc_resolve.specs.Tables.{AreNamesOf};
 
-use crate::{Package, PackageName, Parts};
-use std::alloc::{AllocError, Global};
+use crate::explain::{Part, Refusal};
+use crate::{Package, PackageName, Parts, ResolveFault};
+use std::alloc::Global;
 use wc_maps::{Seed, Set};
 
 /// The seed for the names of the packages: that of the first package's interfaces, which whoever made the packages chose.
@@ -20,53 +21,39 @@ fn seed_of(packages: &[Package]) -> Seed {
     }
 }
 
-/// Copies of the names of the packages in order, if no two packages have the same name and version.
-fn distinct_names(
-    alloc: Global,
-    packages: &[Package],
-) -> Result<Option<Set<PackageName>>, AllocError>
-    ensures { let views = map package_view packages.now in IfOk result (λ o. MatchOption o
-        (¬ HaveDistinctNames views)
-        (λ names. HaveDistinctNames views × AreNamesOf views names.keys)) }
-{
-    let mut names = Set::with_hasher(alloc, seed_of(packages));
-    for package in packages {
-        let name = package.name.clone(alloc)?;
-        let (_index, is_new) = names.insert_full(name)?;
-        if !is_new {
-            return Ok(None);
-        }
-    }
-    Ok(Some(names))
-}
-
-/// Copies of the names of the parts' packages in order, if no two packages have the same name and version.
-pub(crate) fn distinct_package_names(
-    alloc: Global,
-    parts: &Parts,
-) -> Result<Option<Set<PackageName>>, AllocError>
-    ensures { let view = parts_view parts.now in IfOk result (λ o. MatchOption o
-        (¬ ArePackagesDistinct view)
-        (λ names. ArePackagesDistinct view × AreNamesOf view.packages names.keys)) }
-{
-    distinct_names(alloc, &parts.packages)
-}
-
-/// The index of the first package that has the name and version of an earlier one.
-pub(crate) fn first_repeated(
-    alloc: Global,
-    packages: &[Package],
-) -> Result<Option<usize>, AllocError>
-    ensures { let views = map package_view packages.now in IfOk result (λ o. MatchOption o
-        (HaveDistinctNames views) (IsRepeatAt views)) }
+/// Copies of the names of packages, in order.
+///
+/// # Errors
+///
+/// `NameClash`: a package has the name and version of an earlier one; the first such is what it is about.
+fn distinct_names(alloc: Global, packages: &[Package]) -> Result<Set<PackageName>, Refusal>
+    ensures names { let views = map package_view packages.now in IfOk result
+        (λ names. HaveDistinctNames views × AreNamesOf views names.keys) }
+    ensures refusal { IfErr result (IsRepeatRefused (map package_view packages.now)) }
 {
     let mut names = Set::with_hasher(alloc, seed_of(packages));
     for index in 0..packages.len() {
         let name = packages[index].name.clone(alloc)?;
         let (_index, is_new) = names.insert_full(name)?;
         if !is_new {
-            return Ok(Some(index));
+            return Err(Refusal {
+                fault: ResolveFault::NameClash,
+                place: Some(Part::Package(index)),
+            });
         }
     }
-    Ok(None)
+    Ok(names)
+}
+
+/// Copies of the names of the parts' packages, in order, or the first package that has the name and version of an earlier
+/// one.
+pub(crate) fn distinct_package_names(
+    alloc: Global,
+    parts: &Parts,
+) -> Result<Set<PackageName>, Refusal>
+    ensures names { let view = parts_view parts.now in IfOk result
+        (λ names. HaveDistinctNames view.packages × AreNamesOf view.packages names.keys) }
+    ensures refusal { IfErr result (IsRepeatRefused (parts_view parts.now).packages) }
+{
+    distinct_names(alloc, &parts.packages)
 }

@@ -1,9 +1,9 @@
 //! Whether ids are in range: indices of their lists.
 
-ghost use Rattle.std.specs.Prelude.{◌↔◌, ◌<◌, All, IsTrue, IfOk, length, map};
+ghost use Rattle.std.specs.Prelude.{◌↔◌, ◌<◌, All, IsTrue, IfOk, map};
 ghost use Rattle.wc_resolve.specs.Views.{function_entry, function_view, interface_entry, interface_view, item_view, key_view, package_view, type_entry, type_view, world_entry, world_view};
 ghost use Rattle.wc_resolve.specs.ResolveParts.{parts_view};
-ghost use Rattle.wc_resolve.specs.Ranges.{AreIdsInRange, AreLinksIn, AreNamesIn, IsEntryIn, IsFunctionIn, IsInterfaceIn, IsKindIn, IsOwnerIn, IsPackageIn, IsTypeDefIn, IsTypeIn, IsWorldIn};
+ghost use Rattle.wc_resolve.specs.Ranges.{AreLinksIn, AreNamesIn, IsEntryIn, IsFunctionIn, IsInterfaceIn, IsKindIn, IsOwnerIn, IsPackageIn, IsTypeDefIn, IsTypeIn, IsWorldIn};
 
 use crate::kinds::referenced_types;
 use crate::validate::type_test::{TypeTest, function_passes};
@@ -94,13 +94,6 @@ pub(crate) fn is_world_in(parts: &Parts, world: &World) -> bool
     are_entries_in(parts, &world.imports) && are_entries_in(parts, &world.exports)
 }
 
-fn are_worlds_in(parts: &Parts) -> bool
-    ensures { IsTrue result
-        ↔ All (IsWorldIn (parts_view parts.now)) (parts_view parts.now).worlds }
-{
-    parts.worlds.iter().all(|world| is_world_in(parts, world))
-}
-
 fn are_type_names_in(count: usize, types: &Map<String, TypeId>) -> bool
     ensures { IsTrue result ↔ All (λ e. e.1 < count) (map type_entry types.now.entries) }
 {
@@ -147,16 +140,6 @@ pub(crate) fn is_interface_in(parts: &Parts, interface: &Interface) -> bool
     are_names_in(parts, interface) && are_links_in(parts, interface)
 }
 
-fn are_interfaces_in(parts: &Parts) -> bool
-    ensures { IsTrue result ↔
-        All (IsInterfaceIn (parts_view parts.now)) (parts_view parts.now).interfaces }
-{
-    parts
-        .interfaces
-        .iter()
-        .all(|interface| is_interface_in(parts, interface))
-}
-
 fn are_interface_names_in(count: usize, interfaces: &Map<String, InterfaceId>) -> bool
     ensures { IsTrue result
         ↔ All (λ e. e.1 < count) (map interface_entry interfaces.now.entries) }
@@ -169,16 +152,6 @@ pub(crate) fn is_package_in(parts: &Parts, package: &Package) -> bool
     ensures { IsTrue result ↔ IsPackageIn (parts_view parts.now) (package_view «package».now) }
 {
     are_interface_names_in(parts.interfaces.len(), &package.interfaces)
-}
-
-fn are_packages_in(parts: &Parts) -> bool
-    ensures { IsTrue result ↔
-        All (IsPackageIn (parts_view parts.now)) (parts_view parts.now).packages }
-{
-    parts
-        .packages
-        .iter()
-        .all(|package| is_package_in(parts, package))
 }
 
 fn is_owner_in(parts: &Parts, owner: TypeOwner) -> bool
@@ -204,25 +177,4 @@ pub(crate) fn is_type_def_in(
     let types = referenced_types(alloc, &def.kind)?;
     let are_types_in = types.iter().all(|ty| is_type_in(count, *ty));
     Ok(are_types_in && is_owner_in(parts, def.owner))
-}
-
-fn are_type_defs_in(alloc: Global, parts: &Parts, types: &[TypeDef]) -> Result<bool, AllocError>
-    ensures { IfOk result (λ b. IsTrue b ↔
-        All (IsTypeDefIn (parts_view parts.now)) (map type_view types.now)) }
-{
-    for def in types {
-        if !is_type_def_in(alloc, parts, def)? {
-            return Ok(false);
-        }
-    }
-    Ok(true)
-}
-
-/// Whether every id is an index of its list.
-#[tactic(auto, unfolding(crate::specs::Ranges::AreIdsInRange))]
-pub(crate) fn are_ids_in_range(alloc: Global, parts: &Parts) -> Result<bool, AllocError>
-    ensures { IfOk result (λ b. IsTrue b ↔ AreIdsInRange (parts_view parts.now)) }
-{
-    let are_types_in = are_type_defs_in(alloc, parts, &parts.types)?;
-    Ok(are_worlds_in(parts) && are_interfaces_in(parts) && are_types_in && are_packages_in(parts))
 }

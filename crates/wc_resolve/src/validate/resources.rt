@@ -6,11 +6,11 @@ ghost use Rattle.wc_resolve.specs.ResolveParts.{parts_view};
 ghost use Rattle.wc_resolve.specs.Ranges.{IsFunctionIn};
 ghost use Rattle.wc_resolve.specs.Resources.{AreResourceFlags, is_resource_kind};
 ghost use Rattle.wc_resolve.specs.World.{DoesInterfacePass, DoesTypePass, DoesWorldPass, IsChildrenFirst, children, kind_at};
-ghost use Rattle.wc_resolve.specs.WellFormed.{HasNoResourceByValue, IsFree, IsFunctionFree};
+ghost use Rattle.wc_resolve.specs.WellFormed.{IsFree, IsFunctionFree};
 
 use crate::validate::ranges::is_function_in;
 use crate::validate::type_test::{
-    TypeTest, all_types_pass, function_passes, interface_passes, type_def_passes, world_passes,
+    TypeTest, function_passes, interface_passes, type_def_passes, world_passes,
 };
 use crate::{Function, Interface, Parts, TypeDef, TypeDefKind, WitType, World};
 use std::alloc::{AllocError, Global};
@@ -129,16 +129,4 @@ pub(crate) fn is_usable(types: &[TypeDef], resource_flags: &[bool], function: &F
         × IsFunctionFree (map type_view types.now) (function_view function.now)) }
 {
     is_function_in(types.len(), function) && is_function_free(types, resource_flags, function)
-}
-
-/// Whether no parameter, result, field, item, element or payload is a resource, by the flags of all types.
-pub(crate) fn has_no_resource_by_value(
-    alloc: Global,
-    parts: &Parts,
-    resource_flags: &[bool],
-) -> Result<bool, AllocError>
-    requires { AreResourceFlags (parts_view parts.now).types resource_flags.now }
-    ensures { IfOk result (λ b. IsTrue b ↔ HasNoResourceByValue (parts_view parts.now)) }
-{
-    all_types_pass(alloc, &NotResource { resource_flags }, parts)
 }

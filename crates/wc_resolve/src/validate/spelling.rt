@@ -4,11 +4,10 @@ ghost use Rattle.std.specs.Prelude.{◌↔◌, All, IsTrue, Option, map, string_
 ghost use Rattle.std.specs.Option.{IfSome, option_map};
 ghost use Rattle.wc_resolve.specs.Views.{function_entry, interface_view, item_view, key_view, package_view, type_view, world_entry, world_view};
 ghost use Rattle.wc_resolve.specs.Names.{IsFunctionName, IsName};
-ghost use Rattle.wc_resolve.specs.ResolveParts.{parts_view};
-ghost use Rattle.wc_resolve.specs.WellFormed.{AreNamesSpelled, IsInterfaceSpelled, IsKeySpelled, IsPackageSpelled, IsTypeSpelled, IsWorldSpelled};
+ghost use Rattle.wc_resolve.specs.WellFormed.{IsInterfaceSpelled, IsKeySpelled, IsPackageSpelled, IsTypeSpelled, IsWorldSpelled};
 
 use crate::names::{is_function_name, is_name};
-use crate::{Function, Interface, Package, Parts, TypeDef, World, WorldItem, WorldKey};
+use crate::{Function, Interface, Package, TypeDef, World, WorldItem, WorldKey};
 use wc_maps::Map;
 
 fn is_optional_name(name: &Option<String>) -> bool
@@ -47,12 +46,6 @@ pub(crate) fn is_world_spelled(world: &World) -> bool
     are_keys_spelled(&world.imports) && are_keys_spelled(&world.exports)
 }
 
-fn are_worlds_spelled(parts: &Parts) -> bool
-    ensures { IsTrue result ↔ All IsWorldSpelled (parts_view parts.now).worlds }
-{
-    parts.worlds.iter().all(|world| is_world_spelled(world))
-}
-
 fn are_functions_spelled(functions: &Map<String, Function>) -> bool
     ensures { IsTrue result ↔
         All (λ e. IsFunctionName e.0) (map function_entry functions.now.entries) }
@@ -69,15 +62,6 @@ pub(crate) fn is_interface_spelled(interface: &Interface) -> bool
     is_optional_name(&interface.name) && are_functions_spelled(&interface.functions)
 }
 
-fn are_interfaces_spelled(parts: &Parts) -> bool
-    ensures { IsTrue result ↔ All IsInterfaceSpelled (parts_view parts.now).interfaces }
-{
-    parts
-        .interfaces
-        .iter()
-        .all(|interface| is_interface_spelled(interface))
-}
-
 #[tactic(auto, unfolding(crate::specs::WellFormed::IsTypeSpelled))]
 pub(crate) fn is_type_spelled(def: &TypeDef) -> bool
     ensures { IsTrue result ↔ IsTypeSpelled (type_view def.now) }
@@ -85,35 +69,9 @@ pub(crate) fn is_type_spelled(def: &TypeDef) -> bool
     is_optional_name(&def.name)
 }
 
-fn are_types_spelled(parts: &Parts) -> bool
-    ensures { IsTrue result ↔ All IsTypeSpelled (parts_view parts.now).types }
-{
-    parts.types.iter().all(|def| is_type_spelled(def))
-}
-
 #[tactic(auto, unfolding(crate::specs::WellFormed::IsPackageSpelled))]
 pub(crate) fn is_package_spelled(package: &Package) -> bool
     ensures { IsTrue result ↔ IsPackageSpelled (package_view «package».now) }
 {
     is_name(&package.name.namespace) && is_name(&package.name.name)
-}
-
-fn are_packages_spelled(parts: &Parts) -> bool
-    ensures { IsTrue result ↔ All IsPackageSpelled (parts_view parts.now).packages }
-{
-    parts
-        .packages
-        .iter()
-        .all(|package| is_package_spelled(package))
-}
-
-/// Whether all names that are checked (`ResolveFault::BadCharacter`) have only the characters that they can have.
-#[tactic(auto, unfolding(crate::specs::WellFormed::AreNamesSpelled))]
-pub(crate) fn are_names_spelled(parts: &Parts) -> bool
-    ensures { IsTrue result ↔ AreNamesSpelled (parts_view parts.now) }
-{
-    are_worlds_spelled(parts)
-        && are_interfaces_spelled(parts)
-        && are_types_spelled(parts)
-        && are_packages_spelled(parts)
 }

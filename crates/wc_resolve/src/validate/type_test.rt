@@ -3,13 +3,10 @@
 ghost use Rattle.std.specs.Prelude.{◌↔◌, All, IsTrue, IfOk, map};
 ghost use Rattle.std.specs.Option.{IfSome};
 ghost use Rattle.wc_resolve.specs.Views.{function_entry, function_view, interface_view, item_view, kind_view, named_view, type_view, world_entry, world_view};
-ghost use Rattle.wc_resolve.specs.World.{DoAllTypesPass, DoesInterfacePass, DoesItemPass, DoesTypePass, DoesWorldPass, SignatureHasOnly, contained_types};
-ghost use Rattle.wc_resolve.specs.ResolveParts.{parts_view};
+ghost use Rattle.wc_resolve.specs.World.{DoesInterfacePass, DoesItemPass, DoesTypePass, DoesWorldPass, SignatureHasOnly, contained_types};
 
 use crate::kinds::contained_types;
-use crate::{
-    Function, Interface, Parts, TypeDef, TypeDefKind, WitType, World, WorldItem, WorldKey,
-};
+use crate::{Function, Interface, TypeDef, TypeDefKind, WitType, World, WorldItem, WorldKey};
 use std::alloc::{AllocError, Global};
 use wc_maps::Map;
 
@@ -81,13 +78,6 @@ pub(crate) fn world_passes<T: TypeTest>(test: &T, world: &World) -> bool
     entries_pass(test, &world.imports) && entries_pass(test, &world.exports)
 }
 
-fn worlds_pass<T: TypeTest>(test: &T, worlds: &[World]) -> bool
-    ensures { IsTrue result
-        ↔ All (DoesWorldPass (T.Passes test.now)) (map world_view worlds.now) }
-{
-    worlds.iter().all(|world| world_passes(test, world))
-}
-
 fn functions_pass<T: TypeTest>(test: &T, functions: &Map<String, Function>) -> bool
     ensures { IsTrue result ↔ All (λ e. SignatureHasOnly (T.Passes test.now) e.1)
         (map function_entry functions.now.entries) }
@@ -105,15 +95,6 @@ pub(crate) fn interface_passes<T: TypeTest>(test: &T, interface: &Interface) -> 
     functions_pass(test, &interface.functions)
 }
 
-fn interfaces_pass<T: TypeTest>(test: &T, interfaces: &[Interface]) -> bool
-    ensures { IsTrue result ↔ All (DoesInterfacePass (T.Passes test.now))
-        (map interface_view interfaces.now) }
-{
-    interfaces
-        .iter()
-        .all(|interface| interface_passes(test, interface))
-}
-
 #[tactic(auto, unfolding(crate::specs::World::DoesTypePass))]
 pub(crate) fn type_def_passes<T: TypeTest>(
     alloc: Global,
@@ -124,38 +105,4 @@ pub(crate) fn type_def_passes<T: TypeTest>(
         ↔ DoesTypePass (T.Passes test.now) (type_view def.now)) }
 {
     kind_passes(alloc, test, &def.kind)
-}
-
-fn type_defs_pass<T: TypeTest>(
-    alloc: Global,
-    test: &T,
-    types: &[TypeDef],
-) -> Result<bool, AllocError>
-    ensures { IfOk result (λ b. IsTrue b ↔
-        All (DoesTypePass (T.Passes test.now)) (map type_view types.now)) }
-{
-    for def in types {
-        if !type_def_passes(alloc, test, def)? {
-            return Ok(false);
-        }
-    }
-    Ok(true)
-}
-
-/// Whether every parameter, result, field, item, element and payload passes.
-#[tactic(auto, unfolding(crate::specs::World::DoAllTypesPass))]
-pub(crate) fn all_types_pass<T: TypeTest>(
-    alloc: Global,
-    test: &T,
-    parts: &Parts,
-) -> Result<bool, AllocError>
-    ensures { IfOk result (λ b. IsTrue b ↔
-        DoAllTypesPass (T.Passes test.now) (parts_view parts.now)) }
-{
-    let do_types_pass = type_defs_pass(alloc, test, &parts.types)?;
-    Ok(
-        worlds_pass(test, &parts.worlds)
-            && interfaces_pass(test, &parts.interfaces)
-            && do_types_pass,
-    )
 }

@@ -28,7 +28,8 @@ pub(crate) fn first_refused(
     imports: &[wc_read::Import<'_>],
 ) -> Result<Recorder, Refused>
     requires world { HasItsWorld (name_scope_of context.now.names) }
-    requires interfaces { AreInterfacesOf (name_scope_of context.now.names) context.now.interfaces }
+    requires interfaces { AreInterfacesOf (name_scope_of context.now.names)
+        context.now.interfaces.now }
     requires typed { All (λ i. IsTypeIn (length context.now.types.now) i.ty) imports.now }
     ensures recorded { AreAllRecorded context.now imports.now result }
     ensures in_range { IfErr result (λ x. x.index < length imports.now) }
@@ -113,7 +114,8 @@ fn mismatched_types(
     import: &wc_read::Import<'_>,
 ) -> Result<TypeDifference, AllocError>
     requires world { HasItsWorld (name_scope_of context.now.names) }
-    requires interfaces { AreInterfacesOf (name_scope_of context.now.names) context.now.interfaces }
+    requires interfaces { AreInterfacesOf (name_scope_of context.now.names)
+        context.now.interfaces.now }
     requires typed { IsTypeIn (length context.now.types.now) import.now.ty }
     ensures { IfOk result (AreMismatchedTypes context.now import.now) }
 {
@@ -128,7 +130,7 @@ fn mismatched_types(
     Ok(TypeDifference { wanted, found })
 }
 
-/// What may be a function of an adapter. What reads it is generic over it, and so sees none of its variants.
+/// An import that may be a function of an adapter. Whatever reads it is generic over it, and sees none of its variants.
 trait AdapterFunction: Drop {
     // What it is, as an import.
     ghost import: { Self → named_import };
@@ -186,7 +188,8 @@ fn adapter_function(
     import: &wc_read::Import<'_>,
 ) -> Result<((String, String), FuncType), AllocError>
     requires world { HasItsWorld (name_scope_of context.now.names) }
-    requires interfaces { AreInterfacesOf (name_scope_of context.now.names) context.now.interfaces }
+    requires interfaces { AreInterfacesOf (name_scope_of context.now.names)
+        context.now.interfaces.now }
     requires typed { IsTypeIn (length context.now.types.now) import.now.ty }
     ensures { IfOk result (IsAdapterFunction context.now import.now) }
 {
@@ -209,7 +212,8 @@ fn types_after(
     import: &wc_read::Import<'_>,
 ) -> Result<TypeDifference, AllocError>
     requires world { HasItsWorld (name_scope_of context.now.names) }
-    requires interfaces { AreInterfacesOf (name_scope_of context.now.names) context.now.interfaces }
+    requires interfaces { AreInterfacesOf (name_scope_of context.now.names)
+        context.now.interfaces.now }
     requires typed { IsTypeIn (length context.now.types.now) import.now.ty }
     ensures { AreDifferingAfter context.now recorder.now import.now result }
 {
@@ -235,7 +239,8 @@ fn differing_types(
     import: &wc_read::Import<'_>,
 ) -> Result<TypeDifference, AllocError>
     requires world { HasItsWorld (name_scope_of context.now.names) }
-    requires interfaces { AreInterfacesOf (name_scope_of context.now.names) context.now.interfaces }
+    requires interfaces { AreInterfacesOf (name_scope_of context.now.names)
+        context.now.interfaces.now }
     requires earlier { All (λ i. IsTypeIn (length context.now.types.now) i.ty) before.now }
     requires typed { IsTypeIn (length context.now.types.now) import.now.ty }
     ensures { IfOk result (AreDifferingTypes context.now before.now import.now) }
@@ -256,7 +261,8 @@ fn import_types(
     fault: &ValidateFault,
 ) -> Result<Option<TypeDifference>, AllocError>
     requires world { HasItsWorld (name_scope_of context.now.names) }
-    requires interfaces { AreInterfacesOf (name_scope_of context.now.names) context.now.interfaces }
+    requires interfaces { AreInterfacesOf (name_scope_of context.now.names)
+        context.now.interfaces.now }
     requires earlier { All (λ i. IsTypeIn (length context.now.types.now) i.ty) before.now }
     requires typed { IsTypeIn (length context.now.types.now) import.now.ty }
     ensures { IfOk result (AreTypesIn context.now before.now import.now fault.now) }
@@ -279,7 +285,8 @@ pub(crate) fn import_place(
     fault: &ValidateFault,
 ) -> Result<Option<Place>, AllocError>
     requires world { HasItsWorld (name_scope_of context.now.names) }
-    requires interfaces { AreInterfacesOf (name_scope_of context.now.names) context.now.interfaces }
+    requires interfaces { AreInterfacesOf (name_scope_of context.now.names)
+        context.now.interfaces.now }
     requires typed { All (λ i. IsTypeIn (length context.now.types.now) i.ty) imports.now }
     requires in_range { refused.index < length imports.now }
     requires refused { IsStopIn context.now imports.now refused }

@@ -21,12 +21,12 @@ use wc_dedupe::ModuleImportMap;
 use wc_names::Import;
 use wc_read::{FuncType, ImportType};
 
-/// What imports are recorded by: what names are looked up in, and the interfaces of its world; what the module is
+/// The context in which imports are recorded: the scope of names, and the interfaces of its world; what the module is
 /// passed, if it is a library; the original names of its imports, if some were renamed; and its types.
 #[derive(Drop)]
 pub(crate) struct ImportContext<'a> {
     pub(crate) names: Names<'a>,
-    pub(crate) interfaces: Interfaces<'a>,
+    pub(crate) interfaces: &'a Interfaces<'a>,
     pub(crate) arguments: Arguments<'a>,
     pub(crate) renames: Option<&'a ModuleImportMap>,
     pub(crate) types: &'a [FuncType],
@@ -56,14 +56,15 @@ fn original_name<'a>(renames: Option<&'a ModuleImportMap>, import: &wc_read::Imp
     }
 }
 
-/// What an import is, by its original name.
+/// The meaning of an import, by its original name.
 pub(crate) fn classify_import(
     alloc: Global,
     context: &ImportContext<'_>,
     import: &wc_read::Import<'_>,
 ) -> Result<Import, NameFault>
     requires world { HasItsWorld (name_scope_of context.now.names) }
-    requires interfaces { AreInterfacesOf (name_scope_of context.now.names) context.now.interfaces }
+    requires interfaces { AreInterfacesOf (name_scope_of context.now.names)
+        context.now.interfaces.now }
     requires typed { IsTypeIn (length context.now.types.now) import.now.ty }
     ensures { (library : Option LibraryView) → IsClassifiedIn context.now library
         import.now result }
@@ -74,7 +75,7 @@ pub(crate) fn classify_import(
         name,
         ty: extern_of(context.types, import.ty),
     };
-    classify(alloc, &context.names, &context.interfaces, item)
+    classify(alloc, &context.names, context.interfaces, item)
 }
 
 /// Records an import: as the library is passed it, or else as what it is.
@@ -85,7 +86,8 @@ pub(crate) fn record_one(
     import: &wc_read::Import<'_>,
 ) -> Result<(), ValidateFault>
     requires world { HasItsWorld (name_scope_of context.now.names) }
-    requires interfaces { AreInterfacesOf (name_scope_of context.now.names) context.now.interfaces }
+    requires interfaces { AreInterfacesOf (name_scope_of context.now.names)
+        context.now.interfaces.now }
     requires typed { IsTypeIn (length context.now.types.now) import.now.ty }
     ensures recorded { IsOneRecorded context.now recorder.old import.now recorder.new result }
     ensures fault { IsOneRefused context.now recorder.old import.now result }
@@ -113,7 +115,8 @@ pub(crate) fn record_imports(
     imports: &[wc_read::Import<'_>],
 ) -> Result<Recorder, ValidateFault>
     requires world { HasItsWorld (name_scope_of context.now.names) }
-    requires interfaces { AreInterfacesOf (name_scope_of context.now.names) context.now.interfaces }
+    requires interfaces { AreInterfacesOf (name_scope_of context.now.names)
+        context.now.interfaces.now }
     requires typed { All (λ i. IsTypeIn (length context.now.types.now) i.ty) imports.now }
     ensures recorded { AreAllRecorded context.now imports.now result }
     ensures fault { AreAllRefused context.now imports.now result }

@@ -2,7 +2,6 @@
 use Rattle.std.specs.Prelude.{◌≡◌, ◌<◌, ◌↔◌, ℕ, Bool, true, List, length, Some}
 use Rattle.std.specs.List.{slice_get}
 use Rattle.wcwhy_command.specs.Joined.{AreJoined}
-use Rattle.wc_gc.specs.declared.import_chains.ImportChains.{ImportChains}
 use Rattle.wc_ways.specs.Originals.{wanted_of}
 use Rattle.wc_ways.specs.Private.Walks.{key_in, original_in}
 use Rattle.wc_ways.specs.WaysGraph.{AreMarks, IsArrow, IsImportArrow, IsItemNode, IsMainArrow, IsNodeAt, IsOriginalGraph, adapter_id, asked_place, cluster_text}

@@ -1,8 +1,10 @@
 -- An adapter in which ways are looked for, as the code has it, and what is said of it.
-use Rattle.std.specs.Prelude.{◌≡◌, ℕ, List, length, string_bytes}
+use Rattle.std.specs.Prelude.{◌≡◌, ℕ, List, Some, length, string_bytes}
+use Rattle.wc_read.specs.Imports.{ImportValue}
 use Rattle.wc_read.specs.Modules.{module_value}
 use Rattle.wc_read.specs.Names.{name_entries}
 use Rattle.wc_gc.specs.LiveChains.{AreImportChains, AreWhyImports}
+use Rattle.wc_gc.specs.declared.import_chains.Chain.{Chain}
 use Rattle.wc_gc.specs.declared.import_chains.ImportChains.{ImportChains}
 use Rattle.wc_validate.specs.Validated.{module_record}
 use Rattle.wc_world.specs.Views.{ComponentWorldView, NamedWorldAdapter, WorldAdapterView}
@@ -15,11 +17,12 @@ use Rattle.wc_ways.specs.Said.{IsSaidAt, IsSaidIn, IsSaidOf, IsSaidOfTrimmed, Sa
 use Rattle.wc_ways.specs.Ways.{AreOriginalWays, library_ways, main_ways, recorded_ways}
 use Rattle.wc_ways.specs.WaysFaults.{search_input}
 use Rattle.wc_ways.specs.WaysGraph.{IsOriginalGraph, adapter_id, library_graph, main_graph, module_graph}
-use Rattle.wc_ways.specs.Words.{adapter_text}
+use Rattle.wc_ways.specs.WaysJson.{adapter_object, import_object, library_objects, main_objects}
+use Rattle.wc_ways.specs.Words.{AdapterWords, adapter_text, adapter_way, import_way}
 use Rattle.wc_ways.specs.declared.asked.Function.{Function}
 use Rattle.wc_ways.specs.declared.originals.Adapter.{Adapter}
 use Rattle.wc_ways.specs.declared.originals.Form.{Form}
-use Rattle.wc_ways.specs.declared.originals.Form.TheVariants.{Lines, Graph}
+use Rattle.wc_ways.specs.declared.originals.Form.TheVariants.{Lines, Graph, Json}
 use Rattle.wc_ways.specs.declared.originals.Walk.{Walk}
 
 -- the names of a function that is asked about
@@ -50,6 +53,11 @@ original_in g =
 abbrev pub key_in : Walk → List ℕ
 key_in g = g.adapter.now.key.now
 
+-- the way to a function by a chain, which ends at this import
+abbrev pub way_in : AdapterWords → Walk → FunctionName → Chain → ImportValue → List ℕ
+way_in say g f c i =
+    say (wanted_of (original_in g)) (original_in g).name (original_in g).names f c.export.now c.items.items i.module_name i.name
+
 -- the chains are those in it, and the functions those that the main module imports from it
 pub record IsWalk (g : Walk) : Type 0 where
   pub chains : AreImportChains (required_of (original_in g)) (original_in g).value g.chains.now
@@ -58,15 +66,23 @@ pub record IsWalk (g : Walk) : Type 0 where
 
 -- what is said, by the form
 abbrev pub saying : Form → List ℕ → ℕ → Saying
-saying Lines key index = AreOriginalWays key
+saying Lines key index = AreOriginalWays adapter_way key
 saying Graph key index = IsOriginalGraph key index
+saying Json key index = AreOriginalWays adapter_object key
+
+-- the words of ways through an adapter
+abbrev pub words_of : Form → AdapterWords
+words_of Lines = adapter_way
+words_of Graph = adapter_way
+words_of Json = adapter_object
 
 abbrev pub library_text : Form → ComponentWorldView → List ℕ → ℕ → NamedWorldAdapter → List ℕ
 library_text Lines w key index y = library_ways w key y
 library_text Graph w key index y = library_graph w key index y
+library_text Json w key index y = library_objects w key y
 
-abbrev pub IsSaidOfWalk : Form → Walk → List ℕ → Type 0
-IsSaidOfWalk form g text = saying form (key_in g) g.adapter.now.index (original_in g) text
+abbrev pub IsSaidOfWalk : Walk → List ℕ → Type 0
+IsSaidOfWalk g text = saying g.form (key_in g) g.adapter.now.index (original_in g) text
 
 abbrev pub IsSaidFor : Form → Adapter → List ℕ → List ℕ → Type 0
 IsSaidFor form g wasm text = IsSaidIn (saying form g.key.now g.index) (world_in g) g.name.now (module_record g.info.now) wasm text
@@ -79,8 +95,9 @@ IsSaidBy form g y text = IsSaidOf (saying form g.key.now g.index) (library_text 
 
 -- of a library
 abbrev pub library_said : Form → Adapter → List ℕ
-library_said Lines g = recorded_ways (world_in g).encoder.resolve g.key.now (adapter_text g.name.now) g.info.now.imports
+library_said Lines g = recorded_ways (world_in g).encoder.resolve g.key.now (import_way (adapter_text g.name.now)) g.info.now.imports
 library_said Graph g = module_graph (world_in g).encoder.resolve g.key.now (adapter_id g.index) (adapter_text g.name.now) g.info.now.imports
+library_said Json g = recorded_ways (world_in g).encoder.resolve g.key.now (import_object (Some g.name.now)) g.info.now.imports
 
 -- of each adapter
 abbrev pub IsFormAt : Form → ComponentWorldView → List ℕ → ℕ → List ℕ → Type 0
@@ -93,3 +110,4 @@ AreAllSaid form w key text = AreJoined (length w.adapters) (IsFormAt form w key)
 abbrev pub main_said : Form → ComponentWorldView → List ℕ → List ℕ
 main_said Lines w key = main_ways w key
 main_said Graph w key = main_graph w key
+main_said Json w key = main_objects w key

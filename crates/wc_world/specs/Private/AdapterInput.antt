@@ -1,9 +1,11 @@
 -- An adapter or a library as an encoder has it, and the main module for which it is trimmed.
-use Rattle.std.specs.Prelude.{◌≡◌, ◌⊎◌, ℕ, List, true}
+use Rattle.std.specs.Prelude.{◌≡◌, ◌⊎◌, ℕ, List, Option, true}
+use Rattle.std.specs.Borrow.{Bor}
 use Rattle.wc_read.specs.Types.{FuncTypeValue}
 use Rattle.wc_adapters.specs.Adapters.{adapter_view}
+use Rattle.wc_adapters.specs.declared.adapters.LibraryInfo.{LibraryInfo}
 use Rattle.wc_validate.specs.Imports.Map.{required_in}
-use Rattle.wc_validate.specs.Validated.{IsRecordOf, ModuleRecord, module_record}
+use Rattle.wc_validate.specs.Validated.{IsRecordOf, ModuleRecord, ValidationInput, adapter_input_of, module_record}
 use Rattle.wc_world.specs.Adapters.{NamedAdapter, is_adapter_needed, validation_input_of}
 use Rattle.wc_world.specs.Causes.{IsStopOf}
 use Rattle.wc_world.specs.Restricted.{IsTrimFor}
@@ -23,8 +25,14 @@ main_of g = module_record g.main.now
 abbrev pub required_of : AdapterInput → List (List ℕ × FuncTypeValue)
 required_of g = required_view g.required.now
 
--- the component needs the adapter, and what is required of it is what the main module imports from it
+-- what its bytes are validated for, as an adapter, or as a library that is instantiated so
+abbrev pub validated_as : AdapterInput → Option (Bor LibraryInfo) → ValidationInput
+validated_as g library = adapter_input_of g.encoder.now library g.adapter.now.required_exports.keys g.required.now.entries
+
+-- the component needs the adapter, and what is required of it is what the main module imports from it; the interfaces
+-- are those of the encoder
 pub record IsNeeded (g : AdapterInput) : Type 0 where
+  pub same : g.interfaces.now ≡ g.encoder.now
   pub required : required_of g ≡ required_in g.main.now.imports g.name.now
   pub in_component : is_adapter_needed g.encoder.now (main_of g) (named_adapter g) ≡ true
 

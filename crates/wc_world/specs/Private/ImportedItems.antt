@@ -1,10 +1,11 @@
 -- Which functions and drops core modules import, as sets.
-use Rattle.std.specs.Prelude.{◌≡◌, ◌==◌, ◌&&◌, nat_eq, ℕ, List, Bool, Option, Some, None, String, ◌++◌, Result, OnOk}
+use Rattle.std.specs.Prelude.{◌≡◌, ◌==◌, ◌&&◌, nat_eq, ℕ, List, Bool, false, Option, Some, None, String, ◌++◌, Result, OnOk}
 use Rattle.std.specs.List.{list_any}
-use Rattle.std.specs.Option.{option_eq, option_map}
+use Rattle.std.specs.Map.{lookup}
+use Rattle.std.specs.Option.{option_eq, option_map, option_map_or}
 use Rattle.std.specs.Str.{bytes_eq}
-use Rattle.std.specs.String.{string_eq}
 use Rattle.std.specs.declared.alloc.Global.{Global}
+use Rattle.indexmap.specs.IndexSet.{IndexSet, contains_text}
 use Rattle.wc_resolve.specs.declared.functions.AbiVariant.{AbiVariant}
 use Rattle.wc_resolve.specs.declared.functions.AbiVariant.TheVariants.{GuestImport, GuestImportAsync}
 use Rattle.wc_resolve.specs.declared.ids.InterfaceId.{InterfaceId}
@@ -12,7 +13,6 @@ use Rattle.wc_resolve.specs.Dependencies.{id_of_interface}
 use Rattle.wc_resolve.specs.Roots.{indices}
 use Rattle.wc_resolve.specs.Views.{KeyView}
 use Rattle.wc_names.specs.Views.{FunctionImportView, ImportView, imported_resource_drop}
-use Rattle.wc_validate.specs.Private.ExportedFunctions.{function_key}
 use Rattle.wc_world.specs.Lowered.{is_drop_of, is_import_of}
 use Rattle.wc_world.specs.declared.imported_items.ImportedItems.{ImportedItems}
 
@@ -28,20 +28,23 @@ interface_of f = option_map (λ (i : KeyView × ℕ). i.1) f.interface
 abbrev pub is_in : List ℕ → ℕ → Bool
 is_in xs x = list_any (λ y. x == y) xs
 
--- a function by its interface, if it has one, and its name
-abbrev pub FunctionKey : Type 0
-FunctionKey = Option InterfaceId × String Global
+-- names of functions by the interface that they are of; without one they are of the world
+abbrev pub NamesByInterface : Type 0 → Type 0
+NamesByInterface S = List (Option InterfaceId × IndexSet (String Global) S)
 
-abbrev pub same_function : FunctionKey → FunctionKey → Bool
-same_function a b = option_eq (λ i j. i.0 == j.0) a.0 b.0 && string_eq a.1 b.1
+abbrev pub same_of : Option InterfaceId → Option InterfaceId → Bool
+same_of a b = option_eq (λ i j. i.0 == j.0) a b
+
+abbrev pub has_called : {S : Type 0} → NamesByInterface S → Option InterfaceId → List ℕ → Bool
+has_called names interface name = option_map_or (λ others. contains_text others name) (lookup (same_of interface) names) false
 
 -- the functions that are imported to be called in this way
-abbrev pub AreCalled : AbiVariant → List ImportView → List FunctionKey → Type 0
-AreCalled abi imports keys = (f : FunctionKey) → list_any (same_function f) keys ≡ list_any (is_import_of (function_key f).0 (function_key f).1 abi) imports
+abbrev pub AreCalled : {S : Type 0} → AbiVariant → List ImportView → NamesByInterface S → Type 0
+AreCalled abi imports names = (interface : Option InterfaceId) (name : List ℕ) → has_called names interface name ≡ list_any (is_import_of (interface_index interface) name abi) imports
 
 -- a fact about imports, and a way to call, of which these are the functions
-abbrev pub ForCalled : List FunctionKey → (AbiVariant → List ImportView → Type 0) → Type 0
-ForCalled keys P = (abi : AbiVariant) (imports : List ImportView) → AreCalled abi imports keys → P abi imports
+abbrev pub ForCalled : {S : Type 0} → NamesByInterface S → (AbiVariant → List ImportView → Type 0) → Type 0
+ForCalled names P = (abi : AbiVariant) (imports : List ImportView) → AreCalled abi imports names → P abi imports
 
 -- an import is this function, called in this way, and no other
 abbrev pub IsCall : AbiVariant → Option ℕ × List ℕ → ImportView → Type 0
@@ -49,8 +52,8 @@ IsCall abi f i = (interface : Option ℕ) (name : List ℕ) → is_import_of int
 
 -- the functions and drops that are imported
 pub record AreImported (imports : List ImportView) (s : ImportedItems) : Type 0 where
-  pub functions : AreCalled GuestImport imports s.functions.keys
-  pub async_functions : AreCalled GuestImportAsync imports s.async_functions.keys
+  pub functions : AreCalled GuestImport imports s.functions.entries
+  pub async_functions : AreCalled GuestImportAsync imports s.async_functions.entries
   pub drops : (t : ℕ) → is_in (indices s.drops.keys) t ≡ list_any (is_drop_of t) imports
 
 -- a fact about imports, of which these are the functions and drops

@@ -1,13 +1,16 @@
 -- A context for lowering functions, as the lowerer that it is, and what is added by it.
-use Rattle.std.specs.Prelude.{◌≡◌, ◌++◌, List, [], String, Vec, map, ◌∷◌, Option, Result, OnOk}
+use Rattle.std.specs.Prelude.{◌≡◌, ◌++◌, List, [], String, Vec, map, ◌∷◌, Option, Some, Result, OnOk}
+use Rattle.std.specs.Map.{lookup}
 use Rattle.std.specs.declared.alloc.Global.{Global}
 use Rattle.indexmap.specs.IndexMap.{IndexMap}
 use Rattle.wc_resolve.specs.declared.functions.AbiVariant.{AbiVariant}
-use Rattle.wc_resolve.specs.Views.{FunctionView}
+use Rattle.wc_resolve.specs.declared.ids.InterfaceId.{InterfaceId}
+use Rattle.wc_resolve.specs.Views.{FunctionView, ItemView, KeyView}
 use Rattle.wc_names.specs.Views.{ImportView}
-use Rattle.wc_world.specs.Lowered.{KeyedLowering, Lowerer, lowered_function, lowerer_of, AreEntriesDistinct, ImportEntry}
+use Rattle.wc_world.specs.Lowered.{KeyedLowering, Lowerer, interface_entry, lowered_function, lowerer_of, lowerings_of_interface, AreEntriesDistinct, ImportEntry}
 use Rattle.wc_world.specs.Options.{OptionsOf}
 use Rattle.wc_world.specs.Private.ImportedItems.{ForImported}
+use Rattle.wc_world.specs.Used.{same_interface}
 use Rattle.wc_world.specs.Views.{LoweringView}
 use Rattle.wc_world.specs.WorldViews.{lowering_entry, import_map_view}
 use Rattle.wc_world.specs.declared.imported.Lowering.{Lowering}
@@ -41,3 +44,11 @@ AddsEntry old new e = import_map_view new ≡ import_map_view old ++ e ∷ []
 -- on success a map has an entry in addition, if no two have one name then
 abbrev pub AddsEntryOnOk : {T E S : Type 0} → Result T E → IndexMap (Option (String Global)) ImportedInterface S → IndexMap (Option (String Global)) ImportedInterface S → ImportEntry → Type 0
 AddsEntryOnOk result old new e = AreDistinctWith old e → OnOk result (AddsEntry old new e)
+
+-- on success a map has the entry of an import in addition, if that is an interface, and no two have one name then
+abbrev pub AddsInterfaceOnOk : {T E S : Type 0} → Result T E → IndexMap (Option (String Global)) ImportedInterface S → IndexMap (Option (String Global)) ImportedInterface S → Lowerer → KeyView × ItemView → Type 0
+AddsInterfaceOnOk result old new l x = (e : ImportEntry) → interface_entry l x ≡ Some e → AddsEntryOnOk result old new e
+
+-- lowerings by interfaces are those of these interfaces
+abbrev pub AreKept : Lowerer → List (InterfaceId × Vec ((String Global × AbiVariant) × Lowering) Global) → Type 0
+AreKept l kept = (i : InterfaceId) (found : Vec ((String Global × AbiVariant) × Lowering) Global) → lookup (same_interface i) kept ≡ Some found → map lowering_entry found.items ≡ lowerings_of_interface l i.0

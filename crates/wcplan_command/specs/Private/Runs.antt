@@ -1,6 +1,7 @@
 -- What parts of a run of a command do.
-use Rattle.std.specs.Prelude.{◌≡◌, ◌≢◌, ℕ, List, [], map, Option, Some, IfOk, IfSome, String, string_bytes, ◌⊎◌, ◌++◌}
+use Rattle.std.specs.Prelude.{◌≡◌, ◌≢◌, ℕ, List, [], map, Option, Some, None, IfOk, IfSome, String, string_bytes, ◌⊎◌, ◌++◌}
 use Rattle.std.specs.Borrow.{Bor}
+use Rattle.std.specs.Option.{option_map}
 use Rattle.std.specs.declared.alloc.Global.{Global}
 use Rattle.json.specs.Json.{Json, document}
 use Rattle.wc_encoder.specs.EncoderParts.{EncoderView}
@@ -8,9 +9,11 @@ use Rattle.wc_json.specs.Document.{DocumentView}
 use Rattle.wc_resolve.specs.Faults.{IsResolveCause}
 use Rattle.wc_resolve.specs.WellFormed.{IsWellFormed as IsResolve}
 use Rattle.wc_resolve.specs.World.{ResolveView}
+use Rattle.wc_resolve.specs.declared.explain.Part.{Part}
+use Rattle.wc_resolve.specs.declared.explain.Refusal.{Refusal}
 use Rattle.wc_resolve.specs.declared.fault.ResolveFault.{ResolveFault}
 use Rattle.wc_resolve.specs.declared.fault.ResolveFault.TheVariants.{Memory as resolve_memory}
-use Rattle.wc_selection.specs.Worlds.{IsSelected}
+use Rattle.wc_selection.specs.Texts.{text_of}
 use Rattle.wc_program.specs.Files.{Held, StoreChange}
 use Rattle.wc_program.specs.Program.{Prints, failure}
 use Rattle.wc_world.specs.Options.{plain_options}
@@ -19,14 +22,18 @@ use Rattle.wc_world.specs.World.{IsWorldOf}
 use Rattle.wcplan_command.specs.Arguments.{CommandValue, help, version, wrong, wrong_value}
 use Rattle.wcplan_command.specs.Details.{IsExplanation, fault_lines, unplaced_line}
 use Rattle.wcplan_command.specs.Program.{EndsWithoutMemory, IsDocumentOf, IsEncoderOf, IsTextCause, IsUnwrittenFile, StopEnds, WritesAll, file_view}
-use Rattle.wcplan_command.specs.Parts.{IsPartExplanation}
-use Rattle.wcplan_command.specs.ModuleKeys.{IsSelectionCause}
+use Rattle.wcplan_command.specs.Parts.{IsPartExplanation, part_name}
+use Rattle.wc_selection.specs.declared.fault.RequestFault.{RequestFault}
+use Rattle.wc_selection.specs.declared.fault.RequestFault.TheVariants.{UnknownWorld}
+use Rattle.wcplan_command.specs.Faults.{of_request, of_selection}
+use Rattle.wcplan_command.specs.Listing.{world_listing}
+use Rattle.wcplan_command.specs.ModuleKeys.{IsMeant, IsNotMeant, IsSelectionCause}
 use Rattle.wc_program.specs.Screen.{Printing, nothing, failed}
 use Rattle.wcplan_command.specs.declared.explained_part.ExplainedPart.{ExplainedPart}
 use Rattle.wcplan_command.specs.declared.arguments.NoCommand.{NoCommand}
 use Rattle.wcplan_command.specs.declared.arguments.NoCommand.TheVariants.{Memory, Help, Version, Wrong}
 use Rattle.wcplan_command.specs.declared.faults.ProgramFault.{ProgramFault}
-use Rattle.wcplan_command.specs.declared.faults.ProgramFault.TheVariants.{CannotMake, CannotWrite, Output, Resolve, Selection, Ways, World, Memory as no_memory}
+use Rattle.wcplan_command.specs.declared.faults.ProgramFault.TheVariants.{CannotMake, CannotWrite, NoWorld, Output, Resolve, Selection, Ways, World, Memory as no_memory}
 use Rattle.wcplan_command.specs.Usage.{fault_line}
 use Rattle.wc_gc.specs.declared.fault.GcFault.TheVariants.{Memory as gc_memory}
 use Rattle.wc_ways.specs.WaysFaults.{IsWaysFault}
@@ -74,26 +81,54 @@ IsOfWorld e world_memory g = g ≡ no_memory
 IsOfWorld e f (World g x) = (g ≡ f) × IfOk x (IsExplanation e f)
 IsOfWorld e f g = ⊥
 
--- what is answered of a fault of the worlds in a text
-abbrev pub IsPartIn : Option Json → ResolveFault → Option ExplainedPart → Type 0
-IsPartIn read f answer = (d : DocumentView) × IsDocumentOf read d × IsPartExplanation d.parts f answer
+-- a part that a fault is about, with its name; nothing where it is about none
+abbrev pub IsPartNamed : ResolveView → Part → ExplainedPart → Type 0
+IsPartNamed r part x = (x.part ≡ part) × (option_map string_bytes x.name ≡ part_name r part)
 
--- the fault of the program for one of the worlds in a text
-abbrev pub IsOfResolve : Option Json → ResolveFault → ProgramFault → Type 0
-IsOfResolve read resolve_memory g = g ≡ no_memory
-IsOfResolve read f (Resolve g x) = (g ≡ f) × IfOk x (IsPartIn read f)
-IsOfResolve read f g = ⊥
+abbrev pub IsExplainedPlace : ResolveView → Option Part → Option ExplainedPart → Type 0
+IsExplainedPlace r None None = Unit {0}
+IsExplainedPlace r None (Some x) = ⊥
+IsExplainedPlace r (Some part) None = ⊥
+IsExplainedPlace r (Some part) (Some x) = IsPartNamed r part x
 
--- the worlds in a text, which are well-formed, and the one that a command names
+-- the fault of the program for worlds that are refused, by the fault and what it is about
+abbrev pub IsOfFault : ResolveView → ResolveFault → Option Part → ProgramFault → Type 0
+IsOfFault r resolve_memory place g = g ≡ no_memory
+IsOfFault r f place (Resolve g x) = (g ≡ f) × IfOk x (IsExplainedPlace r place)
+IsOfFault r f place g = ⊥
+
+abbrev pub IsOfRefused : ResolveView → Refusal → ProgramFault → Type 0
+IsOfRefused r refusal g = IsOfFault r refusal.fault refusal.place g
+
+-- the worlds in a text, which are well-formed, and the one that a command means
 abbrev pub AreWorldsOf : CommandValue → Option Json → ResolveView → ℕ → Type 0
-AreWorldsOf c read r world = (d : DocumentView) × IsDocumentOf read d × IsSelected d c.world world × IsResolve d.parts × (r ≡ d.parts)
+AreWorldsOf c read r world = (d : DocumentView) × IsDocumentOf read d × IsMeant d c.world world × IsResolve d.parts × (r ≡ d.parts)
+
+-- why a document has no world that a command means
+abbrev pub IsMeaningCause : DocumentView → Option (List ℕ) → ProgramFault → Type 0
+IsMeaningCause d text no_memory = Unit {0}
+IsMeaningCause d text (Selection f) = IsSelectionCause d text f
+IsMeaningCause d text (NoWorld name listing) = IsNotMeant d text name listing
+IsMeaningCause d text f = ⊥
+
+-- the fault of the program where a name is that of no world
+abbrev pub IsUnknownWorld : DocumentView → Option (List ℕ) → ProgramFault → Type 0
+IsUnknownWorld d text no_memory = Unit {0}
+IsUnknownWorld d text (NoWorld name listing) = (option_map text_of name ≡ text) × (string_bytes listing ≡ world_listing d)
+IsUnknownWorld d text f = ⊥
+
+-- and that where none is selected by a name
+abbrev pub IsUnselected : DocumentView → List ℕ → RequestFault → ProgramFault → Type 0
+IsUnselected d name (UnknownWorld n) g = IsUnknownWorld d (Some name) g
+IsUnselected d name f g = g ≡ of_selection (of_request f)
 
 -- why a command has no worlds in a text
 abbrev pub IsWorldsCause : CommandValue → List ℕ → ProgramFault → Type 0
 IsWorldsCause c text no_memory = Unit {0}
 IsWorldsCause c text (Selection f) = (d : DocumentView) × IsDocumentOf (document text) d × IsSelectionCause d c.world f
+IsWorldsCause c text (NoWorld name listing) = (d : DocumentView) × IsDocumentOf (document text) d × IsNotMeant d c.world name listing
 IsWorldsCause c text (Resolve f x) =
-    (d : DocumentView) × (world : ℕ) × IsDocumentOf (document text) d × IsSelected d c.world world
+    (d : DocumentView) × (world : ℕ) × IsDocumentOf (document text) d × IsMeant d c.world world
     × (f ≢ resolve_memory) × IsResolveCause d.parts f × IfOk x (IsPartExplanation d.parts f)
 IsWorldsCause c text f = IsTextCause text f
 

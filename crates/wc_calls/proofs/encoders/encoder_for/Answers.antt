@@ -4,43 +4,45 @@ use Rattle.wc_adapters.specs.Adapters.{adapter_entry}
 use Rattle.wc_resolve.specs.Views.{key_view}
 use Rattle.wc_json.specs.Messages.{message_view}
 use Rattle.wc_calls.specs.Encoders.{IsPartsOf}
-use Rattle.wc_calls.proofs.CauseLemmas.{encoder_cause, exporters_cause, main_cause, parts_of, resolve_cause}
+use Rattle.wc_calls.proofs.CauseLemmas.{encoder_refused, exporters_refused, main_refused, memory_refused, parts_of, parts_refused}
 use Rattle.wc_calls.proofs.encoders.encoder_for.Goals as goal
 
 pub returns-in_err-resolve-clause-fault : goal.returns-in_err-resolve-clause-fault
 returns-in_err-resolve-clause-fault c = λ modules chosen.
     let p = err_from_is_err_and c.from_residual.result c.from_residual.ensures.1 in
-    rw (p.1, p.2) (resolve_cause (message_view c.args.message) modules c.args.bytes.main.now c.args.bytes.others.now c.args.world.0 c.in_err-resolve.field-0.0 chosen
-    c.in_err-resolve.ensures.fault)
+    rw p.1 (parts_refused (message_view c.args.message) modules c.args.bytes.main.now c.args.bytes.others.now c.args.world.0
+    c.in_err-resolve.field-0.0.refusal p.0 chosen c.in_err-resolve.ensures.refusal p.2)
 
 pub returns-in_err-exporters-clause-fault : goal.returns-in_err-exporters-clause-fault
 returns-in_err-exporters-clause-fault c = λ modules chosen.
     let p = err_from_is_err_and c.from_residual-in_err-exporters.result c.from_residual-in_err-exporters.ensures.1 in
-    rw (p.1, p.2) (exporters_cause (message_view c.args.message) modules c.args.bytes.main.now c.args.bytes.others.now c.args.world.0 chosen c.in_ok-resolve.resolve
-    c.in_ok-resolve.ensures.ok c.in_ok-resolve.ensures.formed c.in_err-exporters.field-0.0 c.in_err-exporters.ensures.fault)
+    rw p.1 (exporters_refused (message_view c.args.message) modules c.args.bytes.main.now c.args.bytes.others.now c.args.world.0 chosen
+    c.in_ok-resolve.resolve c.in_ok-resolve.ensures.ok c.in_ok-resolve.ensures.formed c.in_err-exporters.field-0.0 p.0
+    c.in_err-exporters.ensures.fault p.2)
 
 pub returns-in_err-main-clause-fault : goal.returns-in_err-main-clause-fault
 returns-in_err-main-clause-fault c = λ modules chosen.
     let p = err_from_is_err_and c.from_residual-in_err-main.result c.from_residual-in_err-main.ensures.1 in
-    rw (p.1, p.2) (main_cause (message_view c.args.message) modules c.args.bytes.main.now c.args.bytes.others.now c.args.world.0 chosen c.in_ok-resolve.resolve
-    c.in_ok-resolve.ensures.ok c.in_ok-resolve.ensures.formed (map key_view c.in_ok-exporters.exporters.main.keys)
-    (map adapter_entry c.in_ok-exporters.exporters.adapters.entries) c.in_err-main.field-0.0 c.in_ok-exporters.ensures.exporters c.in_err-main.ensures.refused)
+    rw p.1 (main_refused (message_view c.args.message) modules c.args.bytes.main.now c.args.bytes.others.now c.args.world.0 chosen
+    c.in_ok-resolve.resolve c.in_ok-resolve.ensures.ok c.in_ok-resolve.ensures.formed (map key_view c.in_ok-exporters.exporters.main.keys)
+    (map adapter_entry c.in_ok-exporters.exporters.adapters.entries) c.in_err-main.field-0.0 p.0 c.in_ok-exporters.ensures.exporters
+    c.in_err-main.ensures.refused p.2)
 
 pub returns-in_err-hook-clause-fault : goal.returns-in_err-hook-clause-fault
 returns-in_err-hook-clause-fault c = λ modules chosen.
     let p = err_from_is_err_and c.from_residual-in_err-hook.result c.from_residual-in_err-hook.ensures.1 in
-    rw (p.1, p.2) tt
+    rw p.1 (memory_refused (message_view c.args.message) modules p.0 p.2)
 
 pub returns-in_err-build-clause-fault : goal.returns-in_err-build-clause-fault
 returns-in_err-build-clause-fault c = λ modules chosen.
     let p = err_from_is_err_and c.from_residual-in_err-build.result c.from_residual-in_err-build.ensures.1 in
-    rw (p.1, p.2) (encoder_cause (message_view c.args.message) modules c.args.bytes.main.now c.args.bytes.others.now c.args.world.0 chosen c.in_ok-resolve.resolve
-    c.in_ok-resolve.ensures.ok c.in_ok-resolve.ensures.formed _ c.in_err-build.field-0.0
+    rw p.1 (encoder_refused (message_view c.args.message) modules c.args.bytes.main.now c.args.bytes.others.now c.args.world.0 chosen
+    c.in_ok-resolve.resolve c.in_ok-resolve.ensures.ok c.in_ok-resolve.ensures.formed _ c.in_err-build.field-0.0 p.0
     (parts_of (message_view c.args.message) modules c.args.bytes.main.now c.args.bytes.others.now c.args.world.0 c.in_ok-main.main.wasm.items c.in_ok-main.main.import_map
     c.in_ok-resolve.resolve (map key_view c.in_ok-exporters.exporters.main.keys) (map adapter_entry c.in_ok-exporters.exporters.adapters.entries)
     c.unwrap_or-rejects.result c.unwrap_or-grows.result _ chosen c.in_ok-main.ensures.dedupe c.in_ok-resolve.ensures.ok c.in_ok-exporters.ensures.exporters
     c.unwrap_or-rejects.ensures c.unwrap_or-grows.ensures c.in_ok-hook.ensures)
-    c.in_err-build.ensures.fault)
+    c.in_err-build.ensures.fault p.2)
 
 pub returns-clause-parts : goal.returns-clause-parts
 returns-clause-parts c = λ modules chosen.

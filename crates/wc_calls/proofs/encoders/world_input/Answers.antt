@@ -1,16 +1,32 @@
-use Rattle.std.proofs.Common.{subst}
+use Rattle.std.proofs.Common.{rules, subst}
+use Rattle.json.specs.Json.{document}
 use Rattle.std.proofs.lemmas.Result.{err_from_is_err_and}
-use Rattle.wc_json.specs.Messages.{message_view}
+use Rattle.wc_json.specs.Messages.{message, message_view}
+use Rattle.wc_json.specs.FromJson.{IsCauseOf}
 use Rattle.wc_calls.specs.Encoders.{IsMessage}
-use Rattle.wc_calls.proofs.CauseLemmas.{parts_cause}
+use Rattle.wc_calls.proofs.CauseLemmas.{json_refused, message_refused, no_memory, not_text}
 use Rattle.wc_calls.proofs.encoders.world_input.Goals as goal
+
+pub returns-in_default-clause-fault : goal.returns-in_default-clause-fault
+returns-in_default-clause-fault c = not_text c.args.message.now c.args.modules.now c.from.result (search rules) c.from.ensures
+
+pub returns-in_err-message-clause-fault : goal.returns-in_err-message-clause-fault
+returns-in_err-message-clause-fault c =
+    let p = err_from_is_err_and c.from_residual.result c.from_residual.ensures.1 in
+    let cause = subst (λ t. IsCauseOf message (document t) c.in_err-message.field-0.0) c.in-Ok.ensures.cases.0 c.in_err-message.ensures.fault in
+    rw p.1 (json_refused c.args.message.now c.args.modules.now c.in_err-message.field-0.0 p.0 cause p.2)
+
+pub returns-in_err-options-clause-fault : goal.returns-in_err-options-clause-fault
+returns-in_err-options-clause-fault c =
+    let p = err_from_is_err_and c.from_residual-in_err-options.result c.from_residual-in_err-options.ensures.1 in
+    rw p.1 (no_memory c.args.message.now c.args.modules.now p.0 p.2)
 
 pub returns-in_err-encoder-clause-fault : goal.returns-in_err-encoder-clause-fault
 returns-in_err-encoder-clause-fault c =
     let p = err_from_is_err_and c.from_residual-in_err-encoder.result c.from_residual-in_err-encoder.ensures.1 in
     let m = message_view c.in_ok-message.message in
     let read : IsMessage c.args.message.now m = subst (λ t. IsMessage t m) c.in-Ok.ensures.cases.0 c.in_ok-message.ensures.ok in
-    rw (p.1, p.2) (parts_cause c.args.message.now c.args.modules.now m c.in_err-encoder.field-0.0 read c.in_err-encoder.ensures.fault)
+    rw (p.1, p.2) (message_refused c.args.message.now c.args.modules.now m c.in_err-encoder.field-0.0 read c.in_err-encoder.ensures.fault)
 
 pub returns-clause-encoder : goal.returns-clause-encoder
 returns-clause-encoder c =

@@ -30,5 +30,5 @@ returns-in-Ok-clause-fault c = λ is.
 
 pub returns-in-Err-clause-fault : goal.returns-in-Err-clause-fault
 returns-in-Err-clause-fault c = λ is.
-    message_refused c.args.message.now c.args.modules.now c.in-Err.fault c.answer_message_fault.result c.args.out.now c.answer_message_fault.new.out
-    c.in-Err.ensures.fault (c.answer_message_fault.ensures.fault is)
+    message_refused c.args.message.now c.args.modules.now c.in-Err.refused c.answer_refused.result c.args.out.now c.answer_refused.new.out
+    c.in-Err.ensures.fault (c.answer_refused.ensures.fault is)

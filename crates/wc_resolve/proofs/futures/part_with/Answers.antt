@@ -1,36 +1,32 @@
-use Rattle.std.proofs.Common.{◌≡◌, ◌+◌, ◌-◌, ◌<◌, ◌≤◌, ◌^◌, arith, drop, get_or, length, subst, sym, ℕ}
-use Rattle.wc_resolve.specs.Futures.{futures_from, futures_of}
-use Rattle.wc_resolve.specs.Roots.{indices}
-use Rattle.wc_resolve.proofs.FuturesAtLemmas.{IsPassed, counted_less, counted_more, part_there, parts_next, passed_found, passed_left, passed_more}
+use Rattle.std.proofs.Common.{◌≡◌, ◌<◌, ◌≤◌, ◌-◌, ◌∷◌, ◌∙◌, ℕ, List, ap, arith, get_or, length, rules, subst}
+use Rattle.wc_resolve.specs.Futures.{entry_view}
+use Rattle.wc_resolve.proofs.FuturesAtLemmas.{ends_length, part_found, parts_passed}
 use Rattle.wc_resolve.proofs.futures.part_with.Goals as goal
 
-pub futures_entry-requires : goal.futures_entry-requires
-futures_entry-requires c = c.requires.within (get_or c.args.parts.now c.loop-part.part-index _).0 (part_there c.args.parts.now c.loop-part.part-index _ c.loop-part-test.true)
+pub returns-then-index-len-clause-found : goal.returns-then-index-len-clause-found
+returns-then-index-len-clause-found c =
+    let entry = c.futures_entry-entry.result.now in
+    let kept = c.futures_entry-entry.ensures in
+    let i = c.ends_passed-index.result in
+    let len : c.len.result ≡ length entry.parts.items = search rules in
+    let test = c.if-index-len.true in
+    let small : i < length entry.parts.items = omega (arith, test, len) in
+    let low : get_or (0 ∷ entry.ends.items) i 0 ≤ c.args.n = subst (λ (z : List ℕ). get_or (0 ∷ z) i 0 ≤ c.args.n) c.deref.ensures.value c.ends_passed-index.ensures.passed in
+    let ends : length entry.ends.items ≡ length entry.parts.items = ap (λ (z : List ℕ). length z) kept.ended ∙ ends_length c.args.resolve.now.types entry.parts.items 0 in
+    let inside : i < length entry.ends.items = omega (arith, ends, small) in
+    let next : c.args.n < get_or entry.ends.items i 0 =
+    subst (λ (z : List ℕ). i < length z → c.args.n < get_or z i 0) c.deref.ensures.value c.ends_passed-index.ensures.next inside in
+    let before : c.count_before.result ≡ get_or (0 ∷ entry.ends.items) i 0 = c.count_before.ensures ∙ ap (λ (z : List ℕ). get_or (0 ∷ z) i 0) c.deref-then-index-len.ensures.value in
+    part_found c.args.resolve.now.types c.args.id.0 (entry_view entry) i c.args.n (c.args.n - c.count_before.result) c.index.result.now kept small c.index.ensures c.requires.small low next
+    (ap (λ z. c.args.n - z) before)
 
-pub returns-then-left-count-clause-found : goal.returns-then-left-count-clause-found
-returns-then-left-count-clause-found c =
-    let types = c.args.resolve.now.types in
-    let parts = c.args.parts.now in
-    let i = c.loop-part.part-index in
-    let more = counted_less c.futures_entry.result.now.count (length (futures_of types (get_or parts i _).0)) c.loop-part.left c.futures_entry.ensures.counted c.if-left-count.true in (
-      part_there parts i _ c.loop-part-test.true,
-      passed_left (futures_from types (indices parts)) (futures_from types (indices (drop i parts))) c.args.n c.loop-part.left c.loop-part.invariant,
-      more,
-      passed_found (futures_from types (indices parts)) (futures_from types (indices (drop i parts))) (futures_of types (get_or parts i _).0) (futures_from types (indices (drop (i + 1) parts))) c.args.n c.loop-part.left c.loop-part.invariant
-          (parts_next types parts i _ c.loop-part-test.true) more,
-    )
-
-pub loop-part-preserved : goal.loop-part-preserved
-loop-part-preserved c =
-    let types = c.args.resolve.now.types in
-    let parts = c.args.parts.now in
-    let i = c.loop-part.part-index in
-    let all = futures_from types (indices parts) in
-    let rest = futures_from types (indices (drop i parts)) in
-    let next = futures_from types (indices (drop (i + 1) parts)) in
-    let part = futures_of types (get_or parts i _).0 in
-    let low = passed_left all rest c.args.n c.loop-part.left c.loop-part.invariant in
-    let small : c.loop-part.left < 2 ^ 32 = let bound = c.requires.small in omega (arith, low, bound) in
-    let same : c.futures_entry.result.now.count ≡ length part = counted_more c.futures_entry.result.now.count (length part) c.loop-part.left c.futures_entry.ensures.counted small c.if-left-count.false in
-    subst (λ (z : ℕ). IsPassed all next c.args.n (c.loop-part.left - z)) (sym same)
-    (passed_more all rest part next c.args.n c.loop-part.left c.loop-part.invariant (parts_next types parts i _ c.loop-part-test.true) (subst (λ (z : ℕ). z ≤ c.loop-part.left) same c.if-left-count.false))
+pub returns-else-index-len-clause-itself : goal.returns-else-index-len-clause-itself
+returns-else-index-len-clause-itself c =
+    let entry = c.futures_entry-entry.result.now in
+    let i = c.ends_passed-index.result in
+    let len : c.len.result ≡ length entry.parts.items = search rules in
+    let test = c.if-index-len.false in
+    let past : length entry.parts.items ≤ i = omega (arith, test, len) in
+    let low : get_or (0 ∷ entry.ends.items) i 0 ≤ c.args.n = subst (λ (z : List ℕ). get_or (0 ∷ z) i 0 ≤ c.args.n) c.deref.ensures.value c.ends_passed-index.ensures.passed in
+    let within : i ≤ length entry.ends.items = subst (λ (z : List ℕ). i ≤ length z) c.deref.ensures.value c.ends_passed-index.ensures.within in
+    λ small. parts_passed c.args.resolve.now.types c.args.id.0 (entry_view entry) i c.args.n c.futures_entry-entry.ensures within past c.requires.small low small

@@ -1,7 +1,7 @@
 use Rattle.std.proofs.Common.{◌∙◌, All, ap, arith, map, rules, string_bytes, subst, sym}
 use Rattle.std.proofs.lemmas.List.{length-map}
 use Rattle.std.proofs.lemmas.List.Elements.{All-head, All-rest}
-use Rattle.wc_validate.proofs.FirstPositionLemmas.{placed_end, placed_fits, placed_next, placed_start}
+use Rattle.wc_validate.proofs.FirstPositionLemmas.{placed_fits, placed_next, placed_start}
 use Rattle.wc_world.specs.Views.{ComponentWorldView, NamedWorldAdapter}
 use Rattle.wc_world.specs.WorldViews.{adapter_entry, world_view}
 use Rattle.wc_world.proofs.FaultLemmas.{passed_on}

@@ -1,4 +1,4 @@
-use Rattle.std.proofs.Common.{◌≡◌, ◌∙◌, ap, inl, inr, option_map, rules, string_bytes, subst}
+use Rattle.std.proofs.Common.{◌∙◌, ap, inr, option_map, rules, string_bytes, subst}
 use Rattle.wc_adapters.specs.Adapters.{adapter_view}
 use Rattle.wc_gc.specs.Liveness.{IsFault}
 use Rattle.wc_validate.specs.Validated.{module_record}

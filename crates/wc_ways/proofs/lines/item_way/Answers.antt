@@ -1,6 +1,6 @@
 use Rattle.std.proofs.Common.{◌≡◌, ◌∙◌, Some, ap, arith, length, rules}
 use Rattle.wc_read.specs.Imports.{import_value}
-use Rattle.wc_ways.specs.Private.Walks.{function_value, original_in}
+use Rattle.wc_ways.specs.Private.Walks.{function_value, original_in, words_of}
 use Rattle.wc_ways.proofs.ImportLemmas.{dead_item, in_order, in_positions, position_read, reached_item}
 use Rattle.wc_ways.proofs.lines.item_way.Goals as goal
 
@@ -25,7 +25,7 @@ returns-in-Some c =
     let place = position_read a c.args.position (import_value c.args.import.now) c.requires.there
     c.args.walk.now.chains.now c.requires.walk.chains c.index.result.now c.index.ensures in
     reached_item a c.args.position (import_value c.args.import.now) c.requires.there
-    c.args.walk.now.chains.now c.requires.walk.chains (function_value c.args.function.now) c.reached_way.result c.in-Some.place (place ∙ ap Some c.in-Some.is) c.reached_way.ensures
+    c.args.walk.now.chains.now c.requires.walk.chains (words_of c.args.walk.now.form) (function_value c.args.function.now) c.reached_way.result c.in-Some.place (place ∙ ap Some c.in-Some.is) c.reached_way.ensures
 
 pub returns-in-None : goal.returns-in-None
 returns-in-None c =
@@ -33,4 +33,4 @@ returns-in-None c =
     let place = position_read a c.args.position (import_value c.args.import.now) c.requires.there
     c.args.walk.now.chains.now c.requires.walk.chains c.index.result.now c.index.ensures in
     dead_item a c.args.position (import_value c.args.import.now) c.requires.there
-    c.args.walk.now.chains.now c.requires.walk.chains (function_value c.args.function.now) _ (place ∙ ap Some c.in-None.is) (search rules)
+    c.args.walk.now.chains.now c.requires.walk.chains (words_of c.args.walk.now.form) (function_value c.args.function.now) _ (place ∙ ap Some c.in-None.is) (search rules)

@@ -1,4 +1,4 @@
-use Rattle.std.proofs.Common.{◌<◌, ◌∙◌, length, sym, arith}
+use Rattle.std.proofs.Common.{◌∙◌, sym, arith}
 use Rattle.wc_ways.proofs.MarkLemmas.{no_more_here, none_here, one_here}
 use Rattle.wc_ways.proofs.marks.with_imports.Goals as goal
 use Rattle.wc_ways.proofs.marks.with_imports.Goals.{in-Some, in_default}

@@ -1,5 +1,5 @@
 use Rattle.std.proofs.Common.{◌≡◌, ◌∙◌, IfOk, string_bytes, subst}
-use Rattle.wc_ways.specs.WaysGraph.{export_id, inner_arrow, item_id}
+use Rattle.wc_ways.specs.WaysGraph.{inner_arrow, item_id}
 use Rattle.wc_ways.proofs.nodes.export_arrow.Goals as goal
 
 pub returns : goal.returns

@@ -4,6 +4,7 @@ use Rattle.wc_names.specs.Views.{import_view}
 use Rattle.wc_plan.specs.Calls.{IsNameable}
 use Rattle.wc_validate.specs.Imports.Iter.{imports_left}
 use Rattle.wc_world.specs.Slots.{imports_of}
+use Rattle.wc_ways.specs.Private.Modules.{import_words}
 use Rattle.wc_ways.specs.Ways.{recorded_way, recorded_ways}
 use Rattle.wc_ways.proofs.ListLemmas.{made_all, made_more}
 use Rattle.wc_ways.proofs.recorded.recorded_ways.Goals as goal
@@ -15,7 +16,7 @@ recorded_way-requires c =
 
 pub loop-from-preserved : goal.loop-from-preserved
 loop-from-preserved c = record {
-  made = made_more (recorded_way c.args.resolve.now c.args.key.now c.args.importer.now) (recorded_ways c.args.resolve.now c.args.key.now c.args.importer.now c.args.imports.now)
+  made = made_more (recorded_way c.args.resolve.now c.args.key.now (import_words c.args.importer)) (recorded_ways c.args.resolve.now c.args.key.now (import_words c.args.importer) c.args.imports.now)
       (string_bytes c.loop-from.ways) (string_bytes c.in_ok-way.way) _ (imports_left c.loop-from.from-iterator) (imports_left c.next.new.self)
       (c.in-Some.from.now, (c.in-Some.name.now, import_view c.in-Some.import.now)) c.in-Some.ensures.steps (search rules) c.in_ok-way.ensures c.loop-from.invariant.made;
   nameable = All-rest (IsNameable c.args.resolve.now) (import_view c.in-Some.import.now) (imports_of (imports_left c.next.new.self))
@@ -24,5 +25,5 @@ loop-from-preserved c = record {
 
 pub returns : goal.returns
 returns c =
-    made_all (recorded_way c.args.resolve.now c.args.key.now c.args.importer.now) (recorded_ways c.args.resolve.now c.args.key.now c.args.importer.now c.args.imports.now)
+    made_all (recorded_way c.args.resolve.now c.args.key.now (import_words c.args.importer)) (recorded_ways c.args.resolve.now c.args.key.now (import_words c.args.importer) c.args.imports.now)
     (string_bytes c.loop-from.ways) (imports_left c.loop-from.from-iterator) c.in-None.ensures.steps.0 c.loop-from.invariant.made

@@ -9,3 +9,6 @@ returns-clause-is_adapter c = λ passed others h.
     adapter_last c.args.input.now.encoder.now (module_record c.args.input.now.main.now) (c.args.input.now.name.now, input_view c.args.input.now.adapter.now) passed c.args.found.now.entries c.insert.new.self.entries c.args.input.now.name c.in_ok-world_adapter.world_adapter
     (sym c.is_input_needed.ensures ∙ c.if-not-is_input_needed.false)
     refl c.in_ok-insert.ensures.entries c.in_ok-world_adapter.ensures.is_adapter others h
+
+pub one_adapter-requires : goal.one_adapter-requires
+one_adapter-requires c = record { same = c.requires.same; required = c.requires.required; in_component = sym c.is_input_needed.ensures ∙ c.if-not-is_input_needed.false }

@@ -1,16 +1,15 @@
-use Rattle.std.proofs.Common.{◌∙◌, ◌&&◌, ap, nat_eq, sym}
-use Rattle.std.specs.List.{list_any}
-use Rattle.std.specs.Option.{option_eq}
-use Rattle.std.specs.Str.{bytes_eq}
-use Rattle.wc_validate.specs.Private.ExportedFunctions.{function_key}
-use Rattle.wc_world.specs.Lowered.{is_import_of}
-use Rattle.wc_world.specs.Private.ImportedItems.{same_function, interface_index}
-use Rattle.wc_world.proofs.ImportedItemLemmas.{added_last, keys_turned}
+use Rattle.std.proofs.Common.{[], ap, is_some, sym}
+use Rattle.wc_world.proofs.ImportedItemLemmas.{call_put, has}
 use Rattle.wc_world.proofs.imported_items.add_name.Goals as goal
 
+pub returns-in-Some : goal.returns-in-Some
+returns-in-Some c = λ abi imports same i call.
+    call_put c.args.names.now.entries (c.get_mut.follows.lender c.insert.new.self).entries c.args.interface c.in_ok-owned.owned c.insert.new.self c.in-Some.others.now.keys
+    ((c.get_mut.follows.holds c.insert.new.self).3 (ap is_some (sym c.in-Some.ensures.value))).0
+    c.in_ok-insert.ensures.keys (λ n. ap (λ o. has o n) (sym c.in-Some.ensures.value)) abi imports i c.args.name.now c.in_ok-owned.ensures.ok call same
+
 pub returns : goal.returns
-returns c = λ abi imports same i call f.
-    added_last (is_import_of (function_key f).0 (function_key f).1 abi) imports i (list_any (same_function f) c.insert_full.new.self.keys) (list_any (same_function f) c.args.names.now.keys) (same_function (c.args.interface, c.in_ok-from_str.field-0) f)
-    (c.in_ok-insert_full.ensures.updates.0 f) (same f)
-    (keys_turned (c.args.interface, c.in_ok-from_str.field-0) f
-    ∙ (ap (λ n. option_eq nat_eq (function_key f).0 (interface_index c.args.interface) && bytes_eq (function_key f).1 n) c.in_ok-from_str.ensures.ok ∙ sym (call (function_key f).0 (function_key f).1)))
+returns c = λ abi imports same i call.
+    call_put c.args.names.now.entries c.insert-3.new.self.entries c.args.interface c.in_ok-owned.owned c.insert-2.new.self []
+    (rw c.get_mut.follows.holds-at-none at c.in_ok-insert-3.ensures.updates.0)
+    (let e = c.in_ok-insert-2.ensures.keys in let f = c.with_hasher-first.ensures.empty in rw f at e) (λ n. ap (λ o. has o n) (sym c.in_default.ensures.value)) abi imports i c.args.name.now c.in_ok-owned.ensures.ok call same

@@ -11,10 +11,13 @@ loop-key-init c =
     live_start c.args.context.now.resolve.now (λ (x : KeyView × ItemView). export_roots c.args.context.now.resolve.now (used_view c.args.context.now.used.now) x.1) (map world_entry c.args.exports.now.entries) (map world_entry c.into_iter-key-iterator.result) [] c.args.live.now c.args.live.now
     (ap (map world_entry) (c.into_iter-key-iterator.ensures.into_iter_gives ∙ c.iter-key-items.ensures.rest)) (adds_none c.args.context.now.resolve.now c.args.live.now)
 
-pub add_export-requires : goal.add_export-requires
-add_export-requires c =
+pub add_export-requires-clause-there : goal.add_export-requires-clause-there
+add_export-requires-clause-there c =
     live_has c.args.context.now.resolve.now (λ (x : KeyView × ItemView). export_roots c.args.context.now.resolve.now (used_view c.args.context.now.used.now) x.1) (map world_entry c.args.exports.now.entries) (map world_entry c.loop-key._key-iterator) [] c.args.live.now
-    (λ (x : KeyView × ItemView). IsItemIn c.args.context.now.resolve.now x.1) (map world_entry c.next.new.self) (world_entry (c.in-Some._key.now, c.in-Some.item.now)) c.loop-key.live (ap (map world_entry) c.in-Some.ensures.steps) c.requires c.loop-key.invariant
+    (λ (x : KeyView × ItemView). IsItemIn c.args.context.now.resolve.now x.1) (map world_entry c.next.new.self) (world_entry (c.in-Some._key.now, c.in-Some.item.now)) c.loop-key.live (ap (map world_entry) c.in-Some.ensures.steps) c.requires.there c.loop-key.invariant
+
+pub add_export-requires-clause-complete : goal.add_export-requires-clause-complete
+add_export-requires-clause-complete c = (c.loop-key.invariant.added c.requires.complete).0
 
 pub loop-key-preserved : goal.loop-key-preserved
 loop-key-preserved c =

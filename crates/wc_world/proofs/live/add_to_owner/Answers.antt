@@ -14,5 +14,5 @@ pub returns : goal.returns
 returns c = λ r is passed new before.
     ap (map group_view) (rw c.get_mut.follows.holds-at-none at c.in_ok-insert-3.ensures.entries)
     ∙ (group_added c.args.owner c.args.ty.0 c.insert-2.new.self c.args.groups.now.entries
-    (let e = c.in_ok-insert-2.ensures.keys in let f = c.new-group.ensures.empty in ap indices (rw f at e)) (sym c.in_default.ensures.value)
+    (let e = c.in_ok-insert-2.ensures.keys in let f = c.with_hasher-group.ensures.empty in ap indices (rw f at e)) (sym c.in_default.ensures.value)
     ∙ (ap (λ z. with_owned z c.args.owner.0 c.args.ty.0) before ∙ owned_more r passed c.args.ty.0 c.args.owner.0 is new))

@@ -1,11 +1,18 @@
-use Rattle.std.proofs.Common.{Some, ap, map}
+use Rattle.std.proofs.Common.{◌++◌, ◌∙◌, Some, ap, append-nil, map, sym}
 use Rattle.wc_resolve.specs.Views.{function_entry, function_view}
 use Rattle.wc_resolve.specs.WellFormed.{IsUsable}
-use Rattle.wc_world.specs.Lowered.{function_lowerings}
+use Rattle.wc_world.specs.Lowered.{Lowerer, function_lowerings}
 use Rattle.wc_world.specs.WorldViews.{lowering_entry}
 use Rattle.wc_world.specs.Private.LoweringContext.{lowerer_in}
+use Rattle.wc_world.proofs.KeptLoweringLemmas.{none_lowered}
 use Rattle.wc_world.proofs.LoweringLemmas.{all_rest, joined_end, joined_next}
 use Rattle.wc_world.proofs.lowering.push_functions.Goals as goal
+
+pub returns-then-not-has_functions_of : goal.returns-then-not-has_functions_of
+returns-then-not-has_functions_of g c = λ imports a.
+    let l : Lowerer = lowerer_in g.O.ImportOptions.options_of c.args.context.now imports in
+    sym (ap (λ z. map lowering_entry c.args.lowerings.now.items ++ z) (none_lowered l (Some c.args.interface.0) (c.has_functions_of.ensures imports a c.if-not-has_functions_of.true) (map function_entry c.args.functions.now.entries))
+    ∙ append-nil (map lowering_entry c.args.lowerings.now.items))
 
 pub loop-name-preserved : goal.loop-name-preserved
 loop-name-preserved g c = (

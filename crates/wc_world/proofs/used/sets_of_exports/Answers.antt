@@ -6,7 +6,7 @@ use Rattle.wc_world.proofs.UsedWalkLemmas.{walk_end, walk_in, walk_next, walk_re
 use Rattle.wc_world.proofs.used.sets_of_exports.Goals as goal
 
 pub loop-key-init : goal.loop-key-init
-loop-key-init c = walk_start c.args.resolve.now c.args.exports.now.entries c.into_iter-key-iterator.result (used_view c.new-used.result) (c.into_iter-key-iterator.ensures.into_iter_gives ∙ c.iter-key-items.ensures.rest) (no_sets c.new-used.result c.new-used.ensures.empty)
+loop-key-init c = walk_start c.args.resolve.now c.args.exports.now.entries c.into_iter-key-iterator.result (used_view c.with_hasher-used.result) (c.into_iter-key-iterator.ensures.into_iter_gives ∙ c.iter-key-items.ensures.rest) (no_sets c.with_hasher-used.result c.with_hasher-used.ensures.empty)
 
 pub add_export-requires-clause-there : goal.add_export-requires-clause-there
 add_export-requires-clause-there c =

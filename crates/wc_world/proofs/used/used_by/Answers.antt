@@ -7,7 +7,7 @@ use Rattle.wc_world.proofs.used.used_by.Goals as goal
 use Rattle.wc_world.proofs.used.used_by.Goals.{then-is_exported_itself+in_ok-add_with_used, else-is_exported_itself}
 
 pub loop-dependency-init : goal.loop-dependency-init
-loop-dependency-init c = used_part_none c.args.resolve.now (entries_of c.args.exports.now) c.args.id.0 (has_interface c.new-set.result) (λ j. none_among c.new-set.result.keys j c.new-set.ensures.empty)
+loop-dependency-init c = used_part_none c.args.resolve.now (entries_of c.args.exports.now) c.args.id.0 (has_interface c.with_hasher-set.result) (λ j. none_among c.with_hasher-set.result.keys j c.with_hasher-set.ensures.empty)
 
 pub loop-dependency-preserved : goal.loop-dependency-preserved
 loop-dependency-preserved c =

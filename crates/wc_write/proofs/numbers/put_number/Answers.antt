@@ -1,12 +1,6 @@
-use Rattle.std.proofs.Common.{arith}
-use Rattle.wc_write.proofs.DigitLemmas.{number_start, number_step, number_end}
+use Rattle.std.proofs.Common.{sym, ◌∙◌, ap, ◌++◌, arith}
+use Rattle.wc_write.proofs.DigitLemmas.{digits_last}
 use Rattle.wc_write.proofs.numbers.put_number.Goals as goal
 
-pub loop-rest-init : goal.loop-rest-init
-loop-rest-init c = number_start _ _ (omega arith)
-
-pub loop-rest-preserved : goal.loop-rest-preserved
-loop-rest-preserved c = rw c.in_ok-push.ensures.items (number_step _ _ _ _ c.loop-rest.invariant (omega arith))
-
-pub returns-clause-written : goal.returns-clause-written
-returns-clause-written c = rw c.in_ok-push-2.ensures.items (number_end _ _ _ _ c.loop-rest.invariant (omega arith))
+pub returns-then-number-lt-SEVEN_BITS-clause-written : goal.returns-then-number-lt-SEVEN_BITS-clause-written
+returns-then-number-lt-SEVEN_BITS-clause-written c = c.in_ok-push.ensures.items ∙ ap (λ z. c.args.out.now.items ++ z) (sym (digits_last 9 c.args.number (omega arith)))

@@ -1,7 +1,10 @@
 use Rattle.std.proofs.Common.{subst}
 use Rattle.std.proofs.lemmas.Result.{err_from_is_err_and}
 use Rattle.wc_json.specs.Document.{document_view}
+use Rattle.wc_resolve.specs.ResolveParts.{parts_view}
 use Rattle.wc_resolve.specs.WellFormed.{IsWellFormed}
+use Rattle.wc_resolve.specs.declared.resolve.Parts.{Parts}
+use Rattle.wcplan_command.specs.Private.Runs.{IsOfRefused}
 use Rattle.wcplan_command.specs.Arguments.{command_value}
 use Rattle.wcplan_command.proofs.WorldsLemmas.{resolve_cause, text_cause, unselected}
 use Rattle.wcplan_command.proofs.documents.worlds_in.Goals as goal
@@ -21,7 +24,7 @@ pub returns-in-Ok-clause-worlds : goal.returns-in-Ok-clause-worlds
 returns-in-Ok-clause-worlds c = (
   document_view c.in_ok-document.document,
   c.in_ok-document.ensures.document,
-  c.in_ok-world.ensures.selected,
+  c.in_ok-world.ensures.meant,
   subst IsWellFormed c.in-Ok.ensures.ok c.in-Ok.ensures.formed,
   c.in-Ok.ensures.ok,
 )
@@ -29,5 +32,5 @@ returns-in-Ok-clause-worlds c = (
 pub returns-clause-fault : goal.returns-clause-fault
 returns-clause-fault c =
     resolve_cause (command_value c.args.command.now) c.args.text.now (document_view c.in_ok-document.document) c.in_ok-world.world.0
-    c.in-Err.fault c.resolve_fault.result c.in_ok-document.ensures.document c.in_ok-world.ensures.selected c.in-Err.ensures.fault
-    c.resolve_fault.ensures
+    c.in-Err.refused.refusal c.resolve_fault.result c.in_ok-document.ensures.document c.in_ok-world.ensures.meant c.in-Err.ensures.refusal
+    (subst (λ (p : Parts). IsOfRefused (parts_view p) c.in-Err.refused.refusal c.resolve_fault.result) c.in-Err.ensures.given_back c.resolve_fault.ensures)

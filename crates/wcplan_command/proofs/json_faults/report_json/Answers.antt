@@ -1,12 +1,5 @@
-use Rattle.std.proofs.Common.{inl, inr, refl}
-use Rattle.wcplan_command.specs.JsonFaults.{members_text, memory_json}
+use Rattle.std.proofs.Common.{inl}
 use Rattle.wcplan_command.proofs.json_faults.report_json.Goals as goal
 
-pub returns-in-Ok : goal.returns-in-Ok
-returns-in-Ok g c =
-    let is = c.in-Ok.ensures in
-    let members = c.in-Ok.members in
-    (members_text members.0.items members.1.items, inl (λ i. members_text (is.text i) (is.place i)), c.print_members.ensures)
-
-pub returns-in-Err : goal.returns-in-Err
-returns-in-Err g c = (memory_json, inr refl, c.print_json.ensures)
+pub returns-in-Some : goal.returns-in-Some
+returns-in-Some g c = (c.in-Some.text.now, inl c.in-Some.ensures.whole, c.print_json.ensures)

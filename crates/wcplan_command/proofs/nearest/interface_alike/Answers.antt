@@ -1,4 +1,4 @@
-use Rattle.std.proofs.Common.{◌∙◌, ℕ, List, ap, string_bytes, sym}
+use Rattle.std.proofs.Common.{◌∙◌, ap, string_bytes, sym}
 use Rattle.std.specs.Option.{IsSome}
 use Rattle.std.specs.Map.Iter.{deref_pair}
 use Rattle.std.proofs.lemmas.Map.Views.{All-turn}

@@ -57,4 +57,5 @@ invariant_of-result c =
       each = rw e (λ i lt. v.each i (omega (arith, done)));
       whole = rw e (λ x all. v.counted x (λ k d lt. all k d (omega (arith, end))) (λ k d le lt. absurd (omega (arith, done))));
       filled = c.block_of-block.ensures;
+      begins = rw e c.in_ok-starts.ensures;
     }

@@ -1,11 +1,8 @@
-use Rattle.std.proofs.Common.{map, None, subst}
+use Rattle.std.proofs.Common.{map}
 use Rattle.std.specs.Option.{option_map}
 use Rattle.wc_resolve.specs.Roots.{id_index}
 use Rattle.wc_resolve.specs.Views.{key_view, world_entry}
-use Rattle.wc_names.specs.ExportNames.{HasResource}
-use Rattle.wc_names.specs.Finds.{Finds}
-use Rattle.wc_names.specs.First.{FirstOf}
-use Rattle.wc_names.proofs.ExportNameLemmas.{destructor_named, first_in_none, no_destructor, not_of_interface}
+use Rattle.wc_names.proofs.ExportNameLemmas.{destructor_named, no_destructor, not_of_interface}
 use Rattle.wc_names.proofs.export_index.ExportNames.destructed.Goals as goal
 
 pub returns-in_default-interface : goal.returns-in_default-interface
@@ -20,20 +17,9 @@ returns-in_default-destructed_resource c =
     (map key_view c.self.inside.keys.now.keys) c.args.name.now
     c.in-Some-interface.text.now c.in-Some.parts.member.now (rw c.in-Some-interface.is at c.in-Some.ensures) c.in_default-destructed_resource.ensures)
 
-pub returns-in-Some-searched : goal.returns-in-Some-searched
-returns-in-Some-searched c =
+pub returns : goal.returns
+returns c =
     rw (← c.self.view_is) (destructor_named c.self.inside.syntax c.self.inside.resolve.now (map world_entry c.self.inside.exports.now.entries)
     (map key_view c.self.inside.keys.now.keys) c.args.name.now
-    c.in-Some-interface.text.now c.in-Some.parts.member.now c.in-Some-destructed_resource.resource.now (option_map id_index c.resource_in.result)
-    (rw c.in-Some-interface.is at c.in-Some.ensures) c.in-Some-destructed_resource.ensures
-    (subst (λ z. Finds (option_map id_index c.resource_in.result)
-    (FirstOf (HasResource c.self.inside.resolve.now c.in-Some-destructed_resource.resource.now) z))
-    (rw (← c.self.view_is) at c.in-Some-searched.ensures).0 c.resource_in.ensures))
-
-pub returns-in-None : goal.returns-in-None
-returns-in-None c =
-    rw (← c.self.view_is) (destructor_named c.self.inside.syntax c.self.inside.resolve.now (map world_entry c.self.inside.exports.now.entries)
-    (map key_view c.self.inside.keys.now.keys) c.args.name.now
-    c.in-Some-interface.text.now c.in-Some.parts.member.now c.in-Some-destructed_resource.resource.now None
-    (rw c.in-Some-interface.is at c.in-Some.ensures) c.in-Some-destructed_resource.ensures
-    (first_in_none (HasResource c.self.inside.resolve.now c.in-Some-destructed_resource.resource.now) _ (rw (← c.self.view_is) at c.in-None.ensures)))
+    c.in-Some-interface.text.now c.in-Some.parts.member.now c.in-Some-destructed_resource.resource.now (option_map id_index c.resource_of_text.result)
+    (rw c.in-Some-interface.is at c.in-Some.ensures) c.in-Some-destructed_resource.ensures (rw (← c.self.view_is) at c.resource_of_text.ensures))

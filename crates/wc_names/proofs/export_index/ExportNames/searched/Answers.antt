@@ -7,7 +7,7 @@ pub returns-in-Standard : goal.returns-in-Standard
 returns-in-Standard c =
     rw (← c.self.view_is) (first_searched c.self.inside.syntax c.self.inside.resolve.now (map world_entry c.self.inside.exports.now.entries)
     (map key_view c.self.inside.keys.now.keys)
-    c.self.inside.interfaces.entries c.self.invariant c.args.text.now c.in_ok-interfaces.interfaces.now c.deref.result.now c.in_ok-interfaces.ensures.value
+    c.self.inside.interfaces.entries c.self.invariant.0 c.args.text.now c.in_ok-interfaces.interfaces.now c.deref.result.now c.in_ok-interfaces.ensures.value
     c.deref.ensures.value
     c.first_alone.result.now c.in-Standard.is c.first_alone.ensures)
 
@@ -15,6 +15,6 @@ pub returns-in-Legacy : goal.returns-in-Legacy
 returns-in-Legacy c =
     rw (← c.self.view_is) (all_searched c.self.inside.syntax c.self.inside.resolve.now (map world_entry c.self.inside.exports.now.entries)
     (map key_view c.self.inside.keys.now.keys)
-    c.self.inside.interfaces.entries c.self.invariant c.args.text.now c.in_ok-interfaces.interfaces.now c.deref-in-Legacy.result.now
+    c.self.inside.interfaces.entries c.self.invariant.0 c.args.text.now c.in_ok-interfaces.interfaces.now c.deref-in-Legacy.result.now
     c.in_ok-interfaces.ensures.value c.deref-in-Legacy.ensures.value
     c.in-Legacy.is)

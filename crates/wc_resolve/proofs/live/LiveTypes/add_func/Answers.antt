@@ -15,7 +15,7 @@ pub add-requires : goal.add-requires
 add-requires c = λ x h. function_in (length c.args.resolve.now.types) (function_view c.args.function.now) c.requires x (subst (λ (z : List ℕ). Contains z x) c.in_ok-roots.ensures h)
 
 pub returns-clause-added : goal.returns-clause-added
-returns-clause-added c = rw (← c.self.view_is, ← c.in_ok-roots.ensures) c.add.ensures.added
+returns-clause-added c = rw (← c.in_ok-roots.ensures) c.add.ensures.added
 
 pub returns-clause-begun : goal.returns-clause-begun
-returns-clause-begun c = rw (← c.self.view_is, ← c.in_ok-roots.ensures) c.add.ensures.begun
+returns-clause-begun c = rw (← c.in_ok-roots.ensures) c.add.ensures.begun

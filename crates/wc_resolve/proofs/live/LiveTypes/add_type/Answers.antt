@@ -7,7 +7,7 @@ pub returns-in_err-roots-clause-begun : goal.returns-in_err-roots-clause-begun
 returns-in_err-roots-clause-begun c = stopped _ _ (stopped_first c.args.resolve.now.types c.args.self.now (listing_from c.args.resolve.now.types (type_roots c.args.ty)))
 
 pub returns-clause-added : goal.returns-clause-added
-returns-clause-added c = rw (← c.self.view_is, ← c.in_ok-roots.ensures) c.add.ensures.added
+returns-clause-added c = rw (← c.in_ok-roots.ensures) c.add.ensures.added
 
 pub returns-clause-begun : goal.returns-clause-begun
-returns-clause-begun c = rw (← c.self.view_is, ← c.in_ok-roots.ensures) c.add.ensures.begun
+returns-clause-begun c = rw (← c.in_ok-roots.ensures) c.add.ensures.begun

@@ -1,7 +1,6 @@
-use Rattle.std.proofs.Common.{List, ℕ, [], ◌∷◌, length, map, subst}
+use Rattle.std.proofs.Common.{List, ℕ, [], ◌∷◌, length, subst}
 use Rattle.std.specs.List.{Contains}
 use Rattle.std.specs.Result.{OnErr, OnOk}
-use Rattle.wc_resolve.specs.Roots.{id_index}
 use Rattle.wc_resolve.specs.Live.{AddsAll, AddsSome, listing_from}
 use Rattle.wc_resolve.proofs.RootsInLemmas.{below_one}
 use Rattle.wc_resolve.proofs.WalkLemmas.{stopped, stopped_first}
@@ -15,10 +14,10 @@ add-requires c = λ x h. below_one (length c.args.resolve.now.types) c.args.id.0
 
 pub returns-clause-added : goal.returns-clause-added
 returns-clause-added c =
-    subst (λ (z : List ℕ). OnOk c.add.result (AddsAll c.args.resolve.now.types c.args.self.now (map id_index c.add.new.live.keys) (listing_from c.args.resolve.now.types z))) c.in_ok-roots.ensures
-    (rw (← c.self.view_is) c.add.ensures.added)
+    subst (λ (z : List ℕ). OnOk c.add.result (AddsAll c.args.resolve.now.types c.args.self.now c.add.new.live (listing_from c.args.resolve.now.types z))) c.in_ok-roots.ensures
+    c.add.ensures.added
 
 pub returns-clause-begun : goal.returns-clause-begun
 returns-clause-begun c =
-    subst (λ (z : List ℕ). OnErr c.add.result (AddsSome c.args.resolve.now.types c.args.self.now (map id_index c.add.new.live.keys) (listing_from c.args.resolve.now.types z))) c.in_ok-roots.ensures
-    (rw (← c.self.view_is) c.add.ensures.begun)
+    subst (λ (z : List ℕ). OnErr c.add.result (AddsSome c.args.resolve.now.types c.args.self.now c.add.new.live (listing_from c.args.resolve.now.types z))) c.in_ok-roots.ensures
+    c.add.ensures.begun

@@ -14,7 +14,7 @@ pub add-requires : goal.add-requires
 add-requires c = λ x h. item_in c.args.resolve.now (item_view c.args.item.now) c.well_formedness.ensures.in_range c.requires x (subst (λ (z : List ℕ). Contains z x) c.in_ok-roots.ensures h)
 
 pub returns-clause-added : goal.returns-clause-added
-returns-clause-added c = rw (← c.self.view_is, ← c.in_ok-roots.ensures) c.add.ensures.added
+returns-clause-added c = rw (← c.in_ok-roots.ensures) c.add.ensures.added
 
 pub returns-clause-begun : goal.returns-clause-begun
-returns-clause-begun c = rw (← c.self.view_is, ← c.in_ok-roots.ensures) c.add.ensures.begun
+returns-clause-begun c = rw (← c.in_ok-roots.ensures) c.add.ensures.begun

@@ -14,7 +14,7 @@ returns-in-GuestImport c = λ i is imports a.
     subst (λ z. IsCall GuestImport (z, f.name) i) (sym c.interface_of-interface.ensures) (call_own imports i f is GuestImport (ap (same_call GuestImport) c.in-GuestImport.is)) in
     on_ok c.add_name.result (c.add_name.ensures GuestImport imports a.functions i own) (λ functions. record {
       functions = functions;
-      async_functions = call_other imports i f is GuestImportAsync c.args.self.now.async_functions.keys (ap (same_call GuestImportAsync) c.in-GuestImport.is) a.async_functions;
+      async_functions = call_other imports i f is GuestImportAsync c.args.self.now.async_functions.entries (ap (same_call GuestImportAsync) c.in-GuestImport.is) a.async_functions;
       drops = call_drops imports i f is c.args.self.now.drops.keys a.drops;
     })
 
@@ -24,7 +24,7 @@ returns-in-GuestImportAsync c = λ i is imports a.
     let own : IsCall GuestImportAsync (interface_index c.interface_of-interface.result, f.name) i =
     subst (λ z. IsCall GuestImportAsync (z, f.name) i) (sym c.interface_of-interface.ensures) (call_own imports i f is GuestImportAsync (ap (same_call GuestImportAsync) c.in-GuestImportAsync.is)) in
     on_ok c.add_name-in-GuestImportAsync.result (c.add_name-in-GuestImportAsync.ensures GuestImportAsync imports a.async_functions i own) (λ functions. record {
-      functions = call_other imports i f is GuestImport c.args.self.now.functions.keys (ap (same_call GuestImport) c.in-GuestImportAsync.is) a.functions;
+      functions = call_other imports i f is GuestImport c.args.self.now.functions.entries (ap (same_call GuestImport) c.in-GuestImportAsync.is) a.functions;
       async_functions = functions;
       drops = call_drops imports i f is c.args.self.now.drops.keys a.drops;
     })

@@ -1,4 +1,4 @@
-use Rattle.std.proofs.Common.{◌≡◌, IfOk, subst, sym}
+use Rattle.std.proofs.Common.{◌≡◌, subst, sym}
 use Rattle.wc_resolve.specs.declared.functions.AbiVariant.TheVariants.{GuestImport, GuestImportAsync}
 use Rattle.wc_world.specs.Lowered.{is_imported}
 use Rattle.wc_names.specs.Imports.{import_abi}
@@ -7,8 +7,8 @@ use Rattle.wc_world.proofs.imported_items.ImportedItems.has_function.Goals as go
 
 pub returns-then-is_async : goal.returns-then-is_async
 returns-then-is_async c = λ imports a.
-    subst (λ z. IfOk c.has_name.result (λ b. b ≡ is_imported (interface_index c.args.interface) c.args.name.now (import_abi z) imports)) (sym c.if-is_async.true) (c.has_name.ensures GuestImportAsync imports a.async_functions)
+    subst (λ z. c.has_name.result ≡ is_imported (interface_index c.args.interface) c.args.name.now (import_abi z) imports) (sym c.if-is_async.true) (c.has_name.ensures GuestImportAsync imports a.async_functions)
 
 pub returns-else-is_async : goal.returns-else-is_async
 returns-else-is_async c = λ imports a.
-    subst (λ z. IfOk c.has_name-else-is_async.result (λ b. b ≡ is_imported (interface_index c.args.interface) c.args.name.now (import_abi z) imports)) (sym c.if-is_async.false) (c.has_name-else-is_async.ensures GuestImport imports a.functions)
+    subst (λ z. c.has_name-else-is_async.result ≡ is_imported (interface_index c.args.interface) c.args.name.now (import_abi z) imports) (sym c.if-is_async.false) (c.has_name-else-is_async.ensures GuestImport imports a.functions)

@@ -1,4 +1,0 @@
-use Rattle.wc_resolve.proofs.explain.rules.interface_follows.Goals as goal
-
-pub returns-in-ByValueResource : goal.returns-in-ByValueResource
-returns-in-ByValueResource c = rw c.in-ByValueResource.is c.is_interface_free.ensures

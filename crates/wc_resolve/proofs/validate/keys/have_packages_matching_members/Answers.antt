@@ -1,9 +1,0 @@
-use Rattle.std.proofs.Common.{rules}
-use Rattle.wc_resolve.specs.Views.{package_view}
-use Rattle.wc_resolve.specs.WellFormed.{HasMatchingMembers}
-use Rattle.wc_resolve.specs.ResolveParts.{parts_view}
-use Rattle.wc_resolve.proofs.ViewedLemmas.{viewed}
-use Rattle.wc_resolve.proofs.validate.keys.have_packages_matching_members.Goals as goal
-
-pub returns : goal.returns
-returns c = viewed package_view (HasMatchingMembers (parts_view c.args.parts.now)) c.args.parts.now.packages.items c.all.result (search rules)

@@ -1,0 +1,57 @@
+-- Lowerings of interfaces that are kept, and copies of them; interfaces of which nothing is imported.
+use Rattle.std.proofs.Common.{◌≡◌, ◌∙◌, ℕ, List, [], ◌∷◌, ◌++◌, Bool, true, false, cond, Option, Some, None, String, Vec, map, get_or, length, take, ◌<◌, ◌+◌, Result, Ok, Err, OnOk, refl, sym, ap, inl, inr}
+use Rattle.std.specs.List.{list_any}
+use Rattle.std.specs.Map.{lookup}
+use Rattle.std.specs.declared.alloc.Global.{Global}
+use Rattle.std.proofs.lemmas.Bool.{cases_Bool}
+use Rattle.std.proofs.lemmas.List.{map-append, take_more}
+use Rattle.std.proofs.lemmas.Option.{same_Some}
+use Rattle.wc_resolve.specs.declared.functions.AbiVariant.{AbiVariant}
+use Rattle.wc_resolve.specs.declared.functions.AbiVariant.TheVariants.{GuestImport, GuestImportAsync}
+use Rattle.wc_resolve.specs.declared.ids.InterfaceId.{InterfaceId}
+use Rattle.wc_resolve.specs.Views.{FunctionView}
+use Rattle.wc_resolve.proofs.KeyLemmas.{nat_from}
+use Rattle.wc_names.specs.Imports.{import_abi}
+use Rattle.wc_world.specs.declared.imported.Lowering.{Lowering}
+use Rattle.wc_world.specs.Lowered.{KeyedLowering, Lowerer, called_lowering, is_import_of, lowered_function, lowerings_of_functions, lowerings_of_interface}
+use Rattle.wc_world.specs.Private.LoweringContext.{AreKept}
+use Rattle.wc_world.specs.Used.{same_interface}
+use Rattle.wc_world.specs.WorldViews.{lowering_entry}
+
+abbrev pub OwnLowerings : Type 0
+OwnLowerings = Vec ((String Global × AbiVariant) × Lowering) Global
+
+-- at first none are kept
+pub kept_none : (l : Lowerer) (kept : List (InterfaceId × OwnLowerings)) → kept ≡ [] → AreKept l kept
+kept_none l kept none i found at = absurd (let both : None ≡ Some found = sym (ap (lookup (same_interface i)) none) ∙ at in let bad : ⊥ = cc both in bad)
+
+-- those of an interface more
+pub kept_more : (l : Lowerer) (old new : List (InterfaceId × OwnLowerings)) (id : InterfaceId) (copies : OwnLowerings)
+    → ((q : InterfaceId) → lookup (same_interface q) new ≡ cond (same_interface id q) (Some copies) (lookup (same_interface q) old)) → map lowering_entry copies.items ≡ lowerings_of_interface l id.0
+    → AreKept l old → AreKept l new
+kept_more l old new id copies put is kept i found at = elim (cases_Bool (same_interface id i)) [
+  | inl same ↦
+      ap (λ (v : OwnLowerings). map lowering_entry v.items) (same_Some found copies (sym at ∙ (put i ∙ ap (λ b. cond b (Some copies) (lookup (same_interface i) old)) same)))
+      ∙ (is ∙ ap (lowerings_of_interface l) (nat_from id.0 i.0 same))
+  | inr other ↦ kept i found (sym (put i ∙ ap (λ b. cond b (Some copies) (lookup (same_interface i) old)) other) ∙ at)
+]
+
+-- copies of those that were passed, and one more
+pub copies_more : {X Y : Type 0} (f : X → Y) (xs : List X) (i : ℕ) (d x : X) (before after : List Y) → i < length xs → x ≡ get_or xs i d → before ≡ map f (take i xs) → after ≡ before ++ f x ∷ []
+    → after ≡ map f (take (i + 1) xs)
+copies_more f xs i d x before after within at same put =
+    put ∙ (ap (λ z. z ++ f x ∷ []) same ∙ (sym (map-append f (take i xs) (x ∷ [])) ∙ ap (map f) (ap (λ y. take i xs ++ y ∷ []) at ∙ sym (take_more xs i d within))))
+
+-- where no function of an interface is imported, none is lowered
+pub none_lowered : (l : Lowerer) (interface : Option ℕ) → ((is_async : Bool) (name : List ℕ) → list_any (is_import_of interface name (import_abi is_async)) l.imports ≡ false)
+    → (functions : List (List ℕ × FunctionView)) → lowerings_of_functions l interface functions ≡ []
+none_lowered l interface none [] = refl
+none_lowered l interface none ((key, f) ∷ functions) =
+    let rest : List KeyedLowering = lowerings_of_functions l interface functions in
+    ap (λ b. (cond b (((f.name, GuestImport), lowered_function l f GuestImport) ∷ []) [] ++ called_lowering l interface f GuestImportAsync) ++ rest) (none false f.name)
+    ∙ (ap (λ b. cond b (((f.name, GuestImportAsync), lowered_function l f GuestImportAsync) ∷ []) [] ++ rest) (none true f.name)
+    ∙ none_lowered l interface none functions)
+
+pub on_ok_holds : {X E : Type 0} {P : Type 0} (r : Result X E) → P → OnOk r P
+on_ok_holds (Ok x) p = p
+on_ok_holds (Err e) p = tt
