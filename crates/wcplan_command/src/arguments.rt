@@ -3,7 +3,7 @@
 ghost use Rattle.std.specs.Prelude.{◌≡◌, IfErr, OnOk, None, Some, false, filter, is_some, length, map, string_bytes, true};
 ghost use Rattle.std.specs.Option.{option_map};
 ghost use Rattle.wcplan_command.specs.Arguments.{IsRead, IsReadWithoutMemory, IsStopOf, command_value, option_value};
-ghost use Rattle.wcplan_command.specs.Reading.{AsksMemory, HasMoreOptions, HasMorePaths, KeepsMore, adapter_file_of, add_option, add_path, add_value, are_inputs_apart, draft_value, file_name, finish, fitting, flag_of, is_standard, module_valued_of, pair_of, plain_command, read_arguments, stem, take_option, take_up, takes_module_value, takes_value, valued_of};
+ghost use Rattle.wcplan_command.specs.Reading.{AsksMemory, HasMoreOptions, HasMorePaths, KeepsMore, adapter_file_of, add_option, add_path, add_value, are_inputs_apart, draft_value, file_name, finish, fitting, flag_of, is_standard, module_valued_of, pair_of, plain_command, read_arguments, stem, take_flag, take_option, take_up, take_valued, takes_module_value, takes_value, valued_of};
 ghost use Rattle.wcplan_command.specs.declared.arguments.NoCommand.TheVariants.{Memory};
 
 use std::alloc::{AllocFailed, Global};
@@ -223,9 +223,39 @@ fn take_option<'a>(
     if argument == "--version" {
         return Err(NoCommand::Version);
     }
-    if let Some(option) = flag(argument) {
-        return add_option(command, argument, option);
+    take_flag(command, draft, argument)
+}
+
+/// Takes up an argument that is an option by itself, or else has a value.
+fn take_flag<'a>(
+    command: &mut Command<'a>,
+    draft: &mut Draft<'a>,
+    argument: &'a str,
+) -> Result<(), NoCommand<'a>>
+    ensures taken { OnOk result (take_flag (command_value command.old) (draft_value draft.old)
+        argument.now (flag_of argument.now)
+        ≡ Ok (command_value command.new, draft_value draft.new)) }
+    ensures stops { let c = command_value command.old in let d = draft_value draft.old in
+        IfErr result (IsStopOf (KeepsMore c d)
+        (take_flag c d argument.now (flag_of argument.now))) }
+{
+    match flag(argument) {
+        Some(option) => add_option(command, argument, option),
+        None => take_valued(command, draft, argument),
     }
+}
+
+/// Takes up an argument that has a value, in itself or in the next one.
+fn take_valued<'a>(
+    command: &mut Command<'a>,
+    draft: &mut Draft<'a>,
+    argument: &'a str,
+) -> Result<(), NoCommand<'a>>
+    ensures taken { OnOk result (take_valued (command_value command.old) (draft_value draft.old)
+        argument.now ≡ Ok (command_value command.new, draft_value draft.new)) }
+    ensures stops { let c = command_value command.old in let d = draft_value draft.old in
+        IfErr result (IsStopOf (KeepsMore c d) (take_valued c d argument.now)) }
+{
     if takes_value(argument) {
         draft.pending = Some(argument);
         return Ok(());
